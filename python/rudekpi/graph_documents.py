@@ -26,6 +26,8 @@ CHILDREN = {
 }
 SKIPPED = ("key", "data", "desc", "port", "locator")
 REFUSED = {"hyperedge": "a hypergraph", "graph": "a second or a nested graph"}
+# those that the parser reads by itself
+ENCODINGS = ("utf-8", "utf-16", "iso-8859-1", "us-ascii")
 MOST_XML, MOST_JSON, PIECE = 2**30, 2**28, 2**16
 DIRECTED = "a directed graph: --undirected takes its edges without directions"
 
@@ -43,6 +45,7 @@ class GraphmlReader:
         parser.EndElementHandler = self.end
         parser.CharacterDataHandler = self.take_text
         parser.StartDoctypeDeclHandler = self.refuse_doctype
+        parser.XmlDeclHandler = self.check_encoding
 
     def read(self) -> Graph:
         read = 0
@@ -73,6 +76,10 @@ class GraphmlReader:
 
     def refuse_doctype(self, *_: Any) -> None:
         raise self.error("expected no DOCTYPE, whose entities may stand for anything")
+
+    def check_encoding(self, _: str, encoding: Optional[str], __: int) -> None:
+        if encoding and encoding.lower() not in ENCODINGS:
+            raise self.error(f"expected one of the encodings {', '.join(ENCODINGS)}, and not {encoding!r}")
 
     def take_text(self, text: str) -> None:
         if not self.skipped and text.strip():

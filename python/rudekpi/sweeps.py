@@ -282,11 +282,11 @@ def sweep(
 
     A disturbance is a `Disturbance`, or a number of faults. The executor is any of `concurrent.futures`, or a cluster's
     (`distributed.Client().get_executor()`, `mpi4py.futures`), whose workers have this package and the program; by
-    default processes of this machine, one a processor or as many as are said. Experiments are handed out in tasks of about a
-    second. A task whose worker dies is tried once more; where that dies too, the rest is done and `LostExperiments`
-    is raised at the end. A pool of processes of the caller's own breaks where one of them dies: it is not replaced,
-    and raises its `BrokenExecutor`. An error of an experiment is raised as it is. Where the caller stops, nothing
-    more is handed out, and processes that were begun here are ended.
+    default processes of this machine, one a processor or as many as are said. Experiments are handed out in tasks of
+    about a second. A task whose worker dies is tried once more; where that dies too, the rest is done and
+    `LostExperiments` is raised at the end. A pool of processes of the caller's own breaks where one of them dies: it is
+    not replaced, and raises its `BrokenExecutor`. An error of an experiment is raised as it is. Where the caller stops,
+    nothing more is handed out, and processes that were begun here are ended.
     """
     if processes is not None and processes < 1:
         raise ValueError(f"there is one process or more, and not {processes}")

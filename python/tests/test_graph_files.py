@@ -5,8 +5,9 @@ import json
 import os
 import pathlib
 import unittest
+import unittest.mock
 
-from rudekpi import graphs
+from rudekpi import graph_builder, graphs
 from support import Timed
 
 try:
@@ -34,9 +35,10 @@ class Read(Timed):
     def expect_refused(self, name, text, why, **how):
         """A file is refused with its path and, behind it, just this."""
         path = self.path(name, text)
-        with self.subTest(name=name, text=text[:60]), self.assertRaises(ValueError) as caught:
-            graphs.graph_of(path, **how)
-        self.assertTrue(str(caught.exception).startswith(f"{path}: {why}"), str(caught.exception))
+        with self.subTest(name=name, text=text[:60]):
+            with self.assertRaises(ValueError) as caught:
+                graphs.graph_of(path, **how)
+            self.assertTrue(str(caught.exception).startswith(f"{path}: {why}"), str(caught.exception))
 
     def test_edge_lists(self):
         self.assertEqual(self.read("a.txt", "# two\n2 10\n10 1\n\n7\n1 10\n"), ((1, 2, 7, 10), ((2, 10), (1, 10))))
@@ -75,6 +77,7 @@ class Read(Timed):
             ("a b nan\n", "line 1: expected two names, and at most one number"),
             ("1 2\n3 4\n1 2\n", "line 3: the edge of '1' and '2' is there already, by line 1"),
             ("1 2\n2 1\n1 2\n", "line 3: the edge of '1' and '2' is there already, by line 1"),
+            ("1 2\n2 1\n2 1\n", "line 3: the edge of '2' and '1' is there already, by line 1"),
             ("1-2\n2-3\n", "line 1: expected two names, and not '1-2' alone: no line has an edge"),
             ("1: 2\n", "line 1: expected names, and no ':'"),
             ("*Vertices 3\n", "line 1: expected names, and no '*'"),
@@ -102,9 +105,11 @@ class Read(Timed):
             self.expect_refused("a.csv", text, why)
 
     def test_more_edges_than_a_network_has(self):
-        lines = (f"{a} {b}\n" for a in range(1500) for b in range(a))
-        text = "".join(itertools.islice(lines, 1_048_577))
-        self.expect_refused("a.txt", text, "line 1048577: a network has at most 1048576 edges")
+        self.assertEqual(graph_builder.MOST_EDGES, 1_048_576)
+        text = "".join(f"{a} {b}\n" for a, b in itertools.combinations(range(9), 2))
+        with unittest.mock.patch.object(graph_builder, "MOST_EDGES", 35):
+            self.expect_refused("a.txt", text, "line 36: a network has at most 35 edges")
+            self.assertEqual(len(self.read("a.txt", text[:-4])[1]), 35)
 
     def test_dimacs(self):
         self.assertEqual(
@@ -167,6 +172,8 @@ class Read(Timed):
 
         wanted = (("a", "b", "c"), (("a", "b"), ("b", "c")))
         self.assertEqual(self.read("a.graphml", whole(edge.format("a", "b") + some + edge.format("c", "b"))), wanted)
+        latin = whole(node.format("\u00e9")).replace('"1.0"', '"1.0" encoding="ISO-8859-1"').encode("latin-1")
+        self.assertEqual(self.read("a.graphml", latin), (("\u00e9",), ()))
         arcs = whole(some + "".join(edge.format(*it) for it in ("ab", "cb", "ba")), "directed")
         self.assertEqual(self.read("a.graphml", arcs, undirected=True), wanted)
         arc = '<edge source="a" target="b" directed="true"/>'
@@ -191,6 +198,9 @@ class Read(Timed):
             (whole("").replace("</graph>", "</graph>\n<graph/>"), "line 5: a second or a nested graph"),
             ("<graphml/>", "expected a graph, and there is none"),
             ("<x/>", "line 1: expected graphml, and not `x`"),
+            ("<?xml version='1.0' encoding='utf-7'?><graphml/>", "line 1: expected one of the encodings utf-8, "),
+            ("<?xml version='1.0' encoding='big5'?><graphml/>", "line 1: expected one of the encodings utf-8, "),
+            (b"<graphml>\xff</graphml>", "no XML: not well-formed"),
             ("<x", "no XML: unclosed token: line 1, column 0"),
             ('<!DOCTYPE a [<!ENTITY b "c">]><a/>', "line 1: expected no DOCTYPE"),
         ]:

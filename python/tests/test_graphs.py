@@ -6,8 +6,9 @@ import random
 import resource
 import time
 import unittest
+import unittest.mock
 
-from rudekpi import graphs
+from rudekpi import generators, graphs
 from support import Timed
 
 try:
@@ -76,6 +77,22 @@ class Made(Timed):
                 with self.subTest(n=n, degree=degree, seed=seed):
                     self.assertEqual(degrees(graphs.regular(n, degree, seed)), [degree] * n)
 
+    def test_ends_that_are_left_over_are_joined_by_switching_edges(self):
+        left = 0
+        for seed in range(40):
+            made = generators.EndJoiner(30, 14, random.Random(seed))
+            made.misses = 20
+            made.join_free_ends()
+            left += len(made.ends) > 0
+            made.switch_edges()
+            with self.subTest(seed=seed):
+                self.assertEqual(made.ends, [])
+                self.assertEqual(degrees(graphs.Graph("made", tuple(range(1, 31)), tuple(made.edges))), [14] * 30)
+                self.assertTrue(all(a < b for a, b in made.edges))
+        self.assertGreater(left, 30)
+        with unittest.mock.patch.object(generators, "SMALL_ENDS", 0):
+            self.assertEqual(degrees(graphs.regular(20, 9, 4)), [9] * 20)
+
     def test_regular_graphs_are_by_chance(self):
         # of the 70 graphs of six nodes with two neighbours each, 10 are two triangles, and 60 a ring
         rings = sum(is_ring(graphs.regular(6, 2, seed)) for seed in range(2000))
@@ -136,14 +153,15 @@ class Made(Timed):
         # in KB; one list of the nodes would take more
         self.assertLess(resource.getrusage(resource.RUSAGE_SELF).ru_maxrss - before, 20_000)
 
-    def test_large_sparse_graphs(self):
+    def test_large_graphs(self):
         for words, least, most in [
             # 21,474 edges in the mean, and a standard deviation of 147
             ("gnp:65535,0.00001,1", 20_700, 22_300),
             ("gnp:65535,1e-300", 0, 0),
             ("disk:65535,0", 0, 0),
             ("disk:65535,1e-300", 0, 0),
-            ("regular:20000,4", 40_000, 40_000),
+            ("regular:6000,4", 12_000, 12_000),
+            ("regular:400,398", 79_600, 79_600),
         ]:
             with self.subTest(words):
                 self.assertTrue(least <= len(graphs.graph_of(words).edges) <= most)

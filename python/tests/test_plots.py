@@ -132,7 +132,7 @@ class Panels(Timed):
         self.assertRaisesRegex(ValueError, "no name of a picture", plots.check, path + ".txt")
         self.assertEqual(os.listdir(os.path.dirname(path)), [])
         plots.check(path, 60)
-        plots.of_rows(many[:60], path)
+        plots.of_rows(many[:6], path)
         self.assertIn("<svg", pathlib.Path(path).read_text())
 
     def test_titles_are_shown_as_they_are(self):
