@@ -15,7 +15,7 @@ import os
 import signal
 import tempfile
 import time
-from typing import IO, Iterator, Sequence
+from typing import IO, Iterator, Sequence, Union
 
 # signals that Python ignores, and a program should not
 IGNORED = [getattr(signal, name) for name in ("SIGPIPE", "SIGXFSZ") if hasattr(signal, name)]
@@ -48,7 +48,7 @@ class Run:
     def __init__(self) -> None:
         # the ends of the pipes: two for the program's standard input, and two for its output
         self.ends: list[io.FileIO] = []
-        self.files: list[IO[bytes]] = []
+        self.files: list[Union[io.FileIO, IO[bytes]]] = []
         self.numbers: list[int] = []
         self.statuses: list[tuple[int, int]] = []
 
@@ -57,7 +57,7 @@ class Run:
         with no_low_numbers():
             made = itertools.chain.from_iterable(itertools.starmap(os.pipe, ((), ())))
             self.ends.extend(map(io.FileIO, made, ("rb", "wb", "rb", "wb")))
-            self.files.append(tempfile.TemporaryFile())
+            self.add_file()
             ends = self.ends[0], self.ends[3], self.files[0]
             moved = [(os.POSIX_SPAWN_DUP2, end.fileno(), number) for number, end in enumerate(ends)]
             spawn = functools.partial(os.posix_spawnp, file_actions=moved, setsid=True, setsigdef=IGNORED)
@@ -66,6 +66,13 @@ class Run:
         self.ends[3].close()
         for end in self.ends[1:3]:
             os.set_blocking(end.fileno(), False)
+
+    def add_file(self) -> None:
+        """Makes a file without a name. The one of `tempfile` is closed twice where an interrupt cuts its making short."""
+        if hasattr(os, "memfd_create"):
+            self.files.extend(map(io.FileIO, map(os.memfd_create, ("told",)), ("rb+",)))
+        else:
+            self.files.append(tempfile.TemporaryFile())
 
     @property
     def to(self) -> io.FileIO:
