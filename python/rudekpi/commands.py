@@ -25,7 +25,10 @@ from .sweeps import Disturbance, Row
 DONE, FAILED, BAD_WORDS, INTERRUPTED = 0, 1, 2, 130
 # how many seconds a scheduler may take to be reached
 REACHED_SECONDS = 5
-MADE = "a file (edge list, .col, .metis, .graphml, .json), or path:N ring:N star:N complete:N grid:RxC gnp:N,P,SEED regular:N,D,SEED disk:N,R,SEED"
+MADE = (
+    "a file (edge list, .col, .metis, .graphml, .json), or path:N ring:N star:N complete:N grid:RxC gnp:N,P,SEED "
+    "regular:N,D,SEED disk:N,R,SEED"
+)
 
 
 @contextlib.contextmanager
@@ -109,7 +112,8 @@ def words_of_sweep(parser: argparse.ArgumentParser, rules: str) -> None:
 
 
 def reach(address: str) -> None:
-    """Raises `OSError` at once where nobody listens at an address of a scheduler, for which distributed would wait in silence."""
+    """Raises `OSError` at once where nobody listens at an address of a scheduler, for which distributed would wait in
+    silence."""
     kind, host, port = re.fullmatch(r"(?:(\w+)://)?(.*?)(?::([0-9]+))?", address).groups()  # type: ignore[union-attr]
     if kind not in (None, "tcp", "tls") or not port:
         return
@@ -191,7 +195,8 @@ def by_number(word: str) -> list[tuple[int, str]]:
 
 
 def table_of(rows: Sequence[Row]) -> list[str]:
-    """The moves of each graph, daemon and disturbance under both rule sets, beside the bound, as the lines of a table."""
+    """The moves of each graph, daemon and disturbance under both rule sets, beside the bound, as the lines of a
+    table."""
     groups: dict[tuple[str, ...], list[Row]] = {}
     for row in rows:
         groups.setdefault((row.graph, row.disturbance, row.daemon, row.rules), []).append(row)

@@ -1,7 +1,7 @@
 """Programs that are started in such a way that an interrupt at any moment loses no process and no end of a pipe.
 
-What `subprocess.Popen` has started is lost where an exception out of a signal's handler comes before it has kept the process's number.
-Here each thing that has to be given back is put into a list by the same call of C that makes it.
+What `subprocess.Popen` has started is lost where an exception out of a signal's handler comes before it has kept the
+process's number. Here each thing that has to be given back is put into a list by the same call of C that makes it.
 """
 
 from __future__ import annotations
@@ -43,7 +43,8 @@ def no_low_numbers() -> Iterator[None]:
 
 
 class Run:
-    """A run of a program behind two pipes, which can be told to stop at any moment. What it writes to standard error goes to a file."""
+    """A run of a program behind two pipes, which can be told to stop at any moment. What it writes to standard error
+    goes to a file."""
 
     def __init__(self) -> None:
         # the ends of the pipes: two for the program's standard input, and two for its output
@@ -68,7 +69,8 @@ class Run:
             os.set_blocking(end.fileno(), False)
 
     def add_file(self) -> None:
-        """Makes a file without a name. The one of `tempfile` is closed twice where an interrupt cuts its making short."""
+        """Makes a file without a name. The one of `tempfile` is closed twice where an interrupt cuts its making
+        short."""
         if hasattr(os, "memfd_create"):
             self.files.extend(map(io.FileIO, map(os.memfd_create, ("told",)), ("rb+",)))
         else:

@@ -1,4 +1,5 @@
-"""Experiments by the thousand: networks that are disturbed and settle, over graphs, rules, daemons, seeds and disturbances."""
+"""Experiments by the thousand: networks that are disturbed and settle, over graphs, rules, daemons, seeds and
+disturbances."""
 
 from __future__ import annotations
 
@@ -47,8 +48,9 @@ class LostExperiments(Lost):
 
 @dataclass(frozen=True)
 class Disturbance:
-    """What hits a network that is silent: faults of registers (any, pointers or flags alone), nodes that leave, and nodes that join,
-    with their edges. Where it is nothing at all, the network settles from the start, all pointers null."""
+    """What hits a network that is silent: faults of registers (any, pointers or flags alone), nodes that leave, and
+    nodes that join, with their edges. Where it is nothing at all, the network settles from the start, all pointers
+    null."""
 
     faults: int = 0
     registers: str = "any"
@@ -73,8 +75,8 @@ class Disturbance:
 
 @dataclass(frozen=True)
 class Row:
-    """What an experiment showed: moves in so many steps, of the charge at the beginning, which is within the bound 2m + n (`hh`) or
-    2m + 3n (`manne`), and the pairs at the end. `seconds` is the time that it all took."""
+    """What an experiment showed: moves in so many steps, of the charge at the beginning, which is within the bound 2m +
+    n (`hh`) or 2m + 3n (`manne`), and the pairs at the end. `seconds` is the time that it all took."""
 
     graph: str
     rules: str
@@ -126,7 +128,8 @@ class Experiment:
         )
 
     def run(self) -> Row:
-        """Plays it. The moves and the bound are those of the last epoch of the transcript, which the program judges for that."""
+        """Plays it. The moves and the bound are those of the last epoch of the transcript, which the program judges for
+        that."""
         began = time.perf_counter()
         drawn = random.Random(self.seed)
         nodes = list(self.graph.nodes)
@@ -214,8 +217,8 @@ def experiments_of(
     disturbances: Iterable[Union[int, Disturbance]],
     program: Program = None,
 ) -> list[Experiment]:
-    """All experiments of a sweep. Under `hh`, which has no flags and takes one node at a time, those of flags and of the synchronous
-    daemon are left out. Raises `ValueError` for words and numbers that none takes."""
+    """All experiments of a sweep. Under `hh`, which has no flags and takes one node at a time, those of flags and of
+    the synchronous daemon are left out. Raises `ValueError` for words and numbers that none takes."""
     of = [it if isinstance(it, Disturbance) else Disturbance(it) for it in disturbances]
     every = itertools.product(graphs, rules, daemons, seeds, of)
     lawful = (
@@ -247,11 +250,12 @@ def sweep(
     """A row for each graph, rules, daemon, seed and disturbance, in the order in which they are done.
 
     A disturbance is a `Disturbance`, or a number of faults. The executor is any of `concurrent.futures`, or a cluster's
-    (`distributed.Client().get_executor()`, `mpi4py.futures`), whose workers have this package and the program; by default
-    processes of this machine, one a processor or as many as are said. Experiments are handed out in tasks of about a second. A task
-    whose worker dies is tried once more; where that dies too, the rest is done and `LostExperiments` is raised at the end. A pool of
-    processes of the caller's own breaks where one of them dies: it is not replaced, and raises its `BrokenExecutor`. An error of an
-    experiment is raised as it is. Where the caller stops, nothing more is handed out, and processes that were begun here are ended.
+    (`distributed.Client().get_executor()`, `mpi4py.futures`), whose workers have this package and the program; by
+    default processes of this machine, one a processor or as many as are said. Experiments are handed out in tasks of
+    about a second. A task whose worker dies is tried once more; where that dies too, the rest is done and
+    `LostExperiments` is raised at the end. A pool of processes of the caller's own breaks where one of them dies: it is
+    not replaced, and raises its `BrokenExecutor`. An error of an experiment is raised as it is. Where the caller stops,
+    nothing more is handed out, and processes that were begun here are ended.
     """
     if processes is not None and processes < 1:
         raise ValueError(f"there is one process or more, and not {processes}")
@@ -264,7 +268,8 @@ def sweep(
 
 
 class Tasks:
-    """Experiments in tasks of about a second, as far as the rows so far tell how long one takes, and of no more for a worker than for each."""
+    """Experiments in tasks of about a second, as far as the rows so far tell how long one takes, and of no more for a
+    worker than for each."""
 
     def __init__(self, todo: Iterable[Experiment], workers: int) -> None:
         self.todo, self.workers = deque(todo), workers
