@@ -143,7 +143,7 @@ class Session:
     def let_go(self) -> None:
         """Lets go of what was read and answered."""
         answers = self.answers
-        for number in [number for number in self.talk.came if number < answers.parts]:
+        for number in [number for number in list(self.talk.came) if number < answers.parts]:
             self.talk.came.pop(number, None)
         for number in range(self.low, answers.front, STEP):
             self.asked.pop(number, None)
