@@ -19,7 +19,8 @@ STEP = 2
 
 
 class Setting:
-    """What stays the same in a run: its names, the first line of its transcript and of its bases, and whether all of it is kept."""
+    """What stays the same in a run: its names, the first line of its transcript and of its bases, and whether all of it
+    is kept."""
 
     def __init__(self, names: Names, header: bytes, base_head: bytes, keeps: bool) -> None:
         self.names, self.header, self.base_head, self.keeps = names, header, base_head, keeps
@@ -34,9 +35,9 @@ def refusal(names: Names, event: bytes, text: bytes, entry: int) -> Refused:
 class Answers:
     """Where the reading of answers stands.
 
-    Reading goes on in a copy, which comes behind this. So an interrupt leaves this as it is, and the same bytes are read again; and where a
-    handler of a signal has read on meanwhile, its copy stands there already, and the other one is let go of. What both write into what
-    they share, commands and text, is the same.
+    Reading goes on in a copy, which comes behind this. So an interrupt leaves this as it is, and the same bytes are
+    read again; and where a handler of a signal has read on meanwhile, its copy stands there already, and the other one
+    is let go of. What both write into what they share, commands and text, is the same.
     """
 
     __slots__ = (
@@ -65,14 +66,15 @@ class Answers:
         # the commands by their numbers, of which those from `front` on wait
         self.asked = asked
         self.front = 0
-        # where the reading stood behind the next part of what came, once that was read; at most one, of which a second does not take the place
+        # where the reading stood behind the next part of what came, once that was read; at most one, of which a second
+        # does not take the place
         self.later: dict[int, Answers] = {}
         # how many parts were read, and the beginning of a line
         self.parts = 0
         self.rest = b""
         self.lines, self.entries = 0, -1
-        # the lines so far of an answer that has several, those of earlier parts and those of this one; of a base, how many nodes and lines it
-        # has, once that is known
+        # the lines so far of an answer that has several, those of earlier parts and those of this one; of a base, how
+        # many nodes and lines it has, once that is known
         self.held: tuple[list[bytes], ...] = ()
         self.new: list[bytes] = []
         self.held_size = self.base_nodes = self.base_size = 0

@@ -22,7 +22,8 @@ Text = Union[str, bytes, bytearray, memoryview]
 
 @dataclass(frozen=True)
 class Slice:
-    """The bytes of a file from a place to another, of which no copy is made; the file is a path, the number of an open one, or bytes."""
+    """The bytes of a file from a place to another, of which no copy is made; the file is a path, the number of an open
+    one, or bytes."""
 
     file: Union[str, int, bytes]
     start: int
@@ -58,8 +59,8 @@ def bytes_of(transcript: Text) -> bytes:
 
 
 def audit(transcript: Union[Text, Slice], *, program: Program = None, engine: Optional[str] = None) -> Summary:
-    """Judges a transcript: what it has where it is that of a run of the rules; else raises `Damaged`. By an engine as that of a
-    `Network`; where there is no memory the library raises `MemoryError`, and the program `Ended`."""
+    """Judges a transcript: what it has where it is that of a run of the rules; else raises `Damaged`. By an engine as
+    that of a `Network`; where there is no memory the library raises `MemoryError`, and the program `Ended`."""
     judge = chosen(engine, program)
     if judge:
         if isinstance(transcript, Slice):
@@ -74,8 +75,8 @@ def summary_read(said: str) -> Summary:
 
 
 def epochs(transcript: Text, *, program: Program = None) -> list[Epoch]:
-    """The epochs of a transcript, each with its bound and what the disturbance that began it cost. Raises `Damaged` where `audit`
-    refuses it, or `Ended`."""
+    """The epochs of a transcript, each with its bound and what the disturbance that began it cost. Raises `Damaged`
+    where `audit` refuses it, or `Ended`."""
     row = ",".join(["([0-9]+|-)", *["([0-9]+)"] * 4, "([0-9]+|-)"]) + "\n"
     said = judged(["epochs"], transcript, program)
     return [Epoch(*numbers) for numbers in numbers_in("epochs", said, row, "start,moves,edges,nodes,bound,cost\n")]

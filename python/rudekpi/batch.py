@@ -103,8 +103,8 @@ class AskedTurns(Pending[Turns[Reply]]):
 
 
 class Batch:
-    """Commands of a network, as its own, but written without waiting for replies; each answers with a `Pending`, whose `result()` is
-    the reply. By the library each is carried out at once.
+    """Commands of a network, as its own, but written without waiting for replies; each answers with a `Pending`, whose
+    `result()` is the reply. By the library each is carried out at once.
 
     At the end of its `with` all replies have come. Where events were refused, the first `Refused` is raised there; the
     other commands were carried out, and `refusals` has all that were refused. With `raises=False` none is raised.

@@ -133,8 +133,8 @@ def base_of(names: Names, entry: int, lines: bytes) -> Base:
 
 
 class Done(Tuple[Any, ...], Generic[Reply_co]):
-    """The answer to a command that was carried out: what makes the reply, of the names, the entry and more. A tuple is made in the least
-    time."""
+    """The answer to a command that was carried out: what makes the reply, of the names, the entry and more. A tuple is
+    made in the least time."""
 
     __slots__ = ()
 

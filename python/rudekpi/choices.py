@@ -13,7 +13,8 @@ Daemon = Callable[[Enabled], Choice]
 
 
 def numbers_of(choice: Choice, number_of: Callable[[Name], int]) -> list[tuple[int, int]]:
-    """The nodes of a choice's items with their targets, 0 for none; those of a set by number, so that the same set is the same step.
+    """The nodes of a choice's items with their targets, 0 for none; those of a set by number, so that the same set is
+    the same step.
 
     Raises `TypeError` for what is no list of nodes."""
     if isinstance(choice, (str, bytes, Wish)) or not isinstance(choice, abc.Iterable):

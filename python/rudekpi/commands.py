@@ -135,7 +135,8 @@ def words_of_sweep(parser: argparse.ArgumentParser, rules: str) -> None:
 
 
 def reach(address: str) -> None:
-    """Raises `OSError` at once where nobody listens at an address of a scheduler, for which distributed would wait in silence."""
+    """Raises `OSError` at once where nobody listens at an address of a scheduler, for which distributed would wait in
+    silence."""
     kind, host, port = re.fullmatch(r"(?:(\w+)://)?(.*?)(?::([0-9]+))?", address).groups()  # type: ignore[union-attr]
     if kind not in (None, "tcp", "tls") or not port:
         return
@@ -212,7 +213,8 @@ def run_compare(given: argparse.Namespace) -> int:
 
 
 def table_of(rows: Sequence[Row]) -> list[str]:
-    """The moves of each graph, daemon and disturbance under both rule sets, beside the bound, as the lines of a table."""
+    """The moves of each graph, daemon and disturbance under both rule sets, beside the bound, as the lines of a
+    table."""
     groups: dict[tuple[str, ...], list[Row]] = {}
     for row in rows:
         groups.setdefault((row.graph, row.disturbance, row.daemon, row.rules), []).append(row)

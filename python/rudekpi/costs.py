@@ -16,8 +16,8 @@ PAIRED = ("link", "unlink", "point")
 
 
 def numbers_of_edit(names: Names, word: str, given: Sequence[Name]) -> list[int]:
-    """The numbers of an edit's or a fault's words, 0 for the pointer that is null. Raises `ValueError` for what is none, and
-    `TypeError` where it is told another number of words."""
+    """The numbers of an edit's or a fault's words, 0 for the pointer that is null. Raises `ValueError` for what is
+    none, and `TypeError` where it is told another number of words."""
     if word not in COSTED:
         raise ValueError(f"{' or '.join(COSTED)} has a cost, and not {word!r}")
     if len(given) != COSTED[word]:

@@ -1,8 +1,8 @@
 """A session of the library: commands that are carried out by calls of C, each before it returns.
 
-A signal's handler may run between any two instructions, and may ask the same session, whose lock its thread then holds already. So what
-a call reports stands in a `Desk` that no other call has, and what has to be asked at once after a call is asked with it, by one call
-of C in the middle of which no handler runs.
+A signal's handler may run between any two instructions, and may ask the same session, whose lock its thread then holds
+already. So what a call reports stands in a `Desk` that no other call has, and what has to be asked at once after a call
+is asked with it, by one call of C in the middle of which no handler runs.
 """
 
 from __future__ import annotations
@@ -57,8 +57,8 @@ class Direct:
         return not self.slot.full
 
     def since(self, place: int) -> tuple[bytes, int]:
-        """The lines that came from a place on, or from the last base in them where not all is kept, and the place behind them.
-        Raises `Ended` in a child of the process that made the session."""
+        """The lines that came from a place on, or from the last base in them where not all is kept, and the place
+        behind them. Raises `Ended` in a child of the process that made the session."""
         self.check_owner()
         with self.lock:
             return self.text_kept.since(place)
@@ -116,7 +116,8 @@ class Direct:
         self.ended = Inherited()
 
     def tell(self, line: str) -> None:
-        """Carries out a line of a script; behind one that writes several entries the status is asked, as is done with a program."""
+        """Carries out a line of a script; behind one that writes several entries the status is asked, as is done with a
+        program."""
         for event in (line, "status") if line.startswith(("drive ", "scramble ")) else (line,):
             text = event.encode()
             with self.lock:

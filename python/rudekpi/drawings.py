@@ -61,8 +61,8 @@ def html_of(title: str, state: State, names: Names) -> str:
 
 
 def write_page(transcript: str, path: Union[str, os.PathLike[str]], program: Program) -> None:
-    """Writes a page that plays a transcript. Raises `Damaged` where `audit` refuses that, `FileNotFoundError` where what makes pages is not
-    there, and `OSError` where it can't be written, of which nothing is left then."""
+    """Writes a page that plays a transcript. Raises `Damaged` where `audit` refuses that, `FileNotFoundError` where
+    what makes pages is not there, and `OSError` where it can't be written, of which nothing is left then."""
     words = [sys.executable, page_maker(), "--program", found_program(program)]
     done = subprocess.run(words, input=transcript.encode(), stdout=subprocess.PIPE, stderr=subprocess.PIPE)
     if done.returncode == 1:

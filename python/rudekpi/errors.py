@@ -3,7 +3,6 @@
 from __future__ import annotations
 
 import re
-from typing import Any
 
 VERDICT = re.compile(r"line ([0-9]+): (.*)\n")
 
@@ -13,7 +12,8 @@ def text_of(said: bytes) -> str:
 
 
 class RudekpiError(Exception):
-    """All errors of this module but `ValueError`, `TypeError` and `OSError`, which tell of wrong arguments and a missing program."""
+    """All errors of this module but `ValueError`, `TypeError` and `OSError`, which tell of wrong arguments and a
+    missing program."""
 
 
 class Refused(RudekpiError):
@@ -47,8 +47,8 @@ class Inherited(Ended):
 
 
 class NoReply(RudekpiError, MemoryError):
-    """The command was carried out, and there is no memory for its reply: `entry` is the number of its last entry, which the transcript
-    has. A `MemoryError` that is none of these says that nothing was carried out."""
+    """The command was carried out, and there is no memory for its reply: `entry` is the number of its last entry, which
+    the transcript has. A `MemoryError` that is none of these says that nothing was carried out."""
 
     def __init__(
         self, entry: int, what: str = "the command was carried out, and there is no memory for its reply:"

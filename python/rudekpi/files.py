@@ -10,8 +10,9 @@ from typing import Optional, Union
 
 
 def write_whole(path: Union[str, os.PathLike[str]], data: bytes) -> None:
-    """Writes a file by way of another one beside it, so that it is there as a whole, or as it was before. What is no plain file, as a
-    device or a pipe, is written to, and so is a file in a folder that takes no other. Raises `OSError`."""
+    """Writes a file by way of another one beside it, so that it is there as a whole, or as it was before. What is no
+    plain file, as a device or a pipe, is written to, and so is a file in a folder that takes no other. Raises
+    `OSError`."""
     real = os.path.realpath(path)
     old = mode_of(real)
     if old is not None and not (stat.S_ISREG(old) and os.access(os.path.dirname(real), os.W_OK)):

@@ -1,7 +1,8 @@
 """The text of a session of the library, as far as it was taken over.
 
-A signal's handler may ask for it, or have more of it written, in the middle of each function here. So nothing is taken back or moved:
-parts of the text are added to a list by one call of C each, and a part that is forgotten becomes empty in its place.
+A signal's handler may ask for it, or have more of it written, in the middle of each function here. So nothing is taken
+back or moved: parts of the text are added to a list by one call of C each, and a part that is forgotten becomes empty
+in its place.
 """
 
 from __future__ import annotations
@@ -53,7 +54,8 @@ class KeptText:
         self.length: Callable[[], int] = functools.partial(library.session_length, at)
 
     def collect(self) -> None:
-        """Takes over what the session has written. Raises `MemoryError`, and goes on from there when it is called again."""
+        """Takes over what the session has written. Raises `MemoryError`, and goes on from there when it is called
+        again."""
         while wanted := self.length():
             room = (ctypes.c_char * wanted)()
             # one call of C: what was read is in the list when the next handler runs
@@ -71,7 +73,8 @@ class KeptText:
         return made
 
     def since(self, place: int) -> tuple[bytes, int]:
-        """What came from a place of the list on, and the place behind it; what was forgotten is left out, with all up to the last base."""
+        """What came from a place of the list on, and the place behind it; what was forgotten is left out, with all up
+        to the last base."""
         self.collect()
         end = len(self.parts)
         text = b"".join([self.part(at) for at in range(max(place, self.low), end)])

@@ -60,8 +60,9 @@ def summary_of(verdict: Verdict) -> Summary:
     raise Damaged(verdict.line, DAMAGES[verdict.kind])
 
 
-# the calls of a session and of an audit. They are called with references and numbers below 2^31, or with numbers that are wrapped, for which ctypes
-# wants no types: to convert to them would take as long as the call. While those that may take long run, other threads of Python do
+# the calls of a session and of an audit. They are called with references and numbers below 2^31, or with numbers that
+# are wrapped, for which ctypes wants no types: to convert to them would take as long as the call. While those that may
+# take long run, other threads of Python do
 SHORT = ("link", "unlink", "point", "flag", "show", "status", "partner", *(f"cost_of_{word}" for word in COSTED))
 LONG = (
     "session_new",
@@ -143,7 +144,8 @@ def loaded(path: str) -> Library:
 
 
 def paths() -> list[str]:
-    """Where the library may be: that of the environment's RUDEKPI_LIBRARY, or else the one in the package, then the repository's."""
+    """Where the library may be: that of the environment's RUDEKPI_LIBRARY, or else the one in the package, then the
+    repository's."""
     given = os.environ.get("RUDEKPI_LIBRARY")
     if given:
         return [os.path.abspath(given)]
@@ -167,8 +169,9 @@ def found_library() -> Optional[Library]:
 def chosen(engine: Optional[str], program: Program) -> Optional[Library]:
     """The library, where it is the engine; None where that is a program.
 
-    With no engine it is that of the environment's RUDEKPI_ENGINE, else the library where it is found and no program is given. Raises
-    `ValueError` for an engine that is none, or the library with a program, and `OSError` where the library is wanted and not found.
+    With no engine it is that of the environment's RUDEKPI_ENGINE, else the library where it is found and no program is
+    given. Raises `ValueError` for an engine that is none, or the library with a program, and `OSError` where the
+    library is wanted and not found.
     """
     engine = engine or (None if program else os.environ.get("RUDEKPI_ENGINE") or None)
     if engine is None:

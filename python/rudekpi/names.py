@@ -14,9 +14,11 @@ NUMBER = re.compile(r"(?<=[ >])[0-9]+")
 
 
 def own_names(nodes: Iterable[Name]) -> list[Name]:
-    """The caller's names, of which each is there once, and none is None. Those of an array of numpy are Python's own numbers and texts.
+    """The caller's names, of which each is there once, and none is None. Those of an array of numpy are Python's own
+    numbers and texts.
 
-    Raises `TypeError` for what is no list, or has an item that is no name, and `ValueError` for one that is there twice.
+    Raises `TypeError` for what is no list, or has an item that is no name, and `ValueError` for one that is there
+    twice.
     """
     what = "nodes are a number or a list of names, of which none is None"
     if not isinstance(nodes, Iterable):

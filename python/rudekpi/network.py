@@ -39,17 +39,19 @@ from .state import Follower, Seen, State
 class Network:
     """A network that is played by the library in this process, or by a run of the program, one command a call.
 
-    `nodes` is how many there are, with the names 1 to that, or their names, which get the numbers 1, 2, .. in that order;
-    the transcript has the numbers. Under `manne` the numbers matter: a node proposes to the greater ones. The first
-    `present` of them are there at the start, all where nothing is said; others may `join`. With `keep=False` the transcript is
-    kept from the last checkpoint on, and not longer.
+    `nodes` is how many there are, with the names 1 to that, or their names, which get the numbers 1, 2, .. in that
+    order; the transcript has the numbers. Under `manne` the numbers matter: a node proposes to the greater ones. The
+    first `present` of them are there at the start, all where nothing is said; others may `join`. With `keep=False` the
+    transcript is kept from the last checkpoint on, and not longer.
 
-    The `engine` is "library" or "program": where nothing is said that of the environment's RUDEKPI_ENGINE, else the library where it
-    is found and no program is named. Answers and transcripts are the same. The library is that of RUDEKPI_LIBRARY, else the one in this
-    package, else `release/librudekpi.so` of the repository. Where it finds no memory it raises `MemoryError`, and the network is as it was.
+    The `engine` is "library" or "program": where nothing is said that of the environment's RUDEKPI_ENGINE, else the
+    library where it is found and no program is named. Answers and transcripts are the same. The library is that of
+    RUDEKPI_LIBRARY, else the one in this package, else `release/librudekpi.so` of the repository. If memory runs
+    out in it, it raises `MemoryError` and nothing was carried out; `NoReply`, which is one too, says that only the
+    reply is lost.
 
-    An interrupt (Ctrl-C) at any moment leaves it usable. The command that was cut short is carried out or was never asked:
-    `status`, `edges` and the transcript tell. A network that nobody refers to any more ends its program.
+    An interrupt (Ctrl-C) at any moment leaves it usable. The command that was cut short is carried out or was never
+    asked: `status`, `edges` and the transcript tell. A network that nobody refers to any more ends its program.
     """
 
     def __init__(
@@ -110,7 +112,8 @@ class Network:
         return self._look(lambda state: drawings.html_of(repr(self), state, self._names))
 
     def close(self) -> None:
-        """Ends the run, once all is carried out. Raises `Ended` where the program did not end well. The transcript stays."""
+        """Ends the run, once all is carried out. Raises `Ended` where the program did not end well. The transcript
+        stays."""
         self._session.close()
 
     @property
@@ -129,7 +132,8 @@ class Network:
         return [(self.name_of(a), self.name_of(b)) for a, b in self._look(State.edges)]
 
     def neighbours(self, node: Name) -> list[Name]:
-        """The neighbours of a node that is present, in the order of their numbers. Raises `ValueError` for any other node."""
+        """The neighbours of a node that is present, in the order of their numbers. Raises `ValueError` for any other
+        node."""
         near = self._look_at(node, lambda state, number: sorted(state.neighbours[number]))
         return [self.name_of(number) for number in near]
 
@@ -141,7 +145,8 @@ class Network:
     def partner(self, node: Name) -> Optional[Name]:
         """With whom a node that is present is paired, or None. Raises `ValueError` for any other node.
 
-        By the library the answer is its proved one; by a program, and once the network is closed, it is that of the transcript.
+        By the library the answer is its proved one; by a program, and once the network is closed, it is that of the
+        transcript.
         """
         found = self._session.partner(self.number_of(node))
         if found:
@@ -158,11 +163,13 @@ class Network:
         return self._names.name_of(number)
 
     def follower(self) -> Follower:
-        """The state of this network by its nodes' numbers, whenever that is asked for: for daemons that look at more than who is enabled."""
+        """The state of this network by its nodes' numbers, whenever that is asked for: for daemons that look at more
+        than who is enabled."""
         return Follower(self._session)
 
     def batch(self, raises: bool = True) -> Batch:
-        """Commands that do not wait for one another: `with net.batch() as batch:`, then `batch.link(1, 2)` and so on."""
+        """Commands that do not wait for one another: `with net.batch() as batch:`, then `batch.link(1, 2)` and so
+        on."""
         return self._session.batch(raises)
 
     def link(self, a: Name, b: Name) -> Accepted:
@@ -210,7 +217,8 @@ class Network:
         return self._single.status().result()
 
     def drive(self, seed: int, turns: int) -> Turns[Moves]:
-        """Up to so many steps of the program's seeded daemon, until nobody is enabled; and the status then, an entry too."""
+        """Up to so many steps of the program's seeded daemon, until nobody is enabled; and the status then, an entry
+        too."""
         return self._single.drive(seed, turns).result()
 
     def scramble(self, seed: int, faults: int) -> Turns[Fault]:
@@ -222,11 +230,12 @@ class Network:
         return self._single.checkpoint().result()
 
     def cost_of(self, word: str, *given: Name) -> int:
-        """What an edit or a fault would cost if it came now, in moves: `net.cost_of("unlink", "ann", "bob")`, and so for `link`, `join`,
-        `leave`, `point` and `flag`. The charge grows by no more than this. Nothing is done, and no entry added.
+        """What an edit or a fault would cost if it came now, in moves: `net.cost_of("unlink", "ann", "bob")`, and so
+        for `link`, `join`, `leave`, `point` and `flag`. The charge grows by no more than this. Nothing is done, and no
+        entry added.
 
-        Raises `ValueError` for an event that would be refused, as to unlink what is not linked, and `NoSuchCommand` by a program,
-        which has no command for it.
+        Raises `ValueError` for an event that would be refused, as to unlink what is not linked, and `NoSuchCommand` by
+        a program, which has no command for it.
         """
         numbers = numbers_of_edit(self._names, word, given)
         cost = self._session.cost_of(word, numbers)
@@ -240,11 +249,12 @@ class Network:
     def settle(self, daemon: Union[Daemon, AnyDaemon, str]) -> Settled:
         """Lets a daemon choose who moves until nobody is enabled.
 
-        The daemon gets the enabled nodes, a mapping from name to rule, and gives back those that move, with a `Wish` where
-        it has one; those of `rudekpi.daemons` are given as they are, or by their words, as "seeded". Raises `TypeError` where it is no daemon,
-        `WrongChoice` where it chooses nobody or a node that is not enabled, `Refused` where the network takes the choice otherwise amiss
-        (two nodes under `hh`), and `PastBound` where there are more moves than the charge.
-        The transcript has the `status` asked at first, and an `enabled` in front of each step and at the end.
+        The daemon gets the enabled nodes, a mapping from name to rule, and gives back those that move, with a `Wish`
+        where it has one; those of `rudekpi.daemons` are given as they are, or by their words, as "seeded". Raises
+        `TypeError` where it is no daemon, `WrongChoice` where it chooses nobody or a node that is not enabled,
+        `Refused` where the network takes the choice otherwise amiss (two nodes under `hh`), and `PastBound` where there
+        are more moves than the charge. The transcript has the `status` asked at first, and an `enabled` in front of
+        each step and at the end.
         """
         if isinstance(daemon, str):
             daemon = named(daemon)
@@ -278,12 +288,13 @@ class Network:
         return audits.audit(self.transcript(), program=self._program, engine=self.engine)
 
     def picture(self, entry: Optional[int] = None) -> str:
-        """The network behind an entry, 0 to 16,777,216, or behind all, for Graphviz. Raises `ValueError` where there is no such entry."""
+        """The network behind an entry, 0 to 16,777,216, or behind all, for Graphviz. Raises `ValueError` where there is
+        no such entry."""
         return audits.picture(self.transcript(), entry, program=self._program)
 
     def play(self, path: Union[str, os.PathLike[str]]) -> None:
-        """Writes a page that plays the transcript in a browser. Raises `OSError` where it can't be written; a file of that name is then as it
-        was before, or not there."""
+        """Writes a page that plays the transcript in a browser. Raises `OSError` where it can't be written; a file of
+        that name is then as it was before, or not there."""
         drawings.write_page(self.transcript(), path, self._program)
 
     def to_networkx(self) -> Any:

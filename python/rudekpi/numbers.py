@@ -11,7 +11,8 @@ MOST_ENTRIES = 16_777_216
 
 
 def counted(count: int, one: str, more: str = "") -> str:
-    """How many there are of what has this name, and of more than one that name, which has an s at its end where none is said."""
+    """How many there are of what has this name, and of more than one that name, which has an s at its end where none is
+    said."""
     return f"{count} {one if count == 1 else more or one + 's'}"
 
 

@@ -23,15 +23,16 @@ UNJUDGED = 6
 
 
 class Audit:
-    """Judges a transcript that comes in pieces, cut anywhere, and keeps no more of it than a line or a base that is not whole yet.
+    """Judges a transcript that comes in pieces, cut anywhere, and keeps no more of it than a line or a base that is not
+    whole yet.
 
         with Audit() as audit:
             for piece in pieces:
                 audit.feed(piece)
             print(audit.finish())
 
-    It is by an engine as that of a `Network`: the library, or a run of the program behind a pipe. Where an interrupt cuts a `feed` short
-    it is not known whether the piece was taken.
+    It is by an engine as that of a `Network`: the library, or a run of the program behind a pipe. Where an interrupt
+    cuts a `feed` short it is not known whether the piece was taken.
     """
 
     def __init__(self, *, program: Program = None, engine: Optional[str] = None) -> None:
@@ -51,13 +52,14 @@ class Audit:
         raise TypeError("an audit belongs to one process and is not copied")
 
     def feed(self, piece: Text) -> None:
-        """Feeds it what comes next. Raises `Damaged` where what came is no transcript, whatever comes behind, and so do later calls; the
-        program may be seen to say so at a later call, at `finish` at the latest. Raises `MemoryError`, or by a program `Ended`, where
-        there is no memory, which ends it."""
+        """Feeds it what comes next. Raises `Damaged` where what came is no transcript, whatever comes behind, and so do
+        later calls; the program may be seen to say so at a later call, at `finish` at the latest. Raises `MemoryError`,
+        or by a program `Ended`, where there is no memory, which ends it."""
         self._judge.feed(bytes_of(piece))
 
     def finish(self) -> Summary:
-        """What the transcript has that it was fed; else raises as `feed` does. It may be asked again, and nothing more can be fed."""
+        """What the transcript has that it was fed; else raises as `feed` does. It may be asked again, and nothing more
+        can be fed."""
         return self._judge.finish()
 
     def close(self) -> None:
@@ -66,7 +68,8 @@ class Audit:
 
 
 class DirectAudit:
-    """An audit by the library. The verdict is written where it stays, so that an interrupt behind the call loses nothing."""
+    """An audit by the library. The verdict is written where it stays, so that an interrupt behind the call loses
+    nothing."""
 
     # of one that is not wholly made
     owner = 0
@@ -108,8 +111,8 @@ class DirectAudit:
 
 
 class AuditRun:
-    """A run of the program's `audit`, which is fed through a pipe. A handler of a signal that asks it in the middle of a call of it gets an
-    error: the pieces would come in another order."""
+    """A run of the program's `audit`, which is fed through a pipe. A handler of a signal that asks it in the middle of
+    a call of it gets an error: the pieces would come in another order."""
 
     # of one that is not wholly made
     owner = 0

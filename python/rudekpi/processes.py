@@ -1,7 +1,7 @@
 """Programs that are started in such a way that an interrupt at any moment loses no process and no end of a pipe.
 
-What `subprocess.Popen` has started is lost where an exception out of a signal's handler comes before it has kept the process's number.
-Here each thing that has to be given back is put into a list by the same call of C that makes it.
+What `subprocess.Popen` has started is lost where an exception out of a signal's handler comes before it has kept the
+process's number. Here each thing that has to be given back is put into a list by the same call of C that makes it.
 """
 
 from __future__ import annotations
@@ -15,7 +15,7 @@ import os
 import signal
 import tempfile
 import time
-from typing import IO, Iterator, Sequence
+from typing import IO, Iterator, Sequence, Union
 
 # signals that Python ignores, and a program should not
 IGNORED = [getattr(signal, name) for name in ("SIGPIPE", "SIGXFSZ") if hasattr(signal, name)]
@@ -43,12 +43,13 @@ def no_low_numbers() -> Iterator[None]:
 
 
 class Run:
-    """A run of a program behind two pipes, which can be told to stop at any moment. What it writes to standard error goes to a file."""
+    """A run of a program behind two pipes, which can be told to stop at any moment. What it writes to standard error
+    goes to a file."""
 
     def __init__(self) -> None:
         # the ends of the pipes: two for the program's standard input, and two for its output
         self.ends: list[io.FileIO] = []
-        self.files: list[IO[bytes]] = []
+        self.files: list[Union[io.FileIO, IO[bytes]]] = []
         self.numbers: list[int] = []
         self.statuses: list[tuple[int, int]] = []
 
@@ -57,7 +58,7 @@ class Run:
         with no_low_numbers():
             made = itertools.chain.from_iterable(itertools.starmap(os.pipe, ((), ())))
             self.ends.extend(map(io.FileIO, made, ("rb", "wb", "rb", "wb")))
-            self.files.append(tempfile.TemporaryFile())
+            self.add_file()
             ends = self.ends[0], self.ends[3], self.files[0]
             moved = [(os.POSIX_SPAWN_DUP2, end.fileno(), number) for number, end in enumerate(ends)]
             spawn = functools.partial(os.posix_spawnp, file_actions=moved, setsid=True, setsigdef=IGNORED)
@@ -66,6 +67,14 @@ class Run:
         self.ends[3].close()
         for end in self.ends[1:3]:
             os.set_blocking(end.fileno(), False)
+
+    def add_file(self) -> None:
+        """Makes a file without a name. The one of `tempfile` is closed twice where an interrupt cuts its making
+        short."""
+        if hasattr(os, "memfd_create"):
+            self.files.extend(map(io.FileIO, map(os.memfd_create, ("told",)), ("rb+",)))
+        else:
+            self.files.append(tempfile.TemporaryFile())
 
     @property
     def to(self) -> io.FileIO:

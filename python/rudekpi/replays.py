@@ -24,8 +24,8 @@ def replay(
     """A network that stands where a transcript ends, so that it can go on; raises `Damaged` where `audit` refuses it.
 
     Its own transcript is the one that was given. Where that took other targets than the least, its steps have them as
-    wishes. Where that begins with a base, at which no run can begin, edits and faults lead there: so the numbers are other
-    ones, and what was spent before is not counted. `names` are the caller's, in the order of the numbers.
+    wishes. Where that begins with a base, at which no run can begin, edits and faults lead there: so the numbers are
+    other ones, and what was spent before is not counted. `names` are the caller's, in the order of the numbers.
     """
     audit(transcript, program=program, engine=engine)
     transcript = transcript if isinstance(transcript, str) else bytes(transcript).decode()

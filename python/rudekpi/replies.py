@@ -19,8 +19,8 @@ from typing import (
     overload,
 )
 
-# A node's name: a number from 1 in a network of so many nodes, else what the caller named it; anything hashable but None. No type is
-# told, so that a caller's names are of his own types where they come back.
+# A node's name: a number from 1 in a network of so many nodes, else what the caller named it; anything hashable but
+# None. No type is told, so that a caller's names are of his own types where they come back.
 Name = Any
 Reply = TypeVar("Reply")
 Reply_co = TypeVar("Reply_co", covariant=True)
@@ -179,7 +179,8 @@ class Fault:
 
 @dataclass(frozen=True)
 class Turns(_Items[Reply]):
-    """What the turns of `drive` (steps: `Moves`) or `scramble` (`Fault`) did, in a sequence, and the status behind them."""
+    """What the turns of `drive` (steps: `Moves`) or `scramble` (`Fault`) did, in a sequence, and the status behind
+    them."""
 
     status: Status
 
@@ -194,8 +195,9 @@ class Registers:
 
 @dataclass(frozen=True)
 class Base:
-    """Where the network stands behind so many entries: the moves since the last disturbance, the nodes that are present,
-    ascending by their numbers, and the edges. It is no entry: the next entry has the number behind this one."""
+    """Where the network stands behind so many entries: the moves since the last disturbance, the nodes that are
+    present, ascending by their numbers, and the edges. It is no entry: the next entry has the number behind this
+    one."""
 
     number: int
     spent: int
@@ -205,7 +207,8 @@ class Base:
 
 @dataclass(frozen=True)
 class Settled:
-    """How a daemon settled a network: its steps, their moves, and the charge at the beginning, which bounds the moves."""
+    """How a daemon settled a network: its steps, their moves, and the charge at the beginning, which bounds the
+    moves."""
 
     steps: int
     moves: int
@@ -223,9 +226,9 @@ class Summary:
 
 @dataclass(frozen=True)
 class Epoch:
-    """The part of a run behind an accepted disturbance: the entry of that, its moves, and their bound. The entry is 0 where
-    it is the start, and None where a transcript begins with a base, which does not tell it. The cost is that of the disturbance,
-    a sum of degrees; None in the first epoch, which no disturbance of the transcript began."""
+    """The part of a run behind an accepted disturbance: the entry of that, its moves, and their bound. The entry is 0
+    where it is the start, and None where a transcript begins with a base, which does not tell it. The cost is that of
+    the disturbance, a sum of degrees; None in the first epoch, which no disturbance of the transcript began."""
 
     start: Optional[int]
     moves: int

@@ -19,9 +19,10 @@ UNSENT = 1 << 16
 class Session:
     """The talk with a run. Commands are asked by one call of C, so that none is asked by halves.
 
-    It never waits for one pipe while the other could go on, so no reply is too large. When nobody refers to it any more, the
-    program is ended. A handler of a signal may ask in the middle of each function here, and is answered when that goes on: what a
-    function has made of an older `Answers` or `Load` is then let go of, since a later one stands behind that already.
+    It never waits for one pipe while the other could go on, so no reply is too large. When nobody refers to it any
+    more, the program is ended. A handler of a signal may ask in the middle of each function here, and is answered when
+    that goes on: what a function has made of an older `Answers` or `Load` is then let go of, since a later one stands
+    behind that already.
     """
 
     def __init__(self, words: Sequence[str], setting: Setting) -> None:
@@ -60,9 +61,9 @@ class Session:
         return self.answers.wrong or (ended if not self.is_closed or isinstance(ended, Inherited) else None)
 
     def since(self, place: int) -> tuple[bytes, int]:
-        """The lines that came from a place on, or all that are kept, where that begins behind it, and the place behind them, once all
-        commands are carried out. Raises `Garbled` where the program answered amiss, and `Ended` in a child of the process that
-        started it."""
+        """The lines that came from a place on, or all that are kept, where that begins behind it, and the place behind
+        them, once all commands are carried out. Raises `Garbled` where the program answered amiss, and `Ended` in a
+        child of the process that started it."""
         self.wait_for_all()
         if self.answers.wrong:
             raise self.answers.wrong
@@ -88,7 +89,8 @@ class Session:
         raise NoSuchCommand(f"the program tells no cost of {word} beforehand: play the network by engine='library'")
 
     def tell(self, line: str) -> None:
-        """Carries out a line of a script; behind one that writes several entries the status is asked, which ends them."""
+        """Carries out a line of a script; behind one that writes several entries the status is asked, which ends
+        them."""
         is_ended_by_status = line.startswith(("drive ", "scramble "))
         self.ask(AskedTurns(self, line, read_accepted) if is_ended_by_status else Asked(self, line, read_accepted))
 
@@ -109,7 +111,8 @@ class Session:
                 self.talk.write()
 
     def load(self) -> bool:
-        """Where all is sent: makes what is asked and not yet under way the bytes that are written; whether there was any."""
+        """Where all is sent: makes what is asked and not yet under way the bytes that are written; whether there was
+        any."""
         last, new = self.talk.load, []
         end = last.end
         while pending := self.asked.get(end):
@@ -122,8 +125,8 @@ class Session:
         return True
 
     def go_on(self) -> None:
-        """Reads on in what came; where there is nothing, writes what the program takes at once; where it takes nothing, waits a while until
-        it does, or has written something."""
+        """Reads on in what came; where there is nothing, writes what the program takes at once; where it takes nothing,
+        waits a while until it does, or has written something."""
         answers, talk = self.answers, self.talk
         part = talk.came.get(answers.parts)
         if part is None:
@@ -140,7 +143,7 @@ class Session:
     def let_go(self) -> None:
         """Lets go of what was read and answered."""
         answers = self.answers
-        for number in [number for number in self.talk.came if number < answers.parts]:
+        for number in [number for number in list(self.talk.came) if number < answers.parts]:
             self.talk.came.pop(number, None)
         for number in range(self.low, answers.front, STEP):
             self.asked.pop(number, None)

@@ -121,12 +121,13 @@ class Follower:
 
     def __init__(self, session: Union[Direct, Session]) -> None:
         self.session = session
-        # the state at a place of what is kept, unless somebody has it now: a handler of a signal that asks meanwhile begins anew
+        # the state at a place of what is kept, unless somebody has it now: a handler of a signal that asks meanwhile
+        # begins anew
         self.followed: list[tuple[int, State]] = []
 
     def state(self) -> State:
-        """Where the network stands once all commands are carried out. Raises `Garbled` where the program answered amiss, and `Ended` in
-        a child of the process that made the network."""
+        """Where the network stands once all commands are carried out. Raises `Garbled` where the program answered
+        amiss, and `Ended` in a child of the process that made the network."""
         return self.look(lambda state: state)
 
     def look(self, see: Callable[[State], Seen]) -> Seen:

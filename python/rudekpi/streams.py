@@ -1,4 +1,5 @@
-"""The standard streams of the command line: what can't be read or written is told by name, also where a stream is closed."""
+"""The standard streams of the command line: what can't be read or written is told by name, also where a stream is
+closed."""
 
 from __future__ import annotations
 
@@ -50,8 +51,9 @@ def output_file(path: str) -> TextIO:
 
 
 def fill_closed() -> None:
-    """Gives the numbers of closed standard streams to the device of nothing, so that no file gets them; opened in such a way that to read or
-    to write fails as it does at a closed stream, and that what is told to standard error goes nowhere."""
+    """Gives the numbers of closed standard streams to the device of nothing, so that no file gets them; opened in such
+    a way that to read or to write fails as it does at a closed stream, and that what is told to standard error goes
+    nowhere."""
     for number, way in ((0, os.O_WRONLY), (1, os.O_RDONLY), (2, os.O_WRONLY)):
         try:
             os.fstat(number)

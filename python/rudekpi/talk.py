@@ -1,10 +1,12 @@
-"""A program's pipes, in such a way that an interrupt at any moment loses none of their bytes, and that a signal's handler may talk, too.
+"""A program's pipes, in such a way that an interrupt at any moment loses none of their bytes, and that a signal's
+handler may talk, too.
 
-An exception out of a signal's handler, as `KeyboardInterrupt`, may come behind any instruction: also between the return of a `write`
-and the store of what it returned. And a handler may itself ask the program something, in the middle of any function here: it has been
-answered when that function goes on. So each call that moves bytes, or takes an exit status, is made by one call of C, which finds out
-how far all has come, moves the bytes, and has noted so when the next handler runs. A lock or a thread would cost each answer more
-than the answer itself, and to block signals would not help where another thread takes them.
+An exception out of a signal's handler, as `KeyboardInterrupt`, may come behind any instruction: also between the return
+of a `write` and the store of what it returned. And a handler may itself ask the program something, in the middle of any
+function here: it has been answered when that function goes on. So each call that moves bytes, or takes an exit status,
+is made by one call of C, which finds out how far all has come, moves the bytes, and has noted so when the next handler
+runs. A lock or a thread would cost each answer more than the answer itself, and to block signals would not help where
+another thread takes them.
 """
 
 from __future__ import annotations
@@ -19,14 +21,16 @@ from typing import Callable, Optional, Sequence
 from .errors import Ended, Inherited
 from .processes import IS_NONE, READ, Run
 
-# for how many milliseconds the pipes are waited for at the most before it is seen whether a handler has read what was waited for
+# for how many milliseconds the pipes are waited for at the most before it is seen whether a handler has read what was
+# waited for
 LONGEST_PAUSE = 64
 TOTAL: Callable[[list[int]], int] = sum
 TALKS: weakref.WeakSet[Talk] = weakref.WeakSet()
 
 
 class Load:
-    """The bytes of some commands, up to the one of a number, how many of them the program took at each write, and the load behind it."""
+    """The bytes of some commands, up to the one of a number, how many of them the program took at each write, and the
+    load behind it."""
 
     __slots__ = ("data", "taken", "end", "later")
 
@@ -41,8 +45,8 @@ class Load:
 
 
 class Talk:
-    """A program that runs in a session of its own, so that Ctrl-C at a terminal does not reach it, with the bytes under way to it and from
-    it. It is ended where nobody refers to it any more, and with this process."""
+    """A program that runs in a session of its own, so that Ctrl-C at a terminal does not reach it, with the bytes under
+    way to it and from it. It is ended where nobody refers to it any more, and with this process."""
 
     # of one that is not wholly made
     ended: Optional[Ended] = None
@@ -101,7 +105,8 @@ class Talk:
         return len(taken) > before
 
     def wait(self) -> bool:
-        """Waits for a while until the program has written something, or takes bytes where there are some; whether it has written."""
+        """Waits for a while until the program has written something, or takes bytes where there are some; whether it
+        has written."""
         ready = select.poll()
         try:
             of = self.run.of.fileno()
@@ -133,7 +138,8 @@ class Talk:
         self.run.to.close()
 
     def end(self) -> None:
-        """Waits for the program, whose text is at its end, and keeps its status and last line. Where it was cut short it is done again."""
+        """Waits for the program, whose text is at its end, and keeps its status and last line. Where it was cut short
+        it is done again."""
         try:
             if not self.ended:
                 self.run.close()

@@ -7,14 +7,18 @@ import os
 import random
 import re
 import signal
+import sys
 import threading
 import time
 import unittest
+from types import FrameType
 from typing import Any, Callable
 
+import rudekpi
 from rudekpi import Audit, Base, Network, RudekpiError, Turns, audit
 from support import Timed, play, spelled, told
 
+PACKAGE = os.path.dirname(rudekpi.__file__)
 SIGNALS = int(os.environ.get("RUDEKPI_SIGNALS", "60"))
 NODES = 12
 # what is asked, each a line of a script; the network is so small that each of them is refused now and then
@@ -55,8 +59,33 @@ class Recorded:
             self.answers.append((reply.entry, spelled(reply)))
 
 
-class Handlers(Timed):
-    """The thread that plays is sent signals at random times; their handler asks."""
+class AskAt:
+    """Asks in front of the instruction of the package that has a number, counted from the entry of a `with`."""
+
+    def __init__(self, number: int, ask: Callable[[], None]) -> None:
+        self.left, self.ask = number, ask
+
+    def trace(self, frame: FrameType, event: str, _: object) -> Any:
+        if not frame.f_code.co_filename.startswith(PACKAGE):
+            return None
+        frame.f_trace_opcodes, frame.f_trace_lines = True, False
+        if event == "opcode":
+            self.left -= 1
+            if self.left == -1:
+                self.ask()
+        return self.trace
+
+    def __enter__(self) -> AskAt:
+        self.before = sys.gettrace()
+        sys.settrace(self.trace)
+        return self
+
+    def __exit__(self, *_: object) -> None:
+        sys.settrace(self.before)
+
+
+class Asking(Timed):
+    """What these tests share."""
 
     engines = ("program", "library")
     seconds = 600
@@ -68,6 +97,80 @@ class Handlers(Timed):
                 batch.link(node, node + 1)
         net.scramble(1, 20)
         return net
+
+    def expect_all_told(self, recorded: Recorded, first: int) -> None:
+        """Each entry from a number on was told once, as it stands in the transcript, which is that of a run."""
+        said = recorded.net.transcript()
+        self.assertEqual(audit(said, engine="program").entries, said.count(" = "))
+        lines = [line.partition(" = ") for line in said.splitlines() if " = " in line]
+        replies = {int(head.split(" ")[0]): (head.split(" ", 1)[1], reply) for head, _, reply in lines}
+        asked = sorted(it for it in recorded.answers if it[0] >= 0)
+        self.assertEqual([entry for entry, _ in asked], list(range(first, len(replies) + 1)))
+        for entry, text in asked:
+            event, reply = replies[entry]
+            # of a fault its event is told
+            wanted = event if text.startswith(("point ", "flag ")) else reply
+            if text != wanted:
+                raise AssertionError(f"entry {entry}: told {text!r}, and written is {event!r}: {reply!r}")
+        bases = [text for entry, text in recorded.answers if entry < 0]
+        for text in bases:
+            self.assertIn(f"\n{text}\n", said)
+        self.assertEqual(len(bases), len(re.findall(r"^base ", said, re.M)))
+
+
+class EachInstruction(Asking):
+    """In front of each instruction of a call in turn the network is asked."""
+
+    def ask_everywhere(self, outer: str, inner: str, step: int, **words: Any) -> None:
+        with self.network(**words) as net:
+            recorded, first = Recorded(net), net.status().entry + 1
+            for number in range(0, 1_000_000, step):
+                with AskAt(number, lambda: recorded.ask(inner)) as at:
+                    recorded.ask(outer)
+                if at.left >= 0:
+                    break
+            self.expect_all_told(recorded, first)
+        if number < 30:
+            self.skipTest("this Python traces no instructions here")
+
+    def test_of_an_answer(self) -> None:
+        self.ask_everywhere("show 9", "status", 1)
+
+    def test_of_each_kind_of_answer(self) -> None:
+        drawn = random.Random(2)
+        for line in LINES:
+            with self.subTest(line):
+                self.ask_everywhere(line, drawn.choice(LINES), 5)
+
+    def test_of_a_batch(self) -> None:
+        with self.network() as net:
+            recorded, first = Recorded(net), net.status().entry + 1
+            for number in range(0, 1_000_000, 7):
+                with AskAt(number, lambda: recorded.ask("enabled")) as at:
+                    with net.batch(raises=False) as batch:
+                        asked = [play(batch, line) for line in ("link 1 3", "link 1 3", "unlink 1 3", "show 2")]
+                for reply in map(told, [it.result for it in asked]):
+                    recorded.answers.append((reply.entry, spelled(reply)))
+                self.assertEqual(len(batch.refusals), 1)
+                if at.left >= 0:
+                    break
+            self.expect_all_told(recorded, first)
+
+    def test_of_a_look_at_the_state(self) -> None:
+        with self.network() as net:
+            recorded, first = Recorded(net), net.status().entry + 1
+            for number in range(0, 1_000_000, 23):
+                with AskAt(number, lambda: [recorded.ask("leave 12"), recorded.ask("join 12"), net.edges][2]) as at:
+                    self.assertNotIn((11, 12), [] if number == 0 else net.edges)
+                    self.assertIn(12, net.present if number % 2 else [12])
+                    self.assertEqual(net.neighbours(1), [2])
+                if at.left >= 0:
+                    break
+            self.expect_all_told(recorded, first)
+
+
+class Handlers(Asking):
+    """The thread that plays is sent signals at random times; their handler asks."""
 
     def signalled(self, count: int, handler: Callable[[], None], play_on: Callable[[], None]) -> None:
         """Plays on until the handler was called so many times, by signals that another thread sends."""
@@ -96,25 +199,6 @@ class Handlers(Timed):
         sender.join()
         if failed:
             raise failed[0]
-
-    def expect_all_told(self, recorded: Recorded, first: int) -> None:
-        """Each entry from a number on was told once, as it stands in the transcript, which is that of a run."""
-        said = recorded.net.transcript()
-        self.assertEqual(audit(said, engine="program").entries, said.count(" = "))
-        lines = [line.partition(" = ") for line in said.splitlines() if " = " in line]
-        replies = {int(head.split(" ")[0]): (head.split(" ", 1)[1], reply) for head, _, reply in lines}
-        asked = sorted(it for it in recorded.answers if it[0] >= 0)
-        self.assertEqual([entry for entry, _ in asked], list(range(first, len(replies) + 1)))
-        for entry, text in asked:
-            event, reply = replies[entry]
-            # of a fault its event is told
-            wanted = event if text.startswith(("point ", "flag ")) else reply
-            if text != wanted:
-                raise AssertionError(f"entry {entry}: told {text!r}, and written is {event!r}: {reply!r}")
-        bases = [text for entry, text in recorded.answers if entry < 0]
-        for text in bases:
-            self.assertIn(f"\n{text}\n", said)
-        self.assertEqual(len(bases), len(re.findall(r"^base ", said, re.M)))
 
     def try_handler(self, asks: Callable[[Recorded], None], count: int = SIGNALS) -> None:
         with self.network() as net:
