@@ -3,7 +3,7 @@ import {View} from "./view.mjs";
 
 // names smaller than so many pixels are left out: nobody reads them, and they are what takes time to draw
 const NAME_SIZE = 10;
-const LEAST_NAME = 6;
+const LEAST_NAME = 5;
 // so many units a pixel, and a name can still be read
 const READABLE = 1.6;
 
