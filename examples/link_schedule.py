@@ -5,9 +5,13 @@ come and go on the way.
 
 usage: examples/link_schedule.py
 """
+
+from __future__ import annotations
+
 import itertools
 import os
 import sys
+from typing import Any, Iterator
 
 sys.path.insert(0, os.path.join(os.path.dirname(os.path.realpath(__file__)), "..", "python"))
 from rudekpi import Network  # noqa: E402
@@ -18,7 +22,7 @@ COME = {2: [("a1", "b2"), ("b2", "c3")], 4: [("a1", "d5"), ("d1", "d3")]}
 GO = {3: [("c2", "c3"), ("a4", "a5")]}
 
 
-def mesh():
+def mesh() -> Iterator[tuple[str, str]]:
     """The links of a grid: each host with the next in its row and in its column."""
     for row, next_row in itertools.zip_longest(ROWS, ROWS[1:]):
         for column, next_column in itertools.zip_longest(COLUMNS, COLUMNS[1:]):
@@ -28,7 +32,7 @@ def mesh():
                 yield row + column, next_row + column
 
 
-def change(net, waiting, number):
+def change(net: Network, waiting: set[Any], number: int) -> None:
     """Carries out what changes before a round."""
     for link in COME.get(number, []):
         net.link(*link)
@@ -41,7 +45,7 @@ def change(net, waiting, number):
             print("goes", "-".join(link))
 
 
-def main():
+def main() -> None:
     waiting = set(mesh())
     with Network(rules="manne", nodes=[row + column for row in ROWS for column in COLUMNS]) as net:
         with net.batch() as batch:

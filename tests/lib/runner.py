@@ -22,8 +22,8 @@ TALLY = Tally()
 class Checks(unittest.TestCase):
     """A test whose checks are counted one by one: one that fails is printed, and the test goes on.
 
-    `given` has the words of the command line, `tally` the counts. A test that makes no check of this kind counts as
-    one.
+    `given` has the words of the command line, `tally` the counts. A test of this kind that makes no check has failed;
+    one of `unittest.TestCase` alone counts as one check.
     """
 
     given = argparse.Namespace()
@@ -55,7 +55,10 @@ class Counting(unittest.TestResult):
     def stopTest(self, test: unittest.TestCase) -> None:
         super().stopTest(test)
         if not self.wrong and self.counts() == self.before:
-            self.tally.passed += 1
+            if isinstance(test, Checks):
+                self.note(test, "it made no check")
+            else:
+                self.tally.passed += 1
         # what comes now is no test's: the beginning or the end of a class
         self.wrong = False
 
