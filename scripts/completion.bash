@@ -23,9 +23,9 @@ _rudekpi_flags() {
         picture) _rudekpi_words --entry --help ;;
         epochs) _rudekpi_words --help ;;
         storm) _rudekpi_words --rules --nodes --present --workers --roam --turns --help ;;
-        sweep) _rudekpi_words --graph --rules --daemon --seeds --first-seed --faults --registers --joins --leaves --csv --plot --processes --dask --program --help ;;
-        compare) _rudekpi_words --graph --rules --daemon --seeds --first-seed --faults --registers --joins --leaves --csv --plot --processes --dask --program --help ;;
-        worst) _rudekpi_words --graph --rules --seconds --seed --transcript --output --program --help ;;
+        sweep) _rudekpi_words --graph --undirected --rules --daemon --seeds --first-seed --faults --registers --joins --leaves --csv --plot --processes --dask --program --help ;;
+        compare) _rudekpi_words --graph --undirected --rules --daemon --seeds --first-seed --faults --registers --joins --leaves --csv --plot --processes --dask --program --help ;;
+        worst) _rudekpi_words --graph --undirected --rules --seconds --seed --transcript --output --program --help ;;
         check) _rudekpi_words --help ;;
         shell) _rudekpi_words --rules --nodes --present --program --help ;;
         json) _rudekpi_words --program --help ;;

@@ -61,6 +61,7 @@ complete -c rudekpi -n '__fish_seen_subcommand_from storm' -l turns -x -d 'how m
 complete -c rudekpi -n '__fish_seen_subcommand_from storm' -l help -d 'tells of the command'
 complete -c rudekpi -n '__fish_seen_subcommand_from storm' -F
 complete -c rudekpi -n '__fish_seen_subcommand_from sweep' -l graph -r -F -d 'a file'
+complete -c rudekpi -n '__fish_seen_subcommand_from sweep' -l undirected -d 'takes a directed graph of a file, without its directions'
 complete -c rudekpi -n '__fish_seen_subcommand_from sweep' -l rules -x -a 'hh manne' -d 'hh,manne or one of them'
 complete -c rudekpi -n '__fish_seen_subcommand_from sweep' -l daemon -x -a 'synchronous least greatest age seeded greedy helpful' -d 'some of synchronous,least,greatest,age,seeded,greedy,helpful'
 complete -c rudekpi -n '__fish_seen_subcommand_from sweep' -l seeds -x -d 'how many seeds'
@@ -76,6 +77,7 @@ complete -c rudekpi -n '__fish_seen_subcommand_from sweep' -l dask -x -d 'a sche
 complete -c rudekpi -n '__fish_seen_subcommand_from sweep' -l program -r -F -d 'the program that plays'
 complete -c rudekpi -n '__fish_seen_subcommand_from sweep' -l help -d 'tells of the command'
 complete -c rudekpi -n '__fish_seen_subcommand_from compare' -l graph -r -F -d 'a file'
+complete -c rudekpi -n '__fish_seen_subcommand_from compare' -l undirected -d 'takes a directed graph of a file, without its directions'
 complete -c rudekpi -n '__fish_seen_subcommand_from compare' -l rules -x -a 'hh manne' -d 'hh,manne or one of them'
 complete -c rudekpi -n '__fish_seen_subcommand_from compare' -l daemon -x -a 'synchronous least greatest age seeded greedy helpful' -d 'some of synchronous,least,greatest,age,seeded,greedy,helpful'
 complete -c rudekpi -n '__fish_seen_subcommand_from compare' -l seeds -x -d 'how many seeds'
@@ -91,6 +93,7 @@ complete -c rudekpi -n '__fish_seen_subcommand_from compare' -l dask -x -d 'a sc
 complete -c rudekpi -n '__fish_seen_subcommand_from compare' -l program -r -F -d 'the program that plays'
 complete -c rudekpi -n '__fish_seen_subcommand_from compare' -l help -d 'tells of the command'
 complete -c rudekpi -n '__fish_seen_subcommand_from worst' -l graph -r -F -d 'a file'
+complete -c rudekpi -n '__fish_seen_subcommand_from worst' -l undirected -d 'takes a directed graph of a file, without its directions'
 complete -c rudekpi -n '__fish_seen_subcommand_from worst' -l rules -x -a 'hh manne' -d ''
 complete -c rudekpi -n '__fish_seen_subcommand_from worst' -l seconds -x -d 'for a search, where there are too many states to look at all'
 complete -c rudekpi -n '__fish_seen_subcommand_from worst' -l seed -x -d 'of that search'
