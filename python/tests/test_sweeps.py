@@ -89,6 +89,10 @@ class Rows(Timed):
             [made] = sweep([RING], ["manne"], ["least"], [3], [Disturbance(0, registers)])
             self.assertEqual((made.disturbance, made.moves >= 12), ("start", True))
 
+    def test_the_natural_order_of_words(self):
+        words = ["ring:9", "ring:10,2", "ring:10,10", "ring:100", "ring\u00b2"]
+        self.assertEqual(sorted(reversed(words), key=sweeps.natural), words)
+
     def test_a_disturbance_in_words(self):
         for hit, words in [
             (Disturbance(1), "1 fault"),
