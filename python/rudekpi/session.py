@@ -14,6 +14,8 @@ from .talk import Load, Talk
 
 # how many bytes are asked before the program has to take some of them
 UNSENT = 1 << 16
+# of how many parts of what came it is looked which of them were read, where it is not known
+MOST_CAME = 8
 
 
 class Session:
@@ -143,8 +145,12 @@ class Session:
     def let_go(self) -> None:
         """Lets go of what was read and answered."""
         answers = self.answers
-        for number in [number for number in list(self.talk.came) if number < answers.parts]:
-            self.talk.came.pop(number, None)
+        came = self.talk.came
+        came.pop(answers.parts - 1, None)
+        if len(came) > MOST_CAME:
+            # those that an interrupt has left here
+            for number in [number for number in list(came) if number < answers.parts]:
+                came.pop(number, None)
         for number in range(self.low, answers.front, STEP):
             self.asked.pop(number, None)
         self.low = answers.front
