@@ -1,15 +1,20 @@
 #!/usr/bin/env python3
-"""Hosts that keep a copy of each other's data, in pairs of neighbours. When a host fails its partner looks for another, and when it
-returns it looks for one itself. What each failure costs is told beside its budget, the charge: no schedule can make it cost more.
+"""Hosts that keep a copy of each other's data, in pairs of neighbours. When a host fails its partner looks for
+another, and when it returns it looks for one itself. What each failure costs is told beside its budget, the charge:
+no schedule can make it cost more.
 
 usage: examples/backup_partners.py
 """
+
+from __future__ import annotations
+
 import os
 import random
 import sys
+from typing import Any
 
 sys.path.insert(0, os.path.join(os.path.dirname(os.path.realpath(__file__)), "..", "python"))
-from rudekpi import Network
+from rudekpi import Enabled, Network  # noqa: E402
 
 HOSTS = [f"h{number:02}" for number in range(1, 13)]
 # a ring in which each third host has a link to the host across it
@@ -26,12 +31,12 @@ EVENTS = [
 ]
 
 
-def some(enabled, drawn=random.Random(7)):
+def some(enabled: Enabled, drawn: random.Random = random.Random(7)) -> list[Any]:
     """The daemon: each enabled host moves or not as chance has it, and one at least."""
     return [host for host in enabled if drawn.random() < 0.5] or [drawn.choice(list(enabled))]
 
 
-def tell(net, event, down):
+def tell(net: Network, event: str, down: set[str]) -> int:
     """Lets the network settle, and tells what that cost and who backs up whom. Answers the moves."""
     settled, pairs = net.settle(some), net.matching()
     alone = [host for host in HOSTS if pairs.partner(host) is None and host not in down]
@@ -44,8 +49,8 @@ def tell(net, event, down):
     return settled.moves
 
 
-def main():
-    down = set()
+def main() -> None:
+    down: set[str] = set()
     with Network(rules="manne", nodes=HOSTS) as net:
         with net.batch() as batch:
             for a, b in LINKS:

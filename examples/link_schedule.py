@@ -1,15 +1,20 @@
 #!/usr/bin/env python3
-"""Gives each link of a changing mesh a slot. In each round the links of a maximal matching have theirs, so that no host talks to
-two others at once; then they are done, and the next round is for the links that still wait. Links come and go on the way.
+"""Gives each link of a changing mesh a slot. In each round the links of a maximal matching have theirs, so that no
+host talks to two others at once; then they are done, and the next round is for the links that still wait. Links
+come and go on the way.
 
 usage: examples/link_schedule.py
 """
+
+from __future__ import annotations
+
 import itertools
 import os
 import sys
+from typing import Any, Iterator
 
 sys.path.insert(0, os.path.join(os.path.dirname(os.path.realpath(__file__)), "..", "python"))
-from rudekpi import Network
+from rudekpi import Network  # noqa: E402
 
 ROWS, COLUMNS = "abcd", "12345"
 # what changes before a round: a link comes, or goes without having had its slot, if it still waits
@@ -17,7 +22,7 @@ COME = {2: [("a1", "b2"), ("b2", "c3")], 4: [("a1", "d5"), ("d1", "d3")]}
 GO = {3: [("c2", "c3"), ("a4", "a5")]}
 
 
-def mesh():
+def mesh() -> Iterator[tuple[str, str]]:
     """The links of a grid: each host with the next in its row and in its column."""
     for row, next_row in itertools.zip_longest(ROWS, ROWS[1:]):
         for column, next_column in itertools.zip_longest(COLUMNS, COLUMNS[1:]):
@@ -27,7 +32,7 @@ def mesh():
                 yield row + column, next_row + column
 
 
-def change(net, waiting, number):
+def change(net: Network, waiting: set[Any], number: int) -> None:
     """Carries out what changes before a round."""
     for link in COME.get(number, []):
         net.link(*link)
@@ -40,7 +45,7 @@ def change(net, waiting, number):
             print("goes", "-".join(link))
 
 
-def main():
+def main() -> None:
     waiting = set(mesh())
     with Network(rules="manne", nodes=[row + column for row in ROWS for column in COLUMNS]) as net:
         with net.batch() as batch:

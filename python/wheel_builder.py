@@ -4,15 +4,21 @@ It stands on the standard library alone: so `pip install ./python` needs no inde
 environment has none. The same files make the same wheel to the byte. The program is for Linux on x86-64 with glibc 2.34 or later; where
 pip runs elsewhere the package is made without it.
 """
+
+from __future__ import annotations
+
 import base64
+import contextlib
 import hashlib
 import io
 import os
 import pathlib
 import platform
 import re
+import sys
 import tarfile
 import zipfile
+from typing import Iterator, Mapping, Optional
 
 HERE = pathlib.Path(__file__).resolve().parent
 PACKAGE = HERE / "rudekpi"
@@ -40,11 +46,12 @@ rudekpi = rudekpi.__main__:main
 """
 
 
-def version():
-    return re.search(r'^__version__ = "([0-9.]+)"$', (PACKAGE / "__init__.py").read_text(), re.MULTILINE)[1]
+def version() -> str:
+    found: list[str] = re.findall(r'^__version__ = "([0-9.]+)"$', (PACKAGE / "__init__.py").read_text(), re.MULTILINE)
+    return found[0]
 
 
-def beside(name):
+def beside(name: str) -> pathlib.Path:
     """A file or folder of the repository: beside the package in a source archive, else one folder above."""
     for folder in (HERE, HERE.parent):
         if (folder / name).exists():
@@ -54,20 +61,20 @@ def beside(name):
     )
 
 
-def page_maker():
+def page_maker() -> dict[str, pathlib.Path]:
     """The files that make pages of transcripts, by their names in the repository."""
     viewer = beside("viewer")
     shown = sorted(
         path for path in viewer.rglob("*") if path.suffix in (".html", ".css", ".mjs") and "tests" not in path.parts
     )
-    others = ["scripts/play", "scripts/page.py", "release/playground.html"]
+    others = ["scripts/play", "scripts/page.py", "release/playground.html", "release/MADE_FROM"]
     return {
         **{name: beside(name) for name in others},
         **{f"viewer/{path.relative_to(viewer).as_posix()}": path for path in shown},
     }
 
 
-def program():
+def program() -> bytes:
     """The program of release/, whole."""
     found, told = beside("release/console").read_bytes(), beside("release/MADE_FROM").read_text()
     if f"\nprogram {hashlib.sha256(found).hexdigest()}\n" not in told:
@@ -75,7 +82,7 @@ def program():
     return found
 
 
-def library():
+def library() -> dict[str, bytes]:
     """The shared library of release/, whole, by its name in the package; nothing where there is none."""
     try:
         path, told = beside("release/librudekpi.so"), beside("release/LIBRARY_MADE_FROM").read_text()
@@ -87,24 +94,24 @@ def library():
     return {LIBRARY: found}
 
 
-def runs_here():
+def runs_here() -> bool:
     libc, number = platform.libc_ver()
     is_new = libc == "glibc" and tuple(map(int, number.split(".")[:2])) >= GLIBC
     return platform.system() == "Linux" and platform.machine() == "x86_64" and is_new
 
 
-def sources():
+def sources() -> dict[str, bytes]:
     """The files of the package, by their names."""
     names = sorted(path for path in PACKAGE.rglob("*") if path.suffix == ".py" or path.name == "py.typed")
     return {path.relative_to(HERE).as_posix(): path.read_bytes() for path in names}
 
 
-def contents():
+def contents() -> dict[str, bytes]:
     """The files of a wheel, without the program: the package, and in it what makes pages."""
     return {**sources(), **{f"rudekpi/page/{name}": path.read_bytes() for name, path in page_maker().items()}}
 
 
-def recorded(files, record):
+def recorded(files: Mapping[str, bytes], record: str) -> bytes:
     """The list of all files with their digests, as a wheel has it."""
     lines = []
     for name, content in files.items():
@@ -113,7 +120,7 @@ def recorded(files, record):
     return "".join([*lines, f"{record},,\n"]).encode()
 
 
-def write_wheel(folder, tag, files):
+def write_wheel(folder: str, tag: str, files: dict[str, bytes]) -> str:
     """Writes a wheel of these files and of what tells of them, and gives its name."""
     number, is_pure = version(), str(tag == WITHOUT).lower()
     info = f"rudekpi-{number}.dist-info"
@@ -132,26 +139,46 @@ def write_wheel(folder, tag, files):
     return name
 
 
-def make_wheel(folder, has_program):
+def make_wheel(folder: str, has_program: bool) -> str:
     """Writes the wheel of the package, and gives its name."""
     if has_program:
         return write_wheel(folder, WITH_PROGRAM, {**contents(), PROGRAM: program(), **library()})
     return write_wheel(folder, WITHOUT, contents())
 
 
-def build_wheel(wheel_directory, config_settings=None, metadata_directory=None):
+@contextlib.contextmanager
+def in_one_line() -> Iterator[None]:
+    """What is missing, or is not what it should be, ends pip's call with one line."""
+    try:
+        yield
+    except (OSError, ValueError) as error:
+        sys.exit(f"rudekpi: {error}")
+
+
+@in_one_line()
+def build_wheel(
+    wheel_directory: str,
+    config_settings: Optional[Mapping[str, object]] = None,
+    metadata_directory: Optional[str] = None,
+) -> str:
     has_program = runs_here()
     if not has_program:
         print("rudekpi: made without its program, which wants Linux on x86-64 with glibc 2.34 or later")
     return make_wheel(wheel_directory, has_program)
 
 
-def build_editable(wheel_directory, config_settings=None, metadata_directory=None):
+@in_one_line()
+def build_editable(
+    wheel_directory: str,
+    config_settings: Optional[Mapping[str, object]] = None,
+    metadata_directory: Optional[str] = None,
+) -> str:
     """Writes a wheel that has Python read the package where it lies, with the repository's own program."""
     return write_wheel(wheel_directory, WITHOUT, {"rudekpi.pth": f"{HERE}\n".encode()})
 
 
-def build_sdist(sdist_directory, config_settings=None):
+@in_one_line()
+def build_sdist(sdist_directory: str, config_settings: Optional[Mapping[str, object]] = None) -> str:
     """Writes an archive of the sources with the program, from which a wheel can be made anywhere."""
     top = f"rudekpi-{version()}"
     files = {**sources(), "PKG-INFO": METADATA.format(version=version()).encode()}

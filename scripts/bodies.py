@@ -1,6 +1,11 @@
-"""Where the functions of a crate stand in its files, by the layout of rt fmt, and the crate without the bodies of most."""
+"""Where the functions of a crate stand in its files, by the layout of rt fmt, and the crate without the bodies of
+most."""
+
+from __future__ import annotations
+
 import os
 import re
+from typing import Collection, Mapping, Optional
 
 HEAD = re.compile(r'( *)(?:pub(?:\([^)]*\))? )?(?:const )?(?:extern "C" )?fn (\w+)')
 CYCLE = re.compile(r" *#\[cycle\((\w+)\)\]$")
@@ -10,14 +15,15 @@ LEFT_OUT = "unreachable!()"
 
 
 class Function:
-    """A function with a body: its path below the crate as the prover names it, its file, its line there, the lines of its
-    body from `first` to before `end`, and the cycle of calls that it says it is in, with the module before it."""
+    """A function with a body: its path below the crate as the prover names it, its file, its line there, the lines
+    of its body from `first` to before `end`, and the cycle of calls that it says it is in, with the module before
+    it."""
 
-    def __init__(self, path, file, line, first, end, cycle):
+    def __init__(self, path: str, file: str, line: int, first: int, end: int, cycle: Optional[str]) -> None:
         self.path, self.file, self.line, self.first, self.end, self.cycle = path, file, line, first, end, cycle
 
 
-def sources_of(folder):
+def sources_of(folder: str) -> dict[str, str]:
     """The texts of a crate's sources, by their path below its folder."""
     texts = {}
     for at, _, names in os.walk(f"{folder}/src"):
@@ -28,21 +34,21 @@ def sources_of(folder):
     return texts
 
 
-def module_of(file):
+def module_of(file: str) -> str:
     """The module that a file below src/ is, '' for the crate's root."""
     module = file.removeprefix("src/").removesuffix(".rt").replace("/", "::")
     return "" if module in ("lib", "main") else module
 
 
-def joined(*parts):
+def joined(*parts: str) -> str:
     return "::".join(it for it in parts if it)
 
 
-def words_in(text):
+def words_in(text: str) -> list[str]:
     return [it[0].upper() + it[1:] for it in re.findall(r"[A-Za-z]\w*", re.sub(r"'\w+", "", text))]
 
 
-def without_parameters(head):
+def without_parameters(head: str) -> str:
     """What stands behind `impl` and its parameters."""
     text, depth = head.removeprefix("impl"), 0
     for at, sign in enumerate(text):
@@ -52,11 +58,11 @@ def without_parameters(head):
     return text
 
 
-def holder_of(head, module, modules):
-    """The path of what an `impl` or a trait holds: a type's own functions stand where the type does, those of a trait for a
-    type in the module of the `impl`, under both names."""
+def holder_of(head: str, module: str, modules: Mapping[str, str]) -> str:
+    """The path of what an `impl` or a trait holds: a type's own functions stand where the type does, those of a
+    trait for a type in the module of the `impl`, under both names."""
     if not head.startswith("impl"):
-        return joined(module, re.search(r"trait (\w+)", head)[1])
+        return joined(module, re.findall(r"trait (\w+)", head)[0])
     what = re.split(r" where\b| \{$", without_parameters(head))[0]
     trait, _, owner = what.rpartition(" for ")
     if owner.startswith("("):
@@ -70,8 +76,9 @@ def holder_of(head, module, modules):
     return joined(module, name + words_in(own)[-1] + "".join(words_in(parameters)))
 
 
-def body_of(lines, at, indent):
-    """The lines of the body of the function whose head begins in a line, or None where it has none, or one of one line."""
+def body_of(lines: list[str], at: int, indent: str) -> Optional[tuple[int, int]]:
+    """The lines of the body of the function whose head begins in a line, or None where it has none, or one of one
+    line."""
     for first in range(at, len(lines)):
         line = lines[first]
         ends_its_head = first == at or line.startswith(f"{indent})")
@@ -82,19 +89,20 @@ def body_of(lines, at, indent):
     return None
 
 
-def functions_of_file(text, file, modules):
-    lines, holder, found, cycle = text.split("\n"), "", [], None
+def functions_of_file(text: str, file: str, modules: Mapping[str, str]) -> list[Function]:
+    lines, holder, cycle = text.split("\n"), "", None
+    found: list[Function] = []
     for at, line in enumerate(lines):
         if found and at <= found[-1].end:
             continue
-        head = HEAD.match(line)
+        head, named = HEAD.match(line), CYCLE.match(line)
         if HOLDER.match(line):
             whole = at + next((k for k, it in enumerate(lines[at:]) if it.endswith("{")), 0)
             holder = holder_of(" ".join(it.strip() for it in lines[at : whole + 1]), module_of(file), modules)
         elif line == "}":
             holder = ""
-        elif CYCLE.match(line):
-            cycle = joined(module_of(file), f"+{CYCLE.match(line)[1]}")
+        elif named:
+            cycle = joined(module_of(file), f"+{named[1]}")
         elif head and (holder or not head[1]):
             body = body_of(lines, at, head[1])
             if body:
@@ -104,16 +112,16 @@ def functions_of_file(text, file, modules):
     return found
 
 
-def functions_of(texts):
+def functions_of(texts: Mapping[str, str]) -> list[Function]:
     """The functions with a body in the sources of a crate, but those of modules of tests."""
     modules = {name: module_of(file) for file, text in texts.items() for name in TYPE.findall(text)}
     return [it for file, text in texts.items() for it in functions_of_file(text, file, modules)]
 
 
-def without_bodies(texts, kept):
-    """The texts with a body that nothing can reach in place of each function's that is neither kept nor in a cycle of calls
-    with one that is; and the paths of the functions, and of the cycles, that lost theirs. What a caller rests on stands
-    above the body."""
+def without_bodies(texts: Mapping[str, str], kept: Collection[str]) -> tuple[dict[str, str], list[str]]:
+    """The texts with a body that nothing can reach in place of each function's that is neither kept nor in a cycle
+    of calls with one that is; and the paths of the functions, and of the cycles, that lost theirs. What a caller
+    rests on stands above the body."""
     functions = functions_of(texts)
     cycles = {it.cycle for it in functions if it.path in kept and it.cycle}
     left_out = [it for it in functions if it.path not in kept and it.cycle not in cycles]

@@ -1,12 +1,16 @@
 """How long a build has taken, and about how long the rest of it may."""
+
+from __future__ import annotations
+
 import os
 import time
+from typing import Any, Sequence
 
 # What a crate takes that has no line in the file, for each of its lines of code, in seconds.
 A_LINE = 0.3
 
 
-def measured_seconds():
+def measured_seconds() -> dict[str, float]:
     """What each crate took, on one processor of a machine of 2026."""
     found = {}
     with open(f"{os.path.dirname(os.path.abspath(__file__))}/build_seconds") as file:
@@ -21,50 +25,51 @@ class Clock:
     """A clock for the build of some crates: it guesses by the seconds that each took when it was measured, and by how
     much slower, or faster, those crates were that have been built now."""
 
-    def __init__(self, crates, processors):
+    def __init__(self, crates: Sequence[Any], processors: int) -> None:
         measured = measured_seconds()
         self.crates, self.processors, self.started = crates, processors, time.monotonic()
-        self.seconds = {it: measured.get(it.name) or 10 + A_LINE * it.count(rb"\n") for it in crates}
-        self.begun, self.done = {}, set()
+        self.seconds: dict[Any, float] = {it: measured.get(it.name) or 10 + A_LINE * it.count(rb"\n") for it in crates}
+        self.begun: dict[Any, float] = {}
+        self.done: set[Any] = set()
         self.took, self.guessed = 0.0, 0.0
 
-    def begins(self, crate):
+    def begins(self, crate: Any) -> str:
         """Notes that a crate begins, and gives the line that says so."""
         self.begun[crate] = time.monotonic()
         so_far, rest = (self.begun[crate] - self.started) / 60, self.rest() / 60
         place = f"[{len(self.begun)}/{len(self.crates)}] {crate.name}"
         return f"{place}, {minutes(so_far)} so far, some {minutes(rest)} more on this machine"
 
-    def ends(self, crate):
+    def ends(self, crate: Any) -> None:
         self.done.add(crate)
         self.took += time.monotonic() - self.begun[crate]
         self.guessed += self.seconds[crate]
 
-    def pace(self):
+    def pace(self) -> float:
         """How many seconds here make one as it was measured; at the start one."""
         return (self.took + 60) / (self.guessed + 60)
 
-    def left(self, crate):
+    def left(self, crate: Any) -> float:
         """What is left of a crate, in seconds as they were measured."""
         if crate in self.done:
             return 0.0
         passed = time.monotonic() - self.begun[crate] if crate in self.begun else 0.0
         return max(0.0, self.seconds[crate] - passed / self.pace())
 
-    def chains(self):
+    def chains(self) -> dict[Any, float]:
         """Of each crate what is left of it and of the longest chain of crates that wait for it."""
-        found = {}
+        found: dict[Any, float] = {}
         for crate in reversed(self.crates):
             above = [found[it] for it in found if crate in it.deps]
             found[crate] = self.left(crate) + max(above, default=0.0)
         return found
 
-    def rest(self):
+    def rest(self) -> float:
         """Seconds until all is built: of the longest chain, or of all that is left where that takes longer."""
         shared = sum(map(self.left, self.crates)) / self.processors
         return self.pace() * max(shared, *self.chains().values())
 
 
-def minutes(number):
+def minutes(number: float) -> str:
     whole = round(number)
     return "1 minute" if whole == 1 else f"{whole} minutes"

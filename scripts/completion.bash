@@ -1,4 +1,4 @@
-# Completes the words, flags and files of `console` and `rudekpi` in bash: `. scripts/completion.bash`.
+# Completes the words, flags and files of `console` and `rudekpi` in bash: `. scripts/completion.bash`. Made by scripts/completions.
 
 _rudekpi_commands='run audit picture epochs storm'
 # what the Python package has beside the words of the program
@@ -19,9 +19,16 @@ _rudekpi_files() {
 _rudekpi_flags() {
     case $1 in
         run) _rudekpi_words --rules --nodes --present --workers --help ;;
-        storm) _rudekpi_words --rules --nodes --present --workers --roam --turns --help ;;
+        audit) _rudekpi_words --help ;;
         picture) _rudekpi_words --entry --help ;;
-        audit | epochs) _rudekpi_words --help ;;
+        epochs) _rudekpi_words --help ;;
+        storm) _rudekpi_words --rules --nodes --present --workers --roam --turns --help ;;
+        sweep) _rudekpi_words --graph --undirected --rules --daemon --seeds --first-seed --faults --registers --joins --leaves --csv --plot --processes --dask --program --help ;;
+        compare) _rudekpi_words --graph --undirected --rules --daemon --seeds --first-seed --faults --registers --joins --leaves --csv --plot --processes --dask --program --help ;;
+        worst) _rudekpi_words --graph --undirected --rules --seconds --seed --transcript --output --program --help ;;
+        check) _rudekpi_words --help ;;
+        shell) _rudekpi_words --rules --nodes --present --program --help ;;
+        json) _rudekpi_words --program --help ;;
     esac
 }
 
@@ -36,11 +43,10 @@ _rudekpi_command() {
     done
 }
 
-# By the first word, of `rudekpi` also one of the Python package.
-_rudekpi_first_word() {
-    local bench=
-    [ "${COMP_WORDS[0]##*/}" = rudekpi ] && bench=$_rudekpi_bench
-    _rudekpi_words $_rudekpi_commands $bench help --help --version
+# The commands, of `rudekpi` also those of the Python package.
+_rudekpi_all() {
+    printf '%s' "$_rudekpi_commands"
+    [ "${COMP_WORDS[0]##*/}" != rudekpi ] || printf ' %s' "$_rudekpi_bench"
 }
 
 _rudekpi() {
@@ -53,16 +59,22 @@ _rudekpi() {
         before=${COMP_WORDS[COMP_CWORD - 2]}
     fi
     command=$(_rudekpi_command)
+    case " $(_rudekpi_all) help " in
+        *" $command "*) ;;
+        *) [ -z "$command" ] || return 0 ;;
+    esac
     case $before in
         *'<' | *'>') _rudekpi_files ;;
         --rules) _rudekpi_words hh manne ;;
-        # a number, which nobody can complete
-        --nodes | --present | --workers | --roam | --turns | --entry) ;;
+        --nodes | --present | --workers | --entry | --roam | --turns | --seeds | --first-seed | --faults | --joins | --leaves | --processes | --dask | --seconds | --seed) : a number, which nobody can complete ;;
+        --graph | --csv | --plot | --program | --output) _rudekpi_files ;;
+        --daemon) _rudekpi_words synchronous least greatest age seeded greedy helpful ;;
+        --registers) _rudekpi_words any pointer flag ;;
         *)
             case $command,$word in
-                ,*) _rudekpi_first_word ;;
-                help,*) _rudekpi_words $_rudekpi_commands ;;
-                storm,[!-]* | storm,) _rudekpi_files ;;
+                ,*) _rudekpi_words "$(_rudekpi_all)" help --help --version ;;
+                help,*) _rudekpi_words "$(_rudekpi_all)" ;;
+                storm,[!-]* | storm, | check,[!-]* | check, | json,[!-]* | json,) _rudekpi_files ;;
                 *) _rudekpi_flags "$command" ;;
             esac
             ;;

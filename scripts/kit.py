@@ -1,4 +1,7 @@
 """The Rattle kit's own library for its commands, which knows how a crate is checked and built."""
+
+from __future__ import annotations
+
 import importlib.machinery
 import importlib.util
 import os
@@ -6,23 +9,29 @@ import re
 import shutil
 import subprocess
 import sys
+import types
 
 WITHOUT = (
     "nothing is proved or built without it, and ./console runs as long as the sources are those of release/console"
 )
 
 
-def require():
+def require() -> None:
     """Ends the program, with a line that says so, where the kit is missing."""
     if shutil.which("rt") is None:
         sys.exit(f"{os.path.basename(sys.argv[0])}: the Rattle kit is missing (no rt in PATH): {WITHOUT}")
 
 
-def load():
+def load() -> types.ModuleType:
     require()
-    page = subprocess.run(["rt", "doc"], capture_output=True, text=True, check=True).stdout.strip()
+    try:
+        page = subprocess.run(["rt", "doc"], capture_output=True, text=True, check=True).stdout.strip()
+    except (OSError, subprocess.CalledProcessError) as wrong:
+        sys.exit(f"{os.path.basename(sys.argv[0])}: the Rattle kit does not run: {wrong}")
     loader = importlib.machinery.SourceFileLoader("rtlib", f"{os.path.dirname(page)}/bin/rtlib.py")
-    made = importlib.util.module_from_spec(importlib.util.spec_from_loader("rtlib", loader))
+    spec = importlib.machinery.ModuleSpec("rtlib", loader, origin=loader.path)
+    spec.has_location = True
+    made = importlib.util.module_from_spec(spec)
     sys.modules["rtlib"] = made
     loader.exec_module(made)
     # its first call sets a signal's handler, which only the main thread may
@@ -30,8 +39,8 @@ def load():
     return made
 
 
-def at_once():
+def at_once() -> int:
     """How many checks to run side by side: one a processor, as far as memory holds."""
     with open("/proc/meminfo") as file:
-        free = int(re.search(r"MemAvailable:\s+(\d+)", file.read())[1]) * 1024
+        free = int(re.findall(r"MemAvailable:\s+(\d+)", file.read())[0]) * 1024
     return max(1, min(len(os.sched_getaffinity(0)), int(free // 2_500_000_000)))

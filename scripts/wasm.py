@@ -1,15 +1,20 @@
 """The engine as a module for browsers: the LLVM module of the proved code, compiled for a 64-bit WebAssembly memory.
 
-The kit compiles no heap for that target, so this way is the repository's own: what comes out is tested, and not proved. The kit's
-build calls a compiler of its toolchain folder; given a folder whose compiler keeps what it is given, it leaves the LLVM module of
-the functions that it has just proved. That is turned to the other target and linked with viewer/wasm/heap.c.
+The kit compiles no heap for that target, so this way is the repository's own: what comes out is tested, and not
+proved. The kit's build calls a compiler of its toolchain folder; given a folder whose compiler keeps what it is
+given, it leaves the LLVM module of the functions that it has just proved. That is turned to the other target and
+linked with viewer/wasm/heap.c.
 """
-import os
+
+from __future__ import annotations
+
 import pathlib
 import re
 import shutil
 import subprocess
 import tempfile
+import types
+from typing import Any
 
 TOP = pathlib.Path(__file__).resolve().parent.parent
 CRATE = TOP / "crates" / "rudekpi_c"
@@ -44,11 +49,11 @@ exec "{clang}" "$@"
 """
 
 
-def run(*words, **how):
+def run(*words: object, **how: Any) -> subprocess.CompletedProcess[bytes]:
     return subprocess.run([str(word) for word in words], check=True, stdin=subprocess.DEVNULL, **how)
 
 
-def keeping_toolchain(kit, folder, kept):
+def keeping_toolchain(kit: str, folder: pathlib.Path, kept: pathlib.Path) -> pathlib.Path:
     """The kit's toolchain folder, whose compiler keeps what it compiles."""
     theirs = pathlib.Path(kit, "toolchain")
     (folder / "bin").mkdir(parents=True)
@@ -62,8 +67,9 @@ def keeping_toolchain(kit, folder, kept):
     return folder
 
 
-def is_wanting():
-    """Whether the library for C or its LLVM module is not there, or was built before a source that it may stand on was changed."""
+def is_wanting() -> bool:
+    """Whether the library for C or its LLVM module is not there, or was built before a source that it may stand on
+    was changed."""
     if not BUILT.exists() or not KEPT.exists():
         return True
     parts = [path for part in ("src", "specs", "proofs") for path in TOP.glob(f"crates/*/{part}")]
@@ -73,9 +79,9 @@ def is_wanting():
     return found.stdout != b""
 
 
-def build(rtlib):
-    """Proves and builds the library for C on the libraries below it as they lie there, and keeps its LLVM module, where one of the two
-    is wanting."""
+def build(rtlib: types.ModuleType) -> None:
+    """Proves and builds the library for C on the libraries below it as they lie there, and keeps its LLVM module,
+    where one of the two is wanting."""
     if not is_wanting():
         return
     crate = next(it for it in rtlib.crates_below(str(TOP)) if it.name == CRATE.name)
@@ -88,14 +94,14 @@ def build(rtlib):
         shutil.copyfile(fresh, KEPT)
 
 
-def turned(text):
+def turned(text: str) -> str:
     """An LLVM module as text, for the other target."""
     text = re.sub(r'^target datalayout = ".*"$', f'target datalayout = "{LAYOUT}"', text, flags=re.MULTILINE)
     text = re.sub(r'^target triple = ".*"$', f'target triple = "{TARGET}"', text, flags=re.MULTILINE)
     return re.sub(r"^attributes #\d+ = \{.*$", lambda line: PROCESSOR.sub("", line[0]), text, flags=re.MULTILINE)
 
 
-def module_of(rtlib):
+def module_of(rtlib: types.ModuleType) -> bytes:
     """The bytes of the WebAssembly module, made of the LLVM module that was kept."""
     tools = pathlib.Path(rtlib.KIT, "toolchain", "bin")
     with tempfile.TemporaryDirectory() as made:

@@ -1,4 +1,7 @@
-"""A headless browser that is driven through a pair of pipes (the DevTools protocol), with the standard library alone."""
+"""A headless browser that is driven through a pair of pipes (the DevTools protocol), with the standard library
+alone."""
+from __future__ import annotations
+
 import json
 import os
 import select
@@ -6,8 +9,20 @@ import shutil
 import subprocess
 import tempfile
 import time
+from typing import Any, Sequence
 
+PROBES = os.path.join(os.path.dirname(os.path.abspath(__file__)), "page_probes.js")
 NAMES = ["chromium", "chromium-browser", "google-chrome"]
+# code, number and text of keys that are no letters
+KEYS = {
+    "Enter": ("Enter", 13, "\r"),
+    "Escape": ("Escape", 27, ""),
+    "ArrowLeft": ("ArrowLeft", 37, ""),
+    "ArrowUp": ("ArrowUp", 38, ""),
+    "ArrowRight": ("ArrowRight", 39, ""),
+    "ArrowDown": ("ArrowDown", 40, ""),
+    " ": ("Space", 32, " "),
+}
 WORDS = [
     "--headless=new",
     "--no-sandbox",
@@ -34,22 +49,26 @@ class PageFault(Exception):
     """An expression failed in the page."""
 
 
-def browser_path():
+def browser_path() -> str | None:
     """Where a browser is, or None."""
-    return next((path for path in map(shutil.which, NAMES) if path), None)
+    found = (shutil.which(name) for name in NAMES)
+    return next((path for path in found if path), None)
 
 
 class Browser:
-    """One browser with one page. What goes wrong in the page, and what it fetches, is kept in `complaints` and `fetched`."""
+    """One browser with one page. What goes wrong in the page, and what it fetches, is kept in `complaints` and
+    `fetched`."""
 
-    def __init__(self, path, wait=60, width=1280, height=900):
+    def __init__(self, path: str, wait: float = 60, width: int = 1280, height: int = 900) -> None:
         self.wait, self.left, self.number = wait, b"", 0
-        self.complaints, self.fetched, self.seen = [], [], []
+        self.complaints: list[str] = []
+        self.fetched: list[str] = []
+        self.seen: list[str] = []
         self.home = tempfile.TemporaryDirectory(prefix="rudekpi-browser-", ignore_cleanup_errors=True)
         commands_out, self.commands = os.pipe()
         self.replies, replies_in = os.pipe()
 
-        def wire():
+        def wire() -> None:
             # first out of the way, since one of the four may be 3 or 4
             ends = [os.dup(commands_out), os.dup(replies_in)]
             os.dup2(ends[0], 3)
@@ -60,17 +79,19 @@ class Browser:
         self.run = subprocess.Popen(words, stdin=quiet, stdout=quiet, stderr=quiet, close_fds=False, preexec_fn=wire)
         os.close(commands_out)
         os.close(replies_in)
-        self.session = None
+        self.session: str | None = None
         targets = self.call("Target.getTargets")["targetInfos"]
         page = next(target["targetId"] for target in targets if target["type"] == "page")
         self.session = self.call("Target.attachToTarget", targetId=page, flatten=True)["sessionId"]
         for domain in ["Page", "Runtime", "Log", "Network"]:
             self.call(f"{domain}.enable")
+        with open(PROBES, encoding="utf-8") as file:
+            self.before_pages(file.read())
 
-    def __enter__(self):
+    def __enter__(self) -> Browser:
         return self
 
-    def __exit__(self, *_):
+    def __exit__(self, *_: object) -> None:
         try:
             self.session = None
             self.call("Browser.close")
@@ -82,7 +103,7 @@ class Browser:
         os.close(self.replies)
         self.home.cleanup()
 
-    def message(self, until):
+    def message(self, until: float) -> Any:
         while b"\0" not in self.left:
             ready, _, _ = select.select([self.replies], [], [], max(0, until - time.monotonic()))
             part = os.read(self.replies, 1 << 20) if ready else b""
@@ -92,7 +113,7 @@ class Browser:
         text, self.left = self.left.split(b"\0", 1)
         return json.loads(text)
 
-    def note(self, event):
+    def note(self, event: dict[str, Any]) -> None:
         """Keeps what an event tells."""
         method, told = event["method"], event.get("params", {})
         if method == "Runtime.exceptionThrown":
@@ -107,7 +128,7 @@ class Browser:
         else:
             self.seen.append(method)
 
-    def call(self, method, **words):
+    def call(self, method: str, **words: Any) -> Any:
         self.number += 1
         order = {"id": self.number, "method": method, "params": words}
         if self.session:
@@ -123,7 +144,7 @@ class Browser:
             if "method" in said:
                 self.note(said)
 
-    def open(self, path):
+    def open(self, path: str) -> None:
         """Opens a file, and forgets what was complained of before."""
         self.complaints, self.fetched, self.seen = [], [], []
         self.call("Page.navigate", url=f"file://{path}")
@@ -133,7 +154,29 @@ class Browser:
             if "method" in said:
                 self.note(said)
 
-    def value(self, expression):
+    def before_pages(self, source: str) -> str:
+        """Has a script run in each page that is opened from now on, before its own; returns what `forget` takes."""
+        made = self.call("Page.addScriptToEvaluateOnNewDocument", source=source)
+        return str(made["identifier"])
+
+    def forget(self, script: str) -> None:
+        self.call("Page.removeScriptToEvaluateOnNewDocument", identifier=script)
+
+    def ask(self, probe: str, *words: Any) -> Any:
+        """What a probe of page_probes.js returns."""
+        return self.value(f"probes.{probe}({', '.join(json.dumps(word) for word in words)})")
+
+    def reload(self) -> None:
+        """Loads the page again, as its reader does."""
+        self.seen = []
+        self.call("Page.reload")
+        until = time.monotonic() + self.wait
+        while "Page.loadEventFired" not in self.seen:
+            said = self.message(until)
+            if "method" in said:
+                self.note(said)
+
+    def value(self, expression: str) -> Any:
         """What an expression is in the page."""
         made = self.call("Runtime.evaluate", expression=expression, returnByValue=True, awaitPromise=True)
         if "exceptionDetails" in made:
@@ -141,39 +184,54 @@ class Browser:
             raise PageFault(details.get("exception", {}).get("description", details["text"]))
         return made["result"].get("value")
 
-    def key(self, key, code, number, text=""):
+    def key(self, key: str, code: str, number: int, text: str = "") -> None:
         """Presses and releases a key."""
         words = {"key": key, "code": code, "windowsVirtualKeyCode": number}
         self.call("Input.dispatchKeyEvent", type="keyDown" if text else "rawKeyDown", text=text, **words)
         self.call("Input.dispatchKeyEvent", type="keyUp", **words)
 
-    def click(self, x, y):
+    def click(self, x: float, y: float) -> None:
         words = {"x": x, "y": y, "button": "left", "clickCount": 1}
         self.call("Input.dispatchMouseEvent", type="mousePressed", buttons=1, **words)
         self.call("Input.dispatchMouseEvent", type="mouseReleased", **words)
 
-    def move(self, x, y):
+    def press(self, name: str) -> None:
+        """Presses and releases a key by its name, as `browser.KEYS` or a character has it."""
+        code, number, text = KEYS.get(name, ("", ord(name[0].upper()), name))
+        self.key(name, code or f"Key{name.upper()}", number, text)
+
+    def drag(self, start: tuple[float, float], end: tuple[float, float]) -> None:
+        """Drags the mouse from one place to another."""
+        (x1, y1), (x2, y2) = start, end
+        held = {"button": "left", "buttons": 1}
+        self.move(x1, y1)
+        self.call("Input.dispatchMouseEvent", type="mousePressed", x=x1, y=y1, clickCount=1, **held)
+        for x, y in [((x1 + x2) / 2, (y1 + y2) / 2), (x2, y2)]:
+            self.call("Input.dispatchMouseEvent", type="mouseMoved", x=x, y=y, **held)
+        self.call("Input.dispatchMouseEvent", type="mouseReleased", x=x2, y=y2, button="left", clickCount=1)
+
+    def move(self, x: float, y: float) -> None:
         """Moves the mouse, no button held."""
         self.call("Input.dispatchMouseEvent", type="mouseMoved", x=x, y=y)
 
-    def touch(self, kind, *places):
+    def touch(self, kind: str, *places: Sequence[float]) -> None:
         """What fingers do: `Start`, `Move` or `End`, with the places of all that touch then."""
         points = [{"x": x, "y": y, "id": number} for number, (x, y) in enumerate(places)]
         self.call("Input.dispatchTouchEvent", type=f"touch{kind}", touchPoints=points)
 
-    def fingers(self, wanted):
+    def fingers(self, wanted: bool) -> None:
         """Whether the window is one that is touched."""
         self.call("Emulation.setTouchEmulationEnabled", enabled=wanted, maxTouchPoints=2)
 
-    def save_into(self, folder):
+    def save_into(self, folder: str) -> None:
         """What pages save from now on goes into a folder."""
         self.call("Browser.setDownloadBehavior", behavior="allow", downloadPath=folder)
 
-    def window(self, width, height, dark=False):
+    def window(self, width: int, height: int, dark: bool = False) -> None:
         self.call("Emulation.setDeviceMetricsOverride", width=width, height=height, deviceScaleFactor=1, mobile=False)
         scheme = {"name": "prefers-color-scheme", "value": "dark" if dark else "light"}
         self.call("Emulation.setEmulatedMedia", features=[scheme])
 
-    def screenshot(self, whole=False):
+    def screenshot(self, whole: bool = False) -> str:
         """The page as a PNG, in base64."""
-        return self.call("Page.captureScreenshot", format="png", captureBeyondViewport=whole)["data"]
+        return str(self.call("Page.captureScreenshot", format="png", captureBeyondViewport=whole)["data"])

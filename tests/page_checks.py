@@ -6,9 +6,9 @@ CELL = 300
 LINE = 160
 PAGES = {
     "README.md": 140,
-    "docs/PROMISES.md": 160,
-    "docs/DECISIONS.md": 260,
-    "docs/ARCHITECTURE.md": 210,
+    "docs/PROMISES.md": 150,
+    "docs/DECISIONS.md": 250,
+    "docs/ARCHITECTURE.md": 200,
 }
 FUNCTION = re.compile(r"^\s*(?:pub(?:\(crate\))? )?(?:const )?(?:extern \"C\" )?fn (\w+)", re.M)
 CLAUSE = re.compile(r"^\s*ensures (?:(\w+) )?\{", re.M)

@@ -1,4 +1,8 @@
-"""What hands do with a page that plays a transcript: they point, tap, type, pinch, save and go back; each is tried in a browser."""
+"""What hands do with a page that plays a transcript: they point, tap, type, pinch, save and go back; each is tried
+in a browser."""
+
+from __future__ import annotations
+
 import os
 import re
 import shutil
@@ -7,8 +11,9 @@ import struct
 import time
 import xml.etree.ElementTree as ElementTree
 import zlib
+from typing import Any
 
-from browser import PageFault
+from browser import Browser, PageFault
 
 RING = b"""matching hh 5
 1 link 1 2 = ok
@@ -21,82 +26,62 @@ RING = b"""matching hh 5
 8 point 3 2 = ok
 """
 PAIR = b"matching manne 3\n1 link 1 2 = ok\n2 link 2 3 = ok\n3 step 1 = 1:seduce>2\n4 flag 3 1 = ok\n"
-BASE = b"matching2 hh 3\nbase 822 spent=1 nodes=3 edges=1\nnode 1 2 0\nnode 2 - 0\nnode 3 - 0\nedge 1 2\n823 step 2 = 2:marry>1\n"
+BASE = b"""matching2 hh 3
+base 822 spent=1 nodes=3 edges=1
+node 1 2 0
+node 2 - 0
+node 3 - 0
+edge 1 2
+823 step 2 = 2:marry>1
+"""
 SVG = "{http://www.w3.org/2000/svg}"
-# the middle of what a selector names, in pixels of the window
-PLACE = """(() => {
-  const box = document.querySelector(%r).getBoundingClientRect();
-  return [box.left + box.width / 2, box.top + box.height / 2];
-})()"""
-CARD = """(() => {
-  const card = document.getElementById("card");
-  if (card.hidden) return null;
-  const text = (id) => document.getElementById(id).textContent;
-  return [text("card-heading"), text("card-rule"), Object.fromEntries([...card.querySelectorAll("#card-rows > div")].map((row) => [row.children[0].textContent, row.children[1].textContent]))];
-})()"""
-# how much of the drawing's height and width its nodes take, and what stands where
-SHARES = """(() => {
-  const box = document.getElementById("graph").getBoundingClientRect();
-  const nodes = [...document.querySelectorAll(".nodes .body")].map((node) => node.getBoundingClientRect());
-  const most = (key) => Math.max(...nodes.map((node) => node[key])), least = (key) => Math.min(...nodes.map((node) => node[key]));
-  return [(most("right") - least("left")) / box.width, (most("bottom") - least("top")) / box.height];
-})()"""
-COVERED = """[...document.querySelectorAll("#entry p, #figures dd")].filter((part) => {
-  const box = part.getBoundingClientRect();
-  return document.elementFromPoint(box.left + box.width / 2, box.top + box.height / 2) !== part;
-}).map((part) => part.id)"""
-# numbers of four digits and more that are not grouped by commas, and other signs between digits; a transcript's own lines are left out
-UNGROUPED = """[...document.querySelectorAll("body *:not(script, style, #event, #reply, #near *, #judged)")].flatMap((part) =>
-  [...part.childNodes].filter((node) => node.nodeType === 3).map((node) => node.data)).filter((text) => /\\d{4}|\\d[\\u202f\\u2009 ]\\d/.test(text))"""
-BOX = "document.getElementById('graph').getAttribute('viewBox').split(' ').map(Number)"
 
 
-def place(browser, selector):
-    return browser.value(PLACE % selector)
+def place(browser: Browser, selector: str) -> Any:
+    return browser.ask("place", selector)
 
 
-def edge_place(browser, low, high):
+def edge_place(browser: Browser, low: int, high: int) -> Any:
     """A place on an edge of the drawing."""
     return place(browser, f"[data-ends='{low}-{high}']")
 
 
-def waited(browser, expression, wanted, seconds=10):
-    """What an expression is in the page, once it is what is wanted or so many seconds have passed."""
+def waited(browser: Browser, wanted: Any, probe: str, *words: Any, seconds: float = 10) -> Any:
+    """What a probe returns in the page, once it is what is wanted or so many seconds have passed."""
     until = time.monotonic() + seconds
-    while (came := browser.value(expression)) != wanted and time.monotonic() < until:
+    while (came := browser.ask(probe, *words)) != wanted and time.monotonic() < until:
         time.sleep(0.05)
     return came
 
 
-def fills(pages, browser):
+def fills(pages: Any, browser: Browser) -> None:
     """A small network fills the drawing; one that is too large to draw leaves no empty box."""
     browser.open(pages.write(RING))
-    wide, high = browser.value(SHARES)
+    wide, high = browser.ask("shares")
     pages.expect("a ring of five fills the drawing", (high > 0.75, wide > 0.4), (True, True))
     links = "".join(f"{v} link {v} {v + 1} = ok\n" for v in range(1, 30))
     browser.open(pages.write(f"matching hh 2500\n{links}".encode()))
-    network, plots, window = browser.value(
-        """["#network", "#plots", "body"].map((name) => document.querySelector(name).clientHeight)"""
-    )
+    network, plots, window = browser.ask("heights", "#network", "#plots", "body")
     pages.expect("plots in place of a drawing", (network < 0.15 * window, plots > 0.6 * window), (True, True))
-    said = browser.value("document.getElementById('undrawn').textContent")
+    said = browser.ask("text", "#undrawn")
     pages.expect(
         "what is said there",
         said.startswith("2,500 nodes: up to 2,000 are drawn. The plots of the whole transcript"),
         True,
     )
+    browser.key("Home", "Home", 36)
     type_number(browser, "3")
-    pages.expect("a node that is not drawn", browser.value(CARD)[2]["neighbours"], "none")
+    pages.expect("a node that is not drawn", browser.ask("card")[2]["neighbours"], "none")
     browser.key("End", "End", 35)
-    browser.value("document.getElementById('last').click()")
-    pages.expect("a node that is not drawn, at the end", browser.value(CARD)[2]["neighbours"], "2 and 4")
+    browser.ask("press", "#last")
+    pages.expect("a node that is not drawn, at the end", browser.ask("card")[2]["neighbours"], "2 and 4")
     pages.expect("complaints of a page without a drawing", browser.complaints, [])
 
 
-def titles(pages, browser):
+def titles(pages: Any, browser: Browser) -> None:
     """The title says what is played, and a base is told with its number."""
     for text, title, entry in [
-        (RING, "hh: 5 nodes, 8 entries", ["the opening state", "no entry yet", "0"]),
+        (RING, "hh: 5 nodes, 8 entries", ["step 1>2", "1:seduce>2", "6"]),
         (b"matching manne 1\n1 show 1 = -\n", "manne: 1 node, 1 entry", ["the opening state", "no entry yet", "0"]),
         (
             BASE,
@@ -105,12 +90,12 @@ def titles(pages, browser):
         ),
     ]:
         browser.open(pages.write(text))
-        pages.expect(f"the title {title}", browser.value("document.title"), title)
-        shown = browser.value("['event', 'reply', 'number'].map((id) => document.getElementById(id).textContent)")
+        pages.expect(f"the title {title}", browser.ask("title"), f"{title} – Rudekpi")
+        shown = browser.ask("texts", "#event", "#reply", "#number")
         pages.expect(f"where it opens: {title}", shown, entry)
 
 
-def long_one(pages, browser):
+def long_one(pages: Any, browser: Browser) -> None:
     """Of many entries the plots are lines of means with a band, and digits are grouped in one way."""
     script = "".join(f"link {v} {v % 60 + 1}\n" for v in range(1, 61)) + "".join(
         f"scramble {k} 7\ndrive {k} 900\n" for k in range(1, 1500)
@@ -119,93 +104,85 @@ def long_one(pages, browser):
     browser.open(pages.write(text))
     entries = text.count(b"\n") - 1
     pages.expect("there are many entries", entries > 20_000, True)
-    shapes = browser.value(
-        """["line", "range"].map((kind) => [...document.querySelectorAll(`#budget .${kind}`)].map((path) => path.getAttribute("d").split(/[LHV]/).length))"""
-    )
+    shapes = browser.ask("pathLengths")
     pages.expect(
         "lines and bands are short", [max(counts) <= 1_300 and len(counts) == 3 for counts in shapes], [True, True]
     )
-    bands = browser.value(
-        "[document.querySelectorAll('#budget .epoch').length, getComputedStyle(document.querySelector('.key.epoch')).display]"
-    )
+    bands = [browser.ask("count", "#budget .epoch"), browser.ask("style", ".key.epoch", "display")]
     pages.expect("no bands of epochs that can't be told apart", bands, [0, "none"])
-    said = browser.value("document.querySelector('.shared').textContent")
+    said = browser.ask("text", ".shared")
     pages.expect("what a line is", bool(re.fullmatch(r"mean and range of [\d,]+ entries", said)), True)
-    browser.value("document.getElementById('last').click()")
-    pages.expect("digits that are grouped otherwise", browser.value(UNGROUPED), [])
-    pages.expect(
-        "the number of the last entry", browser.value("document.getElementById('number').textContent"), f"{entries:,}"
-    )
+    browser.ask("press", "#last")
+    pages.expect("digits that are grouped otherwise", browser.ask("ungrouped"), [])
+    pages.expect("the number of the last entry", browser.ask("text", "#number"), f"{entries:,}")
 
 
-def phone(pages, browser):
+def phone(pages: Any, browser: Browser) -> None:
     """On a phone the bar covers nothing of the entry and the figures, and all can be scrolled to."""
-    tools = "[...document.querySelectorAll('.tools input, .tools button')].map((part) => Math.round(part.getBoundingClientRect().top))"
     path = pages.write(RING)
     for width, height in [(320, 568), (360, 640), (390, 844), (640, 360)]:
         browser.window(width, height, width == 390)
         browser.open(path)
-        browser.value("document.getElementById('last').click()")
+        browser.ask("press", "#last")
         if height >= 640:
-            pages.expect(f"what the bar covers, {width} by {height}", browser.value(COVERED), [])
+            pages.expect(f"what the bar covers, {width} by {height}", browser.ask("covered"), [])
         for part in ["#figures", "#judged", "#counts"]:
-            browser.value(f"document.querySelector('{part}').scrollIntoView({{ block: 'end' }})")
-            lowest = browser.value(
-                f"document.querySelector('{part}').getBoundingClientRect().bottom <= document.querySelector('nav').getBoundingClientRect().top + 1"
-            )
+            browser.ask("show", part, "end")
+            lowest = browser.ask("isAbove", part, "nav")
             pages.expect(f"{part} above the bar, {width} by {height}", lowest, True)
         pages.expect(
-            f"the tools in one row, {width} by {height}", max(found := browser.value(tools)) - min(found) < 6, True
+            f"the tools in one row, {width} by {height}",
+            max(found := browser.ask("tops", ".tools input, .tools button")) - min(found) < 6,
+            True,
         )
-        pages.expect(
-            f"nothing is wider, {width} by {height}", browser.value("document.documentElement.scrollWidth"), width
-        )
+        pages.expect(f"nothing is wider, {width} by {height}", browser.ask("widest"), width)
     browser.window(1280, 900)
 
 
-def addresses(pages, browser):
+def addresses(pages: Any, browser: Browser) -> None:
     """Each step is soon in the address, and leads back; a hundred at once are one."""
     path = pages.write(RING)
     browser.open(path)
-    pages.expect("no number before a step", browser.value("location.hash"), "")
-    length = browser.value("history.length")
-    for _ in range(3):
-        browser.key("ArrowRight", "ArrowRight", 39)
-    pages.expect("the third entry's address", waited(browser, "location.hash", "#3"), "#3")
+    pages.expect("no number before a step", browser.ask("address"), "")
+    length = browser.ask("historyLength")
+    browser.key("ArrowRight", "ArrowRight", 39)
+    for _ in range(4):
+        browser.key("ArrowLeft", "ArrowLeft", 37)
+    pages.expect("the third entry's address", waited(browser, "#3", "address"), "#3")
     for _ in range(60):
         browser.key("ArrowLeft", "ArrowLeft", 37)
         browser.key("ArrowRight", "ArrowRight", 39)
     browser.key("End", "End", 35)
-    pages.expect("the last entry's address", waited(browser, "location.hash", "#8"), "#8")
-    pages.expect("steps that are no history", browser.value("history.length"), length)
+    pages.expect("the last entry's address", waited(browser, "#8", "address"), "#8")
+    pages.expect("steps that are no history", browser.ask("historyLength"), length)
     pages.expect("complaints of stepping", browser.complaints, [])
     again = os.path.join(pages.folder, "again.html")
     shutil.copyfile(path, again)
     browser.open(f"{again}#7")
-    pages.expect("an address leads back", browser.value("document.body.dataset.entry"), "7")
-    browser.value("location.hash = '#2'")
-    pages.expect("an address that is typed", waited(browser, "document.body.dataset.entry", "2"), "2")
+    pages.expect("an address leads back", browser.ask("entry"), "7")
+    browser.ask("goTo", "#2")
+    pages.expect("an address that is typed", waited(browser, "2", "entry"), "2")
 
 
-def pinches(pages, browser):
+def pinches(pages: Any, browser: Browser) -> None:
     """Two fingers bring the drawing nearer where they are, and move it; one finger moves it then."""
     browser.window(390, 844)
     browser.fingers(True)
     browser.open(pages.write(RING))
     x, y = place(browser, "#graph")
-    whole = browser.value(BOX)
+    whole = browser.ask("viewBox")
     browser.touch("Start", (x - 30, y))
     browser.touch("Start", (x - 30, y), (x + 30, y))
     for step in range(1, 7):
         browser.touch("Move", (x - 30 - 5 * step, y), (x + 30 + 5 * step, y))
-    near = browser.value(BOX)
+    near = browser.ask("viewBox")
     pages.expect("two fingers apart: twice as near", round(whole[2] / near[2], 2), 2.0)
     middle = [round(box[0] + box[2] / 2, 1) for box in (whole, near)]
     pages.expect("the middle stays between them", abs(middle[0] - middle[1]) < 1, True)
     for step in range(1, 5):
         browser.touch("Move", (x - 60 + 10 * step, y), (x + 60 + 10 * step, y))
-    moved = browser.value(BOX)
-    unit = near[2] / browser.value("document.getElementById('graph').clientWidth")
+    moved = browser.ask("viewBox")
+    unit = near[2] / browser.ask("width", "#graph")
     pages.expect(
         "two fingers to the right: moved along",
         (round(moved[2], 1), moved[0] < near[0] - 30 * unit),
@@ -216,24 +193,24 @@ def pinches(pages, browser):
     for step in range(1, 5):
         browser.touch("Move", (x - 10 * step, y))
     browser.touch("End")
-    dragged = browser.value(BOX)
+    dragged = browser.ask("viewBox")
     pages.expect("one finger to the left", (round(dragged[2], 1), dragged[0] > moved[0]), (round(moved[2], 1), True))
-    pages.expect("nothing is picked by that", browser.value(CARD), None)
-    browser.value("document.getElementById('zoom-fit').click()")
+    pages.expect("nothing is picked by that", browser.ask("card"), None)
+    browser.ask("press", "#zoom-fit")
     browser.touch("Start", place(browser, "[data-node='3'] .body"))
     browser.touch("End")
-    pages.expect("a tap tells of a node", browser.value(CARD)[0], "Node 3")
+    pages.expect("a tap tells of a node", browser.ask("card")[0], "Node 3")
     browser.touch("Start", place(browser, "[data-node='3'] .body"))
     browser.touch("End")
-    pages.expect("a second tap lets go", browser.value(CARD), None)
+    pages.expect("a second tap lets go", browser.ask("card"), None)
     browser.fingers(False)
     browser.window(1280, 900)
     pages.expect("complaints of fingers", browser.complaints, [])
 
 
-def type_number(browser, digits):
+def type_number(browser: Browser, digits: str) -> None:
     """Types a node's number into the field, to which a key leads."""
-    browser.value("document.activeElement.blur()")
+    browser.ask("blur")
     browser.key("f", "KeyF", 70, "f")
     for digit in digits:
         browser.key(digit, f"Digit{digit}", ord(digit), digit)
@@ -263,32 +240,32 @@ SUITED = {
 }
 
 
-def tells(pages, browser):
+def tells(pages: Any, browser: Browser) -> None:
     """A node and an edge under the mouse, picked by a click, by keys or by number, tell what they hold."""
     browser.open(pages.write(RING))
     browser.key("End", "End", 35)
     browser.move(*place(browser, "[data-node='3'] .body"))
-    pages.expect("a node under the mouse", browser.value(CARD), ["Node 3", "abandon", WAITING])
+    pages.expect("a node under the mouse", browser.ask("card"), ["Node 3", "abandon", WAITING])
     browser.move(*edge_place(browser, 4, 5))
     pages.expect(
         "an edge under the mouse",
-        browser.value(CARD)[:1] + [browser.value(CARD)[2]["charge"]],
+        browser.ask("card")[:1] + [browser.ask("card")[2]["charge"]],
         [
             "Edge 4 – 5",
             "2: it is open, since neither end is married or waits for the other, and they are not both courted",
         ],
     )
     browser.move(*place(browser, "#judged"))
-    pages.expect("nothing under the mouse", browser.value(CARD), None)
+    pages.expect("nothing under the mouse", browser.ask("card"), None)
     browser.click(*place(browser, "[data-node='1'] .body"))
     browser.move(*place(browser, "#judged"))
-    pages.expect("a node that was clicked", browser.value(CARD), ["Node 1", "", MARRIED])
+    pages.expect("a node that was clicked", browser.ask("card"), ["Node 1", "", MARRIED])
     browser.key("Home", "Home", 36)
-    pages.expect("a picked node at another entry", browser.value(CARD)[2]["not enabled"], "since it has no neighbour")
+    pages.expect("a picked node at another entry", browser.ask("card")[2]["not enabled"], "since it has no neighbour")
     browser.key("Escape", "Escape", 27)
-    pages.expect("what is let go", browser.value(CARD), None)
+    pages.expect("what is let go", browser.ask("card"), None)
     browser.key("End", "End", 35)
-    browser.value("document.getElementById('graph').focus()")
+    browser.ask("focus", "#graph")
     walked = []
     for key, code, number, text in [
         ("ArrowDown", "ArrowDown", 40, ""),
@@ -297,7 +274,7 @@ def tells(pages, browser):
         ("ArrowUp", "ArrowUp", 38, ""),
     ]:
         browser.key(key, code, number, text)
-        walked.append(browser.value(CARD)[0])
+        walked.append(browser.ask("card")[0])
     pages.expect(
         "from node to node and to its edges by keys",
         walked,
@@ -305,21 +282,21 @@ def tells(pages, browser):
     )
     browser.click(*edge_place(browser, 4, 5))
     browser.key("e", "KeyE", 69, "e")
-    pages.expect("the next edge of a clicked edge's lower end", browser.value(CARD)[0], "Edge 3 – 4")
+    pages.expect("the next edge of a clicked edge's lower end", browser.ask("card")[0], "Edge 3 – 4")
     browser.open(pages.write(PAIR))
     browser.key("End", "End", 35)
     type_number(browser, "2")
-    pages.expect("a node by its number, under manne", browser.value(CARD), ["Node 2", "marry", SUITED])
+    pages.expect("a node by its number, under manne", browser.ask("card"), ["Node 2", "marry", SUITED])
     type_number(browser, "9")
     pages.expect(
         "no such node",
-        (browser.value(CARD), browser.value("document.getElementById('find').validationMessage")),
+        (browser.ask("card"), browser.ask("validity", "#find")),
         (None, "names are 1 to 3"),
     )
     pages.expect("complaints of telling", browser.complaints, [])
 
 
-def colours_of(png):
+def colours_of(png: bytes) -> tuple[int, int, int]:
     """Width, height and some of the bytes of a picture's lines."""
     width, height = struct.unpack(">II", png[16:24])
     at, data = 8, b""
@@ -330,7 +307,7 @@ def colours_of(png):
     return width, height, len(set(zlib.decompress(data)))
 
 
-def saved(folder, name, seconds=20):
+def saved(folder: str, name: str, seconds: float = 20) -> bytes:
     """A file that a page saves."""
     until = time.monotonic() + seconds
     path = os.path.join(folder, name)
@@ -340,15 +317,16 @@ def saved(folder, name, seconds=20):
         return file.read()
 
 
-def saves(pages, browser):
-    """The picture is saved as an SVG file that needs no page, with all names, and as a PNG that is finer than the page."""
+def saves(pages: Any, browser: Browser) -> None:
+    """The picture is saved as an SVG file that needs no page, with all names, and as a PNG that is finer than the
+    page."""
     browser.save_into(pages.folder)
     browser.open(pages.write(RING))
     browser.key("End", "End", 35)
     browser.click(*place(browser, "#save-svg"))
     browser.click(*place(browser, "#save-png"))
     picture = ElementTree.fromstring(saved(pages.folder, "matching-hh-5-entry-8.svg"))
-    names = sorted(text.text for text in picture.iter(f"{SVG}text"))
+    names = sorted(text.text or "" for text in picture.iter(f"{SVG}text"))
     pages.expect(
         "the names in the SVG, and the marks of the enabled nodes",
         names,
@@ -360,17 +338,18 @@ def saves(pages, browser):
         ({"rgb(0, 102, 166)", "rgb(255, 255, 255)"} <= fills_of, b"class" in ElementTree.tostring(picture)),
         (True, False),
     )
-    pages.expect("the title of the SVG", picture.find(f"{SVG}title").text, "hh: 5 nodes, 8 entries: after entry 8")
+    pages.expect("the title of the SVG", picture.findtext(f"{SVG}title"), "hh: 5 nodes, 8 entries: after entry 8")
     width, height, colours = colours_of(saved(pages.folder, "matching-hh-5-entry-8.png"))
-    wide, high = (float(number) for number in picture.get("viewBox").split(" ")[2:])
+    wide, high = (float(number) for number in picture.get("viewBox", "").split(" ")[2:])
     pages.expect(
         "the PNG", (width >= 1600, round(width / height, 1), colours > 20), (True, round(wide / high, 1), True)
     )
     links = "".join(f"{v} link {v} {v + 1} = ok\n" for v in range(1, 900))
     browser.open(pages.write(f"matching hh 900\n{links}".encode()))
+    browser.key("Home", "Home", 36)
     pages.expect(
         "names that are too small to be read",
-        browser.value("getComputedStyle(document.querySelector('.name')).display"),
+        browser.ask("style", ".name", "display"),
         "none",
     )
     browser.click(*place(browser, "#save-svg"))
@@ -394,14 +373,19 @@ HOSTILE = [
 WRONG_LINES = [1, 2, 3, 3, 4, 1]
 
 
-def judges(pages, browser):
-    """The foot of a page names its judge; text that a false judge lets in runs nothing, and is told to be no transcript."""
-    browser.open(pages.write(RING))
-    foot = browser.value("document.getElementById('judged').textContent")
+def judges(pages: Any, browser: Browser) -> None:
+    """The foot of a page names its judge; text that a false judge lets in runs nothing, and is told to be no
+    transcript."""
+    named = os.path.join(pages.folder, "judge")
+    with open(named, "w", encoding="ascii") as file:
+        file.write(f'#!/bin/sh\nexec "{pages.program}" "$@"\n')
+    os.chmod(named, stat.S_IRWXU)
+    browser.open(pages.write(RING, named))
+    foot = browser.ask("text", "#judged")
     pages.expect(
         "the judge that was named",
         (
-            foot.startswith(f"Judged by {pages.program} audit, which whoever made this page named"),
+            foot.startswith(f"Judged by {named} audit, which whoever made this page named"),
             "counts otherwise" in foot,
         ),
         (True, False),
@@ -416,19 +400,17 @@ def judges(pages, browser):
     os.chmod(false, stat.S_IRWXU)
     for text, line in zip(HOSTILE, WRONG_LINES, strict=True):
         browser.open(pages.write(text, false))
-        said = browser.value(
-            "[document.title, document.getElementById('title').textContent, document.querySelectorAll('img, script').length]"
-        )
+        said = [browser.ask("title"), browser.ask("text", "#title"), browser.ask("count", "img, script")]
         pages.expect(
-            f"what is said of {text[:40]}",
+            f"what is said of {text[:40]!r}",
             (said[0], said[1].startswith(f"This is no transcript: line {line} "), said[2]),
-            ("no transcript", True, 4),
+            ("no transcript – Rudekpi", True, 4),
         )
         pages.expect(
-            f"what {text[:40]} fetches", [url for url in browser.fetched if not url.startswith("file:///")], []
+            f"what {text[:40]!r} fetches", [url for url in browser.fetched if not url.startswith("file:///")], []
         )
     browser.open(pages.write(RING, false))
-    foot = browser.value("document.getElementById('judged').textContent")
+    foot = browser.ask("text", "#judged")
     pages.expect(
         "a judge that counts otherwise",
         (false in foot, "This page counts otherwise: accepted: 8 entries" in foot),
@@ -445,7 +427,7 @@ def judges(pages, browser):
         )
 
 
-def use(pages, browser):
+def use(pages: Any, browser: Browser) -> None:
     """All of it; where one part breaks off, the others go on."""
     for part in [fills, titles, long_one, phone, addresses, pinches, tells, saves, judges]:
         try:

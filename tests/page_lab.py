@@ -1,107 +1,61 @@
-"""What hands do with the playground: each act is tried in a browser, by mouse, finger and key, and what it writes is given to the program."""
+"""What hands do with the playground: each act is tried in a browser, by mouse, finger and key, and what it writes is
+given to the program."""
+
+from __future__ import annotations
+
 import os
 import re
 import time
+from typing import Any, Sequence
 
-from browser import PageFault
-from page_hands import PLACE, saved, waited
+from browser import Browser, PageFault
+from page_hands import saved, waited
 
 TOP = os.path.dirname(os.path.dirname(os.path.abspath(__file__)))
 PLAYGROUND = f"{TOP}/release/playground.html"
-# the network that is drawn, told from styles: nodes that are filled, edges with their widths, arrows, marks
-SEEN = """((which) => {
-  const graph = document.getElementById(which);
-  const shown = (element) => element && getComputedStyle(element).display !== "none" && getComputedStyle(element).visibility === "visible";
-  const paper = getComputedStyle(document.body).backgroundColor;
-  const nodes = [...graph.querySelectorAll(".nodes > g")].filter(shown).map((group) => {
-    const mark = group.querySelector(".mark");
-    return [Number(group.querySelector(".name").textContent), shown(mark) ? mark.textContent : "", getComputedStyle(group.querySelector(".body")).fill !== paper];
-  });
-  const edges = [...graph.querySelectorAll("[data-ends]")].filter(shown).map((line) => [...line.dataset.ends.split("-").map(Number), parseFloat(getComputedStyle(line).strokeWidth) > 4]);
-  const arrows = [...graph.querySelectorAll(".pointers > line")].filter(shown).map((line) => line.dataset.pointer.split(">").map(Number));
-  const numbers = graph.closest(".pane").querySelector(".numbers").textContent.match(/[\\d,]+/g).map((word) => Number(word.replaceAll(",", "")));
-  return { nodes, edges: edges.sort((a, b) => a[0] - b[0] || a[1] - b[1]), arrows: arrows.sort((a, b) => a[0] - b[0]), numbers };
-})(%r)"""
-STATE = "document.querySelector('.state').textContent"
-STORY = "document.getElementById('story').textContent"
-TEXT = "document.getElementById('text').value"
-LINES = f"{TEXT}.trimEnd().split('\\n')"
-# an entry of the daemon is none of a hand
-ACTS = f"{LINES}.filter((line) => !/^(drive|link) /.test(line))"
-CHOOSE = """(() => {
-  const field = document.getElementById(%r);
-  field.value = %r;
-  field.dispatchEvent(new Event("change", { bubbles: true }));
-})()"""
-# a place of the picture where nothing is, as far from all as can be
-EMPTY = """(() => {
-  const box = document.querySelector(".graph").getBoundingClientRect();
-  const nodes = [...document.querySelectorAll(".graph .node:not(.absent) .body")].map((node) => node.getBoundingClientRect());
-  const lines = [...document.querySelectorAll("[data-ends]")].filter((line) => getComputedStyle(line).visibility === "visible").map((line) => {
-    const [from, to] = [1, 2].map((end) => new DOMPoint(line[`x${end}`].baseVal.value, line[`y${end}`].baseVal.value).matrixTransform(line.getScreenCTM()));
-    return Array.from({ length: 60 }, (_, at) => ({ x: from.x + ((to.x - from.x) * at) / 59, y: from.y + ((to.y - from.y) * at) / 59, width: 0, height: 0 }));
-  });
-  let best = [0, 0, 0];
-  for (let at = 0; at < 900; at += 1) {
-    const [x, y] = [box.left + 70 + ((box.width - 140) * (at % 30)) / 29, box.top + 70 + ((box.height - 140) * Math.floor(at / 30)) / 29];
-    const far = [...nodes, ...lines.flat()].reduce((least, it) => Math.min(least, Math.hypot(it.x + it.width / 2 - x, it.y + it.height / 2 - y)), 1e9);
-    if (far > best[2] && document.elementFromPoint(x, y)?.closest(".graph")) best = [x, y, far];
-  }
-  return best;
-})()"""
-FRAMES = """new Promise((done) => {
-  const [begun, entries] = [performance.now(), []];
-  let [frames, moved, last] = [0, 0, ""];
-  const look = () => {
-    frames += 1;
-    const now = document.querySelector(".numbers").textContent;
-    moved += now === last ? 0 : 1;
-    last = now;
-    const spent = performance.now() - begun;
-    if (spent < 3000) requestAnimationFrame(look);
-    else done([(1000 * frames) / spent, (1000 * moved) / spent]);
-  };
-  requestAnimationFrame(look);
-})"""
+TITLE = "Break a network by hand – Rudekpi"
 
 
-def place(browser, selector):
+def begin(browser: Browser, address: str = "") -> None:
+    """Opens the playground as somebody does who was never there."""
+    browser.open(f"{TOP}/viewer/page.css")
+    browser.ask("forgetAll")
+    browser.open(PLAYGROUND + address)
+    waited(browser, 1, "count", ".graph")
+
+
+def place(browser: Browser, selector: str) -> Any:
     """The middle of what a selector names, once it is in the window."""
-    browser.value(f"void document.querySelector({selector!r}).scrollIntoView({{ block: 'nearest' }})")
-    return browser.value(PLACE % selector)
+    browser.ask("show", selector)
+    return browser.ask("place", selector)
 
 
-def fresh(browser, kind="ring", nodes=6, rules="hh", seed=1):
+def fresh(browser: Browser, kind: str = "ring", nodes: int = 6, rules: str = "hh", seed: int = 1) -> None:
     """The playground with a network of a kind that has settled, and that waits."""
-    browser.open(PLAYGROUND)
-    waited(browser, "document.querySelectorAll('.graph').length", 1)
-    browser.value(CHOOSE % ("pace", "1000"))
+    begin(browser)
+    browser.ask("choose", "#pace", "1000")
     for field, value in [("rules", rules), ("preset", kind), ("seed", str(seed)), ("size", str(nodes))]:
-        browser.value(CHOOSE % (field, value))
+        browser.ask("choose", f"#{field}", value)
     settles(browser)
-    if browser.value("document.getElementById('run').getAttribute('aria-pressed')") == "true":
+    if browser.ask("isRunning"):
         browser.click(*place(browser, "#run"))
-    waited(browser, "document.getElementById('run').textContent.includes('run')", True)
+    waited(browser, False, "isRunning")
 
 
-def settles(browser, seconds=15):
-    wanted = "[...document.querySelectorAll('.state')].every((state) => state.textContent.includes('stable'))"
-    return waited(browser, wanted, True, seconds)
+def settles(browser: Browser, seconds: float = 15) -> Any:
+    return waited(browser, True, "isStable", seconds=seconds)
 
 
-def edge(browser, low, high, which=0):
+def edge(browser: Browser, low: int, high: int, which: int = 0) -> Any:
     """A place on an edge of the picture, beside its middle where another might lie."""
-    return browser.value(
-        PLACE.replace("document.querySelector(%r)", "document.querySelectorAll(%r)[%d]")
-        % (f"[data-ends='{low}-{high}']", which)
-    )
+    return browser.ask("place", f"[data-ends='{low}-{high}']", which)
 
 
-def node(browser, name):
+def node(browser: Browser, name: int) -> Any:
     return place(browser, f".graph [data-node='{name}'] .body")
 
 
-def drag(browser, start, end, steps=4):
+def drag(browser: Browser, start: Sequence[float], end: Sequence[float], steps: int = 4) -> None:
     (x1, y1), (x2, y2) = start, end
     browser.move(x1, y1)
     browser.call("Input.dispatchMouseEvent", type="mousePressed", x=x1, y=y1, button="left", buttons=1, clickCount=1)
@@ -117,33 +71,39 @@ def drag(browser, start, end, steps=4):
     browser.call("Input.dispatchMouseEvent", type="mouseReleased", x=x2, y=y2, button="left", clickCount=1)
 
 
-def tool(browser, name):
+def tool(browser: Browser, name: str) -> None:
     browser.click(*place(browser, f"[data-tool='{name}']"))
 
 
-def last_act(browser, wanted):
+def last_act(browser: Browser, wanted: str) -> Any:
     """The last line of the script that is a hand's, once it is what is wanted."""
-    return waited(browser, f"{ACTS}.at(-1)", wanted, 3)
+    return waited(browser, wanted, "lastAct", seconds=3)
 
 
-def transcript(browser):
-    browser.value("document.getElementById('show-transcript').click()")
-    text = browser.value(TEXT)
-    browser.value("document.getElementById('show-script').click()")
+def daemon_moved(browser: Browser) -> bool:
+    """Whether the last line of the script soon is a seeded daemon's move."""
+    until = time.monotonic() + 3
+    while not re.fullmatch(r"drive \d+ 1", browser.ask("lastLine")) and time.monotonic() < until:
+        time.sleep(0.05)
+    return bool(re.fullmatch(r"drive \d+ 1", browser.ask("lastLine")))
+
+
+def transcript(browser: Browser) -> bytes:
+    text: str = browser.ask("transcript")
     return text.encode()
 
 
-def agrees(pages, browser, name, rules="hh"):
+def agrees(pages: Any, browser: Browser, name: str, rules: str = "hh") -> None:
     """The transcript is accepted, the script makes it, and what is drawn is what the program says of it."""
     written = transcript(browser)
     verdict = pages.run([pages.program, "audit"], written)
     pages.expect(f"{name}: the transcript is accepted", (verdict[0], verdict[1][:9]), (0, b"accepted:"))
-    words = browser.value("document.getElementById('words').textContent").split(" < ")[0].split(" ")[1:]
-    script = browser.value(TEXT).encode()
+    words = browser.ask("text", "#words").split(" < ")[0].split(" ")[1:]
+    script = browser.ask("value", "#text").encode()
     pages.expect(f"{name}: the script makes it", pages.run([pages.program, *words], script)[1] == written, True)
     status = pages.run([pages.program, *words], script + b"status\n")[1].decode().splitlines()[-1]
     told = dict(word.split("=") for word in status.split(" = ")[1].split(" "))
-    seen = browser.value(SEEN % f"graph-{rules}")
+    seen = browser.ask("lab", f"graph-{rules}")
     weight = {"hh": 1, "manne": 3}[rules]
     numbers = [int(told["spent"]), int(told["charge"]), 2 * int(told["edges"]) + weight * int(told["nodes"])]
     pages.expect(f"{name}: the numbers", seen["numbers"], numbers)
@@ -152,40 +112,43 @@ def agrees(pages, browser, name, rules="hh"):
     )
 
 
-def opens(pages, browser):
-    """Who opens the page sees a network that runs or has settled within a second, is told what to do, and sees it mend."""
-    browser.open(PLAYGROUND)
+def opens(pages: Any, browser: Browser) -> None:
+    """Who opens the page sees a network that runs or has settled within a second, is told what to do, and sees it
+    mend."""
+    begin(browser)
     time.sleep(1)
-    said = browser.value(
-        "[document.getElementById('hint').textContent, document.querySelectorAll('.graph .node:not(.absent)').length >= 10, document.querySelectorAll('.pointer, .edge.mutual').length > 0]"
-    )
+    said = [
+        browser.ask("text", "#hint"),
+        browser.ask("present") >= 10,
+        browser.ask("count", ".graph .pointer, .graph .edge.mutual") > 0,
+    ]
     pages.expect("within a second", said, ["Click a link to cut it.", True, True])
     pages.expect("it settles", settles(browser), True)
-    pair = browser.value("document.querySelector('.edge.mutual').dataset.ends").split("-")
+    pair = browser.ask("attribute", ".graph .edge.mutual", "data-ends").split("-")
     browser.click(*edge(browser, *pair))
     pages.expect("the cut is a line", last_act(browser, f"unlink {pair[0]} {pair[1]}"), f"unlink {pair[0]} {pair[1]}")
     pages.expect("it mends by itself", settles(browser), True)
-    told = waited(browser, f"/is cut\\. Mended in \\d+ moves?; at most \\d+ could have come\\.$/.test({STORY})", True)
-    pages.expect("and the page tells of that", told, True)
-    pages.expect("the title", browser.value("document.title"), "Break a network by hand")
+    told = re.search(r"is cut\. Mended in \d+ moves?; at most \d+ could have come\.$", browser.ask("text", "#story"))
+    pages.expect("and the page tells of that", bool(told), True)
+    pages.expect("the title", browser.ask("title"), TITLE)
     pages.expect("what the page fetches", browser.fetched, [f"file://{PLAYGROUND}"])
     pages.expect("what the page complains of", browser.complaints, [])
 
 
-def acts(pages, browser):
+def acts(pages: Any, browser: Browser) -> None:
     """Each act by the mouse is a line of the script; all that comes of it is what the program says."""
     fresh(browser)
-    before = browser.value("document.querySelector(\"[data-node='2']\").getAttribute('transform')")
+    before = browser.ask("attribute", "[data-node='2']", "transform")
     x, y = node(browser, 2)
     drag(browser, (x, y), (x - 60, y + 40))
-    moved = browser.value("document.querySelector(\"[data-node='2']\").getAttribute('transform')") != before
-    pages.expect("a node is dragged, and no line comes of it", (moved, browser.value(f"{ACTS}.length")), (True, 0))
+    moved = browser.ask("attribute", "[data-node='2']", "transform") != before
+    pages.expect("a node is dragged, and no line comes of it", (moved, len(browser.ask("acts"))), (True, 0))
     tool(browser, "link")
     drag(browser, node(browser, 2), node(browser, 5))
-    pages.expect("an edge is drawn from node to node", waited(browser, f"{LINES}.at(-1)", "link 2 5", 3), "link 2 5")
+    pages.expect("an edge is drawn from node to node", waited(browser, "link 2 5", "lastLine", seconds=3), "link 2 5")
     browser.click(*node(browser, 1))
     browser.click(*node(browser, 3))
-    pages.expect("an edge by two clicks", waited(browser, f"{LINES}.at(-1)", "link 1 3", 3), "link 1 3")
+    pages.expect("an edge by two clicks", waited(browser, "link 1 3", "lastLine", seconds=3), "link 1 3")
     tool(browser, "point")
     drag(browser, node(browser, 5), node(browser, 2))
     pages.expect("a pointer is written", last_act(browser, "point 5 2"), "point 5 2")
@@ -196,7 +159,7 @@ def acts(pages, browser):
     browser.click(*edge(browser, 2, 5))
     pages.expect("an edge is cut", last_act(browser, "unlink 2 5"), "unlink 2 5")
     tool(browser, "node")
-    x, y, _ = browser.value(EMPTY)
+    x, y, _ = browser.ask("emptyPlace")
     browser.click(x, y)
     pages.expect("a node joins", last_act(browser, "join 7"), "join 7")
     pages.expect(
@@ -207,18 +170,14 @@ def acts(pages, browser):
     browser.click(*place(browser, "#scramble"))
     pages.expect(
         "registers are scrambled",
-        bool(
-            re.fullmatch(
-                r"scramble \d+ 3", browser.value(f"(document.getElementById('show-script').click(), {ACTS}.at(-1))")
-            )
-        ),
+        bool(re.fullmatch(r"scramble \d+ 3", (browser.ask("press", "#show-script"), browser.ask("lastAct"))[1])),
         True,
     )
     agrees(pages, browser, "acts")
     pages.expect("complaints of acts", browser.complaints, [])
 
 
-def moves(pages, browser):
+def moves(pages: Any, browser: Browser) -> None:
     """Who moves is chosen by a hand, by a seeded daemon, or is all that may."""
     fresh(browser, rules="manne", nodes=8)
     tool(browser, "flag")
@@ -228,67 +187,70 @@ def moves(pages, browser):
     browser.click(*node(browser, 3))
     pages.expect("one node moves", last_act(browser, "step 3"), "step 3")
     browser.click(*node(browser, 3))
-    pages.expect("a node that may not", browser.value(STORY).startswith("Node 3 may not move, since it and "), True)
-    browser.value("document.getElementById('faults').value = 9")
+    pages.expect(
+        "a node that may not", browser.ask("text", "#story").startswith("Node 3 may not move, since it and "), True
+    )
+    browser.ask("setValue", "#faults", "9")
     browser.click(*place(browser, "#scramble"))
-    browser.value(CHOOSE % ("daemon", "all"))
-    enabled = sorted(name for name, mark, _ in browser.value(SEEN % "graph-manne")["nodes"] if mark)
+    browser.ask("choose", "#daemon", "all")
+    enabled = sorted(name for name, mark, _ in browser.ask("lab", "graph-manne")["nodes"] if mark)
     browser.click(*place(browser, "#step"))
     wanted = "step " + " ".join(map(str, enabled))
     pages.expect("all that are enabled move at once", last_act(browser, wanted), wanted)
-    browser.value(CHOOSE % ("daemon", "seeded"))
+    browser.ask("choose", "#daemon", "seeded")
     tool(browser, "cut")
     browser.click(*edge(browser, 2, 3))
     browser.click(*place(browser, "#step"))
-    pages.expect("a seeded daemon's move", waited(browser, f"/^drive \\d+ 1$/.test({LINES}.at(-1))", True, 3), True)
+    pages.expect("a seeded daemon's move", daemon_moved(browser), True)
     browser.click(*place(browser, "#run"))
     pages.expect("and all of them", settles(browser), True)
     agrees(pages, browser, "moves", "manne")
     browser.click(*place(browser, "#run"))
-    lines = browser.value(f"{LINES}.length")
+    lines = len(browser.ask("script"))
     presses = 0
-    while "unlink 2 3" in browser.value(ACTS) and presses < 5:
+    while "unlink 2 3" in browser.ask("acts") and presses < 5:
         browser.click(*place(browser, "#undo"))
         time.sleep(0.4)
         presses += 1
     pages.expect(
         "acts are taken back one by one",
-        (browser.value(f"{ACTS}.at(-1)"), browser.value(f"{LINES}.length") < lines),
+        (browser.ask("lastAct"), len(browser.ask("script")) < lines),
         (wanted, True),
     )
     agrees(pages, browser, "what is left", "manne")
     pages.expect("complaints of moves", browser.complaints, [])
 
 
-def networks(pages, browser):
-    """Each network begins, settles and is what the program makes of its script; two rule sets stand side by side, disturbed alike."""
+def networks(pages: Any, browser: Browser) -> None:
+    """Each network begins, settles and is what the program makes of its script; two rule sets stand side by side,
+    disturbed alike."""
     for kind in ["ring", "path", "grid", "star", "disk", "random", "racks", "mesh"]:
         for nodes in (2, 23):
             fresh(browser, kind, nodes, "manne" if nodes == 23 else "hh")
             pages.expect(
                 f"{kind} of {nodes}",
-                (settles(browser), browser.value("document.querySelectorAll('.graph .node:not(.absent)').length")),
+                (settles(browser), browser.ask("present")),
                 (True, nodes),
             )
         agrees(pages, browser, f"a {kind}", "manne")
     fresh(browser, "mesh", 12, "both")
     pages.expect(
         "two pictures",
-        browser.value("[...document.querySelectorAll('.pane')].map((pane) => pane.className)"),
+        browser.ask("classes", ".pane"),
         ["pane hh", "pane manne"],
     )
-    low, high = browser.value("document.querySelector('#graph-manne .edge.mutual').dataset.ends").split("-")
-    browser.click(*browser.value(PLACE % f"#graph-manne [data-ends='{low}-{high}']"))
+    low, high = browser.ask("attribute", "#graph-manne .edge.mutual", "data-ends").split("-")
+    browser.click(*browser.ask("place", f"#graph-manne [data-ends='{low}-{high}']"))
     browser.click(*place(browser, "#run"))
     pages.expect("both settle", settles(browser), True)
     for rules in ["hh", "manne"]:
-        browser.value(CHOOSE % ("which", rules))
+        browser.ask("choose", "#which", rules)
         pages.expect(f"{rules}: cut alike", last_act(browser, f"unlink {low} {high}"), f"unlink {low} {high}")
         agrees(pages, browser, f"side by side, {rules}", rules)
     pages.expect("complaints of networks", browser.complaints, [])
 
 
-def typed(browser, text):
+def typed(browser: Browser, text: str) -> None:
     """Types a text in the place of the field's own, as hands do."""
     browser.click(*place(browser, "#text"))
     browser.call(
@@ -304,23 +266,24 @@ def typed(browser, text):
     browser.call("Input.insertText", text=text)
 
 
-def texts(pages, browser):
-    """The script is edited and played, the transcript is edited and judged; both are saved, and what is saved is accepted."""
+def texts(pages: Any, browser: Browser) -> None:
+    """The script is edited and played, the transcript is edited and judged; both are saved, and what is saved is
+    accepted."""
     browser.save_into(pages.folder)
     fresh(browser, "path", 4)
     typed(browser, "link 1 2\nlink 2 3\nstep 1\nlink 1 9\n")
     browser.click(*place(browser, "#text-use"))
-    pages.expect("a script that was typed", browser.value(STORY), "Played: 4 lines.")
+    pages.expect("a script that was typed", browser.ask("text", "#story"), "Played: 4 lines.")
     agrees(pages, browser, "a script that was typed")
     typed(browser, "link 1 2\n<img src=x onerror=\"document.title = 'ran'\">\n")
     browser.click(*place(browser, "#text-use"))
-    said = browser.value(f"[{STORY}, document.title, document.images.length]")
+    said = [browser.ask("text", "#text-wrong"), browser.ask("title"), browser.ask("count", "img")]
     pages.expect(
         "a line that is none",
         said,
         [
             "The script was not played: line 2 is no command: <img src=x onerror=\"document.title = 'ran'\">.",
-            "Break a network by hand",
+            TITLE,
             0,
         ],
     )
@@ -328,13 +291,13 @@ def texts(pages, browser):
     browser.click(*place(browser, "#text-save"))
     browser.click(*place(browser, "#show-transcript"))
     browser.click(*place(browser, "#text-save"))
-    script, text = (saved(pages.folder, f"matching-hh-16.{kind}") for kind in ("script", "transcript"))
+    script, text = (saved(pages.folder, f"matching-hh-16-4.{kind}") for kind in ("script", "transcript"))
     pages.expect("a saved transcript is accepted", pages.run([pages.program, "audit"], text)[0], 0)
     made = pages.run([pages.program, "run", "--rules", "hh", "--nodes", "16", "--present", "4"], script)
     pages.expect("a saved script makes it", made[1] == text, True)
     typed(browser, "matching hh 2\n1 link 1 2 = ok\n2 step 1 = 1:marry>2\n")
     browser.click(*place(browser, "#text-use"))
-    refusal = browser.value("['refusal-said', 'refusal-line'].map((id) => document.getElementById(id).textContent)")
+    refusal = browser.ask("texts", "#refusal-said", "#refusal-line")
     pages.expect(
         "a transcript that was forged",
         refusal,
@@ -344,24 +307,22 @@ def texts(pages, browser):
     browser.click(*place(browser, "#text-use"))
     pages.expect(
         "one that was mended is played",
-        waited(browser, "document.title", "hh: 2 nodes, 2 entries"),
-        "hh: 2 nodes, 2 entries",
+        waited(browser, "hh: 2 nodes, 2 entries – Rudekpi", "title"),
+        "hh: 2 nodes, 2 entries – Rudekpi",
     )
     browser.key("End", "End", 35)
-    foot = browser.value(
-        "[document.body.dataset.entry, document.getElementById('judged').textContent, document.getElementById('judged').className]"
-    )
+    foot = [browser.ask("entry"), browser.ask("text", "#judged"), *browser.ask("classes", "#judged")]
     pages.expect(
         "and its judge is named",
         (foot[0], "the audit inside this page" in foot[1], "2 entries, 2 epochs, 1 moves" in foot[1], foot[2]),
         ("2", True, True, ""),
     )
     browser.click(*place(browser, "#to-lab"))
-    pages.expect("and back", waited(browser, "document.title", "Break a network by hand"), "Break a network by hand")
+    pages.expect("and back", waited(browser, TITLE, "title"), TITLE)
     pages.expect("complaints of texts", browser.complaints, [])
 
 
-def dropped(browser, path):
+def dropped(browser: Browser, path: str) -> None:
     """Drops a file on the page."""
     data = {"items": [], "files": [path], "dragOperationsMask": 1}
     for kind in ["dragEnter", "dragOver", "drop"]:
@@ -376,7 +337,7 @@ HOSTILE = [
 ]
 
 
-def drops(pages, browser):
+def drops(pages: Any, browser: Browser) -> None:
     """A transcript that is dropped is judged and played; a refused one shows its first wrong line, and runs nothing."""
     fresh(browser)
     path = os.path.join(pages.folder, "dropped.transcript")
@@ -385,53 +346,57 @@ def drops(pages, browser):
             file.write(text)
         dropped(browser, path)
         wanted = f"The transcript is refused: {said}"
-        came = waited(browser, "document.getElementById('refusal-said').textContent", wanted)
-        seen = browser.value(
-            "[document.title, document.images.length, document.querySelectorAll('script').length, document.getElementById('refusal').hidden]"
-        )
-        pages.expect(f"a hostile transcript, {at}", (came, seen), (wanted, ["Break a network by hand", 0, 4, False]))
+        came = waited(browser, wanted, "text", "#refusal-said")
+        seen = [
+            browser.ask("title"),
+            browser.ask("count", "img"),
+            browser.ask("count", "script"),
+            browser.ask("isHidden", "#refusal"),
+        ]
+        pages.expect(f"a hostile transcript, {at}", (came, seen), (wanted, [TITLE, 0, 4, False]))
     example = f"{TOP}/examples/breaks_and_mends.transcript"
     dropped(browser, example)
     verdict = pages.run([pages.program, "audit"], open(example, "rb").read())[1].decode().strip()
     pages.expect(
         "one that is accepted is played",
-        waited(browser, f"document.getElementById('judged').textContent.includes({verdict!r})", True),
-        True,
+        (waited(browser, "382", "attribute", "#slider", "max"), verdict in browser.ask("text", "#judged")),
+        ("382", True),
     )
     pages.expect(
         "heads of arrows are drawn",
-        browser.value("document.querySelector('#arrow').ownerSVGElement.getClientRects().length"),
-        1,
+        browser.ask("isLaidOut", "#arrow"),
+        True,
     )
-    pages.expect("the refusal is gone", browser.value("document.getElementById('refusal').hidden"), True)
+    pages.expect("the refusal is gone", browser.ask("isHidden", "#refusal"), True)
     browser.key("End", "End", 35)
     entries = verdict.split(" ")[1]
-    pages.expect("to its end", browser.value("document.body.dataset.entry"), entries)
+    pages.expect("to its end", browser.ask("entry"), entries)
     with open(path, "wb") as file:
         file.write(b"matching hh 2\n1 link 1 2 = ok\n")
     dropped(browser, path)
     pages.expect(
-        "another one in its place", waited(browser, "document.title", "hh: 2 nodes, 1 entry"), "hh: 2 nodes, 1 entry"
+        "another one in its place",
+        waited(browser, "hh: 2 nodes, 1 entry – Rudekpi", "title"),
+        "hh: 2 nodes, 1 entry – Rudekpi",
     )
     browser.key("ArrowRight", "ArrowRight", 39)
-    pages.expect("is alone played by keys", browser.value("document.body.dataset.entry"), "1")
+    pages.expect("is alone played by keys", browser.ask("entry"), "1")
     pages.expect(
         "what dropping fetches", [url for url in browser.fetched if not url.startswith(("file:", "blob:"))], []
     )
     pages.expect("complaints of dropping", browser.complaints, [])
 
 
-def addresses(pages, browser):
+def addresses(pages: Any, browser: Browser) -> None:
     """A script in the address is played; one that is hostile is told of, and runs nothing."""
-    browser.open(f"{TOP}/viewer/page.css")
-    browser.open(PLAYGROUND + "#script=link+1+2;link+2+3;drive+7+100&rules=manne&nodes=4&present=3")
-    waited(browser, STATE, "✓ stable, 1 pair")
-    pages.expect("a script in the address", browser.value(LINES), ["link 1 2", "link 2 3", "drive 7 100"])
+    begin(browser, "#script=link+1+2;link+2+3;drive+7+100&rules=manne&nodes=4&present=3")
+    waited(browser, "✓ stable, 1 pair", "text", ".state")
+    pages.expect("a script in the address", browser.ask("script"), ["link 1 2", "link 2 3", "drive 7 100"])
     agrees(pages, browser, "a script in the address", "manne")
     browser.click(*place(browser, "#text-link"))
     pages.expect(
         "and written there",
-        browser.value("location.hash"),
+        browser.ask("address"),
         "#script=link+1+2;link+2+3;drive+7+100&rules=manne&nodes=4&present=3",
     )
     for at, (words, said) in enumerate(
@@ -446,26 +411,27 @@ def addresses(pages, browser):
             ("script=link+1+2;lnk&nodes=4", "line 2 is no command: lnk"),
         ]
     ):
-        browser.open(f"{TOP}/viewer/page.css")
-        browser.open(PLAYGROUND + "#" + words)
-        refusal = "document.getElementById('refusal-said').textContent"
-        waited(browser, f"{refusal}.startsWith('The address holds no script')", True, 3)
-        told = browser.value(
-            f"[{refusal}, document.title, document.images.length, document.querySelectorAll('script').length]"
-        )
-        pages.expect(f"a hostile address, {at}", (said in told[0], told[1:]), (True, ["Break a network by hand", 0, 4]))
+        begin(browser, "#" + words)
+        waited(browser, False, "isHidden", "#refusal", seconds=3)
+        told = [
+            browser.ask("text", "#refusal-said"),
+            browser.ask("title"),
+            browser.ask("count", "img"),
+            browser.ask("count", "script"),
+        ]
+        pages.expect(f"a hostile address, {at}", (said in told[0], told[1:]), (True, [TITLE, 0, 4]))
     pages.expect("what addresses fetch", [url for url in browser.fetched if not url.startswith("file:")], [])
     pages.expect("complaints of addresses", browser.complaints, [])
 
 
-def fingers(pages, browser):
+def fingers(pages: Any, browser: Browser) -> None:
     """On a phone, in the dark: a finger cuts, drags and draws, and nothing is wider than the window."""
     browser.window(390, 844, True)
     browser.fingers(True)
     fresh(browser, "ring", 6)
-    pages.expect("what is wider than a phone", browser.value("document.documentElement.scrollWidth"), 390)
-    pages.expect("dark paper", browser.value("getComputedStyle(document.body).backgroundColor"), "rgb(20, 24, 29)")
-    browser.value("void document.querySelector('.graph').scrollIntoView({ block: 'center' })")
+    pages.expect("what is wider than a phone", browser.ask("widest"), 390)
+    pages.expect("dark paper", browser.ask("style", "body", "background-color"), "rgb(20, 24, 29)")
+    browser.ask("show", ".graph", "center")
     browser.touch("Start", edge(browser, 2, 3))
     browser.touch("End")
     pages.expect("a tap cuts", last_act(browser, "unlink 2 3"), "unlink 2 3")
@@ -478,28 +444,28 @@ def fingers(pages, browser):
     pages.expect(
         "a finger drags a node", [24 < after[0] - before[0] < 36, 19 < after[1] - before[1] < 31], [True, True]
     )
-    browser.value("document.querySelector(\"[data-tool='link']\").click()")
+    browser.ask("press", "[data-tool='link']")
     start, end = node(browser, 1), node(browser, 4)
     browser.touch("Start", start)
     for step in range(1, 6):
         browser.touch("Move", (start[0] + (end[0] - start[0]) * step / 5, start[1] + (end[1] - start[1]) * step / 5))
     browser.touch("End")
-    pages.expect("a finger draws an edge", waited(browser, f"{LINES}.at(-1)", "link 1 4", 3), "link 1 4")
+    pages.expect("a finger draws an edge", waited(browser, "link 1 4", "lastLine", seconds=3), "link 1 4")
     agrees(pages, browser, "by finger")
     browser.fingers(False)
     for width in (320, 360, 640, 1024):
         browser.window(width, 700)
         fresh(browser, "grid", 12, "both")
-        pages.expect(f"what is wider than {width}", browser.value("document.documentElement.scrollWidth"), width)
+        pages.expect(f"what is wider than {width}", browser.ask("widest"), width)
     browser.window(1280, 900)
     pages.expect("complaints of fingers", browser.complaints, [])
 
 
-def keys(pages, browser):
+def keys(pages: Any, browser: Browser) -> None:
     """All of it goes by keys alone."""
     fresh(browser, "ring", 6)
-    browser.value("document.querySelector('.graph').focus()")
-    press = {
+    browser.ask("focus", ".graph")
+    press: dict[str, tuple[Any, ...]] = {
         "down": ("ArrowDown", "ArrowDown", 40),
         "enter": ("Enter", "Enter", 13),
         "e": ("e", "KeyE", 69, "e"),
@@ -511,14 +477,14 @@ def keys(pages, browser):
         **{str(n): (str(n), f"Digit{n}", 48 + n, str(n)) for n in range(1, 7)},
     }
 
-    def strike(*names):
+    def strike(*names: str) -> None:
         for name in names:
             browser.key(*press[name])
 
     strike("down", "down", "e", "enter")
     pages.expect("a link is cut by keys", last_act(browser, "unlink 1 2"), "unlink 1 2")
     strike("2", "down", "enter", "down", "down", "enter")
-    pages.expect("and drawn", waited(browser, f"{LINES}.at(-1)", "link 1 3", 3), "link 1 3")
+    pages.expect("and drawn", waited(browser, "link 1 3", "lastLine", seconds=3), "link 1 3")
     strike("3", "down", "enter", "down", "down", "enter")
     pages.expect("a pointer", last_act(browser, "point 1 3"), "point 1 3")
     strike("a")
@@ -545,19 +511,18 @@ def keys(pages, browser):
     pages.expect("complaints of keys", browser.complaints, [])
 
 
-def many(pages, browser):
-    """500 nodes at 30 pictures a second at the least, while they run, in the best of three tries. Where other programs keep the
-    processors busy that is skipped, and above half of it too, since a slower machine draws fewer."""
+def many(pages: Any, browser: Browser) -> None:
+    """500 nodes run at 30 pictures a second at least, in the best of three tries. If other programs keep the processors
+    busy that is skipped, and above half of it too, since a slower machine draws fewer."""
     best, shown = 0, 0
     for seed in (1, 2, 3):
-        browser.open(PLAYGROUND)
-        waited(browser, "document.querySelectorAll('.graph').length", 1)
+        begin(browser)
         for field, value in [("pace", "100"), ("seed", str(seed)), ("preset", "disk"), ("size", "500")]:
-            browser.value(CHOOSE % (field, value))
-        pages.expect("500 nodes", browser.value("document.querySelectorAll('.graph .node:not(.absent)').length"), 500)
+            browser.ask("choose", f"#{field}", value)
+        pages.expect("500 nodes", browser.ask("present"), 500)
         # the first pictures lay out and compile
         time.sleep(1)
-        frames, moved = browser.value(FRAMES)
+        frames, moved = browser.ask("frames")
         if frames > best:
             best, shown = frames, moved
     load = os.getloadavg()[0] / len(os.sched_getaffinity(0))
@@ -571,22 +536,21 @@ def many(pages, browser):
     pages.expect("complaints of 500 nodes", browser.complaints, [])
 
 
-def without(pages, browser):
+def without(pages: Any, browser: Browser) -> None:
     """A browser without 64-bit memory gets one sentence, and plays transcripts."""
-    script = browser.call("Page.addScriptToEvaluateOnNewDocument", source="WebAssembly.validate = () => false;")[
-        "identifier"
-    ]
+    script = browser.before_pages("WebAssembly.validate = () => false;")
     browser.open(PLAYGROUND)
-    hint = browser.value("document.getElementById('hint').textContent")
+    hint = browser.ask("text", "#hint")
     pages.expect("one clear sentence", "64-bit WebAssembly memory, which this browser lacks" in hint, True)
     dropped(browser, f"{TOP}/examples/breaks_and_mends.transcript")
-    foot = "document.getElementById('judged').textContent.startsWith('Nobody has judged this transcript')"
-    pages.expect("a transcript is played all the same", waited(browser, foot, True), True)
-    browser.call("Page.removeScriptToEvaluateOnNewDocument", identifier=script)
+    waited(browser, "382", "attribute", "#slider", "max")
+    foot = browser.ask("text", "#judged").startswith("Nobody has judged this transcript")
+    pages.expect("a transcript is played all the same", foot, True)
+    browser.forget(script)
     pages.expect("complaints without the engine", browser.complaints, [])
 
 
-def use(pages, browser):
+def use(pages: Any, browser: Browser) -> None:
     """All of it; where one part breaks off, the others go on."""
     for part in [opens, acts, moves, networks, texts, drops, addresses, fingers, keys, many, without]:
         try:

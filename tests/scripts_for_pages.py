@@ -1,50 +1,54 @@
 """The scripts whose transcripts are played in pages: the repository's examples, and networks of both rule sets."""
+
+from __future__ import annotations
+
 import dataclasses
 import pathlib
 import random
+from typing import Callable, Iterator
 
 TOP = pathlib.Path(__file__).resolve().parent.parent
 
 
 @dataclasses.dataclass
 class Page:
-    """A script with its rules, its names, and how many of these are present at the start; or a storm of several scripts. Its page
-    plays the whole transcript, or what begins with the first base in it."""
+    """A script with its rules, its names, and how many of these are present at the start; or a storm of several
+    scripts. Its page plays the whole transcript, or what begins with the first base in it."""
 
     name: str
     rules: str
     nodes: int
     script: str = ""
-    storm: tuple = ()
+    storm: tuple[str, ...] = ()
     present: int | None = None
     from_base: bool = False
 
-    def words(self):
+    def words(self) -> list[str]:
         """The words of the command line for it."""
         present = [] if self.present is None else ["--present", str(self.present)]
         return ["--rules", self.rules, "--nodes", str(self.nodes), *present]
 
 
-def ring(nodes):
+def ring(nodes: int) -> list[str]:
     return [f"link {v} {v % nodes + 1}" for v in range(1, nodes + 1)]
 
 
-def path(nodes):
+def path(nodes: int) -> list[str]:
     return [f"link {v} {v + 1}" for v in range(1, nodes)]
 
 
-def grid(width, height):
+def grid(width: int, height: int) -> list[str]:
     across = [f"link {y * width + x} {y * width + x + 1}" for y in range(height) for x in range(1, width)]
     return across + [f"link {v} {v + width}" for v in range(1, width * (height - 1) + 1)]
 
 
-def graph(nodes, edges, seed):
+def graph(nodes: int, edges: int, seed: int) -> list[str]:
     """Links of a graph that is drawn by chance."""
     pairs = [(v, w) for v in range(1, nodes + 1) for w in range(v + 1, nodes + 1)]
     return [f"link {v} {w}" for v, w in random.Random(seed).sample(pairs, edges)]
 
 
-def mended(seed, faults=6):
+def mended(seed: int, faults: int = 6) -> list[str]:
     """It settles, is broken, and settles again."""
     return [
         f"drive {seed} 10000",
@@ -56,11 +60,14 @@ def mended(seed, faults=6):
     ]
 
 
-def stirred(nodes, seed, events):
+def stirred(nodes: int, seed: int, events: int) -> list[str]:
     """Edits, faults, steps and questions by chance: many are refused."""
     chance = random.Random(seed)
-    name = lambda: chance.randint(1, nodes + 1)  # noqa: E731
-    kinds = [
+
+    def name() -> int:
+        return chance.randint(1, nodes + 1)
+
+    kinds: list[Callable[[], str]] = [
         lambda: f"link {name()} {name()}",
         lambda: f"unlink {name()} {name()}",
         lambda: f"point {name()} {name()}",
@@ -107,14 +114,14 @@ EVERY_REFUSAL = [
 ]
 
 
-def examples():
+def examples() -> Iterator[Page]:
     """The examples that stand in the repository."""
     for script in sorted((TOP / "examples").glob("*.script")):
         _, rules, _, nodes = script.with_suffix(".args").read_text(encoding="ascii").split()
         yield Page(f"the example {script.stem}", rules, int(nodes), script.read_text(encoding="ascii"))
 
 
-def of_both():
+def of_both() -> Iterator[Page]:
     """Networks that both rule sets play."""
     wide = [f"step {' '.join(map(str, range(1, 13)))}", "step 12 3 7", "drive 4 9"]
     parted = [
@@ -158,7 +165,7 @@ def of_both():
             yield Page(f"{name} under {rules}", rules, nodes, "".join(f"{line}\n" for line in lines))
 
 
-def scripts():
+def scripts() -> list[Page]:
     storm = ("link 1 2\ndrive 7 100\nscramble 3 9\n", "link 3 4\nlink 2 3\nscramble 5 20\ndrive 2 9\n")
     joined = [f"join {v}" for v in range(7, 13)]
     grown = "".join(

@@ -3,7 +3,8 @@
 #include <stdio.h>
 #include "rudekpi.h"
 
-static const char *const damages[] = {"", "bad header", "not a transcript line", "out of order", "not the machine's reply", "bad base"};
+static const char *const damages[] = {
+    "", "bad header", "not a transcript line", "out of order", "not the machine's reply", "bad base"};
 
 int main(void) {
     static uint8_t piece[1 << 16];
@@ -12,7 +13,8 @@ int main(void) {
     uint32_t status = rudekpi_audit_new(&audit);
     size_t length;
     /* a damage is one whatever comes behind it, so nothing more need be read */
-    while (status == RUDEKPI_DONE && (length = fread(piece, 1, sizeof piece, stdin)) > 0) status = rudekpi_audit_feed(&audit, piece, length);
+    while (status == RUDEKPI_DONE && (length = fread(piece, 1, sizeof piece, stdin)) > 0)
+        status = rudekpi_audit_feed(&audit, piece, length);
     if (ferror(stdin)) {
         rudekpi_audit_free(&audit);
         return 3;
@@ -23,6 +25,7 @@ int main(void) {
         printf("line %llu: %s\n", (unsigned long long)verdict.line, damages[verdict.kind]);
         return 1;
     }
-    printf("accepted: %u entries, %u epochs, %llu moves\n", verdict.entries, verdict.epochs, (unsigned long long)verdict.moves);
+    printf("accepted: %u entries, %u epochs, %llu moves\n", verdict.entries, verdict.epochs,
+           (unsigned long long)verdict.moves);
     return 0;
 }

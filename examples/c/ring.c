@@ -46,6 +46,7 @@ int main(void) {
     take();
     rudekpi_session_free(&ring);
     rudekpi_audit(transcript, length, &verdict);
-    printf("audit: kind %u, %u entries, %u epochs, %llu moves\n", verdict.kind, verdict.entries, verdict.epochs, (unsigned long long)verdict.moves);
+    printf("audit: kind %u, %u entries, %u epochs, %llu moves\n", verdict.kind, verdict.entries, verdict.epochs,
+           (unsigned long long)verdict.moves);
     return verdict.kind == RUDEKPI_ACCEPTED ? 0 : 1;
 }

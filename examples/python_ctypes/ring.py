@@ -1,9 +1,13 @@
 #!/usr/bin/env python3
-"""A ring of twelve nodes settles, is broken by a fault and by a node that leaves, and mends itself: the library for C, called by ctypes
-alone. The transcript is written, and the pairs and the verdict to standard error. (`rudekpi.Network` does all of this by itself.)
+"""A ring of twelve nodes settles, is broken by a fault and by a node that leaves, and mends itself: the library for
+C, called by ctypes alone. The transcript is written, and the pairs and the verdict to standard error.
+(`rudekpi.Network` does all of this by itself.)
 
 usage: ring.py LIBRARY
 """
+
+from __future__ import annotations
+
 import ctypes
 import sys
 
@@ -43,7 +47,7 @@ class Verdict(ctypes.Structure):
 class Ring:
     """A session, which is ended with its block."""
 
-    def __init__(self, path, nodes):
+    def __init__(self, path: str, nodes: int) -> None:
         self.library, self.slot, self.told = ctypes.CDLL(path), Slot(), Told()
         for name in ("session_length", "session_read", "rows"):
             getattr(self.library, f"rudekpi_{name}").restype = ctypes.c_size_t
@@ -51,38 +55,38 @@ class Ring:
         if status != DONE:
             raise MemoryError(f"status {status}")
 
-    def __enter__(self):
+    def __enter__(self) -> Ring:
         return self
 
-    def __exit__(self, *_):
+    def __exit__(self, *_: object) -> None:
         self.library.rudekpi_session_free(ctypes.byref(self.slot))
 
-    def ask(self, name, *words):
+    def ask(self, name: str, *words: object) -> None:
         """Makes a call of which one entry, or some, is the answer."""
         status = getattr(self.library, f"rudekpi_{name}")(ctypes.byref(self.slot), *words, ctypes.byref(self.told))
         if status != DONE:
             raise ValueError(f"{name}: status {status}, refusal {self.told.refusal}")
 
-    def pairs(self):
+    def pairs(self) -> list[tuple[int, int]]:
         self.ask("pairs")
         rows = (Row * self.told.rows)()
         self.library.rudekpi_rows(ctypes.byref(self.slot), rows, ctypes.c_size_t(len(rows)))
         return [(row.node, row.other) for row in rows]
 
-    def text(self):
+    def text(self) -> bytes:
         """All that was written and not yet read."""
         size = self.library.rudekpi_session_length(ctypes.byref(self.slot))
         room = ctypes.create_string_buffer(size)
         self.library.rudekpi_session_read(ctypes.byref(self.slot), room, ctypes.c_size_t(size))
         return room.raw
 
-    def audit(self, text):
+    def audit(self, text: bytes) -> Verdict:
         verdict = Verdict()
         self.library.rudekpi_audit(text, ctypes.c_size_t(len(text)), ctypes.byref(verdict))
         return verdict
 
 
-def main():
+def main() -> int:
     with Ring(sys.argv[1], 12) as ring:
         for node in range(1, 13):
             ring.ask("link", node, node % 12 + 1)
@@ -97,7 +101,8 @@ def main():
         text = ring.text()
         verdict = ring.audit(text)
     print(
-        f"{counts.pairs} pairs after {counts.spent} moves; the audit has {verdict.entries} entries, {verdict.moves} moves",
+        f"{counts.pairs} pairs after {counts.spent} moves; the audit has {verdict.entries} entries, "
+        f"{verdict.moves} moves",
         file=sys.stderr,
     )
     sys.stdout.write(text.decode())

@@ -1,4 +1,5 @@
-"""Networks that keep their nodes in pairs, played by the library for C or by the program `console`, and driven from Python.
+"""Networks that keep their nodes in pairs, played by the library for C or by the program `console`, and driven from
+Python.
 
     with Network(rules="manne", nodes=["ann", "bob", "cleo"]) as net:
         net.link("ann", "bob")
@@ -6,23 +7,23 @@
         net.settle(lambda enabled: list(enabled))    # a daemon: from the enabled nodes to those that move
         print(net.matching().partner("bob"))
 
-Each call is one of the library in this process; or it writes a line to `console run` and waits for its entry, and inside
-`with net.batch() as batch:` those of `batch` do not wait. A command that the network refuses raises `Refused`, and where the
-program ends, `Ended` has its status and last line.
-`drive` and `scramble` write an entry a turn, and how many is not known beforehand. So the client asks for the `status`
-behind them, and that entry ends them: it stands in the transcript like any other, and in the reply. `checkpoint` writes
-the lines of a base, which are no entry.
+Each call is one of the library in this process; or it writes a line to `console run` and waits for its entry, and
+inside `with net.batch() as batch:` those of `batch` do not wait. A command that the network refuses raises `Refused`,
+and where the program ends, `Ended` has its status and last line. `drive` and `scramble` write an entry a turn, and how
+many is not known beforehand. So the client asks for the `status` behind them, and that entry ends them: it stands in
+the transcript like any other, and in the reply. `checkpoint` writes the lines of a base, which are no entry.
 
-The program is the argument `program`, else the environment's RUDEKPI_CONSOLE, else the `console` that lies beside this package
-(`bin/console` in it), else that of the repository in which the package lies. The library is that of RUDEKPI_LIBRARY, else
-`bin/librudekpi.so` or the repository's `release/librudekpi.so`; `engine="program"`, or RUDEKPI_ENGINE, has a program play where
-there is a library. By a program a network is for one thread. A transcript is kept in memory as long as its network.
+The program is the argument `program`, else the environment's RUDEKPI_CONSOLE, else the `console` that lies beside this
+package (`bin/console` in it), else that of the repository in which the package lies. The library is that of
+RUDEKPI_LIBRARY, else `bin/librudekpi.so` or the repository's `release/librudekpi.so`; `engine="program"`, or
+RUDEKPI_ENGINE, has a program play where there is a library. By a program a network is for one thread. A transcript is
+kept in memory as long as its network.
 """
 
 from . import daemons, graphs
 from .audits import audit, epochs
 from .batch import Batch, Pending
-from .errors import Damaged, Ended, Garbled, Lost, NoSuchCommand, PastBound, Refused, RudekpiError, WrongChoice
+from .errors import Damaged, Ended, Garbled, Lost, NoReply, NoSuchCommand, PastBound, Refused, RudekpiError, WrongChoice
 from .network import Network
 from .parts import audit_parts
 from .pieces import Audit
@@ -66,6 +67,7 @@ __all__ = [
     "Move",
     "Moves",
     "Network",
+    "NoReply",
     "NoSuchCommand",
     "PastBound",
     "Pending",

@@ -8,19 +8,21 @@ import subprocess
 import sys
 from typing import Optional, Sequence
 
+from . import __version__, streams
 from .errors import Ended, RudekpiError
 from .program import found_program
 
 COMMANDS = ("sweep", "compare", "worst", "check", "shell", "json")
+OF_PROGRAM = ("run", "audit", "picture", "epochs", "storm")
 HELP = """\
 usage: rudekpi COMMAND ..
 
 Of the bench:        sweep, compare, worst, check, shell, json
-Of the program:      run, audit, picture, epochs, storm, --help, --version
+Of the program:      run, audit, picture, epochs, storm
 
-`rudekpi COMMAND --help` tells of each.
+`rudekpi COMMAND --help` tells of each; `rudekpi --version` tells which one this is.
 """
-FAILED, BAD_WORDS, NO_PROGRAM, INTERRUPTED = 1, 2, 3, 130
+FAILED, BAD_WORDS, NO_PROGRAM, NO_MEMORY, INTERRUPTED = 1, 2, 3, 4, 130
 
 
 def handed_on(words: Sequence[str]) -> int:
@@ -35,40 +37,76 @@ def handed_on(words: Sequence[str]) -> int:
     return subprocess.run([program, *words]).returncode
 
 
-def told(words: Sequence[str]) -> int:
+def told(text: object, status: int) -> int:
+    """Tells what is wrong, in one line on standard error."""
+    print(f"! {text}", file=sys.stderr)
+    return status
+
+
+def fault_of(error: OSError) -> str:
+    """What the system has said, of which file."""
+    return f"{error.filename}: {error.strerror}" if error.filename and error.strerror else error.strerror or str(error)
+
+
+def done(words: Sequence[str]) -> int:
     """Does what the words of the bench say."""
     from . import commands
 
     try:
-        return commands.run(words)
-    except BrokenPipeError:
-        # whoever reads has gone, as `head` does; the rest is written nowhere
-        os.dup2(os.open(os.devnull, os.O_WRONLY), sys.stdout.fileno())
-        return NO_PROGRAM
+        status = commands.run(words)
+        sys.stdout.flush()
+        return status
     except (RudekpiError, ValueError, ImportError) as error:
-        print(f"! {error}", file=sys.stderr)
-        return BAD_WORDS if isinstance(error, ValueError) else FAILED
-    except KeyboardInterrupt:
-        print("! cut short", file=sys.stderr)
-        return INTERRUPTED
+        if isinstance(error, MemoryError):
+            raise
+        return told(error, BAD_WORDS if isinstance(error, ValueError) else FAILED)
+    except RecursionError:
+        return told("what was read is nested too deeply", BAD_WORDS)
+
+
+def begun(words: Sequence[str]) -> int:
+    """Does what the words say, which are one or more."""
+    word, rest = words[0], words[1:]
+    if word == "--version":
+        print(f"rudekpi {__version__}", flush=True)
+        return 0
+    if word in ("--help", "-h", "help"):
+        if word == "help" and rest:
+            return begun([*rest, "--help"])
+        print(HELP, flush=True)
+        return handed_on(words)
+    if word in COMMANDS:
+        return done(words)
+    if word in OF_PROGRAM:
+        return handed_on(words)
+    near = difflib.get_close_matches(word, [*COMMANDS, *OF_PROGRAM], 1)
+    hint = f"{near[0]!r} may be meant" if near else f"they are {', '.join([*COMMANDS, *OF_PROGRAM])}"
+    return told(f"rudekpi has no command {word!r}: {hint}", BAD_WORDS)
 
 
 def main(words: Optional[Sequence[str]] = None) -> int:
     """Does what the words say, by default those of the command line; returns the exit status."""
+    if words is None:
+        streams.prepare()
     words = list(sys.argv[1:] if words is None else words)
     if not words:
         print(HELP, end="", file=sys.stderr)
         return BAD_WORDS
-    if words[0] in ("--help", "-h", "help") and len(words) == 1:
-        print(HELP, flush=True)
-    elif words[0] not in COMMANDS and (near := difflib.get_close_matches(words[0], COMMANDS, 1)):
-        print(f"! no command is called {words[0]!r}; {near[0]!r} may be meant", file=sys.stderr)
-        return BAD_WORDS
     try:
-        return told(words) if words[0] in COMMANDS else handed_on(words)
-    except (OSError, Ended) as error:
-        print(f"! {error}", file=sys.stderr)
-        return NO_PROGRAM
+        try:
+            return begun(words)
+        except SystemExit as ended:
+            sys.stdout.flush()
+            return ended.code if isinstance(ended.code, int) else BAD_WORDS
+    except MemoryError as error:
+        return told("out of memory" if not str(error) else f"out of memory: {error}", NO_MEMORY)
+    except Ended as ended:
+        return told(ended, NO_PROGRAM)
+    except KeyboardInterrupt:
+        return told("cut short", INTERRUPTED)
+    except OSError as error:
+        streams.let_go()
+        return told(fault_of(error), NO_PROGRAM)
 
 
 if __name__ == "__main__":

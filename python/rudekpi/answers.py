@@ -3,7 +3,7 @@
 from __future__ import annotations
 
 import re
-from typing import TYPE_CHECKING, Any, Optional
+from typing import TYPE_CHECKING, Optional
 
 from .errors import Garbled, Refused, text_of
 from .names import Names
@@ -14,12 +14,13 @@ if TYPE_CHECKING:
 # the word that is answered by a base, and the second line of one; its numbers are below 2^32
 CHECKPOINT = "checkpoint"
 BASE = re.compile(r"base ([0-9]{1,10}) spent=([0-9]{1,10}) nodes=([0-9]{1,10}) edges=([0-9]{1,10})")
-# how many answered commands are held, where others wait, before they are let go of
-ANSWERED = 4096
+# by how much the numbers of commands rise
+STEP = 2
 
 
 class Setting:
-    """What stays the same in a run: its names, the first line of its transcript and of its bases, and whether all of it is kept."""
+    """What stays the same in a run: its names, the first line of its transcript and of its bases, and whether all of it
+    is kept."""
 
     def __init__(self, names: Names, header: bytes, base_head: bytes, keeps: bool) -> None:
         self.names, self.header, self.base_head, self.keeps = names, header, base_head, keeps
@@ -34,51 +35,57 @@ def refusal(names: Names, event: bytes, text: bytes, entry: int) -> Refused:
 class Answers:
     """Where the reading of answers stands.
 
-    Reading goes on in a copy, which takes the place of this by one store. So an interrupt leaves this as it is and the same bytes
-    are read again: what a command is told twice is the same, and what lists have beyond the sizes here is cut off first.
+    Reading goes on in a copy, which comes behind this. So an interrupt leaves this as it is, and the same bytes are
+    read again; and where a handler of a signal has read on meanwhile, its copy stands there already, and the other one
+    is let go of. What both write into what they share, commands and text, is the same.
     """
 
     __slots__ = (
         "setting",
         "asked",
+        "later",
+        "parts",
         "front",
-        "dropped",
-        "came",
         "rest",
         "lines",
         "entries",
         "held",
+        "new",
         "held_size",
         "base_nodes",
         "base_size",
         "said",
         "said_size",
+        "said_place",
         "last_base",
         "wrong",
     )
 
-    def __init__(self, setting: Setting) -> None:
+    def __init__(self, setting: Setting, asked: dict[int, Pending[object]]) -> None:
         self.setting = setting
-        # the commands, of which those from `front` on wait; so many in front of them were dropped
-        self.asked: list[Pending[Any]] = []
-        self.front = self.dropped = 0
-        # what came and was not read, and the beginning of a line
-        self.came: list[bytes] = []
+        # the commands by their numbers, of which those from `front` on wait
+        self.asked = asked
+        self.front = 0
+        # where the reading stood behind the next part of what came, once that was read; at most one, of which a second
+        # does not take the place
+        self.later: dict[int, Answers] = {}
+        # how many parts were read, and the beginning of a line
+        self.parts = 0
         self.rest = b""
         self.lines, self.entries = 0, -1
-        # the lines so far of an answer that has several; of a base, how many nodes and lines it has, once that is known
-        self.held: list[bytes] = []
+        # the lines so far of an answer that has several, those of earlier parts and those of this one; of a base, how
+        # many nodes and lines it has, once that is known
+        self.held: tuple[list[bytes], ...] = ()
+        self.new: list[bytes] = []
         self.held_size = self.base_nodes = self.base_size = 0
-        self.said, self.said_size = bytearray(), 0
+        # what is kept, how much of it counts, and how much was kept in front of it or let go of, or more
+        self.said, self.said_size, self.said_place = bytearray(), 0, 0
         # the number of the line that ended the last base that is whole, and its lines
         self.last_base: Optional[tuple[int, list[bytes]]] = None
         self.wrong: Optional[Garbled] = None
 
-    def read_on(self) -> Answers:
-        """Where the reading stands behind what came."""
-        part = b"".join(self.came)
-        del self.said[self.said_size :]
-        del self.held[self.held_size :]
+    def read_on(self, part: bytes) -> Answers:
+        """Where the reading stands behind the next part of what came."""
         new = self.copy()
         *lines, new.rest = (self.rest + part).split(b"\n")
         take = new.take
@@ -89,39 +96,46 @@ class Answers:
 
     def copy(self) -> Answers:
         new: Answers = Answers.__new__(Answers)
-        new.setting, new.asked, new.front, new.dropped = self.setting, self.asked, self.front, self.dropped
-        new.came, new.lines, new.entries = [], self.lines, self.entries
-        new.held, new.base_nodes, new.base_size, new.said, new.wrong = (
-            self.held,
-            self.base_nodes,
-            self.base_size,
-            self.said,
-            self.wrong,
-        )
+        new.setting, new.asked, new.front, new.later = self.setting, self.asked, self.front, {}
+        new.parts, new.lines, new.entries = self.parts + 1, self.lines, self.entries
+        new.held, new.new, new.held_size = self.held, [], self.held_size
+        new.base_nodes, new.base_size, new.wrong = self.base_nodes, self.base_size, self.wrong
+        new.said, new.said_size, new.said_place = self.said, self.said_size, self.said_place
         new.last_base = None
         return new
 
     def keep(self, part: bytes, lines: list[bytes], before: int) -> None:
         """Adds what was read, in front of which so many lines were, to what is kept, and notes how long that is."""
+        if self.new:
+            self.held = (*self.held, self.new)
+        end = self.said_size + len(part)
         if self.last_base and not self.setting.keeps:
             last, base = self.last_base
-            # another object than before, so that what is known of its places is known to be over
+            # another place than before, so that what is known of places is known to be over
+            self.said_place += end
             self.said = bytearray(b"\n".join([*base, *lines[last - before :], self.rest]))
+            self.said_size = len(self.said)
         else:
-            self.said += part
-        self.said_size, self.held_size = len(self.said), len(self.held)
-        if self.front == len(self.asked) or self.front > ANSWERED:
-            self.asked = self.asked[self.front :]
-            self.dropped += self.front
-            self.front = 0
+            # the same bytes at the same place, however often it is done
+            self.said[self.said_size : end] = part
+            self.said_size = end
+
+    def hold(self, line: bytes) -> None:
+        self.new.append(line)
+        self.held_size += 1
+
+    def all_held(self) -> list[bytes]:
+        """The lines that are held, which are let go of."""
+        lines = [line for part in (*self.held, self.new) for line in part]
+        self.held, self.new, self.held_size = (), [], 0
+        return lines
 
     def take(self, line: bytes) -> None:
         """Gives a line to the command that it answers."""
         if self.wrong:
             return
         self.lines += 1
-        asked, front = self.asked, self.front
-        pending = asked[front] if front < len(asked) else None
+        pending = self.asked.get(self.front)
         if pending and pending._is_base:
             return self.take_of_base(pending, line)
         self.entries = entry = self.entries + 1
@@ -129,22 +143,23 @@ class Answers:
         if pending and line.startswith(head + pending._event + b" = "):
             self.answer(pending, line[len(head) + len(pending._event) + 3 :])
         elif pending and pending._ahead and line.startswith(head):
-            self.held.append(line[len(head) :])
+            self.hold(line[len(head) :])
         elif entry or line != self.setting.header:
             self.garble(pending, line)
 
-    def take_of_base(self, pending: Pending[Any], line: bytes) -> None:
+    def take_of_base(self, pending: Pending[object], line: bytes) -> None:
         """Gives a line of a base to the checkpoint that it answers, whose answer is all of them."""
         if not self.is_next_of_base(line):
             return self.garble(pending, line)
-        self.held.append(line)
-        if len(self.held) == self.base_size:
-            self.last_base = (self.lines, self.held)
-            self.answer(pending, b"\n".join(self.held))
+        self.hold(line)
+        if self.held_size == self.base_size:
+            lines = self.all_held()
+            self.last_base = (self.lines, lines)
+            self.answer(pending, b"\n".join(lines))
 
     def is_next_of_base(self, line: bytes) -> bool:
         """Whether this may be the next line of a base: as far as it takes to know where that ends."""
-        place = len(self.held)
+        place = self.held_size
         if place == 0:
             return line == self.setting.base_head
         if place > 1:
@@ -154,19 +169,17 @@ class Answers:
             self.base_nodes, self.base_size = int(found[3]), 2 + int(found[3]) + int(found[4])
         return found is not None and int(found[1]) == self.entries
 
-    def answer(self, pending: Pending[Any], text: bytes) -> None:
+    def answer(self, pending: Pending[object], text: bytes) -> None:
         """The answer to the command that has waited longest."""
         if pending._ahead:
-            pending._turns = self.held
-        if pending._ahead or pending._is_base:
-            self.held = []
+            pending._turns = self.all_held()
         pending._text = text
         kept = pending._refusals
-        if kept is not None and text.startswith(b"refused ") and not (kept and kept[-1].entry >= self.entries):
-            kept.append(refusal(self.setting.names, pending._event, text, self.entries))
+        if kept is not None and text.startswith(b"refused "):
+            kept[self.entries] = refusal(self.setting.names, pending._event, text, self.entries)
         pending._entry = self.entries
-        self.front += 1
+        self.front += STEP
 
-    def garble(self, pending: Optional[Pending[Any]], line: bytes) -> None:
+    def garble(self, pending: Optional[Pending[object]], line: bytes) -> None:
         wanted = pending._event.decode()[:200] if pending else "nothing"
         self.wrong = Garbled(f"line {self.lines} is {text_of(line[:200])!r}; asked was {wanted!r}")

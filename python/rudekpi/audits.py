@@ -12,7 +12,7 @@ from typing import Any, Optional, Union
 
 from .errors import VERDICT, Damaged, Ended, Garbled, text_of
 from .library import Library, chosen
-from .numbers import number_within
+from .numbers import MOST_ENTRIES, number_within
 from .program import Program, found_program
 from .reading import numbers_of
 from .replies import Epoch, Summary
@@ -23,7 +23,8 @@ Text = Union[str, bytes, bytearray, memoryview]
 
 @dataclass(frozen=True)
 class Slice:
-    """The bytes of a file from a place to another, of which no copy is made; the file is a path, the number of an open one, or bytes."""
+    """The bytes of a file from a place to another, of which no copy is made; the file is a path, the number of an open
+    one, or bytes."""
 
     file: Union[str, int, bytes]
     start: int
@@ -59,8 +60,8 @@ def bytes_of(transcript: Text) -> bytes:
 
 
 def audit(transcript: Union[Text, Slice], *, program: Program = None, engine: Optional[str] = None) -> Summary:
-    """Judges a transcript: what it has where it is that of a run of the rules; else raises `Damaged`. By an engine as that of a
-    `Network`; where there is no memory the library raises `MemoryError`, and the program `Ended`."""
+    """Judges a transcript: what it has where it is that of a run of the rules; else raises `Damaged`. By an engine as
+    that of a `Network`; where there is no memory the library raises `MemoryError`, and the program `Ended`."""
     judge = chosen(engine, program)
     if judge:
         if isinstance(transcript, Slice):
@@ -75,8 +76,8 @@ def summary_read(said: str) -> Summary:
 
 
 def epochs(transcript: Text, *, program: Program = None) -> list[Epoch]:
-    """The epochs of a transcript, each with its bound and what the disturbance that began it cost. Raises `Damaged` where `audit`
-    refuses it, or `Ended`."""
+    """The epochs of a transcript, each with its bound and what the disturbance that began it cost. Raises `Damaged`
+    where `audit` refuses it, or `Ended`."""
     row = ",".join(["([0-9]+|-)", *["([0-9]+)"] * 4, "([0-9]+|-)"]) + "\n"
     rows = numbers_in("epochs", judged(["epochs"], transcript, program), row, "start,moves,edges,nodes,bound,cost\n")
     # a header's second word, which is that of a transcript that begins with a base, too
@@ -99,7 +100,9 @@ def picture(transcript: Text, entry: Optional[int] = None, *, program: Program =
 
     Raises `Damaged` where `audit` refuses the transcript, `ValueError` where it has no such entry, or `Ended`.
     """
-    words = ["picture"] if entry is None else ["picture", "--entry", str(number_within(entry, 2**32 - 1, "an entry"))]
+    words = (
+        ["picture"] if entry is None else ["picture", "--entry", str(number_within(entry, MOST_ENTRIES, "an entry"))]
+    )
     try:
         said = judged(words, transcript, program)
     except Ended as ended:
@@ -131,7 +134,8 @@ def send(given: Union[bytes, bytearray, memoryview, Slice], pipe: int) -> None:
     """Writes all bytes to a pipe, as many at once as it takes, which `subprocess.run` does not do."""
     if isinstance(given, Slice):
         return given.send(pipe)
-    left = memoryview(given)
+    whole = memoryview(given)
+    left = whole.cast("B") if whole.c_contiguous else memoryview(whole.tobytes())
     while left:
         left = left[os.write(pipe, left) :]
 

@@ -6,14 +6,19 @@ from collections import abc
 from typing import Callable
 
 from .errors import WrongChoice
-from .numbers import MOST_NODES
+from .numbers import MOST_NODES, counted
 from .replies import Choice, Enabled, Name, Wish
 
 Daemon = Callable[[Enabled], Choice]
 
 
 def numbers_of(choice: Choice, number_of: Callable[[Name], int]) -> list[tuple[int, int]]:
-    """The nodes of a choice's items with their targets, 0 for none; those of a set by number, so that the same set is the same step."""
+    """The nodes of a choice's items with their targets, 0 for none; those of a set by number, so that the same set is
+    the same step.
+
+    Raises `TypeError` for what is no list of nodes."""
+    if isinstance(choice, (str, bytes, Wish)) or not isinstance(choice, abc.Iterable):
+        raise TypeError(f"a step is given a list of nodes, as [1] or [Wish(1, 2)], and not {choice!r}")
     items = []
     for item in choice:
         wish = number_of(item.target) if isinstance(item, Wish) else 0
@@ -36,7 +41,7 @@ def checked_choice(choice: Choice, enabled: Enabled) -> Choice:
         raise WrongChoice(f"a daemon gives a list of nodes, and not {choice!r}")
     items = choice if isinstance(choice, abc.Set) else list(choice)
     if not items:
-        raise WrongChoice(f"the daemon chose nobody while {len(enabled)} nodes are enabled")
+        raise WrongChoice(f"the daemon chose nobody while {counted(len(enabled), 'node is', 'nodes are')} enabled")
     for item in items:
         node = item.node if isinstance(item, Wish) else item
         if node not in enabled:

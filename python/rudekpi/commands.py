@@ -6,26 +6,48 @@ import argparse
 import contextlib
 import math
 import re
+import socket
 import statistics
 import sys
-from typing import Any, Callable, Iterable, Iterator, Optional, Sequence
+import warnings
+from concurrent.futures import Executor
+from typing import Callable, Iterable, Iterator, Optional, Sequence, TextIO
 
-from . import daemons, json_lines, script_words, shell, sweeps
+from . import daemons, json_lines, script_words, shell, streams, sweeps
 from .audits import audit
 from .errors import Damaged
 from .graphs import Graph, graph_of
 from .schedules import longest
 from .network import Network
+from .numbers import counted
 from .progress import shown
 from .sweeps import Disturbance, Row
 
 DONE, FAILED, BAD_WORDS, INTERRUPTED = 0, 1, 2, 130
-MADE = "a file (edge list, .col, .metis, .graphml, .json), or path:N ring:N star:N complete:N grid:RxC gnp:N,P,SEED regular:N,D,SEED disk:N,R,SEED"
+# how many seconds a scheduler may take to be reached
+REACHED_SECONDS = 5
+MADE = (
+    "a file (edge list, .csv, .col, .metis, .graphml, .json), or path:N ring:N star:N complete:N grid:RxC gnp:N,P,SEED "
+    "regular:N,D,SEED disk:N,R,SEED"
+)
 
 
-def opened(path: Optional[str], mode: str, otherwise: Any = None) -> Any:
-    """A file to be used in a `with`, or what is used where no path, or `-`, is given."""
-    return open(path, mode, newline="" if mode == "w" else None) if path not in (None, "-") else contextlib.nullcontext(otherwise)  # type: ignore[arg-type]
+@contextlib.contextmanager
+def written(path: Optional[str]) -> Iterator[TextIO]:
+    """A file that is written, or standard output where no path, or `-`, is given."""
+    if path is None or path == "-":
+        yield sys.stdout
+    else:
+        with streams.output_file(path) as file:
+            yield file
+
+
+def read(path: str) -> bytes:
+    """What a file has, or standard input where the path is `-`."""
+    if path == "-":
+        return sys.stdin.buffer.read()
+    with open(path, "rb") as file:
+        return file.read()
 
 
 def listed(text: str) -> list[str]:
@@ -51,16 +73,38 @@ def counts(text: str) -> list[int]:
     return [least(0)(word) for word in listed(text)]
 
 
-def graph_given(text: str) -> Graph:
+def graph_given(parser: argparse.ArgumentParser, text: str, undirected: bool) -> Graph:
+    """The graph of a word; ends by the parser if there is none, and prints what is left out of it."""
     try:
-        return graph_of(text)
-    except (OSError, ValueError, ImportError) as error:
-        raise argparse.ArgumentTypeError(str(error)) from None
+        with warnings.catch_warnings(record=True) as told:
+            warnings.simplefilter("always")
+            made = graph_of(text, undirected=undirected)
+    except (OSError, ValueError) as error:
+        parser.error(f"argument --graph: {error}")
+    for warning in told:
+        print(f"! {warning.message}", file=sys.stderr)
+    return made
+
+
+def words_of_graph(parser: argparse.ArgumentParser) -> None:
+    """What each command that takes graphs is told about them."""
+    parser.add_argument(
+        "--undirected", action="store_true", help="takes a directed graph of a file, without its directions"
+    )
+    parser.set_defaults(parser=parser)
+
+
+def read_graphs(given: argparse.Namespace) -> None:
+    """Makes graphs of the words behind --graph, once all words are known."""
+    words = given.graph if isinstance(given.graph, list) else [given.graph]
+    made = [graph_given(given.parser, text, given.undirected) for text in words]
+    given.graph = made if isinstance(given.graph, list) else made[0]
 
 
 def words_of_sweep(parser: argparse.ArgumentParser, rules: str) -> None:
     """What `sweep` and `compare` are told."""
-    parser.add_argument("--graph", action="append", required=True, type=graph_given, help=f"{MADE}; may be given again")
+    parser.add_argument("--graph", action="append", required=True, help=f"{MADE}; may be given again")
+    words_of_graph(parser)
     parser.add_argument("--rules", type=listed, default=rules, help="hh,manne or one of them (%(default)s)")
     parser.add_argument(
         "--daemon", type=listed, default="seeded", help=f"some of {','.join(daemons.WORDS)} (%(default)s)"
@@ -90,21 +134,34 @@ def words_of_sweep(parser: argparse.ArgumentParser, rules: str) -> None:
     parser.add_argument("--program", help="the program that plays")
 
 
+def reach(address: str) -> None:
+    """Raises `OSError` at once where nobody listens at an address of a scheduler, for which distributed would wait in
+    silence."""
+    kind, host, port = re.fullmatch(r"(?:(\w+)://)?(.*?)(?::([0-9]+))?", address).groups()  # type: ignore[union-attr]
+    if kind not in (None, "tcp", "tls") or not port:
+        return
+    try:
+        socket.create_connection((host.strip("[]"), int(port)), REACHED_SECONDS).close()
+    except (OSError, OverflowError) as error:
+        raise OSError(f"no scheduler at {address}: {error}") from None
+
+
 @contextlib.contextmanager
-def executor_of(given: argparse.Namespace) -> Iterator[Any]:
+def executor_of(given: argparse.Namespace) -> Iterator[Optional[Executor]]:
     """What plays: a cluster, or processes of this machine."""
     if given.dask:
         try:
             import distributed
         except ImportError:
             raise ImportError("--dask wants distributed, which is not there") from None
+        reach(given.dask)
         with distributed.Client(given.dask) as client:  # type: ignore[no-untyped-call]
             yield client.get_executor()
     else:
         yield None
 
 
-def rows_of(given: argparse.Namespace, rows: list[Row], file: Any) -> int:
+def rows_of(given: argparse.Namespace, rows: list[Row], file: Optional[TextIO]) -> int:
     """Plays a sweep, and adds its rows as they come; returns the exit status."""
     seeds = range(given.first_seed, given.first_seed + given.seeds)
     hits = [Disturbance(count, given.registers, given.joins, given.leaves) for count in given.faults]
@@ -114,25 +171,26 @@ def rows_of(given: argparse.Namespace, rows: list[Row], file: Any) -> int:
         why = "under hh no two nodes move at once, and there are no flags"
         if not total:
             raise ValueError(f"there is nothing to play: {why}")
-        print(f"! left out: {math.prod(map(len, words)) - total} experiments, since {why}", file=sys.stderr)
+        left_out = counted(math.prod(map(len, words)) - total, "experiment")
+        print(f"! left out: {left_out}, since {why}", file=sys.stderr)
     if given.plot:
         from . import plots
 
-        plots.check(given.plot)
+        plots.check(given.plot, len(given.graph) * len(hits))
     with executor_of(given) as executor:
         found = sweeps.sweep(*words, executor=executor, program=given.program, processes=given.processes)
         written: Iterable[Row] = sweeps.write_csv(found, file) if file else found
         try:
             rows.extend(shown(written, total))
         except KeyboardInterrupt:
-            print(f"! cut short: {len(rows)} of {total} rows are there", file=sys.stderr)
+            print(f"! cut short: {len(rows)} of {counted(total, 'row')} are there", file=sys.stderr)
             return INTERRUPTED
     return DONE
 
 
 def run_sweep(given: argparse.Namespace) -> int:
     rows: list[Row] = []
-    with opened(given.csv, "w", sys.stdout) as file:
+    with written(given.csv) as file:
         status = rows_of(given, rows, file)
     plot_rows(given, rows)
     return status
@@ -147,27 +205,23 @@ def plot_rows(given: argparse.Namespace, rows: list[Row]) -> None:
 
 def run_compare(given: argparse.Namespace) -> int:
     rows: list[Row] = []
-    with opened(given.csv, "w") as file:
+    with written(given.csv) if given.csv else contextlib.nullcontext() as file:
         status = rows_of(given, rows, file)
     print("\n".join(table_of(rows)))
     plot_rows(given, rows)
     return status
 
 
-def by_number(word: str) -> list[Any]:
-    """What a word is sorted by, so that 5 stands in front of 10."""
-    return [(int(part), "") if part.isdigit() else (0, part) for part in re.split("([0-9]+)", word)]
-
-
 def table_of(rows: Sequence[Row]) -> list[str]:
-    """The moves of each graph, daemon and disturbance under both rule sets, beside the bound, as the lines of a table."""
+    """The moves of each graph, daemon and disturbance under both rule sets, beside the bound, as the lines of a
+    table."""
     groups: dict[tuple[str, ...], list[Row]] = {}
     for row in rows:
         groups.setdefault((row.graph, row.disturbance, row.daemon, row.rules), []).append(row)
     lines: list[tuple[str, ...]] = [
         ("graph", "disturbance", "daemon", "rules", "runs", "min", "mean", "median", "95th", "max", "bound")
     ]
-    for key, group in sorted(groups.items(), key=lambda item: [by_number(word) for word in item[0]]):
+    for key, group in sorted(groups.items(), key=lambda item: [sweeps.natural(word) for word in item[0]]):
         moves = sorted(row.moves for row in group)
         figures = [
             min(moves),
@@ -198,21 +252,23 @@ def run_worst(given: argparse.Namespace) -> int:
     print(
         f"{found.graph.title}, {found.rules}: {found.moves} moves, {known}; the bound is {found.bound}", file=sys.stderr
     )
-    with opened(given.output, "w", sys.stdout) as file:
+    with written(given.output) as file:
         file.write(transcript if given.transcript else found.script())
     return DONE
 
 
 def run_check(given: argparse.Namespace) -> int:
     """Each line that is no command, and why."""
-    with opened(given.script, "rb", sys.stdin.buffer) as file:
-        script = file.read()
+    script = read(given.script)
     count = 0
     for count, (number, why) in enumerate(script_words.faults_of(script), 1):
         print(f"line {number}: {why}")
     if not count:
+        lines = script.count(b"\n") + (not script.endswith(b"\n") and bool(script))
         print(
-            f"each of {script.count(10) + (not script.endswith(b'%c' % 10) and bool(script))} lines is a command, or empty"
+            f"each of {counted(lines, 'line')} is a command, or empty"
+            if lines != 1
+            else "the line is a command, or empty"
         )
     return FAILED if count else DONE
 
@@ -223,8 +279,7 @@ def run_shell(given: argparse.Namespace) -> int:
 
 
 def run_json(given: argparse.Namespace) -> int:
-    with opened(given.transcript, "rb", sys.stdin.buffer) as file:
-        transcript = file.read()
+    transcript = read(given.transcript)
     try:
         audit(transcript, program=given.program)
     except Damaged as damaged:
@@ -239,7 +294,7 @@ def parser_of() -> argparse.ArgumentParser:
     parser = argparse.ArgumentParser(prog="rudekpi", description=__doc__)
     commands = parser.add_subparsers(dest="command", required=True)
 
-    def command(name: str, run: Any, text: str) -> argparse.ArgumentParser:
+    def command(name: str, run: Callable[[argparse.Namespace], int], text: str) -> argparse.ArgumentParser:
         made = commands.add_parser(name, help=text, description=text)
         made.set_defaults(run=run)
         return made
@@ -249,7 +304,8 @@ def parser_of() -> argparse.ArgumentParser:
         command("compare", run_compare, "a table of the moves under both rule sets, beside the bound"), "hh,manne"
     )
     worst = command("worst", run_worst, "the longest schedule of a network, as a script")
-    worst.add_argument("--graph", required=True, type=graph_given, help=MADE)
+    worst.add_argument("--graph", required=True, help=MADE)
+    words_of_graph(worst)
     worst.add_argument("--rules", choices=("hh", "manne"), default="manne")
     worst.add_argument(
         "--seconds",
@@ -276,5 +332,7 @@ def parser_of() -> argparse.ArgumentParser:
 
 def run(words: Optional[Sequence[str]] = None) -> int:
     given = parser_of().parse_args(words)
+    if hasattr(given, "graph"):
+        read_graphs(given)
     status: int = given.run(given)
     return status

@@ -3,15 +3,16 @@
     net.settle(daemons.ByName())            # the least enabled node
     net.settle(daemons.named("greedy", 7))  # by its word, with a seed
 
-Each is a value that can be compared, pickled and used again: it begins anew in every network that it settles, so the same daemon
-makes the same run. What the literature calls them, after Dubois and Tixeuil, "A taxonomy of daemons in self-stabilization", 2011:
+Each is a value that can be compared, pickled and used again: it begins anew in every network that it settles, so the
+same daemon makes the same run. What the literature calls them, after Dubois and Tixeuil, "A taxonomy of daemons in
+self-stabilization", 2011:
 
 - `Synchronous`: the synchronous daemon; under `manne` alone, since Hsu and Huang's rules take one node at a time;
 - `ByName`: a central daemon with fixed priorities, which is unfair;
 - `ByAge`: a central round-robin daemon, which is fair: whoever moved longest ago, and first those who have not;
 - `Seeded`: a randomised daemon, central under `hh` and distributed under `manne`: the program's own, `drive`;
-- `Greedy`: a central adversary (`Greedy()`, the enabled node and target of which the move lets the charge fall least) or helper
-  (`Greedy(most=True)`), that sees the whole state.
+- `Greedy`: a central adversary (`Greedy()`, the enabled node and target of which the move lets the charge fall least)
+  or helper (`Greedy(most=True)`), that sees the whole state.
 
 A function from the enabled nodes to those that move is a daemon too.
 """
@@ -20,7 +21,7 @@ from __future__ import annotations
 
 import itertools
 from dataclasses import dataclass
-from typing import TYPE_CHECKING, Any, Callable, Union, get_args
+from typing import TYPE_CHECKING, Callable, Union, get_args
 
 from . import rules
 from .numbers import MOST_TURNS
@@ -74,8 +75,8 @@ class ByAge:
 
 @dataclass(frozen=True)
 class Seeded:
-    """The program's own daemon of chance with this seed, 0 to 2^64 - 1: one enabled node under `hh`; under `manne` each with the chance
-    of a half, and one at least. A run costs one command, not two a step."""
+    """The program's own daemon of chance with this seed, 0 to 2^64 - 1: one enabled node under `hh`; under `manne` each
+    with the chance of a half, and one at least. A run costs one command, not two a step."""
 
     seed: int = 0
 
@@ -91,8 +92,8 @@ class Seeded:
 
 @dataclass(frozen=True)
 class Greedy:
-    """The enabled node, and its target, of which the move lets the charge fall least; or most. Each step looks at every enabled node
-    and at the edges near it."""
+    """The enabled node, and its target, of which the move lets the charge fall least; or most. Each step looks at every
+    enabled node and at the edges near it."""
 
     most: bool = False
 
@@ -124,12 +125,13 @@ WORDS: dict[str, Callable[[int], AnyDaemon]] = {
 }
 
 
-def check_daemon(daemon: Any) -> None:
-    """Raises `TypeError` for what is no daemon: a word, or one of the types above in the place of what it makes."""
+def check_daemon(daemon: object) -> None:
+    """Raises `TypeError` for what is no daemon, such as one of the types above in the place of what it makes."""
     is_type = isinstance(daemon, type) and issubclass(daemon, get_args(AnyDaemon))
     if is_type or not (callable(daemon) or hasattr(daemon, "begin") or isinstance(daemon, Seeded)):
         raise TypeError(
-            f"{daemon!r} is no daemon: such are ByName(), named('least') and any function from the enabled nodes to those that move"
+            f"{daemon!r} is no daemon: such are 'least', ByName() and any function from the enabled nodes to those "
+            "that move"
         )
 
 

@@ -10,6 +10,7 @@ import sys
 from typing import Union
 
 from .errors import Damaged, Ended, text_of
+from .files import write_whole
 from .names import Names
 from .program import Program, found_program, page_maker
 from .state import State
@@ -60,13 +61,12 @@ def html_of(title: str, state: State, names: Names) -> str:
 
 
 def write_page(transcript: str, path: Union[str, os.PathLike[str]], program: Program) -> None:
-    """Writes a page that plays a transcript. Raises `Damaged` where `audit` refuses that, and `FileNotFoundError` where what
-    makes pages is not there."""
+    """Writes a page that plays a transcript. Raises `Damaged` where `audit` refuses that, `FileNotFoundError` where
+    what makes pages is not there, and `OSError` where it can't be written, of which nothing is left then."""
     words = [sys.executable, page_maker(), "--program", found_program(program)]
     done = subprocess.run(words, input=transcript.encode(), stdout=subprocess.PIPE, stderr=subprocess.PIPE)
     if done.returncode == 1:
         raise Damaged.read(text_of(done.stderr))
     if done.returncode:
         raise Ended(done.returncode, done.stderr)
-    with open(path, "wb") as file:
-        file.write(done.stdout)
+    write_whole(path, done.stdout)

@@ -3,7 +3,6 @@
 from __future__ import annotations
 
 import re
-from typing import Any
 
 VERDICT = re.compile(r"line ([0-9]+): (.*)\n")
 
@@ -13,7 +12,8 @@ def text_of(said: bytes) -> str:
 
 
 class RudekpiError(Exception):
-    """All errors of this module but `ValueError`, `TypeError` and `OSError`, which tell of wrong arguments and a missing program."""
+    """All errors of this module but `ValueError`, `TypeError` and `OSError`, which tell of wrong arguments and a
+    missing program."""
 
 
 class Refused(RudekpiError):
@@ -23,7 +23,7 @@ class Refused(RudekpiError):
         super().__init__(f"{event}: refused {number} {text} (entry {entry})")
         self.event, self.number, self.text, self.entry = event, number, text, entry
 
-    def __reduce__(self) -> Any:
+    def __reduce__(self) -> tuple[object, ...]:
         return type(self), (self.event, self.number, self.text, self.entry)
 
 
@@ -34,8 +34,30 @@ class Ended(RudekpiError):
         self.status, self.last_line = status, text_of(told).rstrip("\n").rpartition("\n")[2]
         super().__init__(f"the program ended with status {status}: {self.last_line or '(it said nothing)'}")
 
-    def __reduce__(self) -> Any:
+    def __reduce__(self) -> tuple[object, ...]:
         return type(self), (self.status, self.last_line.encode())
+
+
+class Inherited(Ended):
+    """A child of the process that made a network has asked it."""
+
+    def __init__(self, status: int = 0, told: bytes = b"") -> None:
+        super().__init__(0, b"the network belongs to another process, of which this one is a child")
+        self.args = (f"{self.last_line}: ask it there, or replay its transcript here",)
+
+
+class NoReply(RudekpiError, MemoryError):
+    """The command was carried out, and there is no memory for its reply: `entry` is the number of its last entry, which
+    the transcript has. A `MemoryError` that is none of these says that nothing was carried out."""
+
+    def __init__(
+        self, entry: int, what: str = "the command was carried out, and there is no memory for its reply:"
+    ) -> None:
+        super().__init__(f"{what} entry {entry}, which the transcript has")
+        self.entry, self.what = entry, what
+
+    def __reduce__(self) -> tuple[object, ...]:
+        return type(self), (self.entry, self.what)
 
 
 class NoSuchCommand(RudekpiError):
@@ -53,7 +75,7 @@ class Damaged(RudekpiError):
         super().__init__(f"line {line}: {why}")
         self.line, self.why = line, why
 
-    def __reduce__(self) -> Any:
+    def __reduce__(self) -> tuple[object, ...]:
         return type(self), (self.line, self.why)
 
     @classmethod

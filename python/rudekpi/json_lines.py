@@ -4,14 +4,14 @@ from __future__ import annotations
 
 import json
 from dataclasses import asdict
-from typing import Any, Callable, Iterator
+from typing import Callable, Iterator
 
 from .names import Names
 from .reading import read_base, read_enabled, read_matching, read_moves, read_status
 from .replays import parts_of
 
 
-def objects_of(transcript: str) -> Iterator[dict[str, Any]]:
+def objects_of(transcript: str) -> Iterator[dict[str, object]]:
     """The objects of a transcript that `audit` accepts."""
     names = Names(0)
     for part in parts_of(transcript):
@@ -26,7 +26,7 @@ def objects_of(transcript: str) -> Iterator[dict[str, Any]]:
             yield entry_of(part[0], names)
 
 
-def base_of(part: list[str], names: Names, rules: str) -> dict[str, Any]:
+def base_of(part: list[str], names: Names, rules: str) -> dict[str, object]:
     base = read_base(names, 0, "", "\n".join(part))
     nodes = [{"node": node, "pointer": held.pointer, "flag": held.flag} for node, held in base.nodes.items()]
     number = int(part[1].split(" ")[1])
@@ -40,11 +40,11 @@ def base_of(part: list[str], names: Names, rules: str) -> dict[str, Any]:
     }
 
 
-def entry_of(line: str, names: Names) -> dict[str, Any]:
+def entry_of(line: str, names: Names) -> dict[str, object]:
     """An entry: its number, the event's word and what is behind it, and what the reply says."""
     head, _, reply = line.partition(" = ")
     entry, word, *rest = head.split(" ")
-    made: dict[str, Any] = {"entry": int(entry), "event": word}
+    made: dict[str, object] = {"entry": int(entry), "event": word}
     if word == "step":
         made["choice"] = [choice_of(item) for item in rest]
     elif rest:
@@ -60,7 +60,7 @@ def choice_of(item: str) -> dict[str, int]:
     return {"node": int(node), "target": int(target)} if wish else {"node": int(node)}
 
 
-def told(word: str, names: Names, event: str, reply: str) -> dict[str, Any]:
+def told(word: str, names: Names, event: str, reply: str) -> dict[str, object]:
     """What a reply says that is no refusal."""
     if word == "show":
         return {"target": None if reply == "-" else int(reply)}
@@ -80,5 +80,5 @@ def told(word: str, names: Names, event: str, reply: str) -> dict[str, Any]:
 
 
 def lines_of(transcript: str) -> Iterator[str]:
-    dumped: Callable[[Any], str] = json.JSONEncoder(separators=(",", ":")).encode
+    dumped: Callable[[object], str] = json.JSONEncoder(separators=(",", ":")).encode
     return (dumped(it) for it in objects_of(transcript))

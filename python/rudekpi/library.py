@@ -6,8 +6,9 @@ import ctypes
 import functools
 import mmap
 import os
-from typing import Any, Optional, Union
+from typing import Callable, Optional, Union
 
+from .costs import COSTED
 from .errors import Damaged
 from .program import PACKAGE, Program
 from .replies import Summary
@@ -60,15 +61,16 @@ def summary_of(verdict: Verdict) -> Summary:
 
 
 def verdict_of(found: Union[Summary, Damaged]) -> Verdict:
-    """The verdict that says so, as `summary_of` reads it. Raises `KeyError` for a damage that is none of the library's."""
+    """The verdict that says so, as `summary_of` reads it. Raises `KeyError` for a damage that is none of the
+    library's."""
     if isinstance(found, Summary):
         return Verdict(0, found.entries, found.epochs, found.moves, 0)
     return Verdict({why: kind for kind, why in DAMAGES.items()}[found.why], 0, 0, 0, found.line)
 
 
-# the calls of a session and of an audit. They are called with references and numbers below 2^31, or with numbers that are wrapped, for which ctypes
-# wants no types: to convert to them would take as long as the call. While those that may take long run, other threads of Python do
-COSTED = ("link", "unlink", "join", "leave", "point", "flag")
+# the calls of a session and of an audit. They are called with references and numbers below 2^31, or with numbers that
+# are wrapped, for which ctypes wants no types: to convert to them would take as long as the call. While those that may
+# take long run, other threads of Python do
 SHORT = (
     "link",
     "unlink",
@@ -78,7 +80,9 @@ SHORT = (
     "status",
     "partner",
     "moves_left",
+    "is_at_rest",
     *(f"cost_of_{word}" for word in COSTED),
+    *(f"reach_of_{word}" for word in COSTED),
 )
 LONG = (
     "session_new",
@@ -125,7 +129,7 @@ class Library:
             raise OSError(f"{path} is no library of this package: {error}") from None
         self.judge.argtypes, self.judge.restype = (ctypes.c_void_p, ctypes.c_size_t, ctypes.c_void_p), None
 
-    def __getattr__(self, name: str) -> Any:
+    def __getattr__(self, name: str) -> Callable[..., int]:
         raise AttributeError(name)
 
     def audit(self, at: int, size: int) -> Summary:
@@ -137,8 +141,8 @@ class Library:
     def joined(self, whole: Summary, found: Union[Summary, Damaged], lines: int) -> Summary:
         """The verdict on a text that is accepted and on one that it meets at a base, as one.
 
-        `lines` of the first stand before the base, which matters only for a damage. Raises `Damaged`, or `OverflowError` where a sum
-        is more than a verdict holds.
+        `lines` of the first stand before the base, which matters only for a damage. Raises `Damaged`, or
+        `OverflowError` where a sum is more than a verdict holds.
         """
         verdict, second = verdict_of(whole), verdict_of(found)
         if self.audit_join(ctypes.byref(verdict), ctypes.c_uint64(lines), ctypes.byref(second)) != DONE:
@@ -172,7 +176,8 @@ def loaded(path: str) -> Library:
 
 
 def paths() -> list[str]:
-    """Where the library may be: that of the environment's RUDEKPI_LIBRARY, or else the one in the package, then the repository's."""
+    """Where the library may be: that of the environment's RUDEKPI_LIBRARY, or else the one in the package, then the
+    repository's."""
     given = os.environ.get("RUDEKPI_LIBRARY")
     if given:
         return [os.path.abspath(given)]
@@ -196,8 +201,9 @@ def found_library() -> Optional[Library]:
 def chosen(engine: Optional[str], program: Program) -> Optional[Library]:
     """The library, where it is the engine; None where that is a program.
 
-    With no engine it is that of the environment's RUDEKPI_ENGINE, else the library where it is found and no program is given. Raises
-    `ValueError` for an engine that is none, or the library with a program, and `OSError` where the library is wanted and not found.
+    With no engine it is that of the environment's RUDEKPI_ENGINE, else the library where it is found and no program is
+    given. Raises `ValueError` for an engine that is none, or the library with a program, and `OSError` where the
+    library is wanted and not found.
     """
     engine = engine or (None if program else os.environ.get("RUDEKPI_ENGINE") or None)
     if engine is None:

@@ -3,17 +3,18 @@
 from __future__ import annotations
 
 import os
-from typing import Any, Iterable, Optional, Union
+from typing import Any, Callable, Iterable, NoReturn, Optional, Union, cast
 
-from . import audits, drawings, library, reach
+from . import audits, drawings, library
 from .answers import Setting
 from .batch import Batch
 from .choices import Daemon, checked_choice
-from .daemons import AnyDaemon, Seeded, check_daemon
+from .costs import numbers_of_edit, why_refused
+from .daemons import AnyDaemon, Seeded, check_daemon, named
 from .direct import Direct
 from .errors import PastBound
 from .names import Names
-from .numbers import number_within
+from .numbers import counted, number_within
 from .program import Program, found_program
 from .replies import (
     Accepted,
@@ -33,23 +34,25 @@ from .replies import (
 )
 from .rules import moves_left
 from .session import Session
-from .state import Follower, State
+from .state import Follower, Seen, State
 
 
 class Network:
     """A network that is played by the library in this process, or by a run of the program, one command a call.
 
-    `nodes` is how many there are, with the names 1 to that, or their names, which get the numbers 1, 2, .. in that order;
-    the transcript has the numbers. Under `manne` the numbers matter: a node proposes to the greater ones. The first
-    `present` of them are there at the start, all where nothing is said; others may `join`. With `keep=False` the transcript is
-    kept from the last checkpoint on, and not longer.
+    `nodes` is how many there are, with the names 1 to that, or their names, which get the numbers 1, 2, .. in that
+    order; the transcript has the numbers. Under `manne` the numbers matter: a node proposes to the greater ones. The
+    first `present` of them are there at the start, all where nothing is said; others may `join`. With `keep=False` the
+    transcript is kept from the last checkpoint on, and not longer.
 
-    The `engine` is "library" or "program": where nothing is said that of the environment's RUDEKPI_ENGINE, else the library where it
-    is found and no program is named. Answers and transcripts are the same. The library is that of RUDEKPI_LIBRARY, else the one in this
-    package, else `release/librudekpi.so` of the repository. Where it finds no memory it raises `MemoryError`, and the network is as it was.
+    The `engine` is "library" or "program": where nothing is said that of the environment's RUDEKPI_ENGINE, else the
+    library where it is found and no program is named. Answers and transcripts are the same. The library is that of
+    RUDEKPI_LIBRARY, else the one in this package, else `release/librudekpi.so` of the repository. If memory runs
+    out in it, it raises `MemoryError` and nothing was carried out; `NoReply`, which is one too, says that only the
+    reply is lost.
 
-    An interrupt (Ctrl-C) at any moment leaves it usable. The command that was cut short is carried out or was never asked:
-    `status`, `edges` and the transcript tell. A network that nobody refers to any more ends its program.
+    An interrupt (Ctrl-C) at any moment leaves it usable. The command that was cut short is carried out or was never
+    asked: `status`, `edges` and the transcript tell. A network that nobody refers to any more ends its program.
     """
 
     def __init__(
@@ -87,13 +90,13 @@ class Network:
     def __enter__(self) -> Network:
         return self
 
-    def __exit__(self, kind: Any, *_: Any) -> None:
+    def __exit__(self, kind: Optional[type[BaseException]], *_: object) -> None:
         if kind:
             self._session.kill()
         else:
             self.close()
 
-    def __reduce__(self) -> Any:
+    def __reduce__(self) -> NoReturn:
         raise TypeError(
             "a network belongs to one process and is not copied: replay makes another one of its transcript"
         )
@@ -102,14 +105,16 @@ class Network:
         session = self._session
         wrong = session.trouble()
         stands = f", {wrong}" if wrong else ", closed" if session.is_closed else ""
-        return f"<Network {self.rules}, {self._names.count} nodes, {session.entries} entries{stands}>"
+        nodes, entries = counted(self._names.count, "node"), counted(session.entries, "entry", "entries")
+        return f"<Network {self.rules}, {nodes}, {entries}{stands}>"
 
     def _repr_html_(self) -> str:
         """A small drawing of the network, for notebooks."""
-        return drawings.html_of(repr(self), self._state(), self._names)
+        return self._look(lambda state: drawings.html_of(repr(self), state, self._names))
 
     def close(self) -> None:
-        """Ends the run, once all is carried out. Raises `Ended` where the program did not end well. The transcript stays."""
+        """Ends the run, once all is carried out. Raises `Ended` where the program did not end well. The transcript
+        stays."""
         self._session.close()
 
     @property
@@ -120,26 +125,35 @@ class Network:
     @property
     def present(self) -> list[Name]:
         """The names of the nodes that are present, in the order of their numbers."""
-        return [self.name_of(number) for number in sorted(self._state().neighbours)]
+        return [self.name_of(number) for number in self._look(lambda state: sorted(state.neighbours))]
 
     @property
     def edges(self) -> list[tuple[Name, Name]]:
         """The edges, in the order of their numbers, each with the node of the lower number first."""
-        return [(self.name_of(a), self.name_of(b)) for a, b in self._state().edges()]
+        return [(self.name_of(a), self.name_of(b)) for a, b in self._look(State.edges)]
 
     def neighbours(self, node: Name) -> list[Name]:
-        """The neighbours of a node that is present, in the order of their numbers."""
-        return [self.name_of(number) for number in sorted(self._state().neighbours[self._present_number(node)])]
+        """The neighbours of a node that is present, in the order of their numbers. Raises `ValueError` for any other
+        node."""
+        near = self._look_at(node, lambda state, number: sorted(state.neighbours[number]))
+        return [self.name_of(number) for number in near]
 
     def registers(self, node: Name) -> Registers:
-        """What a node that is present holds."""
-        number, state = self._present_number(node), self._state()
-        return Registers(self._names.named(state.pointers.get(number)), number in state.flags)
+        """What a node that is present holds. Raises `ValueError` for any other node."""
+        pointer, flag = self._look_at(node, lambda state, number: (state.pointers.get(number), number in state.flags))
+        return Registers(self._names.named(pointer), flag)
 
     def partner(self, node: Name) -> Optional[Name]:
-        """With whom a node that is present is paired, or None."""
-        number = self.number_of(node)
-        return self._names.named(self._session.partner(number) or self._state().partner(self._present_number(node)))
+        """With whom a node that is present is paired, or None. Raises `ValueError` for any other node.
+
+        By the library the answer is its proved one; by a program, and once the network is closed, it is that of the
+        transcript.
+        """
+        found = self._session.partner(self.number_of(node))
+        if found:
+            return self.name_of(found)
+        followed = self._look_at(node, State.partner)
+        return None if found == 0 else self._names.named(followed)
 
     def number_of(self, name: Name) -> int:
         """The number that the transcript has for a name. A number that is no node's is one that the network refuses."""
@@ -150,11 +164,13 @@ class Network:
         return self._names.name_of(number)
 
     def follower(self) -> Follower:
-        """The state of this network by its nodes' numbers, whenever that is asked for: for daemons that look at more than who is enabled."""
+        """The state of this network by its nodes' numbers, whenever that is asked for: for daemons that look at more
+        than who is enabled."""
         return Follower(self._session)
 
     def batch(self, raises: bool = True) -> Batch:
-        """Commands that do not wait for one another: `with net.batch() as batch:`, then `batch.link(1, 2)` and so on."""
+        """Commands that do not wait for one another: `with net.batch() as batch:`, then `batch.link(1, 2)` and so
+        on."""
         return self._session.batch(raises)
 
     def link(self, a: Name, b: Name) -> Accepted:
@@ -202,7 +218,8 @@ class Network:
         return self._single.status().result()
 
     def drive(self, seed: int, turns: int) -> Turns[Moves]:
-        """Up to so many steps of the program's seeded daemon, until nobody is enabled; and the status then, an entry too."""
+        """Up to so many steps of the program's seeded daemon, until nobody is enabled; and the status then, an entry
+        too."""
         return self._single.drive(seed, turns).result()
 
     def scramble(self, seed: int, faults: int) -> Turns[Fault]:
@@ -213,22 +230,32 @@ class Network:
         """Where the network stands, as a base whose lines stand in the transcript then; they are no entry."""
         return self._single.checkpoint().result()
 
-    def cost_of(self, word: str, *given: Any) -> int:
-        """What an edit or a fault would cost if it came now, in moves: `net.cost_of("unlink", "ann", "bob")`, and so for `link`, `join`,
-        `leave`, `point` and `flag`. The charge grows by no more than this; 0 where it would be refused. Nothing is done, and no entry
-        added. Raises `NoSuchCommand` by a program, which has none that tells it."""
-        if word not in library.COSTED:
-            raise ValueError(f"{' or '.join(library.COSTED)} has a cost, and not {word!r}")
-        return self._session.cost_of(word, *given)
+    def cost_of(self, word: str, *given: Name) -> int:
+        """What an edit or a fault would cost if it came now, in moves: `net.cost_of("unlink", "ann", "bob")`, and so
+        for `link`, `join`, `leave`, `point` and `flag`. The charge grows by no more than this. Nothing is done, and no
+        entry added.
 
-    def reach(self, word: str, *given: Any) -> set[Name]:
-        """The nodes that an edit or a fault would reach if it came now: `net.reach("unlink", "ann", "bob")`.
-
-        So for `link`, `join`, `leave`, `point` and `flag`. Each other node that is at rest stays at rest. Empty if it would
-        be refused; no entry is added. Raises `ValueError` for another word or a name that no node has, and `NoSuchCommand`
-        by a program.
+        Raises `ValueError` for an event that would be refused, as to unlink what is not linked, and `NoSuchCommand` by
+        a program, which has no command for it.
         """
-        return {self.name_of(number) for number in reach.reach(self._session, word, *given)}
+        numbers = numbers_of_edit(self._names, word, given)
+        cost = self._session.cost_of(word, numbers)
+        if not cost:
+            # there are edits and faults that cost nothing, and the library says the same of what would be refused
+            why = self._look(lambda state: why_refused(state, word, *numbers))
+            if why:
+                raise ValueError(f"{' '.join([word, *map(repr, given)])} would be refused ({why}), so it has no cost")
+        return cost
+
+    def reach(self, word: str, *given: Name) -> set[Name]:
+        """The nodes that an edit or a fault would reach if it came now: `net.reach("unlink", "ann", "bob")`, and so
+        for `link`, `join`, `leave`, `point` and `flag`. Each other node that is at rest stays at rest.
+
+        Empty for an event that would be refused. No entry is added. Raises `ValueError` for another word or a name that
+        no node has, and `NoSuchCommand` by a program.
+        """
+        numbers = numbers_of_edit(self._names, word, given, "reach")
+        return set(map(self.name_of, self._session.reach(word, numbers)))
 
     def is_at_rest(self, node: Name) -> bool:
         """Whether a node does not move before an edit or a fault reaches it, whatever the daemon chooses.
@@ -236,10 +263,11 @@ class Network:
         A name that is absent is at rest. No entry is added. Raises `ValueError` for a name that no node has, and
         `NoSuchCommand` by a program.
         """
-        return reach.is_at_rest(self._session, self.number_of(node))
+        return self._session.is_at_rest(self.number_of(node))
 
     def restless(self) -> list[Name]:
-        """The nodes that are not at rest, in the order of their numbers: only these may move before the next disturbance.
+        """The nodes that are not at rest, in the order of their numbers: only these may move before the next
+        disturbance.
 
         Raises `NoSuchCommand` by a program.
         """
@@ -248,27 +276,31 @@ class Network:
     def moves_left(self) -> int:
         """How many moves can still come before the next edit or fault: at most this many, whatever the daemon chooses.
 
-        It is the charge; under `hh` it is also at most n²/2 + n - 2 among n nodes, the half rounded down. The library adds
-        no entry. A program is asked for its `status`, which is one."""
+        It is the charge; under `hh` it is also at most n²/2 + n - 2 among n nodes, the half rounded down. The library
+        adds no entry. A program is asked for its `status`, which is one.
+        """
         found = self._session.moves_left()
         if found is not None:
             return found
         status = self.status()
         return moves_left(self.rules, status.charge, status.nodes)
 
-    def settle(self, daemon: Union[Daemon, AnyDaemon]) -> Settled:
+    def settle(self, daemon: Union[Daemon, AnyDaemon, str]) -> Settled:
         """Lets a daemon choose who moves until nobody is enabled.
 
-        The daemon gets the enabled nodes, a mapping from name to rule, and gives back those that move, with a `Wish` where
-        it has one; those of `rudekpi.daemons` are given as they are. Raises `TypeError` where it is no daemon,
-        `WrongChoice` where it chooses nobody or a node that is not enabled, `Refused` where the network takes the choice otherwise amiss
-        (two nodes under `hh`), and `PastBound` where there are more moves than the charge.
-        The transcript has the `status` asked at first, and an `enabled` in front of each step and at the end.
+        The daemon gets the enabled nodes, a mapping from name to rule, and gives back those that move, with a `Wish`
+        where it has one; those of `rudekpi.daemons` are given as they are, or by their words, as "seeded". Raises
+        `TypeError` where it is no daemon, `WrongChoice` where it chooses nobody or a node that is not enabled,
+        `Refused` where the network takes the choice otherwise amiss (two nodes under `hh`), and `PastBound` where there
+        are more moves than the charge. The transcript has the `status` asked at first, and an `enabled` in front of
+        each step and at the end.
         """
+        if isinstance(daemon, str):
+            daemon = named(daemon)
         check_daemon(daemon)
         if isinstance(daemon, Seeded):
             return daemon.settle(self)
-        choose: Any = daemon.begin(self) if hasattr(daemon, "begin") else daemon
+        choose = daemon.begin(self) if hasattr(daemon, "begin") else cast(Daemon, daemon)
         charge, steps, moves = self.status().charge, 0, 0
         while True:
             enabled = self.enabled()
@@ -276,7 +308,8 @@ class Network:
                 return Settled(steps, moves, charge)
             if moves >= charge:
                 raise PastBound(
-                    f"{len(enabled)} nodes are enabled after {moves} moves, as many as the charge was: who disturbs?"
+                    f"{counted(len(enabled), 'node is', 'nodes are')} enabled after {counted(moves, 'move')}, "
+                    "as many as the charge was: who disturbs?"
                 )
             moves += len(self.step(checked_choice(choose(enabled), enabled)))
             steps += 1
@@ -294,11 +327,13 @@ class Network:
         return audits.audit(self.transcript(), program=self._program, engine=self.engine)
 
     def picture(self, entry: Optional[int] = None) -> str:
-        """The network behind an entry, or behind all, for Graphviz. Raises `ValueError` where there is no such entry."""
+        """The network behind an entry, 0 to 16,777,216, or behind all, for Graphviz. Raises `ValueError` where there is
+        no such entry."""
         return audits.picture(self.transcript(), entry, program=self._program)
 
     def play(self, path: Union[str, os.PathLike[str]]) -> None:
-        """Writes a page that plays the transcript in a browser."""
+        """Writes a page that plays the transcript in a browser. Raises `OSError` where it can't be written; a file of
+        that name is then as it was before, or not there."""
         drawings.write_page(self.transcript(), path, self._program)
 
     def to_networkx(self) -> Any:
@@ -308,13 +343,17 @@ class Network:
         """
         import networkx
 
-        state, name_of = self._state(), self.name_of
         graph = networkx.Graph()
+        self._look(lambda state: self._add_to(graph, state))
+        return graph
+
+    def _add_to(self, graph: Any, state: State) -> None:
+        """Adds the nodes that are present and their edges to a `networkx.Graph`."""
+        name_of = self.name_of
         for node in sorted(state.neighbours):
             graph.add_node(name_of(node), pointer=self._names.named(state.pointers.get(node)), flag=node in state.flags)
         for a, b in state.edges():
             graph.add_edge(name_of(a), name_of(b), pair=state.partner(a) == b)
-        return graph
 
     @classmethod
     def from_networkx(
@@ -337,15 +376,20 @@ class Network:
                 batch.link(a, b)
         return net
 
-    def _present_number(self, node: Name) -> int:
-        number = self.number_of(node)
-        if number not in self._state().neighbours:
-            raise ValueError(f"node {node!r} is not present")
-        return number
+    def _look(self, see: Callable[[State], Seen]) -> Seen:
+        """What a function sees in where the network stands once all commands are carried out."""
+        return self._follower.look(see)
 
-    def _state(self) -> State:
-        """Where the network stands once all commands are carried out, which is not to be changed."""
-        return self._follower.state()
+    def _look_at(self, node: Name, see: Callable[[State, int], Seen]) -> Seen:
+        """What a function sees at a node that is present."""
+        number = self.number_of(node)
+
+        def look(state: State) -> Seen:
+            if number not in state.neighbours:
+                raise ValueError(f"node {node!r} is not present")
+            return see(state, number)
+
+        return self._look(look)
 
     def _played(self, events: Iterable[str]) -> str:
         """The transcript once these events are carried out."""

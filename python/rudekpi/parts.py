@@ -8,7 +8,7 @@ import os
 import re
 import stat
 from concurrent.futures import Executor, Future, ProcessPoolExecutor, ThreadPoolExecutor
-from typing import Any, Iterator, Optional, Tuple, Union
+from typing import Iterator, Optional, Tuple, Union
 
 from .audits import Slice, audit, bytes_of
 from .errors import Damaged, Lost
@@ -24,7 +24,8 @@ HEAD = re.compile(rb"matching2 [^\n]*\nbase [0-9]{1,10} spent=[0-9]{1,10} nodes=
 HEAD_SIZE = 256
 # how many bytes are looked at at once
 PIECE = 1 << 18
-# a part has no more of what is left than one of so many parts for each thread, so that the last ones are small and all end together
+# a part has no more of what is left than one of so many parts for each thread, so that the last ones are small and all
+# end together
 PARTS_LEFT = 2
 # where a part begins, and where it ends
 Part = Tuple[int, int]
@@ -33,8 +34,8 @@ Verdict = Optional["Future[Summary]"]
 
 
 class LostPart(Lost):
-    """Workers died twice over a part of a transcript, the bytes from `start` to before `end`, which begin with a line's number `line`. All in
-    front of it is accepted."""
+    """Workers died twice over a part of a transcript, the bytes from `start` to before `end`, which begin with a line's
+    number `line`. All in front of it is accepted."""
 
     def __init__(self, start: int, end: int, line: int) -> None:
         super().__init__(
@@ -42,7 +43,7 @@ class LostPart(Lost):
         )
         self.start, self.end, self.line = start, end, line
 
-    def __reduce__(self) -> Any:
+    def __reduce__(self) -> tuple[object, ...]:
         return type(self), (self.start, self.end, self.line)
 
 
@@ -83,16 +84,18 @@ def audit_parts(
 ) -> Summary:
     """The verdict of `audit` on a transcript that has bases, reached in parts of about `size` bytes or more.
 
-    Each part ends with the base with which the next begins. So a part's audit says that its entries lead from the one base to the
-    other, and that all parts are accepted says of the whole what `audit` says. Where one is refused, the first damage of the whole is
-    that of the first such part, and `Damaged` has its line in the whole. A transcript with no base inside is one part.
+    Each part ends with the base with which the next begins. So a part's audit says that its entries lead from the one
+    base to the other, and that all parts are accepted says of the whole what `audit` says. Where one is refused, the
+    first damage of the whole is that of the first such part, and `Damaged` has its line in the whole. A transcript with
+    no base inside is one part.
 
-    The executor is any of `concurrent.futures` or a cluster's, whose workers have this package and the program; by default a thread
-    for each processor of this machine, each of which waits for an audit. A `pathlib.Path` names a file, which is not read as a whole:
-    its bytes go from the file to the program, where workers are threads or processes of this machine, or where it is `shared`: all
-    workers find it by this path. It is not to change meanwhile. A part of which a cluster loses the verdict, as where its worker dies, is
-    judged once more; where that is lost too, and all in front is accepted, `LostPart` is raised. A pool of processes breaks where one of
-    them dies: that is the caller's, is not replaced, and raises its `BrokenExecutor`.
+    The executor is any of `concurrent.futures` or a cluster's, whose workers have this package and the program; by
+    default a thread for each processor of this machine, each of which waits for an audit. A `pathlib.Path` names a
+    file, which is not read as a whole: its bytes go from the file to the program, where workers are threads or
+    processes of this machine, or where it is `shared`: all workers find it by this path. It is not to change meanwhile.
+    A part of which a cluster loses the verdict, as where its worker dies, is judged once more; where that is lost too,
+    and all in front is accepted, `LostPart` is raised. A pool of processes breaks where one of them dies: that is the
+    caller's, is not replaced, and raises its `BrokenExecutor`.
     """
     if not isinstance(transcript, os.PathLike):
         return audit_held(Held(bytes_of(transcript)), executor, size, program, engine)
@@ -165,7 +168,8 @@ def in_order(done: Iterator[tuple[tuple[int, Part], Verdict]]) -> Iterator[tuple
 def parts_of(held: Held, size: int, parts_left: int = 0) -> Iterator[Part]:
     """Where parts begin and end: from a base, or the beginning, to the end of a later base, or of all.
 
-    Each has the size or more, and where it is said into about how many parts all that is left shall be divided, as much as that.
+    Each has the size or more, and where it is said into about how many parts all that is left shall be divided, as much
+    as that.
     """
     start = 0
     while True:
@@ -179,8 +183,8 @@ def parts_of(held: Held, size: int, parts_left: int = 0) -> Iterator[Part]:
 
 
 def base_behind(held: Held, place: int) -> Optional[tuple[int, int]]:
-    """Where the first base behind a place begins and ends. One that does not tell its end is none, and the part that it stands in
-    goes on behind it, and is refused there."""
+    """Where the first base behind a place begins and ends. One that does not tell its end is none, and the part that it
+    stands in goes on behind it, and is refused there."""
     while place < held.size:
         piece = held.read(place, PIECE)
         found = piece.find(HEAD_START)
@@ -198,7 +202,8 @@ def base_behind(held: Held, place: int) -> Optional[tuple[int, int]]:
 
 
 def end_of_base(held: Held, start: int) -> Optional[int]:
-    """The place behind a base's last line, or None where its second line tells no numbers that a base has, or there are fewer lines."""
+    """The place behind a base's last line, or None where its second line tells no numbers that a base has, or there are
+    fewer lines."""
     found = HEAD.match(held.read(start, HEAD_SIZE))
     if not found or int(found[1]) > MOST_NODES or int(found[2]) > MOST_EDGES:
         return None

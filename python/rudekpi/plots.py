@@ -1,85 +1,274 @@
-"""Pictures of experiments. They want matplotlib, and say so where it is not there."""
+"""Pictures of experiments. They need matplotlib, and say so where it is missing."""
 
 from __future__ import annotations
 
 import os
+import textwrap
+from collections import Counter
 from typing import Any, Iterable, Sequence, Union
 
 from . import rules as rule_sets
 from .replays import parts_of
 from .state import State
-from .sweeps import Row
+from .sweeps import Row, natural
 
 Path = Union[str, "os.PathLike[str]"]
+# a graph or a daemon, and what it is played with
+Pair = tuple[str, str]
 COLOURS = ("#0072b2", "#e69f00", "#009e73", "#cc79a7", "#56b4e9", "#d55e00", "#000000")
+OF_RULES = {"hh": COLOURS[0], "manne": COLOURS[5]}
+BOUND = "#777777"
+MOST_PANELS, ACROSS = 60, 4
+TITLE = "moves until silence"
+# the height of the legend, in inches
+LEGEND = 0.6
+# bounds that are more than so many times the moves are written at the top and not drawn, so that the moves can be seen
+MOST_ABOVE = 4
 
 
-def figure_of(title: str, across: str, up: str) -> tuple[Any, Any]:
-    """An empty figure of matplotlib with its axes, that no screen is needed for."""
+def figure_of(width: float, height: float) -> Any:
+    """An empty figure of matplotlib, in inches, that needs no screen."""
     try:
         from matplotlib.figure import Figure
     except ImportError:
-        raise ImportError("a plot wants matplotlib, which is not there") from None
-    figure = Figure(figsize=(7, 4.2), layout="constrained")
-    axes = figure.add_subplot(title=title, xlabel=across, ylabel=up)
-    return figure, axes
+        raise ImportError("a plot needs matplotlib, which is not there") from None
+    return Figure(figsize=(width, height), layout="constrained")
 
 
-def check(path: Path) -> None:
-    """That a picture can be made there, before long work for it begins: raises `ImportError` for want of matplotlib, `ValueError` for
-    an end of a name that it does not know, and `FileNotFoundError` where there is no such folder."""
-    known = figure_of("", "", "")[0].canvas.get_supported_filetypes()
+def check(path: Path, panels: int = 1) -> None:
+    """That a picture can be made there, before long work for it begins.
+
+    Raises `ImportError` if matplotlib is missing, `ValueError` for an end of a name that it does not know or more
+    panels than a picture has, and `FileNotFoundError` if there is no such folder.
+    """
+    known = figure_of(1, 1).canvas.get_supported_filetypes()
     end = os.path.splitext(path)[1][1:].lower()
     if end not in known:
         raise ValueError(f"{os.fspath(path)!r} is no name of a picture: it ends in one of {', '.join(sorted(known))}")
     folder = os.path.dirname(os.path.abspath(path))
     if not os.path.isdir(folder):
         raise FileNotFoundError(f"there is no folder {folder}")
+    check_panels(panels)
 
 
-def groups_of(rows: Iterable[Row]) -> dict[tuple[str, str], list[Row]]:
-    """The rows of each daemon under each rules."""
-    groups: dict[tuple[str, str], list[Row]] = {}
+def check_panels(count: int) -> None:
+    if count > MOST_PANELS:
+        raise ValueError(
+            f"{count} panels, one for each graph and disturbance; a picture has at most {MOST_PANELS}: plot fewer"
+        )
+
+
+def panels_of(rows: Sequence[Row]) -> dict[Pair, dict[Pair, list[Row]]]:
+    """The rows of each graph and disturbance, and in these of each daemon and rules, in their natural order.
+
+    Raises `ValueError` if there are no rows.
+    """
+    if not rows:
+        raise ValueError("no rows, no plot")
+    found: dict[Pair, dict[Pair, list[Row]]] = {}
     for row in rows:
-        groups.setdefault((row.rules, row.daemon), []).append(row)
-    return dict(sorted(groups.items()))
+        found.setdefault((row.graph, row.disturbance), {}).setdefault((row.daemon, row.rules), []).append(row)
+    return {key: in_order(found[key]) for key in in_order(found)}
 
 
-def over_sizes(rows: Sequence[Row], path: Path) -> None:
-    """The moves of each experiment (none as one) over the number of nodes, a colour a daemon, beside one another; the bounds as lines."""
-    figure, axes = figure_of("moves until silence, beside their bounds", "nodes", "moves")
-    groups = groups_of(rows)
-    for place, ((rules, daemon), group) in enumerate(groups.items()):
-        aside = 1 + 0.04 * (place - (len(groups) - 1) / 2)
-        colour = COLOURS[place % len(COLOURS)]
-        at = [row.n * aside for row in group], [max(row.moves, 1) for row in group]
-        axes.scatter(*at, s=12, alpha=0.6, color=colour, label=f"{daemon}, {rules}")
-    for rules, style in (("hh", "--"), ("manne", "-")):
-        bounds = sorted({(row.n, max(row.bound, 1)) for row in rows if row.rules == rules})
-        if bounds:
-            axes.plot(*zip(*bounds), style, color="#999", label=f"bound, {rules}")
-    axes.set_xscale("log")
-    axes.set_yscale("log")
-    sizes = sorted({row.n for row in rows})
-    axes.set_xticks(sizes, map(str, sizes))
-    axes.tick_params(axis="x", which="minor", bottom=False, labelbottom=False)
-    axes.legend(fontsize="small")
-    figure.savefig(path, metadata=date_of(path))
+def groups_of(panels: dict[Pair, dict[Pair, list[Row]]]) -> list[Pair]:
+    """The daemons and rules of all panels, in their natural order."""
+    return list(in_order({key: None for panel in panels.values() for key in panel}))
 
 
-def of_daemons(rows: Sequence[Row], path: Path) -> None:
-    """How the moves of each daemon are distributed, as parts of the bound."""
-    figure, axes = figure_of("moves as a part of the bound", "", "moves / bound")
-    groups = groups_of(rows)
-    axes.boxplot([[row.moves / row.bound for row in group if row.bound] for group in groups.values()], whis=(5, 95))
-    axes.set_xticks(range(1, len(groups) + 1), [f"{daemon}\n{rules}" for rules, daemon in groups], fontsize="small")
-    axes.set_ylim(0, 1.05)
-    axes.axhline(1, color="#999")
-    figure.savefig(path, metadata=date_of(path))
+def in_order(found: dict[Pair, Any]) -> dict[Pair, Any]:
+    return {key: found[key] for key in sorted(found, key=lambda pair: [natural(word) for word in pair])}
+
+
+def of_rows(rows: Sequence[Row], path: Path) -> None:
+    """Writes a picture of the moves of each run, in a panel for each graph and disturbance, beside the bound there.
+
+    In a panel each daemon and rules is a place of the axis; runs with as many moves stand side by side, and a line is
+    their median. The axis reaches as far as the moves, and the bounds if they are near. Raises `ValueError` if there
+    are no rows, or more than 60 panels.
+    """
+    panels_figure(rows).savefig(path, metadata=date_of(path))
+
+
+def panels_figure(rows: Sequence[Row]) -> Any:
+    """The figure of `of_rows`."""
+    panels = panels_of(rows)
+    check_panels(len(panels))
+    groups = groups_of(panels)
+    tops, are_near = tops_of(panels)
+    columns = columns_of(list(panels))
+    lines = -(-len(panels) // columns)
+    width = max(2.4, 0.9 + 0.55 * len(groups))
+    figure = figure_of(max(4.5, columns * width), LEGEND + lines * 2.9)
+    body = below_legend(figure, {row.rules for row in rows})
+    axes = body.subplots(lines, columns, squeeze=False).flatten()
+    titles = titles_of({graph for graph, _ in panels})
+    for place, ((graph, disturbance), panel) in enumerate(panels.items()):
+        draw_panel(axes[place], panel, groups, tops[graph, disturbance], are_near)
+        axes[place].set_title(f"{titles[graph]}\n{plain(disturbance)}", fontsize="small")
+        if place % columns == 0:
+            axes[place].set_ylabel("moves")
+    for unused in axes[len(panels) :]:
+        unused.set_axis_off()
+    return figure
+
+
+def columns_of(panels: Sequence[Pair]) -> int:
+    """How many panels stand side by side: those of the disturbances if there are several, a line for each graph."""
+    graphs, disturbances = {graph for graph, _ in panels}, {disturbance for _, disturbance in panels}
+    is_table = len(panels) == len(graphs) * len(disturbances) and len(disturbances) > 1
+    if is_table and len(disturbances) <= ACROSS:
+        return len(disturbances)
+    return min(len(panels), ACROSS)
+
+
+def tops_of(panels: dict[Pair, dict[Pair, list[Row]]]) -> tuple[dict[Pair, float], bool]:
+    """How far the axis of each panel reaches, and whether bounds are drawn: in all panels if they are near the moves
+    in all.
+
+    Panels of one disturbance have the same axis if their moves differ by no more than twice.
+    """
+    of_panel = {key: [row for group in panel.values() for row in group] for key, panel in panels.items()}
+    most = {key: max([1, *(row.moves for row in rows)]) for key, rows in of_panel.items()}
+    bounds = {key: max(row.bound for row in rows) for key, rows in of_panel.items()}
+    are_near = all(bounds[key] <= MOST_ABOVE * most[key] for key in panels)
+    reach = {key: float(max(most[key], bounds[key]) if are_near else most[key]) for key in panels}
+    tops = {}
+    for key in panels:
+        like = [reach[other] for other in panels if other[1] == key[1]]
+        tops[key] = max(like) if max(like) <= 2 * min(like) else reach[key]
+    return tops, are_near
+
+
+def draw_panel(axes: Any, panel: dict[Pair, list[Row]], groups: Sequence[Pair], top: float, draws_bounds: bool) -> None:
+    """The runs of one network, a place for each of the groups; the axis reaches to the top."""
+    axes.set_ylim(-0.04 * top, top * (1.08 if draws_bounds else 1.25))
+    axes.set_xlim(-0.6, len(groups) - 0.4)
+    for place, key in enumerate(groups):
+        if key in panel:
+            draw_runs(axes, place, panel[key], 0.8)
+            (draw_bounds if draws_bounds else tell_bounds)(axes, place, [row.bound for row in panel[key]], 0.9)
+    axes.set_xticks(range(len(groups)), [f"{plain(daemon)}\n{rules}" for daemon, rules in groups], fontsize="x-small")
+    if max(len(daemon) for daemon, _ in groups) > 9:
+        axes.tick_params(axis="x", labelrotation=60)
+    axes.locator_params(axis="y", integer=True, nbins=6)
+    axes.tick_params(axis="y", labelsize="x-small")
+
+
+def draw_runs(axes: Any, place: float, group: Sequence[Row], width: float) -> None:
+    """A dot for each run and a line at the median, within a width around a place of the axis."""
+    at = sorted(row.moves for row in group)
+    axes.scatter(
+        [place + aside for aside in asides(at, width)], at, s=9, alpha=0.6, color=OF_RULES[group[0].rules], linewidths=0
+    )
+    middle = (at[(len(at) - 1) // 2] + at[len(at) // 2]) / 2
+    axes.plot([place - width / 3, place + width / 3], [middle, middle], color="#000000", linewidth=1)
+
+
+def asides(numbers: Sequence[int], width: float) -> list[float]:
+    """How far aside each dot stands, so that equal numbers can be counted; the most frequent ones fill the width."""
+    counts, seen = Counter(numbers), Counter[int]()
+    step = min(width / 12, width / max(counts.values()))
+    found = []
+    for number in numbers:
+        found.append((seen[number] - (counts[number] - 1) / 2) * step)
+        seen[number] += 1
+    return found
+
+
+def draw_bounds(axes: Any, place: float, bounds: Sequence[int], width: float) -> None:
+    """The bounds of the runs at one place: a line there, or two with a band between them if they differ."""
+    low, high = min(bounds), max(bounds)
+    ends = [place - width / 2, place + width / 2]
+    for bound in {low, high}:
+        axes.plot(ends, [bound, bound], color=BOUND, linewidth=1.2)
+    if low < high:
+        axes.fill_between(ends, low, high, color=BOUND, alpha=0.2, linewidth=0)
+
+
+def tell_bounds(axes: Any, place: float, bounds: Sequence[int], _: float) -> None:
+    """The bounds of the runs at one place as numbers at the top, above which they are."""
+    low, high = min(bounds), max(bounds)
+    text = f"bound\n\u2191 {low}" if low == high else f"bound\n\u2191 {low} to\n{high}"
+    axes.annotate(
+        text, (place, 0.99), xycoords=("data", "axes fraction"), ha="center", va="top", fontsize=6, color=BOUND
+    )
+
+
+def over_graphs(rows: Sequence[Row], path: Path) -> None:
+    """Writes a picture of the moves of each run over graphs as they grow.
+
+    Each graph with its disturbance is a place of the axis, and its bounds are drawn there alone. The axis of the
+    moves is logarithmic, and linear below 1 if a run has no moves. Raises `ValueError` if there are no rows.
+    """
+    growth_figure(rows).savefig(path, metadata=date_of(path))
+
+
+def growth_figure(rows: Sequence[Row]) -> Any:
+    """The figure of `over_graphs`."""
+    found = panels_of(rows)
+    panels = dict(sorted(found.items(), key=lambda item: max(row.n for rows in item[1].values() for row in rows)))
+    groups = groups_of(panels)
+    figure = figure_of(max(5.0, 1 + len(panels) * (0.3 + 0.4 * len(groups))), 4.4)
+    axes = below_legend(figure, {row.rules for row in rows}).subplots()
+    axes.set_ylabel("moves")
+    least, most = min(row.moves for row in rows), max(max(row.bound, row.moves, 1) for row in rows)
+    axes.set_yscale("log" if least else "symlog", **({} if least else {"linthresh": 1}))
+    axes.set_ylim(bottom=least / 3, top=1.3 * most)
+    width = 0.8 / len(groups)
+    for at, panel in enumerate(panels.values()):
+        for number, key in enumerate(groups):
+            if key in panel:
+                draw_group(axes, at + (number - (len(groups) - 1) / 2) * width, panel[key], width)
+    titles = titles_of({graph for graph, _ in panels})
+    names = [f"{titles[graph]}\n{plain(disturbance)}" for graph, disturbance in panels]
+    axes.set_xticks(range(len(panels)), names, fontsize="x-small")
+    axes.set_xlim(-0.55, len(panels) - 0.45)
+    axes.yaxis.set_major_formatter("{x:g}")
+    return figure
+
+
+def draw_group(axes: Any, place: float, group: Sequence[Row], width: float) -> None:
+    """The runs of one daemon and rules on one graph, with their bounds and the daemon's name at the foot."""
+    draw_runs(axes, place, group, width * 0.8)
+    draw_bounds(axes, place, [row.bound for row in group], width)
+    axes.annotate(
+        plain(group[0].daemon), (place, 0.01), xycoords=("data", "axes fraction"), ha="center", fontsize=6, rotation=90
+    )
+
+
+def below_legend(figure: Any, rules: Iterable[str]) -> Any:
+    """What is left of a figure below a line that says what its colours and lines are."""
+    from matplotlib.lines import Line2D
+
+    marks = [
+        Line2D([], [], linestyle="", marker="o", markersize=4, color=OF_RULES[name], label=f"a run, {name}")
+        for name in sorted(rules)
+    ]
+    marks += [Line2D([], [], color="#000000", linewidth=1, label="median")]
+    marks += [Line2D([], [], color=BOUND, linewidth=1.2, label="bound")]
+    height = figure.get_figheight()
+    head, body = figure.subfigures(2, 1, height_ratios=[LEGEND, height - LEGEND])
+    head.legend(handles=marks, loc="center", ncols=len(marks), fontsize="x-small", frameon=False, title=TITLE)
+    return body
+
+
+def plain(text: str) -> str:
+    """A text in which matplotlib sees no formula."""
+    return text.replace("$", r"\$")
+
+
+def titles_of(graphs: Iterable[str]) -> dict[str, str]:
+    """A short title for each graph, the end alone of a long one, as of a path; in lines if two ends are the same."""
+    cut = {title: title if len(title) <= 32 else f"..{title[-30:]}" for title in graphs}
+    if len(set(cut.values())) < len(cut):
+        cut = {title: "\n".join(textwrap.wrap(title, 32)) for title in cut}
+    return {title: plain(short) for title, short in cut.items()}
 
 
 def charges_of(transcript: str) -> list[tuple[int, int, bool]]:
-    """Of each state of a run that was disturbed or stepped to: the moves so far, the charge, and whether it was disturbed."""
+    """Of each state of a run that was disturbed or stepped to: the moves so far, the charge, and whether it was
+    disturbed."""
     state, moves, found = State(), 0, []
     for part in parts_of(transcript):
         state.follow(part)
@@ -94,7 +283,8 @@ def charges_of(transcript: str) -> list[tuple[int, int, bool]]:
 
 def of_run(transcript: str, path: Path) -> None:
     """The charge over the moves of a single run; a disturbance lets it rise."""
-    figure, axes = figure_of("the charge of a run", "moves", "charge")
+    figure = figure_of(7, 4.2)
+    axes = figure.add_subplot(title="the charge of a run", xlabel="moves", ylabel="charge")
     charges = charges_of(transcript)
     axes.step([moves for moves, _, _ in charges], [charge for _, charge, _ in charges], where="post", color=COLOURS[0])
     disturbed = [(moves, charge) for moves, charge, is_disturbed in charges if is_disturbed]
@@ -106,11 +296,4 @@ def of_run(transcript: str, path: Path) -> None:
 
 def date_of(path: Path) -> Any:
     """No date in an SVG, so that the same rows make the same picture."""
-    return {"Date": None} if os.fspath(path).endswith(".svg") else None
-
-
-def of_rows(rows: Sequence[Row], path: Path) -> None:
-    """The picture that fits: over sizes where there are several, else of daemons."""
-    if not rows:
-        raise ValueError("no rows, no plot")
-    (over_sizes if len({row.n for row in rows}) > 1 else of_daemons)(rows, path)
+    return {"Date": None} if os.fspath(path).lower().endswith(".svg") else None

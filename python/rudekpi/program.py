@@ -26,7 +26,8 @@ def repository_program() -> str:
 
 
 def found_program(program: Program = None) -> str:
-    """The program that is called: the one that is named, else RUDEKPI_CONSOLE's, the one in the package, the repository's.
+    """The program that is called: the one that is named, else RUDEKPI_CONSOLE's, the one in the package, the
+    repository's.
 
     Raises `FileNotFoundError` where there is none of these, and `Ended` where the repository's can't be built.
     """

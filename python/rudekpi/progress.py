@@ -10,7 +10,8 @@ Item = TypeVar("Item")
 
 
 def shown(items: Iterable[Item], total: int) -> Iterator[Item]:
-    """The same items; at a terminal it is told how many are done, how fast, and how much time is left: by tqdm, where it is there."""
+    """The same items; at a terminal it is told how many are done, how fast, and how much time is left: by tqdm, where
+    it is there."""
     if not sys.stderr.isatty():
         yield from items
         return

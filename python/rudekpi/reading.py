@@ -6,7 +6,7 @@ import re
 from typing import TYPE_CHECKING, Any, Callable
 
 from .answers import BASE
-from .replies import Accepted, Base, Enabled, Fault, Fixed, Matching, Move, Moves, Name, Registers, Shown, Status
+from .replies import Accepted, Base, Enabled, Fault, Fixed, Matching, Move, Moves, Name, Registers, Reply, Shown, Status
 
 if TYPE_CHECKING:
     from .names import Names
@@ -18,7 +18,7 @@ PLACE = re.compile(r"node ([0-9]+) ([0-9]+|-) ([01])")
 EDGE = re.compile(r"edge ([0-9]+) ([0-9]+)")
 
 # reads a reply, out of the network's names, the entry's number, its event and its reply
-Reader = Callable[["Names", int, str, str], Any]
+Reader = Callable[["Names", int, str, str], Reply]
 
 
 def read_accepted(names: Names, entry: int, event: str, text: str) -> Accepted:

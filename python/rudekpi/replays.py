@@ -3,7 +3,7 @@
 from __future__ import annotations
 
 import itertools
-from typing import Any, Iterable, Iterator, Optional
+from typing import Iterable, Iterator, Optional, Union
 
 from .answers import BASE, CHECKPOINT
 from .audits import Text, audit
@@ -24,17 +24,18 @@ def replay(
     """A network that stands where a transcript ends, so that it can go on; raises `Damaged` where `audit` refuses it.
 
     Its own transcript is the one that was given. Where that took other targets than the least, its steps have them as
-    wishes. Where that begins with a base, at which no run can begin, edits and faults lead there: so the numbers are other
-    ones, and what was spent before is not counted. `names` are the caller's, in the order of the numbers.
+    wishes. Where that begins with a base, at which no run can begin, edits and faults lead there: so the numbers are
+    other ones, and what was spent before is not counted. `names` are the caller's, in the order of the numbers.
     """
     audit(transcript, program=program, engine=engine)
     transcript = transcript if isinstance(transcript, str) else bytes(transcript).decode()
     head, *parts = parts_of(transcript)
     _, rules, count, *rest = head[0].split(" ")
     present, edits = edits_to(head) if len(head) > 1 else (int((rest or [count])[0]), [])
-    nodes: Any = int(count) if names is None else own_names(names)
-    if names is not None and len(nodes) != int(count):
-        raise ValueError(f"{len(nodes)} names for {count} nodes")
+    own = None if names is None else own_names(names)
+    if own is not None and len(own) != int(count):
+        raise ValueError(f"{len(own)} names for {count} nodes")
+    nodes: Union[int, list[Name]] = int(count) if own is None else own
     entries = [(CHECKPOINT, "") if len(part) > 1 else tuple(part[0].split(" ", 1)[1].split(" = ")) for part in parts]
     net = Network(rules, nodes, present=present, program=program, engine=engine)
     if len(head) == 1:

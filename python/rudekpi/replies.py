@@ -4,24 +4,46 @@ from __future__ import annotations
 
 from collections import abc
 from dataclasses import dataclass, field
-from typing import Any, Dict, Generic, Iterable, Iterator, Mapping, NoReturn, Optional, TypeVar, Union
+from typing import (
+    Any,
+    Dict,
+    Generic,
+    Iterable,
+    Iterator,
+    Mapping,
+    NoReturn,
+    Optional,
+    Protocol,
+    TypeVar,
+    Union,
+    overload,
+)
 
-# A node's name: a number from 1 in a network of so many nodes, else what the caller named it; anything hashable but None.
+# A node's name: a number from 1 in a network of so many nodes, else what the caller named it; anything hashable but
+# None. No type is told, so that a caller's names are of his own types where they come back.
 Name = Any
 Reply = TypeVar("Reply")
+Reply_co = TypeVar("Reply_co", covariant=True)
 Key = TypeVar("Key")
 Value = TypeVar("Value")
+
+
+class Answer(Protocol[Reply_co]):
+    """The answer to a command of a batch, which may still be under way."""
+
+    def result(self) -> Reply_co:
+        """The reply, waited for; raises `Refused` where the event was refused."""
 
 
 class Fixed(Dict[Key, Value]):
     """A dictionary that does not change."""
 
-    def refuse(self, *_: Any, **__: Any) -> NoReturn:
+    def refuse(self, *_: object, **__: object) -> NoReturn:
         raise TypeError("a reply does not change")
 
     __setitem__ = __delitem__ = clear = pop = popitem = setdefault = update = __ior__ = refuse  # type: ignore[assignment]
 
-    def __reduce__(self) -> Any:
+    def __reduce__(self) -> tuple[type[Fixed[Key, Value]], tuple[dict[Key, Value]]]:
         return type(self), (dict(self),)
 
 
@@ -53,7 +75,15 @@ class Move:
 class _Items(abc.Sequence[Reply], Generic[Reply]):
     items: tuple[Reply, ...]
 
-    def __getitem__(self, place: Any) -> Any:
+    @overload
+    def __getitem__(self, place: int) -> Reply:
+        ...
+
+    @overload
+    def __getitem__(self, place: slice) -> tuple[Reply, ...]:
+        ...
+
+    def __getitem__(self, place: Union[int, slice]) -> Union[Reply, tuple[Reply, ...]]:
         return self.items[place]
 
     def __len__(self) -> int:
@@ -120,7 +150,7 @@ class Matching(abc.Set["tuple[Name, Name]"]):
         return len(self.pairs)
 
     @classmethod
-    def _from_iterable(cls, it: Iterable[Any]) -> Any:
+    def _from_iterable(cls, it: Iterable[Key]) -> frozenset[Key]:
         return frozenset(it)
 
 
@@ -144,12 +174,13 @@ class Fault:
     entry: int
     node: Name
     register: str
-    value: Any
+    value: Union[Name, bool, None]
 
 
 @dataclass(frozen=True)
 class Turns(_Items[Reply]):
-    """What the turns of `drive` (steps: `Moves`) or `scramble` (`Fault`) did, in a sequence, and the status behind them."""
+    """What the turns of `drive` (steps: `Moves`) or `scramble` (`Fault`) did, in a sequence, and the status behind
+    them."""
 
     status: Status
 
@@ -164,8 +195,9 @@ class Registers:
 
 @dataclass(frozen=True)
 class Base:
-    """Where the network stands behind so many entries: the moves since the last disturbance, the nodes that are present,
-    ascending by their numbers, and the edges. It is no entry: the next entry has the number behind this one."""
+    """Where the network stands behind so many entries: the moves since the last disturbance, the nodes that are
+    present, ascending by their numbers, and the edges. It is no entry: the next entry has the number behind this
+    one."""
 
     number: int
     spent: int
@@ -175,7 +207,8 @@ class Base:
 
 @dataclass(frozen=True)
 class Settled:
-    """How a daemon settled a network: its steps, their moves, and the charge at the beginning, which bounds the moves."""
+    """How a daemon settled a network: its steps, their moves, and the charge at the beginning, which bounds the
+    moves."""
 
     steps: int
     moves: int

@@ -1,7 +1,9 @@
-"""The rules and the charge of both rule sets, on a state that is followed: what daemons and searches ask for before a move.
+"""The rules and the charge of both rule sets, on a state that is followed: what daemons and searches ask for before a
+move.
 
-Nothing here judges a run: what it foretells, the program plays and `audit` accepts. Sources: Hsu and Huang, "A self-stabilizing
-algorithm for maximal matching", 1992; Manne, Mjelde, Pilard and Tixeuil, "A new self-stabilizing maximal matching algorithm", 2009.
+Nothing here judges a run: what it foretells, the program plays and `audit` accepts. Sources: Hsu and Huang, "A
+self-stabilizing algorithm for maximal matching", 1992; Manne, Mjelde, Pilard and Tixeuil, "A new self-stabilizing
+maximal matching algorithm", 2009.
 """
 
 from __future__ import annotations

@@ -1,17 +1,18 @@
 """The longest schedules there are: the most moves that a daemon can draw out of a network, from any state.
 
-In a small network every state and every choice is looked at, targets among them: since each move lowers the charge, no state comes
-twice, and the longest schedule from a state is that from the best of the next ones. In a larger one it is the best that a search has
-found, and so is told.
+In a small network every state and every choice is looked at, targets among them: since each move lowers the charge,
+no state comes twice, and the longest schedule from a state is that from the best of the next ones. In a larger one it
+is the best that a search has found, and so is told.
 """
 
 from __future__ import annotations
 
 import itertools
+import math
 import random
 import time
 from dataclasses import dataclass
-from typing import Callable, Iterator, Sequence
+from typing import Callable, Iterable, Iterator, Sequence
 
 from . import rules as rule_sets
 from .audits import epochs
@@ -23,12 +24,14 @@ from .state import State
 
 # how many states a network has at most in which all are looked at
 MOST_STATES = 400_000
+# how many seconds the first try of a search may take, whatever time it is given
+FIRST_TRY = 60
 
 
 @dataclass(frozen=True)
 class Longest:
-    """A schedule: the registers at its start, and who moves in each step. `is_proved` where all states and choices were looked at, so
-    that there is no longer one; else it is the best that was found."""
+    """A schedule: the registers at its start, and who moves in each step. `is_proved` if all states and choices were
+    looked at, so that there is no longer one; else it is the best that was found."""
 
     graph: Graph
     rules: str
@@ -57,7 +60,8 @@ class Longest:
         )
 
     def play(self, *, program: Program = None) -> str:
-        """The transcript of the script, which `audit` accepts and whose last epoch has the moves; raises what went wrong."""
+        """The transcript of the script, which `audit` accepts and whose last epoch has the moves; raises what went
+        wrong."""
         with Network(self.rules, len(self.graph.nodes), program=program) as net:
             transcript = net._played(self.script().splitlines())
         played = epochs(transcript, program=program)[-1].moves
@@ -67,8 +71,8 @@ class Longest:
 
 
 class Search:
-    """All states of a small network by numbers: a digit for each node, its pointer's place among its neighbours and, under `manne`,
-    its flag. A move changes the digit of its node alone, so the moves of a step add up."""
+    """All states of a small network by numbers: a digit for each node, its pointer's place among its neighbours and,
+    under `manne`, its flag. A move changes the digit of its node alone, so the moves of a step add up."""
 
     def __init__(self, graph: Graph, rules: str) -> None:
         number = {node: place for place, node in enumerate(graph.nodes, 1)}
@@ -82,7 +86,9 @@ class Search:
         self.weights: dict[int, int] = {}
         self.size = 1
         for node, places in self.pointers.items():
-            self.weights[node] = self.size
+            # too many states to look at all have no need of weights, which would take memory
+            if self.size <= MOST_STATES:
+                self.weights[node] = self.size
             self.size *= len(places) * self.flags
         self.best: bytearray = bytearray()
 
@@ -97,7 +103,8 @@ class Search:
             self.state.flag(node, digit % self.flags)
 
     def moves_at(self, code: int) -> list[list[tuple[int, int, str, int]]]:
-        """For each enabled node its moves: what the number of the state changes by, the node, its rule and its target or 0."""
+        """For each enabled node its moves: what the number of the state changes by, the node, its rule and its target
+        or 0."""
         self.set_to(code)
         state, found = self.state, []
         for node, rule in rule_sets.enabled(state).items():
@@ -110,7 +117,8 @@ class Search:
         return found
 
     def steps_at(self, code: int) -> Iterator[tuple[tuple[int, int, str, int], ...]]:
-        """The steps that a daemon may take: one move under `hh`; under `manne` those of any of the enabled nodes, one at least."""
+        """The steps that a daemon may take: one move under `hh`; under `manne` those of any of the enabled nodes, one
+        at least."""
         moves = self.moves_at(code)
         if self.rules == "hh":
             return ((move,) for of_node in moves for move in of_node)
@@ -157,8 +165,8 @@ class Search:
 
 
 def longest(graph: Graph, rules: str, *, seconds: float = 10.0, seed: int = 0) -> Longest:
-    """The longest schedule of a network under `hh` or `manne`: of all, where it has at most 400,000 states, which takes some 50
-    microseconds a state; else the best that a search with this seed finds in so many seconds."""
+    """The longest schedule of a network under `hh` or `manne`: of all, where it has at most 400,000 states, which
+    takes some 50 microseconds a state; else the best that a search with this seed finds in so many seconds."""
     if rules not in rule_sets.WEIGHTS:
         raise ValueError(f"rules are 'hh' or 'manne', and not {rules!r}")
     search = Search(graph, rules)
@@ -186,13 +194,15 @@ def told(
 
 
 def best_found(search: Search, seconds: float, drawn: random.Random) -> Longest:
-    """The best of greedy schedules from states by chance, until the time is over; one at least."""
-    last, tried = time.monotonic() + seconds, 0
+    """The best of greedy schedules from states by chance, until the time is over; the first is whole, or of a
+    minute."""
+    begun, tried = time.monotonic(), 0
+    last = begun + seconds
     best: list[tuple[int, str, int]] = []
     best_start = 0
     while not tried or time.monotonic() < last:
         start = drawn.randrange(search.size)
-        steps = greedy_from(search, start, drawn)
+        steps = greedy_from(search, start, drawn, last if tried else max(last, begun + FIRST_TRY))
         tried += 1
         if len(steps) > len(best):
             best, best_start = steps, start
@@ -200,25 +210,55 @@ def best_found(search: Search, seconds: float, drawn: random.Random) -> Longest:
     return told(search, len(best), False, tried, [[move] for move in best])
 
 
-def greedy_from(search: Search, code: int, drawn: random.Random) -> list[tuple[int, str, int]]:
-    """The moves from a state of which each lets the charge fall least; by chance where several do."""
+def greedy_from(search: Search, code: int, drawn: random.Random, last: float = math.inf) -> list[tuple[int, str, int]]:
+    """The moves from a state of which each lets the charge fall least, by chance if several do; until the network is
+    silent, or the clock shows `last`."""
+    search.set_to(code)
+    state = search.state
     steps: list[tuple[int, str, int]] = []
+    options: dict[int, list[tuple[int, tuple[int, str, int]]]] = {}
+    changed: Iterable[int] = state.neighbours
     while True:
-        moves = [move for of_node in search.moves_at(code) for move in of_node]
+        for node in changed:
+            if time.monotonic() >= last:
+                return steps
+            options[node] = options_at(state, node)
+        moves = [(fall, drawn.random(), move) for node in sorted(options) for fall, move in options[node]]
         if not moves:
             return steps
-        change, node, rule, target = min(
-            moves, key=lambda move: (rule_sets.fall(search.state, *move[1:]), drawn.random())
-        )
-        steps.append((node, rule, target))
-        code += change
+        _, _, move = min(moves)
+        state.move(*move)
+        steps.append(move)
+        # rules and falls depend on nothing further away
+        changed = ball(state, move[0], 3)
+
+
+def options_at(state: State, node: int) -> list[tuple[int, tuple[int, str, int]]]:
+    """The moves that are enabled at a node, each behind what it lets the charge fall by."""
+    rule = rule_sets.rule_at(state, node)
+    if not rule:
+        return []
+    targets = rule_sets.targets(state, node, rule) or [0]
+    return [(rule_sets.fall(state, node, rule, target), (node, rule, target)) for target in targets]
+
+
+def ball(state: State, node: int, radius: int) -> set[int]:
+    """The nodes at most so many edges away."""
+    reached = newest = {node}
+    for _ in range(radius):
+        newest = {near for it in newest for near in state.neighbours[it]} - reached
+        reached = reached | newest
+    return reached
 
 
 def connected_graphs(n: int) -> Iterator[Graph]:
     """Each connected graph of so many nodes once, up to the names of its nodes."""
     pairs = list(itertools.combinations(range(1, n + 1), 2))
     place = {pair: at for at, pair in enumerate(pairs)}
-    renamings = [[place[tuple(sorted((new[a - 1], new[b - 1])))] for a, b in pairs] for new in itertools.permutations(range(1, n + 1))]  # type: ignore[index]
+    numberings = itertools.permutations(range(1, n + 1))
+    renamings = [
+        [place[min(new[a - 1], new[b - 1]), max(new[a - 1], new[b - 1])] for a, b in pairs] for new in numberings
+    ]
     seen = bytearray(1 << len(pairs))
     for mask in range(1 << len(pairs)):
         if seen[mask]:
@@ -242,7 +282,8 @@ def is_connected(n: int, edges: Sequence[tuple[int, int]]) -> bool:
 
 
 def renamed(graph: Graph) -> Iterator[Graph]:
-    """A graph of the nodes 1 to n with its nodes' numbers in every order that makes another graph: under `manne` they matter."""
+    """A graph of the nodes 1 to n with its nodes' numbers in every order that makes another graph: under `manne` they
+    matter."""
     seen = set()
     for new in itertools.permutations(graph.nodes):
         edges = tuple(sorted((min(new[a - 1], new[b - 1]), max(new[a - 1], new[b - 1])) for a, b in graph.edges))

@@ -2,29 +2,39 @@
 
 from __future__ import annotations
 
-from typing import Any, Optional
+import itertools
+from typing import Optional, Sequence
 
-from .answers import Answers, Setting, refusal
-from .batch import Batch, Pending
-from .errors import Garbled, NoSuchCommand, RudekpiError, text_of
-from .reading import read_accepted, read_status
-from .replies import Turns
-from .talk import Talk
+from .answers import STEP, Answers, Setting, refusal
+from .batch import Asked, AskedTurns, Batch, Pending
+from .errors import Garbled, Inherited, NoReply, NoSuchCommand, RudekpiError, text_of
+from .reading import read_accepted
+from .replies import Reply
+from .talk import Load, Talk
 
 # how many bytes are asked before the program has to take some of them
 UNSENT = 1 << 16
+# of how many parts of what came it is looked which of them were read, where it is not known
+MOST_CAME = 8
 
 
 class Session:
-    """The talk with a run. Commands are asked by one append to a list, so that none is asked by halves.
+    """The talk with a run. Commands are asked by one call of C, so that none is asked by halves.
 
-    It never waits for one pipe while the other could go on, so no reply is too large. When nobody refers to it any more, the
-    program is ended.
+    It never waits for one pipe while the other could go on, so no reply is too large. When nobody refers to it any
+    more, the program is ended. A handler of a signal may ask in the middle of each function here, and is answered when
+    that goes on: what a function has made of an older `Answers` or `Load` is then let go of, since a later one stands
+    behind that already.
     """
 
-    def __init__(self, words: list[str], setting: Setting) -> None:
+    def __init__(self, words: Sequence[str], setting: Setting) -> None:
         self.names = setting.names
-        self.answers = Answers(setting)
+        # the commands that wait, by their numbers, and what draws those
+        self.asked: dict[int, Pending[object]] = {}
+        self.numbers = itertools.count()
+        self.reached = Answers(setting, self.asked)
+        # below which number no command waits
+        self.low = 0
         # whether no more is asked, and whether it was raised that the run has ended
         self.is_closed = self.is_told = False
         # about how many bytes are asked beyond those under way
@@ -34,54 +44,80 @@ class Session:
             self.exchange()
 
     @property
+    def answers(self) -> Answers:
+        """How far the answers were read."""
+        answers = self.reached
+        while answers.later:
+            answers = answers.later[0]
+        self.reached = answers
+        return answers
+
+    @property
     def entries(self) -> int:
         """How many entries were read."""
         return max(0, self.answers.entries)
 
     def trouble(self) -> Optional[RudekpiError]:
         """What has ended the run, but a close."""
-        return self.answers.wrong or (self.talk.ended if not self.is_closed else None)
+        ended = self.talk.ended
+        return self.answers.wrong or (ended if not self.is_closed or isinstance(ended, Inherited) else None)
 
-    def kept(self) -> tuple[bytearray, int]:
-        """All that is kept of what the program has written, once all commands are carried out, and how many bytes of it count.
-        Raises `Garbled` where the program answered amiss."""
+    def since(self, place: int) -> tuple[bytes, int]:
+        """The lines that came from a place on, or all that are kept, where that begins behind it, and the place behind
+        them, once all commands are carried out. Raises `Garbled` where the program answered amiss, and `Ended` in a
+        child of the process that started it."""
         self.wait_for_all()
         if self.answers.wrong:
             raise self.answers.wrong
-        return self.answers.said, self.answers.said_size
+        return self.lines_since(place)
+
+    def lines_since(self, place: int) -> tuple[bytes, int]:
+        if isinstance(self.talk.ended, Inherited):
+            raise self.talk.ended
+        answers = self.answers
+        end = answers.said.rfind(b"\n", 0, answers.said_size) + 1
+        return (bytes(answers.said[max(0, place - answers.said_place) : end]), answers.said_place + end)
 
     def batch(self, raises: bool = True, keeps: bool = True) -> Batch:
         return Batch(self, raises, keeps)
 
-    def partner(self, number: int) -> int:
-        """The program has no such question: 0 for all nodes."""
-        return 0
+    def partner(self, number: int) -> Optional[int]:
+        """None, since the program has no such question."""
+        return None
 
-    def cost_of(self, word: str, *given: Any) -> int:
-        raise NoSuchCommand(f"the program tells no cost of {word} beforehand: play the network by engine='library'")
+    def cost_of(self, word: str, numbers: Sequence[int]) -> int:
+        raise self._untold(f"tells no cost of {word} beforehand")
+
+    def reach(self, word: str, numbers: Sequence[int]) -> list[int]:
+        raise self._untold(f"tells no reach of {word} beforehand")
+
+    def is_at_rest(self, number: int) -> bool:
+        raise self._untold("does not tell who is at rest")
+
+    def _untold(self, what: str) -> RudekpiError:
+        """What is raised for a question that only the library answers."""
+        if isinstance(self.talk.ended, Inherited):
+            return self.talk.ended
+        return NoSuchCommand(f"the program {what}: play the network by engine='library'")
 
     def moves_left(self) -> Optional[int]:
         """None: the program has no such question."""
         return None
 
     def tell(self, line: str) -> None:
-        """Carries out a line of a script; behind one that writes several entries the status is asked, which ends them."""
+        """Carries out a line of a script; behind one that writes several entries the status is asked, which ends
+        them."""
         is_ended_by_status = line.startswith(("drive ", "scramble "))
-        words = (
-            ("status", read_accepted, None, f"{line}\n".encode())
-            if is_ended_by_status
-            else (line, read_accepted, None, b"")
-        )
-        self.ask(Pending(self, *words))
+        self.ask(AskedTurns(self, line, read_accepted) if is_ended_by_status else Asked(self, line, read_accepted))
 
-    def ask(self, pending: Pending[Any]) -> None:
+    def ask(self, pending: Pending[object]) -> None:
         """Takes a command to be written; waits only where much is unsent."""
         if self.is_closed:
             raise ValueError("the network is closed")
-        answers = self.answers
-        if answers.wrong or self.talk.ended:
+        if self.answers.wrong or self.talk.ended:
             self.raise_what_is_wrong()
-        answers.asked.append(pending)
+        # one call of C; it draws a second number, before it sees that there is no second command
+        self.asked.update(zip(self.numbers, (pending,)))
         self.unloaded_bytes += len(pending._event)
         if self.unloaded_bytes > UNSENT:
             # one that takes no more is read until its text ends
@@ -91,41 +127,62 @@ class Session:
                 self.talk.write()
 
     def load(self) -> bool:
-        """Where all is sent: makes what is asked and not yet under way the bytes that are written; whether there was any."""
-        answers, loaded = self.answers, self.talk.writing[2]
-        new = answers.asked[loaded - answers.dropped :]
-        if not new or self.talk.is_deaf:
+        """Where all is sent: makes what is asked and not yet under way the bytes that are written; whether there was
+        any."""
+        last, new = self.talk.load, []
+        end = last.end
+        while pending := self.asked.get(end):
+            new.append(pending._ahead + pending._event + b"\n")
+            end += STEP
+        if not new or self.talk.is_deaf or last.is_unsent():
             return False
         self.unloaded_bytes = 0
-        self.talk.writing = (b"".join([it._ahead + it._event + b"\n" for it in new]), [], loaded + len(new))
+        last.later.setdefault(0, Load(b"".join(new), end))
         return True
 
     def go_on(self) -> None:
-        """Writes what the program takes at once; where it takes nothing, waits until it does, or has written something."""
+        """Reads on in what came; where there is nothing, writes what the program takes at once; where it takes nothing,
+        waits a while until it does, or has written something."""
         answers, talk = self.answers, self.talk
-        if not answers.came:
-            if talk.has_unsent() or self.load():
-                if talk.write() or not (talk.is_deaf or talk.is_read_first()):
-                    return
-            talk.read(answers.came)
-        if not answers.came[0]:
-            return talk.end()
-        self.answers = answers.read_on()
-        if self.answers.wrong:
-            talk.kill()
+        part = talk.came.get(answers.parts)
+        if part is None:
+            if (talk.has_unsent() or self.load()) and talk.write():
+                return
+            if talk.wait():
+                talk.read()
+        elif part:
+            answers.later.setdefault(0, answers.read_on(part))
+            self.let_go()
+        else:
+            talk.end()
+
+    def let_go(self) -> None:
+        """Lets go of what was read and answered."""
+        answers = self.answers
+        came = self.talk.came
+        came.pop(answers.parts - 1, None)
+        if len(came) > MOST_CAME:
+            # those that an interrupt has left here
+            for number in [number for number in list(came) if number < answers.parts]:
+                came.pop(number, None)
+        for number in range(self.low, answers.front, STEP):
+            self.asked.pop(number, None)
+        self.low = answers.front
+        if answers.wrong:
+            self.talk.kill()
 
     def exchange(self) -> None:
         """Goes on, where nothing is wrong."""
         self.raise_what_is_wrong()
         self.go_on()
 
-    def wait(self, pending: Pending[Any]) -> None:
+    def wait(self, pending: Pending[object]) -> None:
         while pending._entry < 0:
             self.exchange()
 
     def wait_for_all(self) -> None:
         """Waits for what is asked, until all of it is answered or the run has ended."""
-        while self.answers.front < len(self.answers.asked) and not self.answers.wrong and not self.talk.ended:
+        while self.answers.front in self.asked and not self.answers.wrong and not self.talk.ended:
             self.go_on()
 
     def raise_what_is_wrong(self) -> None:
@@ -136,12 +193,11 @@ class Session:
 
     def text(self) -> str:
         """What the program has written, as far as it was read; whole lines alone."""
-        said = self.answers.said
-        return text_of(said[: said.rfind(b"\n", 0, self.answers.said_size) + 1])
+        return text_of(self.lines_since(0)[0])
 
     def close(self) -> None:
         """Ends the run, once all is carried out. Where it was cut short it is done again."""
-        if self.is_closed and self.talk.ended:
+        if isinstance(self.talk.ended, Inherited) or (self.is_closed and self.talk.ended):
             return
         self.is_closed = True
         while (self.talk.has_unsent() or self.load()) and not self.talk.ended:
@@ -149,7 +205,7 @@ class Session:
         self.talk.close_input()
         while not self.talk.ended:
             self.go_on()
-        is_waited_for = self.answers.front < len(self.answers.asked)
+        is_waited_for = self.answers.front in self.asked
         if (self.talk.ended.status or is_waited_for) and not self.answers.wrong and not self.is_told:
             raise self.talk.ended
 
@@ -158,19 +214,14 @@ class Session:
         self.is_closed = True
         self.talk.kill()
 
-    def reply(self, pending: Pending[Any]) -> Any:
+    def reply(self, pending: Pending[Reply]) -> Reply:
         """The reply to a command; raises a refusal, and what is no reply."""
-        names = self.names
         if pending._text.startswith(b"refused "):
-            raise refusal(names, pending._event, pending._text, pending._entry)
-        event, text = pending._event.decode(), text_of(pending._text)
+            raise refusal(self.names, pending._event, pending._text, pending._entry)
         try:
-            if not pending._ahead:
-                return pending._read(names, pending._entry, event, text)
-            turns = []
-            for entry, line in enumerate(pending._turns, pending._entry - len(pending._turns)):
-                parts = text_of(line).partition(" = ")
-                turns.append(pending._read(names, entry, parts[0], parts[2]))
-            return Turns(tuple(turns), read_status(names, pending._entry, event, text))
+            return pending._reply(self.names)
+        except MemoryError:
+            raise NoReply(pending._entry) from None
         except (ValueError, LookupError):
+            event, text = pending._event.decode(), text_of(pending._text)
             raise Garbled(f"entry {pending._entry} is no reply to {event[:200]!r}: {text[:200]!r}") from None

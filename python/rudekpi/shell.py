@@ -8,7 +8,9 @@ import sys
 from typing import Optional
 
 from .errors import RudekpiError
+from .files import write_whole
 from .network import Network
+from .numbers import counted
 from .script_words import COMMANDS, why_no_command
 
 HISTORY = "~/.rudekpi_history"
@@ -57,7 +59,10 @@ class Shell:
             )
         if word == "audit":
             found = self.net.audit()
-            return f"accepted: {found.entries} entries, {found.epochs} epochs, {found.moves} moves\n"
+            return (
+                f"accepted: {counted(found.entries, 'entry', 'entries')}, {counted(found.epochs, 'epoch')}, "
+                f"{counted(found.moves, 'move')}\n"
+            )
         if word == "play":
             if not path:
                 return "play wants a file's name, as in: play page.html\n"
@@ -66,8 +71,7 @@ class Shell:
         text = self.net.picture() if word == "picture" else self.net.transcript()
         if not path:
             return text
-        with open(path, "w") as file:
-            file.write(text)
+        write_whole(path, text.encode())
         return f"written: {path}\n"
 
 
@@ -105,15 +109,25 @@ def talk(net: Network) -> int:
     print(shell.new_lines(), end="")
     while True:
         try:
-            print(shell.answer(input("> " if is_terminal else "").strip("\r")), end="", flush=True)
+            # where this can't be read, the session is at its end
+            line = input("> " if is_terminal else "").strip("\r")
         except EOFError:
             break
         except KeyboardInterrupt:
             print("\ncut short; `quit` or Ctrl-D ends the session" if is_terminal else "")
-        except (OSError, ValueError, RudekpiError) as error:
+            continue
+        try:
+            text = shell.answer(line)
+        except EOFError:
+            break
+        except KeyboardInterrupt:
+            print("\ncut short; `quit` or Ctrl-D ends the session" if is_terminal else "")
+        except (OSError, ValueError, TypeError, MemoryError, RudekpiError) as error:
             print(f"! {error}")
             if net._session.trouble():
                 return 1
+        else:
+            print(text, end="", flush=True)
     if is_terminal:
         print()
         leave()

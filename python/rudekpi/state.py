@@ -3,7 +3,7 @@
 from __future__ import annotations
 
 import re
-from typing import TYPE_CHECKING, Iterable, Optional, Union
+from typing import TYPE_CHECKING, Callable, Iterable, Optional, TypeVar, Union
 
 from .reading import MOVE
 
@@ -11,6 +11,7 @@ if TYPE_CHECKING:
     from .direct import Direct
     from .session import Session
 
+Seen = TypeVar("Seen")
 WORDS = {"link": 2, "unlink": 2, "point": 2, "flag": 2, "join": 1, "leave": 1}
 ENTRY = re.compile(r"[0-9]+ ((\w+)(?: [^=]*)?) = (.*)")
 
@@ -120,17 +121,24 @@ class Follower:
 
     def __init__(self, session: Union[Direct, Session]) -> None:
         self.session = session
-        # the state at a place of what is kept
-        self.followed: Optional[tuple[bytearray, int, State]] = None
+        # the state at a place of what is kept, unless somebody has it now: a handler of a signal that asks meanwhile
+        # begins anew
+        self.followed: list[tuple[int, State]] = []
 
     def state(self) -> State:
-        """Where the network stands once all commands are carried out. Raises `Garbled` where the program answered amiss."""
-        said, size = self.session.kept()
+        """Where the network stands once all commands are carried out. Raises `Garbled` where the program answered
+        amiss, and `Ended` in a child of the process that made the network."""
+        return self.look(lambda state: state)
+
+    def look(self, see: Callable[[State], Seen]) -> Seen:
+        """What a function sees in the state, which does not change while it looks."""
+        try:
+            place, state = self.followed.pop()
+        except IndexError:
+            place, state = 0, State()
+        text, end = self.session.since(place)
         # one that is cut short by an interrupt begins again at the start
-        followed, self.followed = self.followed, None
-        if followed is None or followed[0] is not said:
-            followed = (said, 0, State())
-        end = said.rfind(b"\n", 0, size) + 1
-        followed[2].follow(said[followed[1] : end].decode().splitlines())
-        self.followed = (said, end, followed[2])
-        return followed[2]
+        state.follow(text.decode().splitlines())
+        seen = see(state)
+        self.followed[:] = [(end, state)]
+        return seen

@@ -27,12 +27,13 @@ def storm(
     turns: int = 1000,
     program: Program = None,
 ) -> str:
-    """Plays up to 64 scripts at once on one network of the nodes 1 to a number, and answers the transcript of its one log.
+    """Plays up to 64 scripts at once on one network of the nodes 1 to a number, and answers the transcript of its one
+    log.
 
-    A script is a text, a list of lines, or a `pathlib.Path`. Up to 64 `workers` judge a large step; beside the scripts, 0 to 64
-    workers `roam`: in each of so many turns, up to 1,000,000, one lets an enabled node move. How the scripts interleave is not
-    fixed. Raises `ValueError` for numbers out of their range, and `Ended` where the program does not end well: by a line that is
-    no command (status 2), a file that can't be read (3), want of memory or a full log (4).
+    A script is a text, a list of lines, or a `pathlib.Path`. Up to 64 `workers` judge a large step; beside the scripts,
+    0 to 64 workers `roam`: in each of so many turns, up to 1,000,000, one lets an enabled node move. How the scripts
+    interleave is not fixed. Raises `ValueError` for numbers out of their range, and `Ended` where the program does not
+    end well: by a line that is no command (status 2), a file that can't be read (3), want of memory or a full log (4).
     """
     if rules not in ("hh", "manne"):
         raise ValueError(f"rules are 'hh' or 'manne', and not {rules!r}")

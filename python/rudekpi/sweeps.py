@@ -1,12 +1,15 @@
-"""Experiments by the thousand: networks that are disturbed and settle, over graphs, rules, daemons, seeds and disturbances."""
+"""Experiments by the thousand: networks that are disturbed and settle, over graphs, rules, daemons, seeds and
+disturbances."""
 
 from __future__ import annotations
 
 import contextlib
 import csv
 import itertools
+import math
 import os
 import random
+import re
 import time
 from collections import deque
 from concurrent.futures import Executor
@@ -15,15 +18,19 @@ from typing import Any, Callable, Iterable, Iterator, Optional, Sequence, TextIO
 
 from . import daemons
 from .audits import epochs
+from .choices import Daemon
 from .errors import Lost, RudekpiError
 from .graphs import Graph
 from .network import Network
-from .numbers import MOST_SEED, MOST_TURNS, number_within
+from .numbers import MOST_SEED, MOST_TURNS, counted, number_within
 from .program import Program, found_program
 from .replies import Name
 from .workers import Handing, count_of
 
+# a daemon, a function that is one, or the word of one
+AnyDaemon = Union[daemons.AnyDaemon, Daemon, str]
 REGISTERS = ("any", "pointer", "flag")
+MOST_EXPERIMENTS = 1_000_000
 # about how many seconds a task takes
 TASK_SECONDS = 1.0
 
@@ -33,18 +40,20 @@ class LostExperiments(Lost):
 
     def __init__(self, experiments: list[Experiment]) -> None:
         super().__init__(
-            f"{len(experiments)} experiments are lost, since their workers died twice: {experiments[0].told()}, .."
+            f"{counted(len(experiments), 'experiment is', 'experiments are')} lost, "
+            f"since their workers died twice: {experiments[0].told()}, .."
         )
         self.experiments = experiments
 
-    def __reduce__(self) -> Any:
+    def __reduce__(self) -> tuple[object, ...]:
         return type(self), (self.experiments,)
 
 
 @dataclass(frozen=True)
 class Disturbance:
-    """What hits a network that is silent: faults of registers (any, pointers or flags alone), nodes that leave, and nodes that join,
-    with their edges. Where it is nothing at all, the network settles from the start, all pointers null."""
+    """What hits a network that is silent: faults of registers (any, pointers or flags alone), nodes that leave, and
+    nodes that join, with their edges. Where it is nothing at all, the network settles from the start, all pointers
+    null."""
 
     faults: int = 0
     registers: str = "any"
@@ -58,13 +67,18 @@ class Disturbance:
             )
 
     def __str__(self) -> str:
-        faults = f"{self.faults} faults" if self.registers == "any" else f"{self.faults} faults of {self.registers}s"
-        parts = (
-            [faults] * bool(self.faults)
-            + [f"{self.joins} joins"] * bool(self.joins)
-            + [f"{self.leaves} leaves"] * bool(self.leaves)
-        )
-        return ", ".join(parts) or "start"
+        of = "" if self.registers == "any" else f" of {self.registers}s"
+        parts = [
+            f"{self.faults} fault{'s' * (self.faults != 1)}{of}" * bool(self.faults),
+            f"{self.joins} join{'s' * (self.joins != 1)}" * bool(self.joins),
+            f"{self.leaves} leave{'s' * (self.leaves != 1)}" * bool(self.leaves),
+        ]
+        return ", ".join(filter(None, parts)) or "start"
+
+    @property
+    def is_nothing(self) -> bool:
+        """Whether nothing hits the network, so that it settles from the start."""
+        return not (self.faults or self.joins or self.leaves)
 
 
 @dataclass(frozen=True)
@@ -95,7 +109,7 @@ class Experiment:
 
     graph: Graph
     rules: str
-    daemon: Any
+    daemon: AnyDaemon
     seed: int
     disturbance: Disturbance
     program: Program = None
@@ -124,7 +138,8 @@ class Experiment:
         )
 
     def run(self) -> Row:
-        """Plays it. The moves and the bound are those of the last epoch of the transcript, which the program judges for that."""
+        """Plays it. The moves and the bound are those of the last epoch of the transcript, which the program judges
+        for that."""
         began = time.perf_counter()
         drawn = random.Random(self.seed)
         nodes = list(self.graph.nodes)
@@ -132,7 +147,7 @@ class Experiment:
         joining = set(nodes[: self.disturbance.joins])
         with Network(self.rules, self.graph.nodes, program=self.program) as net:
             self.begin(net, joining)
-            if self.disturbance != Disturbance():
+            if not self.disturbance.is_nothing:
                 net.settle(daemons.Seeded(self.seed))
                 disturb(net, self, joining, drawn)
             daemon = daemons.named(self.daemon, self.seed) if isinstance(self.daemon, str) else self.daemon
@@ -207,15 +222,23 @@ def run_all(experiments: Sequence[Experiment]) -> list[Row]:
 def experiments_of(
     graphs: Iterable[Graph],
     rules: Iterable[str],
-    daemons: Iterable[Any],
+    daemons: Iterable[AnyDaemon],
     seeds: Iterable[int],
     disturbances: Iterable[Union[int, Disturbance]],
     program: Program = None,
 ) -> list[Experiment]:
-    """All experiments of a sweep. Under `hh`, which has no flags and takes one node at a time, those of flags and of the synchronous
-    daemon are left out. Raises `ValueError` for words and numbers that none takes."""
+    """All experiments of a sweep. Under `hh`, which has no flags and takes one node at a time, those of flags and of
+    the synchronous daemon are left out.
+
+    Raises `ValueError` for words and numbers that none takes, two graphs with one title, and more than 1,000,000
+    experiments, which are counted before any is made.
+    """
     of = [it if isinstance(it, Disturbance) else Disturbance(it) for it in disturbances]
-    every = itertools.product(graphs, rules, daemons, seeds, of)
+    lists = [first_of(it) for it in (graphs, rules, daemons, seeds, of)]
+    if math.prod(map(len, lists)) > MOST_EXPERIMENTS:
+        raise ValueError(f"a sweep has at most {MOST_EXPERIMENTS} experiments: fewer seeds, graphs or disturbances")
+    check_titles(lists[0])
+    every = itertools.product(*lists)
     lawful = (
         words
         for words in every
@@ -227,14 +250,29 @@ def experiments_of(
     ]
 
 
-def is_synchronous(daemon: Any) -> bool:
+def first_of(given: Iterable[Any]) -> Sequence[Any]:
+    """As many of these as a sweep may have experiments, and one more, however many there are."""
+    if isinstance(given, range):
+        return given[: MOST_EXPERIMENTS + 1]
+    return list(itertools.islice(given, MOST_EXPERIMENTS + 1))
+
+
+def check_titles(graphs: Sequence[Any]) -> None:
+    """Raises `ValueError` if two graphs that differ have one title, since rows and plots know them by it."""
+    known: dict[str, Graph] = {}
+    for graph in graphs:
+        if isinstance(graph, Graph) and known.setdefault(graph.title, graph) != graph:
+            raise ValueError(f"two graphs have the title {graph.title!r}")
+
+
+def is_synchronous(daemon: AnyDaemon) -> bool:
     return daemon == "synchronous" or isinstance(daemon, daemons.Synchronous)
 
 
 def sweep(
     graphs: Iterable[Graph],
     rules: Iterable[str] = ("manne",),
-    daemons: Iterable[Any] = ("seeded",),
+    daemons: Iterable[AnyDaemon] = ("seeded",),
     seeds: Iterable[int] = (0,),
     faults: Iterable[Union[int, Disturbance]] = (0,),
     *,
@@ -245,11 +283,12 @@ def sweep(
     """A row for each graph, rules, daemon, seed and disturbance, in the order in which they are done.
 
     A disturbance is a `Disturbance`, or a number of faults. The executor is any of `concurrent.futures`, or a cluster's
-    (`distributed.Client().get_executor()`, `mpi4py.futures`), whose workers have this package and the program; by default
-    processes of this machine, one a processor or as many as are said. Experiments are handed out in tasks of about a second. A task
-    whose worker dies is tried once more; where that dies too, the rest is done and `LostExperiments` is raised at the end. A pool of
-    processes of the caller's own breaks where one of them dies: it is not replaced, and raises its `BrokenExecutor`. An error of an
-    experiment is raised as it is. Where the caller stops, nothing more is handed out, and processes that were begun here are ended.
+    (`distributed.Client().get_executor()`, `mpi4py.futures`), whose workers have this package and the program; by
+    default processes of this machine, one a processor or as many as are said. Experiments are handed out in tasks of
+    about a second. A task whose worker dies is tried once more; where that dies too, the rest is done and
+    `LostExperiments` is raised at the end. A pool of processes of the caller's own breaks where one of them dies: it is
+    not replaced, and raises its `BrokenExecutor`. An error of an experiment is raised as it is. Where the caller stops,
+    nothing more is handed out, and processes that were begun here are ended.
     """
     if processes is not None and processes < 1:
         raise ValueError(f"there is one process or more, and not {processes}")
@@ -262,7 +301,8 @@ def sweep(
 
 
 class Tasks:
-    """Experiments in tasks of about a second, as far as the rows so far tell how long one takes, and of no more for a worker than for each."""
+    """Experiments in tasks of about a second, as far as the rows so far tell how long one takes, and of no more for a
+    worker than for each."""
 
     def __init__(self, todo: Iterable[Experiment], workers: int) -> None:
         self.todo, self.workers = deque(todo), workers
@@ -300,6 +340,12 @@ def rows_of(todo: list[Experiment], given: Union[Executor, int]) -> Iterator[Row
             yield from rows
     if lost:
         raise LostExperiments(lost)
+
+
+def natural(word: str) -> list[tuple[int, str]]:
+    """What a word is sorted by, so that 5 stands in front of 10."""
+    parts = re.split("([0-9]+)", word)
+    return [(int(part), "") if place % 2 else (0, part) for place, part in enumerate(parts)]
 
 
 COLUMNS = tuple(it.name for it in fields(Row))

@@ -28,7 +28,8 @@ Call = Tuple[Any, ...]
 # how many tasks a worker has under way, and how many workers an executor is taken to have that does not tell
 UNDER_WAY = 2
 MOST_UNKNOWN = 64
-# in how many milliseconds it is seen at the latest that a thread has ended, and how much is taken at once of what it sends
+# in how many milliseconds it is seen at the latest that a thread has ended, and how much is taken at once of what it
+# sends
 PAUSE = 10
 PIECE = 1 << 16
 
@@ -44,8 +45,8 @@ def count_of(given: Union[Executor, int]) -> int:
 
 
 def end_at_once(pool: Any) -> None:
-    """Ends a pool of processes in the middle of its work, of which nothing is wanted any more. From Python 3.14 on they may end a moment
-    later."""
+    """Ends a pool of processes in the middle of its work, of which nothing is wanted any more. From Python 3.14 on they
+    may end a moment later."""
     if hasattr(pool, "kill_workers"):
         pool.kill_workers()
     else:
@@ -56,16 +57,17 @@ def end_at_once(pool: Any) -> None:
 
 
 def end_broken(pool: Any) -> None:
-    """Ends a pool of processes whose workers are dead or dying. Its thread is waited for, so that no later fork meets it."""
+    """Ends a pool of processes whose workers are dead or dying. Its thread is waited for, so that no later fork meets
+    it."""
     if sys.version_info < (3, 11, 5):
         take_what_is_sent(pool)
     pool.shutdown(wait=True, cancel_futures=True)
 
 
 def take_what_is_sent(pool: Any) -> None:
-    """Takes what a pool of processes is sending to workers that are dead or dying, until its thread has ended. This is for a Python before
-    3.11.5 alone, where that thread, and with it `shutdown`, waits for ever until a worker takes it: a fault of the standard library,
-    https://github.com/python/cpython/issues/94777."""
+    """Takes what a pool of processes is sending to workers that are dead or dying, until its thread has ended. This is
+    for a Python before 3.11.5 alone, where that thread, and with it `shutdown`, waits for ever until a worker takes it:
+    a fault of the standard library, https://github.com/python/cpython/issues/94777."""
     thread = pool._executor_manager_thread
     if not (thread and thread.is_alive()):
         return
@@ -85,8 +87,8 @@ def take_what_is_sent(pool: Any) -> None:
 
 
 def called(token: str, call: Callable[..., Any], *words: Any) -> Any:
-    """In a worker: a task. The token is another one at each try, since distributed gives what is called with the same words twice one
-    answer, be it that the worker died."""
+    """In a worker: a task. The token is another one at each try, since distributed gives what is called with the same
+    words twice one answer, be it that the worker died."""
     return call(*words)
 
 
@@ -97,7 +99,8 @@ def is_death(error: BaseException) -> bool:
         "CommClosedError",
     ):
         return True
-    # where a worker dies while its result is handed over, distributed takes the result for an error, and fails in that itself
+    # where a worker dies while its result is handed over, distributed takes the result for an error, and fails in that
+    # itself
     frames = [frame for frame, _ in traceback.walk_tb(error.__traceback__)]
     return (
         bool(frames)
@@ -116,12 +119,12 @@ def has_died(future: Future[Any]) -> bool:
 
 
 class Handing(Generic[Task]):
-    """The handing out of tasks, of each of which a function tells what a worker calls: one of an executor, or of so many processes, where
-    it is a number.
+    """The handing out of tasks, of each of which a function tells what a worker calls: one of an executor, or of so
+    many processes, where it is a number.
 
-    A task whose worker dies, or of which a cluster loses the result, is tried once more, with nothing else under way, so that it is
-    known which task is at fault where a worker dies again. In the place of processes that were begun here come others. An executor that
-    is given and broken is not replaced: it raises what it raises, a `BrokenExecutor`."""
+    A task whose worker dies, or of which a cluster loses the result, is tried once more, with nothing else under way,
+    so that it is known which task is at fault where a worker dies again. In the place of processes that were begun here
+    come others. An executor that is given and broken is not replaced: it raises what it raises, a `BrokenExecutor`."""
 
     def __init__(self, tasks: Iterator[Task], call_of: Callable[[Task], Call], given: Union[Executor, int]) -> None:
         self.tasks, self.call_of, self.given, self.count = tasks, call_of, given, count_of(given)
@@ -134,7 +137,8 @@ class Handing(Generic[Task]):
         return ProcessPoolExecutor(self.count, initializer=ignore_interrupts)
 
     def done(self) -> Generator[tuple[Task, Optional[Future[Any]]], None, None]:
-        """Each task once its result, or its error, is there, in the order in which they are; with None where workers died over it twice."""
+        """Each task once its result, or its error, is there, in the order in which they are; with None where workers
+        died over it twice."""
         is_over = has_lost = False
         try:
             while self.hand_out():
@@ -174,7 +178,8 @@ class Handing(Generic[Task]):
         self.under_way[future] = (task, is_second)
 
     def stop(self, is_whole: bool) -> None:
-        """Takes back what is under way. Processes that were begun here are ended: at once, unless all is done and none of them has died."""
+        """Takes back what is under way. Processes that were begun here are ended: at once, unless all is done and none
+        of them has died."""
         if self.executor is self.given:
             for future in self.under_way:
                 future.cancel()

@@ -9,6 +9,7 @@ import stat
 import subprocess
 import sys
 import tempfile
+import threading
 import time
 import unittest
 from unittest import mock
@@ -77,6 +78,12 @@ class Timed(unittest.TestCase):
         return said
 
 
+def children():
+    """The processes that this thread has started, ended ones that nobody has waited for among them."""
+    with open(f"/proc/self/task/{threading.get_native_id()}/children") as file:
+        return [int(word) for word in file.read().split()]
+
+
 def is_group(group):
     """Whether there is a process of this group."""
     try:
@@ -127,7 +134,7 @@ def has_ended(net):
     return (
         not session.slot.full
         if net.engine == "library"
-        else session.talk.ended is not None and session.talk.runs[0].poll() is not None
+        else session.talk.ended is not None and session.talk.run.has_status()
     )
 
 

@@ -7,6 +7,7 @@ import pty
 import random
 import select
 import signal
+import socket
 import subprocess
 import sys
 import time
@@ -46,6 +47,12 @@ def said(*words, given=""):
     return done.stdout
 
 
+def rudekpi_version():
+    """The version of the release, which the program itself tells."""
+    told = subprocess.run([os.environ["RUDEKPI_CONSOLE"], "--version"], capture_output=True, text=True, check=True)
+    return told.stdout.split()[1]
+
+
 class HandedOn(Timed):
     def test_what_the_program_does(self):
         text = pathlib.Path(TOP, "examples", "pair.transcript").read_text()
@@ -58,7 +65,7 @@ class HandedOn(Timed):
         self.assertTrue(said("audit", given=text).startswith("accepted: 7 entries"))
         self.assertEqual(said("epochs", given=text).splitlines()[0], "start,moves,edges,nodes,bound,cost")
         console = [os.environ["RUDEKPI_CONSOLE"]]
-        for words in (["--version"], ["run", "--help"], ["foo"], ["run"]):
+        for words in (["run", "--help"], ["run"], ["audit", "--none"]):
             done, wanted = rudekpi(*words), subprocess.run(console + words, capture_output=True, text=True)
             self.assertEqual(
                 (done.returncode, done.stdout, done.stderr), (wanted.returncode, wanted.stdout, wanted.stderr)
@@ -70,8 +77,15 @@ class HandedOn(Timed):
         done = rudekpi("sweeep")
         self.assertEqual(
             (done.returncode, done.stdout, done.stderr),
-            (2, "", "! no command is called 'sweeep'; 'sweep' may be meant\n"),
+            (2, "", "! rudekpi has no command 'sweeep': 'sweep' may be meant\n"),
         )
+        self.assertEqual(said("--version"), f"rudekpi {rudekpi_version()}\n")
+        done = rudekpi("foo")
+        known = "sweep, compare, worst, check, shell, json, run, audit, picture, epochs, storm"
+        self.assertEqual((done.returncode, done.stdout), (2, ""))
+        self.assertEqual(done.stderr, f"! rudekpi has no command 'foo': they are {known}\n")
+        self.assertEqual(said("help", "worst"), said("worst", "--help"))
+        self.assertEqual(said("help", "run"), said("run", "--help"))
 
     def test_without_words_and_without_a_program(self):
         done = rudekpi()
@@ -88,6 +102,78 @@ class HandedOn(Timed):
             self.assertEqual(done.returncode, 3, done.stderr)
             self.assertIn("/no/such/program", done.stderr)
             self.assertNotIn("Traceback", done.stderr)
+
+
+class Streams(Timed):
+    """Standard streams and files that can't be read or written: one line on standard error that names what fails, as the program's."""
+
+    def told(self, words, status=3):
+        """What is told where the shell gives these streams, nothing else, and with this status."""
+        path = os.path.join(self.folder(), "script")
+        pathlib.Path(path).write_text(PAIR)
+        line = f"{sys.executable} -m rudekpi {words}".replace("SCRIPT", path)
+        done = subprocess.run(["bash", "-c", line], env=environment(), capture_output=True, text=True, timeout=50)
+        self.assertEqual(done.returncode, status, done)
+        self.assertEqual(done.stdout.replace("matching manne 3\n", ""), "")
+        lines = [line for line in done.stderr.splitlines() if "the bound is" not in line]
+        self.assertEqual(len(lines), 1, done.stderr)
+        return lines[0]
+
+    def test_output_that_is_closed_or_full(self):
+        for words in ("worst --graph path:4", "check SCRIPT", "shell --nodes 3 < SCRIPT", "help", "--version"):
+            with self.subTest(words):
+                self.assertEqual(self.told(f"{words} >&-"), "! write failed: Bad file descriptor")
+                self.assertEqual(self.told(f"{words} > /dev/full"), "! write failed: No space left on device")
+        json = f"json {TOP}/examples/pair.transcript"
+        for words in ("sweep --graph path:4", "compare --graph path:4", "sweep --help", "help worst", json):
+            with self.subTest(words):
+                self.assertEqual(self.told(f"{words} >&-"), "! write failed: Bad file descriptor")
+
+    def test_files_that_can_not_be_written(self):
+        for words in ("worst --graph path:4 --output", "sweep --graph path:4 --csv", "compare --graph path:4 --csv"):
+            with self.subTest(words):
+                self.assertEqual(self.told(f"{words} /dev/full"), "! /dev/full: No space left on device")
+                self.assertEqual(self.told(f"{words} /none/file"), "! /none/file: No such file or directory")
+
+    def test_input_that_is_closed_or_no_file(self):
+        for words in ("check", "json", "shell --nodes 3"):
+            with self.subTest(words):
+                self.assertEqual(self.told(f"{words} <&-"), "! read failed: Bad file descriptor")
+        self.assertEqual(self.told("check /"), "! /: Is a directory")
+        self.assertEqual(self.told("json /none"), "! /none: No such file or directory")
+
+    def test_a_reader_that_goes(self):
+        line = f"{sys.executable} -m rudekpi sweep --graph path:4 --seeds 300 --processes 1 | head -1; exit ${{PIPESTATUS[0]}}"
+        done = subprocess.run(["bash", "-c", line], env=environment(), capture_output=True, text=True)
+        self.assertEqual((done.returncode, done.stdout.count("\n")), (3, 1))
+        self.assertEqual(done.stderr, "! write failed: Broken pipe\n")
+
+    def test_no_standard_error(self):
+        line = f"{sys.executable} -m rudekpi worst --graph path:4 2>&-"
+        done = subprocess.run(["bash", "-c", line], env=environment(), capture_output=True, text=True)
+        self.assertEqual(done.returncode, 0)
+        self.assertEqual(done.stdout, said("worst", "--graph", "path:4"))
+        line = f"{sys.executable} -m rudekpi check <&- 2>&-"
+        self.assertEqual(subprocess.run(["bash", "-c", line], env=environment()).returncode, 3)
+
+    def test_what_is_nested_too_deeply(self):
+        path = os.path.join(self.folder(), "deep.transcript")
+        pathlib.Path(path).write_text("[" * 100_000)
+        self.assertIn("line 1: bad header", rudekpi("json", path).stderr)
+        why = rudekpi("check", path)
+        self.assertEqual((why.returncode, why.stderr), (1, ""))
+
+    def test_a_scheduler_that_is_not_there(self):
+        with socket.socket() as free:
+            free.bind(("127.0.0.1", 0))
+            address = f"tcp://127.0.0.1:{free.getsockname()[1]}"
+            began = time.monotonic()
+            done = rudekpi("sweep", "--graph", "path:4", "--seeds", "1", "--dask", address)
+        if "--dask wants distributed" in done.stderr:
+            self.skipTest("no distributed")
+        self.assertEqual((done.returncode, done.stdout), (3, ""))
+        self.assertEqual(done.stderr, f"! no scheduler at {address}: [Errno 111] Connection refused\n")
+        self.assertLess(time.monotonic() - began, 20)
 
 
 class Bench(Timed):

@@ -15,7 +15,7 @@ import unittest
 
 import rudekpi
 from rudekpi import Ended, Network, audit
-from support import TOP, Timed, has_ended
+from support import TOP, Timed, children, has_ended
 
 PACKAGE = os.path.dirname(rudekpi.__file__)
 
@@ -236,12 +236,6 @@ class RandomTimes(Timed):
             self.assertEqual((cut, net.status().nodes), (300, 3))
 
 
-def children():
-    """The processes that this one has started, ended ones that nobody has waited for among them."""
-    with open(f"/proc/self/task/{threading.get_native_id()}/children") as file:
-        return [int(word) for word in file.read().split()]
-
-
 def wait_until(is_so, seconds=5):
     last = time.monotonic() + seconds
     while not is_so() and time.monotonic() < last:
@@ -297,7 +291,7 @@ class Sessions(Timed):
         net = Network("hh", 2)
         batch = net.batch()
         batch.link(1, 2)
-        pid = net._session.talk.runs[0].pid
+        pid = net._session.talk.run.numbers[0]
         self.assertIn(pid, children())
         del net
         self.assertIn(pid, children(), "the batch still refers to it")
@@ -316,7 +310,7 @@ class Sessions(Timed):
         self.assertEqual(set(children()), before)
 
     def test_at_the_end_of_the_process(self):
-        uses = "import rudekpi; net = rudekpi.Network('hh', 2); net.link(1, 2); print(net._session.talk.runs[0].pid)"
+        uses = "import rudekpi; net = rudekpi.Network('hh', 2); net.link(1, 2); print(net._session.talk.run.numbers[0])"
         words = [sys.executable, "-X", "dev", "-W", "error", "-c", uses]
         done = subprocess.run(
             words, env=dict(os.environ, PYTHONPATH=os.path.join(TOP, "python")), capture_output=True, text=True

@@ -16,6 +16,7 @@ import weakref
 from unittest import mock
 
 from rudekpi import Audit, Damaged, Ended, Network, NoSuchCommand, Refused, Summary, audit, library
+from rudekpi.state import State
 from support import TOP, Timed, play, told
 
 
@@ -193,15 +194,19 @@ class CostsTold(Timed):
         (("point", "ann", "cleo"), 12, 16),
         (("point", "cleo", None), 6, 2),
         (("point", "dan", "ann"), 1, 1),
-        (("flag", "ann", True), 0, 7),
-        (("flag", "dan", 1), 0, 1),
+        (("flag", "ann", True), "no-flag", 7),
+        (("flag", "dan", 1), "no-flag", 1),
         (("join", "gus"), 0, 1),
         (("leave", "ann"), 4, 6),
         (("leave", "cleo"), 4, 0),
         (("leave", "dan"), 0, 0),
-        (("link", "ann", "bob"), 0, 0),
-        (("join", "ann"), 0, 0),
-        (("point", "dan", "eve"), 0, 0),
+        (("link", "ann", "bob"), "already-linked", "already-linked"),
+        (("link", "ann", "ann"), "self-loop", "self-loop"),
+        (("unlink", "cleo", "dan"), "not-linked", "not-linked"),
+        (("link", "ann", "gus"), "unknown-node", "unknown-node"),
+        (("leave", "gus"), "unknown-node", "unknown-node"),
+        (("join", "ann"), "already-present", "already-present"),
+        (("point", "dan", "eve"), "not-neighbour", "not-neighbour"),
     )
 
     def network(self, rules, engine=None):
@@ -218,13 +223,49 @@ class CostsTold(Timed):
                 before = net.transcript()
                 for event, *costs in self.rows:
                     with self.subTest(rules, event=event):
-                        self.assertEqual(net.cost_of(*event), costs[at])
+                        if isinstance(costs[at], str):
+                            why = rf"{event[0]} 'ann'.* would be refused \({costs[at]}\), so it has no cost"
+                            self.assertRaisesRegex(
+                                ValueError, why.replace("'ann'", repr(event[1])), net.cost_of, *event
+                            )
+                        else:
+                            self.assertEqual(net.cost_of(*event), costs[at])
                 self.assertEqual(net.transcript(), before)
                 self.assertRaisesRegex(ValueError, "no node has the name 'zoe'", net.cost_of, "link", "ann", "zoe")
                 self.assertRaisesRegex(ValueError, "has a cost, and not 'step'", net.cost_of, "step", "ann")
                 self.assertRaisesRegex(ValueError, "a flag", net.cost_of, "flag", "ann", 2)
                 self.assertRaises(TypeError, net.cost_of, "link", "ann")
             self.assertRaisesRegex(ValueError, "closed", net.cost_of, "leave", "ann")
+
+    def test_that_are_none_are_those_of_what_is_refused(self):
+        drawn, refused = random.Random(4), set()
+        for rules in ("hh", "manne"):
+            with Network(rules, 6, present=5, engine="library") as net:
+                for _ in range(1500):
+                    a, b = drawn.randint(1, 7), drawn.randint(1, 7)
+                    event = drawn.choice(
+                        [("link", a, b), ("unlink", a, b), ("point", a, drawn.choice([b, None])), ("flag", a, b % 2)]
+                        + [("join", a), ("leave", a)]
+                    )
+                    try:
+                        why = "" if net.cost_of(*event) >= 0 else "less than nothing"
+                    except ValueError as error:
+                        why = str(error)
+                    done = told(lambda: getattr(net, event[0])(*event[1:]))
+                    self.assertEqual(bool(why), isinstance(done, Refused), event)
+                    if why:
+                        self.assertIn(f"would be refused ({done.text})", why)
+                        refused.add(done.text)
+        kinds = {
+            "unknown-node",
+            "self-loop",
+            "already-linked",
+            "not-linked",
+            "not-neighbour",
+            "no-flag",
+            "already-present",
+        }
+        self.assertEqual(refused, kinds)
 
     def test_by_the_program(self):
         with self.network("hh", "program") as net:
@@ -233,6 +274,27 @@ class CostsTold(Timed):
             )
             self.assertRaisesRegex(ValueError, "has a cost, and not 'show'", net.cost_of, "show", "ann")
             self.assertEqual(net.link("cleo", "dan").entry, 9)
+
+
+class Partners(Timed):
+    """With whom a node is paired, by the library, is what the library says, and not what the client makes of the transcript."""
+
+    def test_the_proved_answer_counts(self):
+        with Network("hh", ["ann", "bob", "cleo", "dan"], present=3) as net:
+            net.link("ann", "bob")
+            net.link("bob", "cleo")
+            net.point("ann", "bob")
+            self.assertEqual([net.partner(it) for it in ("ann", "bob", "cleo")], [None, None, None])
+            net.point("bob", "ann")
+            self.assertEqual([net.partner(it) for it in ("ann", "bob", "cleo")], ["bob", "ann", None])
+            self.assertRaisesRegex(ValueError, "node 'dan' is not present", net.partner, "dan")
+            self.assertRaisesRegex(ValueError, "no node has the name 'zoe'", net.partner, "zoe")
+            # a state that is wrong is not believed where the library says nobody
+            with mock.patch.object(State, "partner", lambda *_: 2):
+                self.assertEqual(net.partner("cleo"), None if net.engine == "library" else "bob")
+        self.assertEqual(
+            [net.partner(it) for it in ("ann", "bob", "cleo")], ["bob", "ann", None], "and of a closed one"
+        )
 
 
 class Pieces(Timed):
@@ -390,8 +452,66 @@ class Threads(Timed):
         self.assertEqual((cut, net.audit().entries), (300, net.transcript().count(" = ")))
 
 
+# plays a network of many nodes, whose replies are large, in less and less memory; prints how often each came
+SHORT_OF_MEMORY = """
+import resource, rudekpi
+from collections import Counter
+size = 15_000
+net = rudekpi.Network("manne", size, engine="library")
+with net.batch() as batch:
+    for node in range(1, size):
+        batch.link(node, node + 1)
+pages = lambda: int(open("/proc/self/statm").read().split()[0]) * resource.getpagesize()
+whole, hard = resource.getrlimit(resource.RLIMIT_AS)
+calls = dict(
+    enabled=net.enabled,
+    step=lambda: net.step(range(1, size, 2)),
+    drive=lambda: net.drive(1, 3),
+    checkpoint=net.checkpoint,
+)
+for name, call in calls.items():
+    seen = Counter()
+    for room in range(0, 9_000_000, 300_000):
+        net.scramble(room, 2000)
+        last = net.status().entry
+        resource.setrlimit(resource.RLIMIT_AS, (pages() + room, hard))
+        try:
+            reply = call()
+            said = "answered"
+        except rudekpi.Refused:
+            said = "answered"
+        except rudekpi.NoReply as short:
+            said = "no reply"
+            entry = short.entry
+        except MemoryError:
+            said = "nothing"
+        resource.setrlimit(resource.RLIMIT_AS, (whole, hard))
+        status = net.status()
+        if said == "nothing" and status.entry != last + 1:
+            print(f"{name}: {status.entry - last - 1} entries were added where none is told of")
+        if said == "no reply" and not (last if name == "checkpoint" else last + 1) <= entry < status.entry:
+            print(f"{name}: entry {entry} is told, and the last ones are {last} and {status.entry}")
+        seen[said] += 1
+        reply = None
+    print(name, sorted(seen))
+net.close()
+print(net.audit().entries == status.entry)
+"""
+
+
 class Memory(Timed):
     engines = ("library",)
+
+    def test_that_is_refused_for_a_reply_is_told_with_its_entry(self):
+        environment = dict(os.environ, PYTHONPATH=os.path.join(TOP, "python"))
+        done = subprocess.run([sys.executable, "-c", SHORT_OF_MEMORY], env=environment, capture_output=True, text=True)
+        self.assertEqual((done.returncode, done.stderr), (0, ""), done.stdout)
+        *told, whole = done.stdout.splitlines()
+        self.assertEqual([line for line in told if " entr" in line], [])
+        for line in told:
+            self.assertIn("'answered'", line)
+        self.assertGreater(sum("'no reply'" in line for line in told), 1, told)
+        self.assertEqual(whole, "True")
 
     def test_networks_that_nobody_closes(self):
         before = resource.getrusage(resource.RUSAGE_SELF).ru_maxrss
@@ -414,7 +534,7 @@ class Memory(Timed):
                 # the turns are entries of some 15 bytes
                 net._session.tell(f"scramble {turn} 100000")
                 net.checkpoint()
-                self.assertLess(net._session.kept()[1], 1000)
+                self.assertLess(len(net.transcript()), 1000)
             self.assertLess(resource.getrusage(resource.RUSAGE_SELF).ru_maxrss - before, 60_000)
             self.assertEqual(net.status().entry, 4_000_042)
             self.assertEqual(net.audit().entries, 1)

@@ -1,9 +1,13 @@
 """The longest schedules: of small networks looked at by another search beside, and played."""
 
 import itertools
+import random
+import time
 import unittest
+import unittest.mock
 
-from rudekpi import audit, epochs, graphs
+from rudekpi import audit, epochs, graphs, schedules
+from rudekpi import rules as rule_sets
 from rudekpi.schedules import connected_graphs, longest, renamed
 from support import Timed
 
@@ -61,6 +65,23 @@ def longest_by_recursion(graph, rules):
     return max(map(most, itertools.product(*places)))
 
 
+def greedy_anew(search, code, drawn):
+    """A greedy schedule for which all nodes are looked at in front of each move."""
+    search.set_to(code)
+    state, steps = search.state, []
+    while True:
+        moves = [
+            (node, rule, target)
+            for node, rule in rule_sets.enabled(state).items()
+            for target in rule_sets.targets(state, node, rule) or [0]
+        ]
+        if not moves:
+            return steps
+        move = min(moves, key=lambda it: (rule_sets.fall(state, *it), drawn.random()))
+        state.move(*move)
+        steps.append(move)
+
+
 class Longest(Timed):
     seconds = 120
 
@@ -115,6 +136,27 @@ class Longest(Timed):
         self.assertEqual((again.states, again), (1, longest(graph, "manne", seconds=0)))
         self.assertEqual(epochs(again.play())[-1].moves, again.moves)
         self.assertRaises(ValueError, longest, graph, "x")
+
+    def test_greedy_schedules_as_if_all_was_looked_at_again(self):
+        for seed in range(12):
+            graph = graphs.gnp(14, 0.1 + seed / 40, seed)
+            for rules in ("hh", "manne"):
+                search = schedules.Search(graph, rules)
+                start = random.Random(seed).randrange(search.size)
+                steps = schedules.greedy_from(search, start, random.Random(seed))
+                with self.subTest(seed=seed, rules=rules):
+                    self.assertEqual(steps, greedy_anew(search, start, random.Random(seed)))
+
+    def test_a_search_ends_in_its_time(self):
+        begun = time.monotonic()
+        found = longest(graphs.ring(400), "manne", seconds=1)
+        self.assertTrue(400 < found.moves <= found.bound)
+        self.assertLess(time.monotonic() - begun, 20)
+        with unittest.mock.patch.object(schedules, "FIRST_TRY", 2):
+            begun = time.monotonic()
+            found = longest(graphs.complete(300), "hh", seconds=1)
+            self.assertLess(time.monotonic() - begun, 40)
+        self.assertFalse(found.is_proved)
 
     def test_by_the_callers_names(self):
         found = longest(graphs.Graph("mine", ("bob", "ann", "cleo"), (("cleo", "ann"), ("bob", "ann"))), "hh")

@@ -3,6 +3,7 @@
 import collections
 import concurrent.futures
 import io
+import itertools
 import multiprocessing
 import os
 import signal
@@ -83,6 +84,23 @@ class Rows(Timed):
             {"start", "20 faults", "9 faults of pointers", "9 faults of flags, 2 joins, 3 leaves"},
         )
 
+    def test_no_fault_of_any_registers_is_the_start(self):
+        for registers in sweeps.REGISTERS:
+            [made] = sweep([RING], ["manne"], ["least"], [3], [Disturbance(0, registers)])
+            self.assertEqual((made.disturbance, made.moves >= 12), ("start", True))
+
+    def test_the_natural_order_of_words(self):
+        words = ["ring:9", "ring:10,2", "ring:10,10", "ring:100", "ring\u00b2"]
+        self.assertEqual(sorted(reversed(words), key=sweeps.natural), words)
+
+    def test_a_disturbance_in_words(self):
+        for hit, words in [
+            (Disturbance(1), "1 fault"),
+            (Disturbance(1, "flag", 1, 1), "1 fault of flags, 1 join, 1 leave"),
+            (Disturbance(0, "pointer", 0, 2), "2 leaves"),
+        ]:
+            self.assertEqual(str(hit), words)
+
     def test_as_a_network_of_ones_own(self):
         [row] = sweep([RING], ["hh"], ["least"], [3])
         with Network("hh", 12) as net:
@@ -131,9 +149,13 @@ class Rows(Timed):
             dict(faults=[1_000_001]),
             dict(faults=[Disturbance(joins=3, leaves=len(RING.nodes))]),
             dict(processes=0),
+            dict(seeds=range(10**30)),
+            dict(seeds=itertools.count()),
+            dict(seeds=range(1001), faults=range(1000)),
+            dict(graphs=[RING, graphs.Graph("ring:12", (1, 2), ())]),
         ]:
             with self.subTest(words):
-                self.assertRaises(ValueError, sweep, [RING], **words)
+                self.assertRaises(ValueError, sweep, **{"graphs": [RING], **words})
         for words in [
             dict(graphs=["ring:5"]),
             dict(graphs="ring:5"),
@@ -220,7 +242,7 @@ class Workers(Timed):
 
     def test_a_task_of_which_the_workers_die_twice_is_lost_alone(self):
         made = []
-        with self.assertRaisesRegex(sweeps.LostExperiments, "1 experiments are lost.*dies seed 0") as caught:
+        with self.assertRaisesRegex(sweeps.LostExperiments, "1 experiment is lost.*dies seed 0") as caught:
             for row in sweep([RING], ["hh"], [dies, "seeded", "least"], range(1)):
                 made.append(row)
         self.assertEqual(sorted(row.daemon for row in made), ["least", "seeded"])

@@ -17,12 +17,18 @@ static bool is_refused(void) {
     return was_refused = true;
 }
 
-void *__wrap_malloc(size_t size) { return is_refused() ? NULL : __real_malloc(size); }
-void *__wrap_realloc(void *old, size_t size) { return is_refused() ? NULL : __real_realloc(old, size); }
+void *__wrap_malloc(size_t size) {
+    return is_refused() ? NULL : __real_malloc(size);
+}
+void *__wrap_realloc(void *old, size_t size) {
+    return is_refused() ? NULL : __real_realloc(old, size);
+}
 
 /* The run of a pair, with a base among its entries; and the beginning of one with a wrong reply at line 3. */
-static const char run[] = "matching manne 3 2\n1 link 1 2 = ok\n2 enabled = 1:seduce\n3 step 1 = 1:seduce>2\nmatching2 manne 3\n"
-    "base 3 spent=1 nodes=2 edges=1\nnode 1 2 0\nnode 2 - 0\nedge 1 2\n4 enabled = 2:marry\n5 step 2 = 2:marry>1\n6 matching = 1-2\n";
+static const char run[] =
+    "matching manne 3 2\n1 link 1 2 = ok\n2 enabled = 1:seduce\n3 step 1 = 1:seduce>2\nmatching2 manne 3\n"
+    "base 3 spent=1 nodes=2 edges=1\nnode 1 2 0\nnode 2 - 0\nedge 1 2\n4 enabled = 2:marry\n5 step 2 = 2:marry>1\n6 "
+    "matching = 1-2\n";
 static const char damaged[] = "matching manne 3 2\n1 link 1 2 = ok\n2 enabled = 2:seduce\n3 step 1 = 1:seduce>2\n";
 
 /* A text, how it is cut, the verdict, and what the last piece of it is told. */
@@ -50,7 +56,8 @@ static void fail(const char *what, size_t at) {
 }
 
 static void is_verdict(const struct rudekpi_verdict *found, const struct rudekpi_verdict *wanted, size_t at) {
-    if (found->kind != wanted->kind || found->entries != wanted->entries || found->epochs != wanted->epochs || found->moves != wanted->moves || found->line != wanted->line) {
+    if (found->kind != wanted->kind || found->entries != wanted->entries || found->epochs != wanted->epochs ||
+        found->moves != wanted->moves || found->line != wanted->line) {
         printf("kind %u at line %llu\n", found->kind, (unsigned long long)found->line);
         fail("a verdict", at);
     }
@@ -84,7 +91,10 @@ static void judge(const struct trial *trial, size_t at) {
     uint32_t told = feed(&slot, trial->text, trial->length, trial->piece);
     if (told != trial->told && !(told == RUDEKPI_NO_MEMORY && was_refused)) fail("a status", told);
     if (rudekpi_audit_finish(&slot, &verdict) != RUDEKPI_DONE || slot.full) fail("no verdict", at);
-    is_verdict(&verdict, (verdict.kind == RUDEKPI_UNJUDGED && was_refused) || told == RUDEKPI_NO_MEMORY ? &unjudged : &trial->wanted, at);
+    is_verdict(&verdict,
+               (verdict.kind == RUDEKPI_UNJUDGED && was_refused) || told == RUDEKPI_NO_MEMORY ? &unjudged
+                                                                                              : &trial->wanted,
+               at);
 }
 
 /* How many allocations were refused, one an audit. */
@@ -113,7 +123,8 @@ static void free_each(void) {
 static void ask_none(void) {
     struct rudekpi_audit_slot slot = RUDEKPI_NONE;
     struct rudekpi_verdict verdict = {9, 9, 9, 9, 9};
-    if (rudekpi_audit_feed(&slot, (const uint8_t *)run, 1) != RUDEKPI_NO_SESSION || slot.full) fail("a slot of none", 0);
+    if (rudekpi_audit_feed(&slot, (const uint8_t *)run, 1) != RUDEKPI_NO_SESSION || slot.full)
+        fail("a slot of none", 0);
     if (rudekpi_audit_finish(&slot, &verdict) != RUDEKPI_NO_SESSION) fail("a verdict of none", 0);
     is_verdict(&verdict, &unjudged, 0);
 }

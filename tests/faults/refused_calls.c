@@ -18,10 +18,30 @@ static bool is_refused(void) {
     return was_refused = true;
 }
 
-void *__wrap_malloc(size_t size) { return is_refused() ? NULL : __real_malloc(size); }
-void *__wrap_realloc(void *old, size_t size) { return is_refused() ? NULL : __real_realloc(old, size); }
+void *__wrap_malloc(size_t size) {
+    return is_refused() ? NULL : __real_malloc(size);
+}
+void *__wrap_realloc(void *old, size_t size) {
+    return is_refused() ? NULL : __real_realloc(old, size);
+}
 
-enum kind { LINK, UNLINK, JOIN, LEAVE, POINT, FLAG, STEP, SHOW, ENABLED, PAIRS, STATUS, DRIVE, SCRAMBLE, CHECKPOINT, END };
+enum kind {
+    LINK,
+    UNLINK,
+    JOIN,
+    LEAVE,
+    POINT,
+    FLAG,
+    STEP,
+    SHOW,
+    ENABLED,
+    PAIRS,
+    STATUS,
+    DRIVE,
+    SCRAMBLE,
+    CHECKPOINT,
+    END
+};
 
 struct call {
     enum kind kind;
@@ -31,11 +51,15 @@ struct call {
 
 static const struct rudekpi_item chosen[] = {{1, 0}, {3, 0}, {2, 0}, {4, 0}, {1, 4}, {3, 0}};
 
-static const struct call events[] = {{LINK, 1, 2, 0}, {LINK, 2, 3, 0}, {LINK, 3, 4, 0}, {LINK, 4, 1, 0}, {LINK, 4, 4, 6}, {ENABLED, 0, 0, 0}, {STEP, 0, 2, 0},
-    {JOIN, 5, 0, 0}, {LINK, 5, 1, 0}, {STATUS, 0, 0, 0}, {CHECKPOINT, 0, 0, 0}, {STEP, 2, 2, 6}, {STEP, 3, 1, 0}, {POINT, 5, 1, 0}, {POINT, 5, 0, 0}, {FLAG, 5, 1, 0}, {ENABLED, 0, 0, 0},
-    {PAIRS, 0, 0, 0}, {STEP, 0, 0, 6}, {LEAVE, 2, 0, 0}, {UNLINK, 1, 5, 0}, {SHOW, 1, 0, 0}, {STEP, 4, 2, 6}, {CHECKPOINT, 0, 0, 0}, {STATUS, 0, 0, 0}, {END, 0, 0, 0}};
-static const struct call turns[] = {{LINK, 1, 2, 0}, {LINK, 2, 3, 0}, {LINK, 3, 4, 0}, {DRIVE, 7, 20, 0}, {SCRAMBLE, 3, 5, 0}, {DRIVE, 1, 20, 0}, {PAIRS, 0, 0, 0},
+static const struct call events[] = {
+    {LINK, 1, 2, 0},       {LINK, 2, 3, 0},    {LINK, 3, 4, 0},  {LINK, 4, 1, 0},       {LINK, 4, 4, 6},
+    {ENABLED, 0, 0, 0},    {STEP, 0, 2, 0},    {JOIN, 5, 0, 0},  {LINK, 5, 1, 0},       {STATUS, 0, 0, 0},
+    {CHECKPOINT, 0, 0, 0}, {STEP, 2, 2, 6},    {STEP, 3, 1, 0},  {POINT, 5, 1, 0},      {POINT, 5, 0, 0},
+    {FLAG, 5, 1, 0},       {ENABLED, 0, 0, 0}, {PAIRS, 0, 0, 0}, {STEP, 0, 0, 6},       {LEAVE, 2, 0, 0},
+    {UNLINK, 1, 5, 0},     {SHOW, 1, 0, 0},    {STEP, 4, 2, 6},  {CHECKPOINT, 0, 0, 0}, {STATUS, 0, 0, 0},
     {END, 0, 0, 0}};
+static const struct call turns[] = {{LINK, 1, 2, 0},     {LINK, 2, 3, 0},   {LINK, 3, 4, 0},  {DRIVE, 7, 20, 0},
+                                    {SCRAMBLE, 3, 5, 0}, {DRIVE, 1, 20, 0}, {PAIRS, 0, 0, 0}, {END, 0, 0, 0}};
 
 struct text {
     uint8_t bytes[1 << 14];
@@ -53,19 +77,32 @@ static uint32_t made(struct rudekpi_slot *slot, const struct call *call, struct 
     struct rudekpi_counts counts;
     uint32_t status;
     switch (call->kind) {
-    case LINK: return rudekpi_link(slot, call->a, call->b, told);
-    case UNLINK: return rudekpi_unlink(slot, call->a, call->b, told);
-    case JOIN: return rudekpi_join(slot, call->a, told);
-    case LEAVE: return rudekpi_leave(slot, call->a, told);
-    case POINT: return rudekpi_point(slot, call->a, call->b, told);
-    case FLAG: return rudekpi_flag(slot, call->a, call->b, told);
-    case STEP: return rudekpi_step(slot, chosen + call->a, call->b, told);
-    case SHOW: return rudekpi_show(slot, call->a, told);
-    case ENABLED: return rudekpi_enabled(slot, told);
-    case PAIRS: return rudekpi_pairs(slot, told);
-    case DRIVE: return rudekpi_drive(slot, call->a, call->b, told);
-    case SCRAMBLE: return rudekpi_scramble(slot, call->a, call->b, told);
-    case CHECKPOINT: return rudekpi_checkpoint(slot, told);
+    case LINK:
+        return rudekpi_link(slot, call->a, call->b, told);
+    case UNLINK:
+        return rudekpi_unlink(slot, call->a, call->b, told);
+    case JOIN:
+        return rudekpi_join(slot, call->a, told);
+    case LEAVE:
+        return rudekpi_leave(slot, call->a, told);
+    case POINT:
+        return rudekpi_point(slot, call->a, call->b, told);
+    case FLAG:
+        return rudekpi_flag(slot, call->a, call->b, told);
+    case STEP:
+        return rudekpi_step(slot, chosen + call->a, call->b, told);
+    case SHOW:
+        return rudekpi_show(slot, call->a, told);
+    case ENABLED:
+        return rudekpi_enabled(slot, told);
+    case PAIRS:
+        return rudekpi_pairs(slot, told);
+    case DRIVE:
+        return rudekpi_drive(slot, call->a, call->b, told);
+    case SCRAMBLE:
+        return rudekpi_scramble(slot, call->a, call->b, told);
+    case CHECKPOINT:
+        return rudekpi_checkpoint(slot, told);
     default:
         status = rudekpi_status(slot, &counts, told);
         if ((status == RUDEKPI_DONE) != (counts.nodes > 0)) fail("counts of no answer");
@@ -85,7 +122,8 @@ static void play(const struct call *calls, struct text *text) {
         status = made(&slot, &calls[at], &told);
         if (status == RUDEKPI_NO_MEMORY && was_refused) {
             bool turns = calls[at].kind == DRIVE || calls[at].kind == SCRAMBLE || calls[at].kind == CHECKPOINT;
-            if ((told.entry && !turns) || told.refusal || told.rows || rudekpi_rows(&slot, text->rows[at], 8)) fail("an answer of no memory");
+            if ((told.entry && !turns) || told.refusal || told.rows || rudekpi_rows(&slot, text->rows[at], 8))
+                fail("an answer of no memory");
             status = made(&slot, &calls[at], &told);
         }
         if (status != calls[at].wanted || !told.refusal != (status == RUDEKPI_DONE)) fail("a status");
@@ -108,7 +146,8 @@ static unsigned long refuse_each(const struct call *calls, bool same) {
         play(calls, &text);
         if (same && memcmp(&text, &whole, sizeof whole)) fail("another text, or other answers");
         rudekpi_audit(text.bytes, text.length, &verdict);
-        if (verdict.kind != RUDEKPI_ACCEPTED && !(verdict.kind == RUDEKPI_UNJUDGED && was_refused)) fail("another verdict");
+        if (verdict.kind != RUDEKPI_ACCEPTED && !(verdict.kind == RUDEKPI_UNJUDGED && was_refused))
+            fail("another verdict");
         if (!was_refused) return refused_number - 1;
     }
 }
@@ -148,7 +187,8 @@ static void give_bad_arguments(struct rudekpi_slot *slot, uint32_t wanted) {
         told.entry = 1;
         is_bad(made(slot, &call, &told), wanted, &told);
     }
-    if (rudekpi_partner(slot, 1, &partner) != wanted || partner || rudekpi_transcript(slot, true) != wanted) fail("a look at no session");
+    if (rudekpi_partner(slot, 1, &partner) != wanted || partner || rudekpi_transcript(slot, true) != wanted)
+        fail("a look at no session");
 }
 
 /* A session that is given bad arguments between good ones. */
@@ -157,19 +197,25 @@ static void try_arguments(void) {
     struct rudekpi_row rows[2] = {{7, 7, 7}, {7, 7, 7}};
     struct rudekpi_told told;
     uint8_t text[256];
-    static const char wanted[] = "matching hh 3 2\n1 link 1 2 = ok\n2 enabled = 1:seduce 2:seduce\n3 show 4 = refused 1 unknown-node\n";
+    static const char wanted[] =
+        "matching hh 3 2\n1 link 1 2 = ok\n2 enabled = 1:seduce 2:seduce\n3 show 4 = refused 1 unknown-node\n";
     give_bad_arguments(&none, RUDEKPI_NO_SESSION);
     if (none.full || rudekpi_rows(&none, rows, 2) || rows[0].node != 7) fail("a slot of none");
-    if (rudekpi_session_new(RUDEKPI_HSU_HUANG, 3, 4, &slot) != RUDEKPI_BAD_ARGUMENT || slot.full) fail("more nodes than names");
+    if (rudekpi_session_new(RUDEKPI_HSU_HUANG, 3, 4, &slot) != RUDEKPI_BAD_ARGUMENT || slot.full)
+        fail("more nodes than names");
     if (rudekpi_session_new(RUDEKPI_HSU_HUANG, 3, 2, &slot) != RUDEKPI_DONE) fail("no session");
     if (rudekpi_link(&slot, 1, 2, &told) != RUDEKPI_DONE || told.entry != 1) fail("a link");
     if (rudekpi_enabled(&slot, &told) != RUDEKPI_DONE || told.rows != 2) fail("who is enabled");
     give_bad_arguments(&slot, 0);
-    if (rudekpi_rows(&slot, rows, 0) != 2 || rudekpi_rows(&slot, rows, 1) != 2 || rows[0].node != 7) fail("rows with no room");
-    if (rudekpi_rows(&slot, rows, 2) != 2 || rows[1].node != 2 || rows[1].rule != RUDEKPI_SEDUCE || rows[1].other) fail("rows");
-    if (rudekpi_show(&slot, 4, &told) != RUDEKPI_REFUSED || told.refusal != RUDEKPI_UNKNOWN_NODE || told.entry != 3) fail("a name of nobody");
+    if (rudekpi_rows(&slot, rows, 0) != 2 || rudekpi_rows(&slot, rows, 1) != 2 || rows[0].node != 7)
+        fail("rows with no room");
+    if (rudekpi_rows(&slot, rows, 2) != 2 || rows[1].node != 2 || rows[1].rule != RUDEKPI_SEDUCE || rows[1].other)
+        fail("rows");
+    if (rudekpi_show(&slot, 4, &told) != RUDEKPI_REFUSED || told.refusal != RUDEKPI_UNKNOWN_NODE || told.entry != 3)
+        fail("a name of nobody");
     if (rudekpi_session_read(&slot, text, 8) != sizeof wanted - 1) fail("the length of a text");
-    if (rudekpi_session_read(&slot, text, sizeof text) != sizeof wanted - 1 || memcmp(text, wanted, sizeof wanted - 1)) fail("a text");
+    if (rudekpi_session_read(&slot, text, sizeof text) != sizeof wanted - 1 || memcmp(text, wanted, sizeof wanted - 1))
+        fail("a text");
     rudekpi_session_free(&slot);
 }
 

@@ -17,12 +17,19 @@ static bool is_refused(void) {
     return was_refused = true;
 }
 
-void *__wrap_malloc(size_t size) { return is_refused() ? NULL : __real_malloc(size); }
-void *__wrap_realloc(void *old, size_t size) { return is_refused() ? NULL : __real_realloc(old, size); }
+void *__wrap_malloc(size_t size) {
+    return is_refused() ? NULL : __real_malloc(size);
+}
+void *__wrap_realloc(void *old, size_t size) {
+    return is_refused() ? NULL : __real_realloc(old, size);
+}
 
-static const char *const events[] = {"link 1 2", "link 2 3", "link 3 4", "link 4 1", "enabled", "step 1 3", "join 5", "link 5 1", "status", "checkpoint", "step 2 4",
-    "point 5 1", "flag 5 1", "enabled", "matching", "lnk", "leave 2", "unlink 1 5", "show 1", "step 1>4 3", "", "checkpoint", "status", NULL};
-static const char *const turns[] = {"link 1 2", "link 2 3", "link 3 4", "drive 7 20", "scramble 3 5", "drive 1 20", "matching", NULL};
+static const char *const events[] = {"link 1 2", "link 2 3",   "link 3 4", "link 4 1",   "enabled",  "step 1 3",
+                                     "join 5",   "link 5 1",   "status",   "checkpoint", "step 2 4", "point 5 1",
+                                     "flag 5 1", "enabled",    "matching", "lnk",        "leave 2",  "unlink 1 5",
+                                     "show 1",   "step 1>4 3", "",         "checkpoint", "status",   NULL};
+static const char *const turns[] = {"link 1 2",     "link 2 3",   "link 3 4", "drive 7 20",
+                                    "scramble 3 5", "drive 1 20", "matching", NULL};
 
 struct text {
     uint8_t bytes[1 << 14];
@@ -65,9 +72,11 @@ static unsigned long refuse_each(const char *const *lines, bool same) {
         allocations = 0;
         was_refused = false;
         play(lines, &text);
-        if (same && (text.length != whole.length || memcmp(text.bytes, whole.bytes, whole.length))) fail("another text");
+        if (same && (text.length != whole.length || memcmp(text.bytes, whole.bytes, whole.length)))
+            fail("another text");
         rudekpi_audit(text.bytes, text.length, &verdict);
-        if (verdict.kind != RUDEKPI_ACCEPTED && !(verdict.kind == RUDEKPI_UNJUDGED && was_refused)) fail("another verdict");
+        if (verdict.kind != RUDEKPI_ACCEPTED && !(verdict.kind == RUDEKPI_UNJUDGED && was_refused))
+            fail("another verdict");
         if (!was_refused) return refused_number - 1;
     }
 }

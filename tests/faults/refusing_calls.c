@@ -25,49 +25,39 @@ static int read_error, write_error, told = -1;
 static atomic_long allocations, threads, was_read, was_written;
 static atomic_int stopped;
 
-static long number(const char *name, long otherwise)
-{
+static long number(const char *name, long otherwise) {
     const char *text = getenv(name);
     return text ? atol(text) : otherwise;
 }
 
 static int (*real_main)(int, char **, char **);
 
-static void tell(char what)
-{
-    if (told >= 0)
-        syscall(SYS_write, told, &what, 1);
+static void tell(char what) {
+    if (told >= 0) syscall(SYS_write, told, &what, 1);
 }
 
 /* Whether there are other threads; one that has been joined may be listed for a moment still. */
-static int is_left(void)
-{
+static int is_left(void) {
     for (int look = 0; look < 100; look++) {
         int tasks = 0;
         DIR *list = opendir("/proc/self/task");
-        if (!list)
-            return 1;
-        for (struct dirent *it; (it = readdir(list));)
-            tasks += it->d_name[0] != '.';
+        if (!list) return 1;
+        for (struct dirent *it; (it = readdir(list));) tasks += it->d_name[0] != '.';
         closedir(list);
-        if (tasks == 1)
-            return 0;
+        if (tasks == 1) return 0;
         usleep(1000);
     }
     return 1;
 }
 
-static void tell_end(void)
-{
+static void tell_end(void) {
     refused_memory = 0;
     tell(is_left() ? 'l' : 'e');
 }
 
-static int counted_main(int count, char **words, char **environment)
-{
+static int counted_main(int count, char **words, char **environment) {
     const char *path = getenv("FAULT_TOLD");
-    if (path)
-        told = open(path, O_WRONLY | O_APPEND | O_CREAT | O_CLOEXEC, 0600);
+    if (path) told = open(path, O_WRONLY | O_APPEND | O_CREAT | O_CLOEXEC, 0600);
     read_error = (int)number("READ_ERROR", EIO);
     write_error = (int)number("WRITE_ERROR", EIO);
     read_stops = number("READ_STOPS", -1);
@@ -79,27 +69,29 @@ static int counted_main(int count, char **words, char **environment)
     return status;
 }
 
-void _exit(int status)
-{
+void _exit(int status) {
     tell_end();
     syscall(SYS_exit_group, status);
     __builtin_unreachable();
 }
 
-int __libc_start_main(int (*main)(int, char **, char **), int count, char **words, void (*init)(void), void (*fini)(void),
-                      void (*loader_fini)(void), void *stack_end)
-{
-    int (*start)(int (*)(int, char **, char **), int, char **, void (*)(void), void (*)(void), void (*)(void), void *) =
-        dlsym(RTLD_NEXT, "__libc_start_main");
+/* Puts the function of the C library that has a name into a pointer to a function. */
+static void find(const char *name, void *pointer) {
+    void *found = dlsym(RTLD_NEXT, name);
+    memcpy(pointer, &found, sizeof found);
+}
+
+int __libc_start_main(int (*main)(int, char **, char **), int count, char **words, void (*init)(void),
+                      void (*fini)(void), void (*loader_fini)(void), void *stack_end) {
+    int (*start)(int (*)(int, char **, char **), int, char **, void (*)(void), void (*)(void), void (*)(void), void *);
+    find("__libc_start_main", &start);
     int skipped = number("NO_WORDS", 0) ? count : 0;
     real_main = main;
     return start(counted_main, count - skipped, words + skipped, init, fini, loader_fini, stack_end);
 }
 
-static int is_refused(void)
-{
-    if (!refused_memory || atomic_fetch_add(&allocations, 1) + 1 != refused_memory)
-        return 0;
+static int is_refused(void) {
+    if (!refused_memory || atomic_fetch_add(&allocations, 1) + 1 != refused_memory) return 0;
     tell('m');
     errno = ENOMEM;
     return 1;
@@ -110,23 +102,19 @@ extern void *__libc_calloc(size_t, size_t);
 extern void *__libc_realloc(void *, size_t);
 extern void *__libc_memalign(size_t, size_t);
 
-void *malloc(size_t size)
-{
+void *malloc(size_t size) {
     return is_refused() ? NULL : __libc_malloc(size);
 }
 
-void *calloc(size_t count, size_t size)
-{
+void *calloc(size_t count, size_t size) {
     return is_refused() ? NULL : __libc_calloc(count, size);
 }
 
-void *realloc(void *old, size_t size)
-{
+void *realloc(void *old, size_t size) {
     return is_refused() ? NULL : __libc_realloc(old, size);
 }
 
-void *reallocarray(void *old, size_t count, size_t size)
-{
+void *reallocarray(void *old, size_t count, size_t size) {
     size_t all;
     if (__builtin_mul_overflow(count, size, &all) || is_refused()) {
         errno = ENOMEM;
@@ -135,39 +123,32 @@ void *reallocarray(void *old, size_t count, size_t size)
     return __libc_realloc(old, all);
 }
 
-void *memalign(size_t alignment, size_t size)
-{
+void *memalign(size_t alignment, size_t size) {
     return is_refused() ? NULL : __libc_memalign(alignment, size);
 }
 
-void *aligned_alloc(size_t alignment, size_t size)
-{
+void *aligned_alloc(size_t alignment, size_t size) {
     return memalign(alignment, size);
 }
 
-int posix_memalign(void **place, size_t alignment, size_t size)
-{
+int posix_memalign(void **place, size_t alignment, size_t size) {
     void *made = memalign(alignment, size);
-    if (!made)
-        return ENOMEM;
+    if (!made) return ENOMEM;
     *place = made;
     return 0;
 }
 
-int pthread_create(pthread_t *thread, const pthread_attr_t *how, void *(*work)(void *), void *with)
-{
+int pthread_create(pthread_t *thread, const pthread_attr_t *how, void *(*work)(void *), void *with) {
     static int (*create)(pthread_t *, const pthread_attr_t *, void *(*)(void *), void *);
     if (refused_thread && atomic_fetch_add(&threads, 1) + 1 == refused_thread) {
         tell('t');
         return EAGAIN;
     }
-    if (!create)
-        create = dlsym(RTLD_NEXT, "pthread_create");
+    if (!create) find("pthread_create", &create);
     return create(thread, how, work, with);
 }
 
-ssize_t read(int file, void *to, size_t size)
-{
+ssize_t read(int file, void *to, size_t size) {
     long left = read_stops < 0 ? (long)size : read_stops - was_read;
     if (left <= 0 && size) {
         tell('r');
@@ -175,15 +156,12 @@ ssize_t read(int file, void *to, size_t size)
         return -1;
     }
     ssize_t came = syscall(SYS_read, file, to, (long)size < left ? (long)size : left);
-    if (came > 0)
-        was_read += came;
+    if (came > 0) was_read += came;
     return came;
 }
 
-static ssize_t taken(int file, const void *from, size_t size)
-{
-    if (file != STDOUT_FILENO || write_stops < 0)
-        return syscall(SYS_write, file, from, size);
+static ssize_t taken(int file, const void *from, size_t size) {
+    if (file != STDOUT_FILENO || write_stops < 0) return syscall(SYS_write, file, from, size);
     long left = write_stops - was_written;
     if (left <= 0 && size) {
         tell(stopped++ ? 'W' : 'w');
@@ -191,17 +169,14 @@ static ssize_t taken(int file, const void *from, size_t size)
         return write_error ? -1 : 0;
     }
     ssize_t took = syscall(SYS_write, file, from, (long)size < left ? (long)size : left);
-    if (took > 0)
-        was_written += took;
+    if (took > 0) was_written += took;
     return took;
 }
 
-ssize_t write(int file, const void *from, size_t size)
-{
+ssize_t write(int file, const void *from, size_t size) {
     return taken(file, from, size);
 }
 
-ssize_t __write(int file, const void *from, size_t size)
-{
+ssize_t __write(int file, const void *from, size_t size) {
     return taken(file, from, size);
 }

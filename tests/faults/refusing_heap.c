@@ -7,38 +7,31 @@
 static atomic_ullong allocations, refused_number;
 static atomic_int pauses, refused;
 
-void rows_refuse(uint64_t number)
-{
+void rows_refuse(uint64_t number) {
     allocations = 0;
     refused = 0;
     pauses = 0;
     refused_number = number;
 }
 
-void rows_pause(uint32_t begins)
-{
+void rows_pause(uint32_t begins) {
     pauses += begins ? 1 : -1;
 }
 
-uint32_t rows_refused(void)
-{
+uint32_t rows_refused(void) {
     return (uint32_t)refused;
 }
 
-static int is_refused(void)
-{
-    if (pauses || !refused_number || atomic_fetch_add(&allocations, 1) + 1 != refused_number)
-        return 0;
+static int is_refused(void) {
+    if (pauses || !refused_number || atomic_fetch_add(&allocations, 1) + 1 != refused_number) return 0;
     refused = 1;
     return 1;
 }
 
-void *rows_malloc(size_t size)
-{
+void *rows_malloc(size_t size) {
     return is_refused() ? NULL : malloc(size);
 }
 
-void *rows_realloc(void *old, size_t size)
-{
+void *rows_realloc(void *old, size_t size) {
     return is_refused() ? NULL : realloc(old, size);
 }

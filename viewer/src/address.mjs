@@ -4,24 +4,41 @@
 const LEAST_GAP = 400;
 
 export class Address {
-  /** `goTo` is called where somebody writes another number there, until `signal` ends it. */
+  /**
+   * `goTo` is called where somebody writes another number there, until `signal` ends it.
+   * @param {(number: number) => void} goTo
+   * @param {AbortSignal} signal
+   */
   constructor(goTo, signal) {
-    Object.assign(this, { written: -Infinity, timer: null, number: null, known: location.hash });
+    this.written = -Infinity;
+    /** @type {ReturnType<typeof setTimeout> | null} */
+    this.timer = null;
+    /**
+     * What is to be written, or null.
+     * @type {number | null}
+     */
+    this.number = null;
+    this.known = location.hash;
     const heard = () => {
       this.known = location.hash;
-      goTo(this.entry);
+      if (this.entry !== null) {
+        goTo(this.entry);
+      }
     };
     addEventListener("hashchange", heard, { signal });
     addEventListener("pagehide", () => this.write(), { signal });
     signal.addEventListener("abort", () => clearTimeout(this.timer));
   }
 
-  /** The number that stands there, 0 where there is none. */
+  /** The number that stands there, or null. */
   get entry() {
-    return Number(location.hash.slice(1)) || 0;
+    return /^#\d+$/.test(location.hash) ? Number(location.hash.slice(1)) : null;
   }
 
-  /** Writes a number soon: the last of those that come at once. */
+  /**
+   * Writes a number soon: the last of those that come at once.
+   * @param {number} number
+   */
   show(number) {
     this.number = number;
     this.timer ??= setTimeout(() => this.write(), Math.max(0, this.written + LEAST_GAP - performance.now()));

@@ -1,22 +1,35 @@
-// Lines of a plot as paths. A line holds each value until the next entry; where many entries share a pixel it is their mean, and
-// a band behind it goes from their least to their greatest.
+// Lines of a plot as paths. A line holds each value until the next entry; where many entries share a pixel it is their
+// mean, and a band behind it goes from their least to their greatest.
 
 // so many pixels has a column that stands for several entries
 const COLUMN = 2;
 
-/** Steps of 1, 2 or 5 times a power of ten, of which at most `most` fit. */
+/**
+ * Steps of 1, 2 or 5 times a power of ten, of which at most `most` fit.
+ * @param {number} range
+ * @param {number} most
+ */
 export function stepOf(range, most) {
   const least = Math.max(1, range / Math.max(1, most));
   const power = 10 ** Math.floor(Math.log10(least));
   return [1, 2, 5, 10].map((factor) => factor * power).find((step) => step >= least);
 }
 
-/** So many entries share a column of a plot that has places for 0 to `last`, and is so wide; 1 where each has its own. */
+/**
+ * So many entries share a column of a plot that has places for 0 to `last`, and is so wide; 1 where each has its own.
+ * @param {number} last
+ * @param {number} width
+ */
 export function strideOf(last, width) {
   return last + 1 <= width ? 1 : Math.ceil(((last + 1) * COLUMN) / width);
 }
 
-/** The least, the greatest and the mean of each `stride` of the values of 0 to `last`, with the middle of their places. */
+/**
+ * The least, the greatest and the mean of each `stride` of the values of 0 to `last`, with the middle of their places.
+ * @param {(at: number) => number} valueAt
+ * @param {number} last
+ * @param {number} stride
+ */
 export function columnsOf(valueAt, last, stride) {
   const columns = [];
   for (let from = 0; from <= last; from += stride) {
@@ -33,7 +46,13 @@ export function columnsOf(valueAt, last, stride) {
   return columns;
 }
 
-/** A line through the values of 0 to `last`, each held until the next. */
+/**
+ * A line through the values of 0 to `last`, each held until the next.
+ * @param {(at: number) => number} valueAt
+ * @param {number} last
+ * @param {(at: number) => number} xOf
+ * @param {(value: number) => number} yOf
+ */
 export function stepPath(valueAt, last, xOf, yOf) {
   const parts = [`M${xOf(0).toFixed(1)} ${yOf(valueAt(0)).toFixed(1)}`];
   for (let k = 1; k <= last; k += 1) {
@@ -44,12 +63,22 @@ export function stepPath(valueAt, last, xOf, yOf) {
   return `${parts.join("")}H${xOf(last).toFixed(1)}`;
 }
 
-/** A line through the means of columns. */
+/**
+ * A line through the means of columns.
+ * @param {Column[]} columns
+ * @param {(at: number) => number} xOf
+ * @param {(value: number) => number} yOf
+ */
 export function meanPath(columns, xOf, yOf) {
   return `M${columns.map(({ middle, mean }) => `${xOf(middle).toFixed(1)} ${yOf(mean).toFixed(1)}`).join("L")}`;
 }
 
-/** The band between the least and the greatest of columns. */
+/**
+ * The band between the least and the greatest of columns.
+ * @param {Column[]} columns
+ * @param {(at: number) => number} xOf
+ * @param {(value: number) => number} yOf
+ */
 export function bandPath(columns, xOf, yOf) {
   const over = columns.map(({ middle, most }) => `${xOf(middle).toFixed(1)} ${yOf(most).toFixed(1)}`);
   const under = columns.map(({ middle, least }) => `${xOf(middle).toFixed(1)} ${yOf(least).toFixed(1)}`).reverse();

@@ -3,6 +3,10 @@
 const PIVOTS = 30;
 const ROUNDS = 60;
 
+/**
+ * @param {number} start
+ * @param {number[][]} lists
+ */
 function stepsFrom(start, lists) {
   const steps = new Float64Array(lists.length).fill(-1);
   steps[start] = 0;
@@ -18,11 +22,14 @@ function stepsFrom(start, lists) {
   return steps;
 }
 
-/** Squared distances from nodes that lie far apart, one column a pivot. */
+/**
+ * Squared distances from nodes that lie far apart, one column a pivot.
+ * @param {number[][]} lists
+ */
 function pivotColumns(lists) {
   const nearest = new Float64Array(lists.length).fill(Infinity);
   const columns = [];
-  for (let pivot = 0; columns.length < Math.min(PIVOTS, lists.length); ) {
+  for (let pivot = 0; columns.length < Math.min(PIVOTS, lists.length);) {
     const steps = stepsFrom(pivot, lists);
     steps.forEach((count, v) => {
       nearest[v] = Math.min(nearest[v], count);
@@ -33,18 +40,27 @@ function pivotColumns(lists) {
   return columns;
 }
 
+/** @param {number[] | Float64Array} numbers */
 function mean(numbers) {
-  return numbers.reduce((a, b) => a + b, 0) / numbers.length;
+  return [...numbers].reduce((a, b) => a + b, 0) / numbers.length;
 }
 
-/** Takes the mean of each row and column away. */
+/**
+ * Takes the mean of each row and column away.
+ * @param {Float64Array[]} columns
+ */
 function centre(columns) {
   const columnMeans = columns.map(mean);
   const rowMeans = columns[0].map((_, v) => mean(columns.map((column) => column[v])));
   const all = mean(columnMeans);
-  columns.forEach((column, at) => column.forEach((value, v) => (column[v] = value - columnMeans[at] - rowMeans[v] + all)));
+  columns.forEach(
+    (column, at) => column.forEach((value, v) => (column[v] = value - columnMeans[at] - rowMeans[v] + all)));
 }
 
+/**
+ * @param {ArrayLike<number>} a
+ * @param {ArrayLike<number>} b
+ */
 function product(a, b) {
   let sum = 0;
   for (let at = 0; at < a.length; at += 1) {
@@ -53,7 +69,11 @@ function product(a, b) {
   return sum;
 }
 
-/** The direction in which the pivots' products are greatest, at a right angle to those found before. */
+/**
+ * The direction in which the pivots' products are greatest, at a right angle to those found before.
+ * @param {number[][]} products
+ * @param {number[][]} before
+ */
 function principal(products, before) {
   let vector = products.map((_, at) => 1 / (at + 1) + (at % 2));
   for (let round = 0; round < ROUNDS; round += 1) {
@@ -68,18 +88,26 @@ function principal(products, before) {
   return vector;
 }
 
-/** Places of the nodes 0, 1, .., in which an edge is about `spacing` long. */
+/**
+ * Places of the nodes 0, 1, .., in which an edge is about `spacing` long.
+ * @param {number[][]} lists
+ * @param {number} spacing
+ */
 export function placeByDistance(lists, spacing) {
   const columns = pivotColumns(lists);
   centre(columns);
   const products = columns.map((a) => columns.map((b) => product(a, b)));
   const first = principal(products, []);
   const second = principal(products, [first]);
+  /**
+   * @param {number[]} vector
+   * @param {number} v
+   */
   const along = (vector, v) => columns.reduce((sum, column, at) => sum + column[v] * vector[at], 0);
   const places = lists.map((_, v) => [along(first, v), along(second, v)]);
   let [total, count] = [0, 0];
-  lists.forEach((list, v) =>
-    list.forEach((w) => {
+  lists.forEach(
+    (list, v) => list.forEach((w) => {
       total += Math.hypot(places[v][0] - places[w][0], places[v][1] - places[w][1]);
       count += 1;
     }),

@@ -1,16 +1,24 @@
 // What an entry does to a machine.
-import { movesOf, wordsOf } from "./transcript.mjs";
+import {movesOf, wordsOf} from "./transcript.mjs";
 
-/** Whether an entry changes the state: an accepted edit or fault, or a step. */
+/**
+ * Whether an entry changes the state: an accepted edit or fault, or a step.
+ * @param {Entry} entry
+ */
 export function changes(entry) {
   return entry.disturbs || (entry.kind === "step" && !entry.refused);
 }
 
+/** @param {Entry} entry */
 function namesOf(entry) {
   return wordsOf(entry).map((word) => (word === "-" ? 0 : Number(word)));
 }
 
-/** Whether a node may move by this rule, at this target (0 where the rule takes none). */
+/**
+ * Whether a node may move by this rule, at this target (0 where the rule takes none).
+ * @param {import("./machine.mjs").Machine} machine
+ * @param {Move} move
+ */
 function mayMove(machine, { node, rule, target }) {
   if (machine.rule[node] !== rule) {
     return false;
@@ -25,13 +33,22 @@ function mayMove(machine, { node, rule, target }) {
   return target === 0;
 }
 
-/** Whether the moves of a step may be made at once: each by the rule that is enabled, at a target that it allows. */
+/**
+ * Whether the moves of a step may be made at once: each by the rule that is enabled, at a target that it allows.
+ * @param {import("./machine.mjs").Machine} machine
+ * @param {Move[]} moves
+ */
 function mayStep(machine, moves) {
   const nodes = new Set(moves.map((move) => move.node));
-  return nodes.size === moves.length && (machine.flags || moves.length === 1) && moves.every((move) => mayMove(machine, move));
+  return nodes.size === moves.length && (machine.flags || moves.length === 1)
+    && moves.every((move) => mayMove(machine, move));
 }
 
-/** Whether the machine may accept an entry that changes the state. */
+/**
+ * Whether the machine may accept an entry that changes the state.
+ * @param {import("./machine.mjs").Machine} machine
+ * @param {Entry} entry
+ */
 export function isPossible(machine, entry) {
   if (entry.kind === "step") {
     return mayStep(machine, movesOf(entry));
@@ -55,7 +72,11 @@ export function isPossible(machine, entry) {
   return false;
 }
 
-/** Carries out an accepted entry on the machine. */
+/**
+ * Carries out an accepted entry on the machine.
+ * @param {import("./machine.mjs").Machine} machine
+ * @param {Entry} entry
+ */
 export function carryOut(machine, entry) {
   if (entry.kind === "step") {
     machine.step(movesOf(entry));

@@ -1,9 +1,13 @@
-// What a node or an edge is, in words: its registers, the rule that is enabled there with its guard, and what the charge counts.
-import { counted } from "./numbers.mjs";
+// What a node or an edge is, in words: its registers, the rule that is enabled there with its guard, and what the
+// charge counts.
+import {counted} from "./numbers.mjs";
 
 const MOST_NAMED = 12;
 
-/** Names in words: `3`, `3 and 5`, `3, 5 and 9`. */
+/**
+ * Names in words: `3`, `3 and 5`, `3, 5 and 9`.
+ * @param {number[]} names
+ */
 export function listed(names) {
   if (names.length > MOST_NAMED) {
     return `${names.slice(0, MOST_NAMED).join(", ")} and ${names.length - MOST_NAMED} more`;
@@ -11,32 +15,54 @@ export function listed(names) {
   return names.length < 2 ? names.join("") : `${names.slice(0, -1).join(", ")} and ${names.at(-1)}`;
 }
 
+/**
+ * @param {import("./machine.mjs").Machine} machine
+ * @param {number} v
+ */
 function suitorsOf(machine, v) {
   return [...machine.neighbours[v]].filter((w) => machine.pointer[w] === v).sort((a, b) => a - b);
 }
 
+/**
+ * @param {import("./machine.mjs").Machine} machine
+ * @param {number} v
+ */
 function pointerOf(machine, v) {
   const w = machine.pointer[v];
   if (w === 0) {
     return "null: it points nowhere";
   }
-  return machine.pointer[w] === v ? `at ${w}, which points back: they are married` : `at ${w}, which does not point back`;
+  return machine.pointer[w] === v ? `at ${w}, which points back: they are married` :
+                                    `at ${w}, which does not point back`;
 }
 
-/** Where a pointer leads, as the end of a sentence about its node. */
+/**
+ * Where a pointer leads, as the end of a sentence about its node.
+ * @param {import("./machine.mjs").Machine} machine
+ * @param {number} w
+ */
 function whereTo(machine, w) {
   return machine.pointer[w] === 0 ? "points nowhere" : `points at ${machine.pointer[w]}`;
 }
 
+/**
+ * @param {import("./machine.mjs").Machine} machine
+ * @param {number} v
+ */
 function whySeduce(machine, v) {
   const open = machine.openNeighbours(v);
   const free = "it points nowhere, nobody points at it";
   if (machine.flags) {
     return `${free}, and ${open.at(-1)} is the highest neighbour above it that points nowhere and has the flag 0`;
   }
-  return `${free}, and ${open.length === 1 ? `its neighbour ${open[0]} points` : `its neighbours ${listed(open)} point`} nowhere too`;
+  return `${free}, and ${
+    open.length === 1 ? `its neighbour ${open[0]} points` : `its neighbours ${listed(open)} point`} nowhere too`;
 }
 
+/**
+ * @param {import("./machine.mjs").Machine} machine
+ * @param {number} v
+ */
 function whyAbandon(machine, v) {
   const w = machine.pointer[v];
   if (!machine.flags) {
@@ -46,7 +72,11 @@ function whyAbandon(machine, v) {
   return `it points at ${w}, which does not point back and ${reasons.join(" and ")}`;
 }
 
-/** The guard that holds at v, in words. */
+/**
+ * The guard that holds at v, in words.
+ * @param {import("./machine.mjs").Machine} machine
+ * @param {number} v
+ */
 function whyEnabled(machine, v) {
   const right = machine.flags ? "its flag is right, " : "";
   switch (machine.rule[v]) {
@@ -64,23 +94,33 @@ function whyEnabled(machine, v) {
   return "";
 }
 
-/** Why no guard holds at v, in words. */
+/**
+ * Why no guard holds at v, in words.
+ * @param {import("./machine.mjs").Machine} machine
+ * @param {number} v
+ */
 function whyQuiet(machine, v) {
   const w = machine.pointer[v];
   if (machine.isMarried(v)) {
     return `it and ${w} point at each other${machine.flags ? ", and its flag is 1" : ""}`;
   }
   if (w !== 0) {
-    return machine.flags ? `it waits for ${w}, which is higher and has the flag 0` : `it waits for ${w}, which points nowhere`;
+    return machine.flags ? `it waits for ${w}, which is higher and has the flag 0` :
+                           `it waits for ${w}, which points nowhere`;
   }
   if (machine.neighbours[v].size === 0) {
     return "it has no neighbour";
   }
-  const wanted = machine.flags ? "no higher neighbour points nowhere and has the flag 0" : "each neighbour points somewhere";
+  const wanted =
+    machine.flags ? "no higher neighbour points nowhere and has the flag 0" : "each neighbour points somewhere";
   return `it points nowhere, nobody points at it, and ${wanted}`;
 }
 
-/** What the charge counts at v itself: each part with its count and what for. */
+/**
+ * What the charge counts at v itself: each part with its count and what for.
+ * @param {import("./machine.mjs").Machine} machine
+ * @param {number} v
+ */
 function chargesAt(machine, v) {
   const married = machine.isMarried(v);
   return [
@@ -90,33 +130,58 @@ function chargesAt(machine, v) {
   ].filter(Boolean);
 }
 
+/**
+ * @param {import("./machine.mjs").Machine} machine
+ * @param {number} v
+ */
 function openEdgesOf(machine, v) {
   return [...machine.neighbours[v]].filter((w) => !machine.isClosed(v, w)).sort((a, b) => a - b);
 }
 
+/**
+ * @param {import("./machine.mjs").Machine} machine
+ * @param {number} v
+ */
 function chargeOfNode(machine, v) {
   const parts = chargesAt(machine, v);
-  const whatFor = parts.length === 1 ? `, for ${parts[0][1]}` : parts.map(([count, part], at) => `${at === 0 ? ": " : ", "}${count} for ${part}`).join("");
+  const whatFor = parts.length === 1 ?
+    `, for ${parts[0][1]}` :
+    parts.map(([count, part], at) => `${at === 0 ? ": " : ", "}${count} for ${part}`).join("");
   const open = openEdgesOf(machine, v);
-  const edges = open.length === 0 ? "" : `; 2 for ${open.length === 1 ? "its open edge" : "each of its open edges"}, to ${listed(open)}`;
+  const edges = open.length === 0 ?
+    "" :
+    `; 2 for ${open.length === 1 ? "its open edge" : "each of its open edges"}, to ${listed(open)}`;
   return `${machine.nodeCharge(v)} here${whatFor}${edges}`;
 }
 
-/** What is told of a node that is there: a heading, and terms with what is said of each. */
+/**
+ * What is told of a node that is there: a heading, and terms with what is said of each.
+ * @param {import("./machine.mjs").Machine} machine
+ * @param {number} v
+ * @returns {Explained}
+ */
 export function explainNode(machine, v) {
   const rule = machine.rule[v];
   const suitors = suitorsOf(machine, v);
+  /** @type {([string, string] | false)[]} */
   const rows = [
     ["pointer", pointerOf(machine, v)],
     machine.flags && ["flag", String(machine.flag[v])],
     ["pointed at by", suitors.length === 0 ? "nobody" : listed(suitors)],
-    ["neighbours", machine.neighbours[v].size === 0 ? "none" : listed([...machine.neighbours[v]].sort((a, b) => a - b))],
+    [
+      "neighbours", machine.neighbours[v].size === 0 ? "none" : listed([...machine.neighbours[v]].sort((a, b) => a - b))
+    ],
     rule ? [`may ${rule}`, `since ${whyEnabled(machine, v)}`] : ["not enabled", `since ${whyQuiet(machine, v)}`],
     ["charge", chargeOfNode(machine, v)],
   ];
-  return { heading: `Node ${v}`, rule, rows: rows.filter(Boolean) };
+  return { heading: `Node ${v}`, rule, rows: /** @type {[string, string][]} */ (rows.filter(Boolean)) };
 }
 
+/**
+ * @param {import("./machine.mjs").Machine} machine
+ * @param {number} low
+ * @param {number} high
+ */
 function whyClosed(machine, low, high) {
   const married = [low, high].filter((v) => machine.isMarried(v));
   if (machine.partner(low) === high) {
@@ -129,41 +194,76 @@ function whyClosed(machine, low, high) {
     return `${low} points at ${high}, which has the flag 0`;
   }
   const waiting = [[low, high], [high, low]].find(([v, w]) => machine.awaits(v, w));
-  return waiting ? `${waiting[0]} points at ${waiting[1]}, which points nowhere` : "both ends point nowhere, and somebody points at each";
+  return waiting ? `${waiting[0]} points at ${waiting[1]}, which points nowhere` :
+                   "both ends point nowhere, and somebody points at each";
 }
 
+/**
+ * @param {import("./machine.mjs").Machine} machine
+ * @param {number} low
+ * @param {number} high
+ */
 function whyOpen(machine, low, high) {
   if (!machine.flags) {
     return "neither end is married or waits for the other, and they are not both courted";
   }
   const pointed = machine.pointer[low] === high;
-  return `neither end is married, and ${pointed ? `${high}, at which ${low} points, has the flag 1` : `${low} does not point at ${high}`}`;
+  return `neither end is married, and ${
+    pointed ? `${high}, at which ${low} points, has the flag 1` : `${low} does not point at ${high}`}`;
 }
 
+/**
+ * @param {import("./machine.mjs").Machine} machine
+ * @param {number} low
+ * @param {number} high
+ */
 function alongEdge(machine, low, high) {
-  const along = [[low, high], [high, low]].filter(([v, w]) => machine.pointer[v] === w).map(([v, w]) => `${v} points at ${w}`);
+  const along =
+    [[low, high], [high, low]].filter(([v, w]) => machine.pointer[v] === w).map(([v, w]) => `${v} points at ${w}`);
   return along.length === 0 ? "neither end points along it" : along.join(", and ");
 }
 
-/** What is told of an edge that is there. */
+/**
+ * What is told of an edge that is there.
+ * @param {import("./machine.mjs").Machine} machine
+ * @param {number} low
+ * @param {number} high
+ * @returns {Explained}
+ */
 export function explainEdge(machine, low, high) {
   const closed = machine.isClosed(low, high);
+  /** @type {([string, string] | false)[]} */
   const rows = [
     ["pointers", alongEdge(machine, low, high)],
-    ["charge", closed ? `0: it is closed, since ${whyClosed(machine, low, high)}` : `2: it is open, since ${whyOpen(machine, low, high)}`],
+    [
+      "charge",
+      closed ? `0: it is closed, since ${whyClosed(machine, low, high)}` :
+               `2: it is open, since ${whyOpen(machine, low, high)}`
+    ],
   ];
-  return { heading: `Edge ${low} – ${high}`, rule: null, rows };
+  return { heading: `Edge ${low} – ${high}`, rule: null, rows: /** @type {[string, string][]} */ (rows) };
 }
 
-/** What is told of a node or an edge, whether it is there or not. */
+/**
+ * What is told of a node or an edge, whether it is there or not.
+ * @param {import("./machine.mjs").Machine} machine
+ * @param {Thing | null} thing
+ * @returns {Explained}
+ */
 export function explain(machine, thing) {
   if (thing.node) {
     const { node } = thing;
     if (!machine.here[node]) {
-      return { heading: `Node ${node}`, rule: null, rows: [["absent", `it is none of the ${counted(machine.present, "node")} of this state`]] };
+      return {
+        heading: `Node ${node}`,
+        rule: null,
+        rows: [["absent", `it is none of the ${counted(machine.present, "node")} of this state`]]
+      };
     }
     return explainNode(machine, node);
   }
   const { low, high } = thing;
-  return machine.neighbours[low].has(high) ? explainEdge(machine, low, high) : { heading: `Edge ${low} – ${high}`, rule: null, rows: [["absent", "it is none of the edges of this state"]] };
+  return machine.neighbours[low].has(high) ?
+    explainEdge(machine, low, high) :
+    { heading: `Edge ${low} – ${high}`, rule: null, rows: [["absent", "it is none of the edges of this state"]] };
 }

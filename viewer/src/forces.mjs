@@ -1,5 +1,5 @@
-// Spreads places by forces (Fruchterman and Reingold, 1991): edges pull, and all nodes push one another. Nothing is drawn by
-// chance. Each round looks at every two nodes: with the 2,000 that are drawn at most that is a second in all.
+// Spreads places by forces (Fruchterman and Reingold, 1991): edges pull, and all nodes push one another. Nothing is
+// drawn by chance. Each round looks at every two nodes: with the 2,000 that are drawn at most that is a second in all.
 
 const ROUNDS = 300;
 const PAIRS_IN_ALL = 1e8;
@@ -9,7 +9,14 @@ const ROOM = 1.35;
 const GRAVITY = 0.12;
 const NEAREST = 0.85;
 
-/** Adds to each node the push of every other one. */
+/**
+ * Adds to each node the push of every other one.
+ * @param {Float64Array} x
+ * @param {Float64Array} y
+ * @param {Float64Array} pushX
+ * @param {Float64Array} pushY
+ * @param {number} ideal
+ */
 function pushAll(x, y, pushX, pushY, ideal) {
   const square = ideal * ideal;
   for (let v = 0; v < x.length; v += 1) {
@@ -25,7 +32,15 @@ function pushAll(x, y, pushX, pushY, ideal) {
   }
 }
 
-/** Adds to each node the pull of its neighbours. */
+/**
+ * Adds to each node the pull of its neighbours.
+ * @param {number[][]} lists
+ * @param {Float64Array} x
+ * @param {Float64Array} y
+ * @param {Float64Array} pushX
+ * @param {Float64Array} pushY
+ * @param {number} ideal
+ */
 function pullAlong(lists, x, y, pushX, pushY, ideal) {
   lists.forEach((list, v) => {
     for (const w of list) {
@@ -38,7 +53,13 @@ function pullAlong(lists, x, y, pushX, pushY, ideal) {
   });
 }
 
-/** Draws each node to the middle, so that those with few edges do not drift away. */
+/**
+ * Draws each node to the middle, so that those with few edges do not drift away.
+ * @param {Float64Array} x
+ * @param {Float64Array} y
+ * @param {Float64Array} pushX
+ * @param {Float64Array} pushY
+ */
 function pullInward(x, y, pushX, pushY) {
   const share = GRAVITY * Math.sqrt(x.length);
   for (let v = 0; v < x.length; v += 1) {
@@ -47,6 +68,13 @@ function pullInward(x, y, pushX, pushY) {
   }
 }
 
+/**
+ * @param {Float64Array} x
+ * @param {Float64Array} y
+ * @param {Float64Array} pushX
+ * @param {Float64Array} pushY
+ * @param {number} limit
+ */
 function moveAll(x, y, pushX, pushY, limit) {
   for (let v = 0; v < x.length; v += 1) {
     const length = Math.hypot(pushX[v], pushY[v]);
@@ -56,6 +84,10 @@ function moveAll(x, y, pushX, pushY, limit) {
   }
 }
 
+/**
+ * @param {Float64Array} x
+ * @param {Float64Array} y
+ */
 function middleGap(x, y) {
   const gaps = Array.from(x, (_, v) => {
     let least = Infinity;
@@ -67,12 +99,22 @@ function middleGap(x, y) {
   return gaps.sort((a, b) => a - b)[gaps.length >> 1];
 }
 
+/**
+ * @param {Float64Array} x
+ * @param {Float64Array} y
+ */
 function areaOf(x, y) {
+  /** @param {Float64Array} numbers */
   const width = (numbers) => numbers.reduce((a, b) => Math.max(a, b)) - numbers.reduce((a, b) => Math.min(a, b));
   return width(x) * width(y);
 }
 
-/** Pushes nodes apart until no two are nearer than `least`. */
+/**
+ * Pushes nodes apart until no two are nearer than `least`.
+ * @param {Float64Array} x
+ * @param {Float64Array} y
+ * @param {number} least
+ */
 function part(x, y, least) {
   let moved = true;
   for (let turn = 0; moved && turn < APART_ROUNDS; turn += 1) {
@@ -95,8 +137,13 @@ function part(x, y, least) {
   }
 }
 
-/** Turns places so that they are widest from left to right. */
+/**
+ * Turns places so that they are widest from left to right.
+ * @param {Float64Array} x
+ * @param {Float64Array} y
+ */
 function layFlat(x, y) {
+  /** @param {Float64Array} numbers */
   const middle = (numbers) => numbers.reduce((a, b) => a + b, 0) / numbers.length;
   const [middleX, middleY] = [middle(x), middle(y)];
   let [xx, xy, yy] = [0, 0, 0];
@@ -112,7 +159,12 @@ function layFlat(x, y) {
   }
 }
 
-/** Places in which nodes stand about `spacing` apart, and no two much nearer. */
+/**
+ * Places in which nodes stand about `spacing` apart, and no two much nearer.
+ * @param {number[][]} start
+ * @param {number[][]} lists
+ * @param {number} spacing
+ */
 export function spread(start, lists, spacing) {
   // a little off the start: nodes at one place would push each other nowhere
   const x = Float64Array.from(start, (place, v) => place[0] + Math.sin(v * 12.9898) * 2);

@@ -3,34 +3,65 @@
 // so many pixels may a finger stray that taps
 const SLACK = 6;
 
+/** @param {PointerEvent} event */
 function placeOf(event) {
   return { x: event.clientX, y: event.clientY, finger: event.pointerType === "touch" };
 }
 
+/** @param {Place[]} places */
 function middle([one, other = one]) {
   return { x: (one.x + other.x) / 2, y: (one.y + other.y) / 2 };
 }
 
+/** @param {Place[]} places */
 function spread([one, other]) {
   return Math.max(1, Math.hypot(one.x - other.x, one.y - other.y));
 }
 
+/**
+ * What gestures do. `press` comes before a tap or drag, with null where it turns out to be none; `drop` after a drag by
+ * one finger.
+ * @typedef {object} Handlers
+ * @property {(place: Place) => void} hover
+ * @property {() => void} leave
+ * @property {(place: Place) => void} tap
+ * @property {(from: Place, to: Place) => void} drag
+ * @property {(factor: number, from: Place, to: Place) => void} pinch
+ * @property {(place: Place | null) => void} [press]
+ * @property {(place: Place) => void} [drop]
+ */
+
 export class Gestures {
-  /** `handlers` are `hover(place)`, `leave()`, `tap(place)`, `drag(from, to)` and `pinch(factor, from, to)`; where they are wanted,
-   * `press(place)` before a tap or drag, and `drop(place)` behind a drag by one finger. */
+  /**
+   * @param {SVGSVGElement} element
+   * @param {Handlers} handlers
+   */
   constructor(element, handlers) {
-    Object.assign(this, { element, handlers, held: new Map(), start: null, strayed: false });
+    this.element = element;
+    this.handlers = handlers;
+    /**
+     * Where each finger or the mouse is that touches.
+     * @type {Map<number, Place>}
+     */
+    this.held = new Map();
+    /**
+     * Where the first one began.
+     * @type {Place | null}
+     */
+    this.start = null;
+    this.strayed = false;
     element.addEventListener("pointerdown", (event) => this.press(event));
     element.addEventListener("pointermove", (event) => this.move(event));
     element.addEventListener("pointerup", (event) => this.release(event));
     element.addEventListener("pointercancel", (event) => this.cancel(event));
     element.addEventListener("pointerleave", () => this.held.size === 0 && handlers.leave());
     // two fingers are the element's own, and the page does not scroll under them
-    for (const kind of ["touchstart", "touchmove"]) {
+    for (const kind of /** @type {const} */ (["touchstart", "touchmove"])) {
       element.addEventListener(kind, (event) => event.touches.length > 1 && event.preventDefault(), { passive: false });
     }
   }
 
+  /** @param {PointerEvent} event */
   press(event) {
     if (event.button !== 0) {
       return;
@@ -42,6 +73,7 @@ export class Gestures {
     this.handlers.press?.(this.held.size === 1 ? placeOf(event) : null);
   }
 
+  /** @param {PointerEvent} event */
   move(event) {
     const place = placeOf(event);
     if (!this.held.has(event.pointerId)) {
@@ -64,6 +96,7 @@ export class Gestures {
     }
   }
 
+  /** @param {PointerEvent} event */
   release(event) {
     const known = this.held.delete(event.pointerId);
     if (!known || this.held.size > 0) {
@@ -76,6 +109,7 @@ export class Gestures {
     }
   }
 
+  /** @param {PointerEvent} event */
   cancel(event) {
     this.held.delete(event.pointerId);
     this.handlers.press?.(null);

@@ -1,6 +1,12 @@
 // Which node or edge lies at a place of a drawing.
 
-/** How far a place is from the stretch between two others. */
+/**
+ * How far a place is from the stretch between two others.
+ * @param {number} x
+ * @param {number} y
+ * @param {number[]} one
+ * @param {number[]} other
+ */
 export function distanceToStretch(x, y, [x1, y1], [x2, y2]) {
   const [dx, dy] = [x2 - x1, y2 - y1];
   const square = dx * dx + dy * dy;
@@ -8,6 +14,13 @@ export function distanceToStretch(x, y, [x1, y1], [x2, y2]) {
   return Math.hypot(x - x1 - share * dx, y - y1 - share * dy);
 }
 
+/**
+ * @param {Layout} layout
+ * @param {import("./machine.mjs").Machine} machine
+ * @param {number} x
+ * @param {number} y
+ * @param {number} within
+ */
 function nearestNode(layout, machine, x, y, within) {
   let [found, least] = [0, within];
   for (let v = 1; v <= machine.nodes; v += 1) {
@@ -19,14 +32,24 @@ function nearestNode(layout, machine, x, y, within) {
   return found;
 }
 
-/** The present node at a place, `{ node }`, at most `radius` and `reach` away; else the edge, `{ low, high }`, at most `reach` away;
- * else null. Looks at each node and edge once. */
+/**
+ * The present node at a place, `{ node }`, at most `radius` and `reach` away; else the edge, `{ low, high }`, at most
+ * `reach` away; else null. Looks at each node and edge once.
+ * @param {Layout} layout
+ * @param {import("./machine.mjs").Machine} machine
+ * @param {number} x
+ * @param {number} y
+ * @param {number} radius
+ * @param {number} reach
+ */
 export function thingAt(layout, machine, x, y, radius, reach) {
   const node = nearestNode(layout, machine, x, y, radius + reach);
   if (node) {
     return { node };
   }
-  let [found, least] = [null, reach];
+  /** @type {Thing | null} */
+  let found = null;
+  let least = reach;
   for (const [low, high] of machine.edges()) {
     const far = distanceToStretch(x, y, [layout.x[low], layout.y[low]], [layout.x[high], layout.y[high]]);
     if (far <= least) {

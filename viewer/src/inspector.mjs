@@ -1,17 +1,39 @@
-// What is under the pointer, or was picked by tap, key or number: it is marked in the drawing, and a card tells what it holds.
-import { explain } from "./explain.mjs";
-import { bestBox } from "./placing.mjs";
-import { addText, byId } from "./svg.mjs";
+// What is under the pointer, or was picked by tap, key or number: it is marked in the drawing, and a card tells what it
+// holds.
+import {explain} from "./explain.mjs";
+import {bestBox} from "./placing.mjs";
+import {addText, byId} from "./svg.mjs";
 
+/**
+ * @param {Thing} one
+ * @param {Thing} other
+ */
 function isSame(one, other) {
   return one === other || (one && other && one.node === other.node && one.low === other.low && one.high === other.high);
 }
 
 export class Inspector {
-  /** `machine()` is the state that is shown. `stage` marks a thing (`pick`) and says where it is seen (`pixelOf`); null where
-   * nothing is drawn. */
+  /**
+   * `machine()` is the state that is shown. `stage` marks a thing (`pick`) and says where it is seen (`pixelOf`); null
+   * where nothing is drawn.
+   * @param {() => import("./machine.mjs").Machine} machine
+   * @param {import("./stage.mjs").Stage | null} stage
+   */
   constructor(machine, stage) {
-    Object.assign(this, { machine, stage, picked: null, under: null, end: 0 });
+    this.machine = machine;
+    this.stage = stage;
+    /**
+     * What was picked.
+     * @type {Thing | null}
+     */
+    this.picked = null;
+    /**
+     * What lies under the pointer.
+     * @type {Thing | null}
+     */
+    this.under = null;
+    /** The end from which a node's edges are gone through, 0 if none is. */
+    this.end = 0;
     byId("card-close").addEventListener("click", () => this.pick(null));
   }
 
@@ -20,6 +42,7 @@ export class Inspector {
     return this.under ?? this.picked;
   }
 
+  /** @param {Thing | null} thing */
   hover(thing) {
     if (!isSame(this.under, thing)) {
       this.under = thing;
@@ -27,18 +50,26 @@ export class Inspector {
     }
   }
 
+  /** @param {Thing | null} thing */
   pick(thing) {
     this.picked = thing;
     this.under = null;
     this.show();
   }
 
-  /** Picks a thing, or lets go of it where it is picked already. */
+  /**
+   * Picks a thing, or lets go of it where it is picked already.
+   * @param {Thing | null} thing
+   */
   toggle(thing) {
     this.pick(isSame(this.picked, thing) ? null : thing);
   }
 
-  /** Picks the node by this number of steps farther on among those that are there; where none is picked the first or the last. */
+  /**
+   * Picks the node by this number of steps farther on among those that are there; where none is picked the first or the
+   * last.
+   * @param {number} step
+   */
   stepNode(step) {
     const machine = this.machine();
     const from = this.hub || (step > 0 ? 0 : machine.nodes + 1);
@@ -99,7 +130,8 @@ export class Inspector {
     const card = byId("card");
     const whole = card.parentElement.getBoundingClientRect();
     const size = { width: card.offsetWidth, height: card.offsetHeight };
-    const { left, top } = bestBox(stage.pixelOf(thing), stage.svg.getBoundingClientRect(), size, (box) => stage.shareIn(box));
+    const { left, top } =
+      bestBox(stage.pixelOf(thing), stage.svg.getBoundingClientRect(), size, (box) => stage.shareIn(box));
     card.style.left = `${(left - whole.left).toFixed(0)}px`;
     card.style.top = `${(top - whole.top).toFixed(0)}px`;
   }

@@ -1,19 +1,29 @@
 // Who judged the transcript before it came into the page, and what was said of it.
-import { byId } from "./svg.mjs";
+import {byId} from "./svg.mjs";
 
 const REPLAYED = "What is shown is replayed by this page, which is tested and not proved.";
 
-const HERE = "the audit inside this page, which is the proved one compiled by a way of our own: tested, not proved for this target";
+const HERE =
+  "the audit inside this page, which is the proved one compiled by a way of our own: tested, not proved for this target";
 
-/** Who judged: the program that the page's maker named, or the page itself where a transcript was opened in it. */
+/**
+ * Who judged: the program that the page's maker named, or the page itself where a transcript was opened in it.
+ * @param {Judge} judge
+ */
 function judgeOf({ program, own, here }) {
   if (here) {
     return HERE;
   }
-  return own ? `Rudekpi's ${program} audit` : `${program} audit, which whoever made this page named, and of which nothing is known here`;
+  return own ? `Rudekpi's ${program} audit` :
+               `${program} audit, which whoever made this page named, and of which nothing is known here`;
 }
 
-/** What the foot of the page says of the judge, and whether its verdict is in doubt; `counted` is what the page itself counts. */
+/**
+ * What the foot of the page says of the judge, and whether its verdict is in doubt; `counted` is what the page itself
+ * counts.
+ * @param {string} counted
+ * @param {Judge} judged
+ */
 export function judgement(judged, counted) {
   const { verdict } = judged;
   if (verdict === null) {
@@ -24,6 +34,10 @@ export function judgement(judged, counted) {
   return { doubtful: doubt !== "", text: `Judged by ${judge}: ${verdict}.${doubt} ${REPLAYED}` };
 }
 
+/**
+ * @param {Judge} judge
+ * @param {string} counted
+ */
 export function showJudge(judge, counted) {
   const { text, doubtful } = judgement(judge, counted);
   byId("judged").textContent = text;

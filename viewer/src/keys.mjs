@@ -1,6 +1,14 @@
 // Keys of the page. A field that takes typing keeps its own.
 
-/** What keys do while a transcript is played: those of the whole page, and those of the drawing alone, where it has the focus. */
+/**
+ * Names of actions by keys.
+ * @typedef {{ page: Record<string, string>, drawing: Record<string, string> }} Keys
+ */
+
+/**
+ * What keys do while a transcript is played: those of the whole page, and those of the drawing alone, where it has the
+ * focus.
+ */
 export const PLAYER_KEYS = {
   page: {
     ArrowLeft: "back",
@@ -20,7 +28,7 @@ export const PLAYER_KEYS = {
     e: "edge",
     Escape: "let-go",
   },
-  drawing: { ArrowUp: "node-before", ArrowDown: "node-behind" },
+  drawing: {ArrowUp: "node-before", ArrowDown: "node-behind"},
 };
 
 /** And while a network is in hands. */
@@ -29,6 +37,7 @@ export const LAB_KEYS = {
     " ": "run",
     ".": "step",
     z: "undo",
+    y: "redo",
     x: "scramble",
     a: "join",
     1: "cut",
@@ -56,6 +65,10 @@ export const LAB_KEYS = {
 };
 const TYPED = new Set(["TEXTAREA", "SELECT"]);
 
+/**
+ * @param {HTMLInputElement} target
+ * @param {string} key
+ */
 function takesKey(target, key) {
   if (target.type === "number") {
     return key.length > 1 ? key !== "Escape" : /[-+0-9]/.test(key);
@@ -63,17 +76,27 @@ function takesKey(target, key) {
   return TYPED.has(target.tagName) || ((target.tagName === "BUTTON" || target.tagName === "SUMMARY") && key === " ");
 }
 
+/** @param {KeyboardEvent} event */
 function nameOf(event) {
   return event.shiftKey && event.key.length > 1 ? `Shift+${event.key}` : event.key;
 }
 
-/** Lets keys do what `actions` names, until `signal` ends it. */
+/**
+ * Lets keys do what `actions` names, until `signal` ends it.
+ * @param {AbortSignal} signal
+ * @param {Record<string, () => void>} actions
+ * @param {Keys} keys
+ */
 export function listen(actions, keys, signal) {
+  /** @param {EventTarget} target */
   const onDrawing = (target) => target instanceof SVGSVGElement;
+  /** @param {KeyboardEvent} event */
   const heard = (event) => {
     const name = nameOf(event);
     const action = actions[(onDrawing(event.target) && keys.drawing[name]) || keys.page[name]];
-    if (!action || event.ctrlKey || event.metaKey || event.altKey || takesKey(event.target, event.key)) {
+    if (
+      !action || event.ctrlKey || event.metaKey || event.altKey
+      || takesKey(/** @type {HTMLInputElement} */ (event.target), event.key)) {
       return;
     }
     event.preventDefault();

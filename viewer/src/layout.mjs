@@ -1,7 +1,12 @@
 // Places for the nodes of a network: a pure function of its nodes and edges, so that a transcript has one drawing.
 // A path or a cycle lies on a ring; any other part is spread by its distances (pivot scaling) and then by forces.
-import { spread } from "./forces.mjs";
-import { placeByDistance } from "./distances.mjs";
+import {spread} from "./forces.mjs";
+import {placeByDistance} from "./distances.mjs";
+
+/**
+ * Nodes that hang together, and their places.
+ * @typedef {{ order: number[], places: number[][] }} Part
+ */
 
 export const SPACING = 48;
 const ROUND_RING = 60;
@@ -13,6 +18,10 @@ const LEAST_WIDTH = 440;
 const LEAST_HEIGHT = 280;
 const MOST_SPREAD = 4;
 
+/**
+ * @param {number} nodes
+ * @param {Link[]} edges
+ */
 function neighbourLists(nodes, edges) {
   const lists = Array.from({ length: nodes + 1 }, () => []);
   for (const [v, w] of edges) {
@@ -23,7 +32,10 @@ function neighbourLists(nodes, edges) {
   return lists;
 }
 
-/** The parts that hang together, each as its nodes in the order of a breadth-first walk. */
+/**
+ * The parts that hang together, each as its nodes in the order of a breadth-first walk.
+ * @param {number[][]} lists
+ */
 function partsOf(lists) {
   const seen = new Uint8Array(lists.length);
   const parts = [];
@@ -46,7 +58,11 @@ function partsOf(lists) {
   return parts;
 }
 
-/** The nodes of a path or a cycle one after another, or null for any other part. */
+/**
+ * The nodes of a path or a cycle one after another, or null for any other part.
+ * @param {number[]} part
+ * @param {number[][]} lists
+ */
 function alongRing(part, lists) {
   if (part.length < 3 || part.some((v) => lists[v].length === 0 || lists[v].length > 2)) {
     return null;
@@ -62,7 +78,12 @@ function alongRing(part, lists) {
   return order.length === part.length ? order : null;
 }
 
-/** A part lies on a ring where its first edges made a path or a cycle, and where few others ever came. */
+/**
+ * A part lies on a ring where its first edges made a path or a cycle, and where few others ever came.
+ * @param {number[]} part
+ * @param {number} nodes
+ * @param {Link[]} edges
+ */
 export function ringOf(part, nodes, edges) {
   const inside = new Set(part);
   const own = edges.filter(([v]) => inside.has(v));
@@ -78,6 +99,10 @@ export function ringOf(part, nodes, edges) {
   return null;
 }
 
+/**
+ * @param {number} count
+ * @param {number} radius
+ */
 function onCircle(count, radius) {
   return Array.from({ length: count }, (_, at) => {
     const angle = (2 * Math.PI * at) / count - Math.PI / 2;
@@ -85,7 +110,10 @@ function onCircle(count, radius) {
   });
 }
 
-/** A long ring runs outward along one spoke and inward along the next, so that it takes less room than a circle. */
+/**
+ * A long ring runs outward along one spoke and inward along the next, so that it takes less room than a circle.
+ * @param {number} count
+ */
 function onSpokes(count) {
   const spokes = 2 * Math.max(3, Math.round(count / (2 * Math.sqrt(count / (2 * Math.PI)))));
   const inner = (spokes * SPACING) / (2 * Math.PI);
@@ -101,11 +129,17 @@ function onSpokes(count) {
   return places;
 }
 
+/** @param {number} count */
 function ringPlaces(count) {
   return count > ROUND_RING ? onSpokes(count) : onCircle(count, SPACING / (2 * Math.sin(Math.PI / count)));
 }
 
-/** Places of one part's nodes, by the node's place in `order`. */
+/**
+ * Places of one part's nodes, by the node's place in `order`.
+ * @param {number[]} part
+ * @param {number[][]} lists
+ * @param {Link[]} edges
+ */
 function placesOf(part, lists, edges) {
   if (part.length < 3) {
     return { order: part, places: part.map((_, at) => [at * 1.5 * SPACING, 0]) };
@@ -119,20 +153,32 @@ function placesOf(part, lists, edges) {
   return { order: part, places: spread(placeByDistance(inside, SPACING), inside, SPACING) };
 }
 
+/** @param {number[][]} places */
 function boxOf(places) {
   const [xs, ys] = [places.map((place) => place[0]), places.map((place) => place[1])];
+  /** @param {number[]} numbers */
   const least = (numbers) => numbers.reduce((a, b) => Math.min(a, b));
+  /** @param {number[]} numbers */
   const most = (numbers) => numbers.reduce((a, b) => Math.max(a, b));
-  return { left: least(xs), top: least(ys), width: most(xs) - least(xs) + SPACING, height: most(ys) - least(ys) + SPACING };
+  return {
+    left: least(xs),
+    top: least(ys),
+    width: most(xs) - least(xs) + SPACING,
+    height: most(ys) - least(ys) + SPACING
+  };
 }
 
-/** Sets the parts in rows, the highest first. */
+/**
+ * Sets the parts in rows, the highest first.
+ * @param {Part[]} parts
+ */
 function pack(parts) {
-  const boxes = parts.map((part) => ({ ...part, box: boxOf(part.places) }));
+  const boxes = parts.map((part) => ({...part, box: boxOf(part.places), at: 0, shift: [0, 0] }));
   boxes.sort((a, b) => b.box.height - a.box.height || a.order[0] - b.order[0]);
   const area = boxes.reduce((sum, { box }) => sum + box.width * box.height, 0);
   const widest = boxes.reduce((most, { box }) => Math.max(most, box.width), 0);
   const rowWidth = Math.max(widest, Math.sqrt(area * PACKED_WIDTH_RATIO));
+  /** @type {{ x: number, y: number, height: number, parts: (typeof boxes) }[]} */
   const rows = [{ x: 0, y: 0, height: 0, parts: [] }];
   for (const part of boxes) {
     const last = rows.at(-1);
@@ -149,13 +195,19 @@ function pack(parts) {
   const width = rows.reduce((most, row) => Math.max(most, row.x), 0);
   for (const row of rows) {
     for (const part of row.parts) {
-      part.shift = [part.at + (width - row.x) / 2 - part.box.left, row.y + (row.height - part.box.height) / 2 - part.box.top];
+      part.shift =
+        [part.at + (width - row.x) / 2 - part.box.left, row.y + (row.height - part.box.height) / 2 - part.box.top];
     }
   }
   return { boxes, width, height: rows.at(-1).y + rows.at(-1).height };
 }
 
-/** A place for each name from 1, in a box whose upper left corner is 0, 0; `edges` are in the order in which they came. */
+/**
+ * A place for each name from 1, in a box whose upper left corner is 0, 0; `edges` are in the order in which they came.
+ * @param {number} nodes
+ * @param {Link[]} edges
+ * @returns {Layout}
+ */
 export function layOut(nodes, edges) {
   const x = new Float64Array(nodes + 1);
   const y = new Float64Array(nodes + 1);
@@ -171,15 +223,24 @@ export function layOut(nodes, edges) {
   return { x, y, width, height };
 }
 
-/** The same drawing in a box that is not smaller than a page can show well: a smaller one is spread there, so that nodes keep
- * their size and come to stand farther apart. */
-export function fill({ x, y, width, height }) {
+/**
+ * The same drawing in a box that is not smaller than a page can show well: a smaller one is spread there, so that nodes
+ * keep their size and come to stand farther apart.
+ * @param {Layout} layout
+ * @returns {Layout}
+ */
+export function fill({x, y, width, height}) {
   const wide = width > SPACING ? (LEAST_WIDTH - SPACING) / (width - SPACING) : Infinity;
   const high = height > SPACING ? (LEAST_HEIGHT - SPACING) / (height - SPACING) : Infinity;
   const by = Math.max(1, Math.min(wide, high, MOST_SPREAD));
+  /** @param {number} size */
   const spreadTo = (size) => (size - SPACING) * by + SPACING;
   const [wholeWidth, wholeHeight] = [Math.max(LEAST_WIDTH, spreadTo(width)), Math.max(LEAST_HEIGHT, spreadTo(height))];
   const [padX, padY] = [(wholeWidth - spreadTo(width)) / 2, (wholeHeight - spreadTo(height)) / 2];
+  /**
+   * @param {Float64Array} places
+   * @param {number} pad
+   */
   const along = (places, pad) => places.map((at) => (at - SPACING / 2) * by + SPACING / 2 + pad);
   return { x: along(x, padX), y: along(y, padY), width: wholeWidth, height: wholeHeight };
 }

@@ -1,13 +1,20 @@
-// The machine of the definitions: a network with its registers, and at each node the rule that is enabled there. Counts are
-// kept with each change, so that a change costs what stands near it, and not what the network holds.
+// The machine of the definitions: a network with its registers, and at each node the rule that is enabled there. Counts
+// are kept with each change, so that a change costs what stands near it, and not what the network holds.
 
 /** The most that a node adds to a bound, and what a rule set does with flags. */
-export const RULE_SETS = { hh: { weight: 1, flags: false }, manne: { weight: 3, flags: true } };
+export const RULE_SETS = {
+  hh: {weight: 1, flags: false},
+  manne: {weight: 3, flags: true}
+};
 
 const NOBODY = 0;
 
 export class Machine {
-  /** A network without edges of the names 1 to `nodes`, the first of which are present, so many. */
+  /**
+   * A network without edges of the names 1 to `nodes`, the first of which are present, so many.
+   * @param {RuleName} rules
+   * @param {number} nodes
+   */
   constructor(rules, nodes, present = nodes) {
     this.rules = rules;
     this.nodes = nodes;
@@ -23,6 +30,7 @@ export class Machine {
     return { here: this.here.slice(), pointers: this.pointer.slice(), flags: this.flag.slice(), ends };
   }
 
+  /** @param {MachineState} state */
   load({ here, pointers, flags, ends }) {
     this.here = here.slice();
     this.pointer = pointers.slice();
@@ -40,6 +48,10 @@ export class Machine {
   recount() {
     this.suitors = new Int32Array(this.nodes + 1);
     this.open = new Int32Array(this.nodes + 1);
+    /**
+     * The rule that is enabled at each node, or null.
+     * @type {(string | null)[]}
+     */
     this.rule = new Array(this.nodes + 1).fill(null);
     this.present = this.openEdges = this.nodeCharges = this.pairCount = this.enabledCount = 0;
     for (let v = 1; v <= this.nodes; v += 1) {
@@ -74,22 +86,33 @@ export class Machine {
     return found;
   }
 
-  /** Whom v points at and is pointed at by, or 0. */
+  /**
+   * Whom v points at and is pointed at by, or 0.
+   * @param {number} v
+   */
   partner(v) {
     const w = this.pointer[v];
     return w !== NOBODY && this.pointer[w] === v ? w : NOBODY;
   }
 
+  /** @param {number} v */
   isMarried(v) {
     return this.partner(v) !== NOBODY;
   }
 
-  /** Whether v may seduce its neighbour w, where v is free to. */
+  /**
+   * Whether v may seduce its neighbour w, where v is free to.
+   * @param {number} w
+   * @param {number} v
+   */
   isOpenTo(w, v) {
     return this.pointer[w] === NOBODY && (!this.flags || (this.flag[w] === 0 && w > v));
   }
 
-  /** The rule that is enabled at v, or null. */
+  /**
+   * The rule that is enabled at v, or null.
+   * @param {number} v
+   */
   ruleAt(v) {
     if (this.flags && this.isMarried(v) !== (this.flag[v] === 1)) {
       return "update";
@@ -105,20 +128,32 @@ export class Machine {
     return this.pointer[w] !== v && gone ? "abandon" : null;
   }
 
-  /** The neighbours that v may seduce, where it is free to: by Manne's rules the greatest of them alone is a target. */
+  /**
+   * The neighbours that v may seduce, where it is free to: by Manne's rules the greatest of them alone is a target.
+   * @param {number} v
+   */
   openNeighbours(v) {
     return [...this.neighbours[v]].filter((w) => this.isOpenTo(w, v)).sort((a, b) => a - b);
   }
 
+  /** @param {number} w */
   isCourted(w) {
     return this.pointer[w] === NOBODY && this.suitors[w] > 0;
   }
 
+  /**
+   * @param {number} v
+   * @param {number} w
+   */
   awaits(v, w) {
     return this.pointer[v] === w && this.pointer[w] === NOBODY;
   }
 
-  /** Whether the edge from v to w adds nothing to the charge. */
+  /**
+   * Whether the edge from v to w adds nothing to the charge.
+   * @param {number} v
+   * @param {number} w
+   */
   isClosed(v, w) {
     if (this.isMarried(v) || this.isMarried(w)) {
       return true;
@@ -130,7 +165,10 @@ export class Machine {
     return this.awaits(v, w) || this.awaits(w, v) || (this.isCourted(v) && this.isCourted(w));
   }
 
-  /** What v adds to the charge beside the open edges; an absent name, which is null and unflagged, adds nothing. */
+  /**
+   * What v adds to the charge beside the open edges; an absent name, which is null and unflagged, adds nothing.
+   * @param {number} v
+   */
   nodeCharge(v) {
     const married = this.isMarried(v);
     const unanswered = this.pointer[v] !== NOBODY && !married ? 1 : 0;
@@ -148,14 +186,21 @@ export class Machine {
     return 2 * this.edgeCount + RULE_SETS[this.rules].weight * this.present;
   }
 
-  /** Looks again which rule is enabled at v. */
+  /**
+   * Looks again which rule is enabled at v.
+   * @param {number} v
+   */
   look(v) {
     const rule = this.ruleAt(v);
     this.enabledCount += (rule ? 1 : 0) - (this.rule[v] ? 1 : 0);
     this.rule[v] = rule;
   }
 
-  /** Adds `sign` times what these nodes and their edges count for. */
+  /**
+   * Adds `sign` times what these nodes and their edges count for.
+   * @param {number[]} touched
+   * @param {number} sign
+   */
   count(touched, sign) {
     touched.forEach((v, at) => {
       this.nodeCharges += sign * this.nodeCharge(v);
@@ -168,10 +213,18 @@ export class Machine {
     });
   }
 
-  /** The nodes whose edges may count otherwise once v points at `target`: v, and a target that is married or courted then and
-   * not before, or the other way round. */
+  /**
+   * The nodes whose edges may count otherwise once v points at `target`: v, and a target that is married or courted
+   * then and not before, or the other way round.
+   * @param {number} v
+   * @param {number} target
+   */
   touchedBy(v, target) {
     const old = this.pointer[v];
+    /**
+     * @param {number} w
+     * @param {number} suitors
+     */
     const turns = (w, suitors) => this.pointer[w] === v || (this.pointer[w] === NOBODY && this.suitors[w] === suitors);
     const touched = [v];
     if (old !== target && old !== NOBODY && turns(old, 1)) {
@@ -183,7 +236,12 @@ export class Machine {
     return touched;
   }
 
-  /** Writes v's registers; `target` is a neighbour, or 0. */
+  /**
+   * Writes v's registers; `target` is a neighbour, or 0.
+   * @param {number} v
+   * @param {number} target
+   * @param {number} flag
+   */
   write(v, target, flag) {
     const old = this.pointer[v];
     const touched = this.touchedBy(v, target);
@@ -202,6 +260,10 @@ export class Machine {
     shown.forEach((w) => this.look(w));
   }
 
+  /**
+   * @param {number} v
+   * @param {number} w
+   */
   link(v, w) {
     this.neighbours[v].add(w);
     this.neighbours[w].add(v);
@@ -209,6 +271,10 @@ export class Machine {
     this.countEdge(v, w, 1);
   }
 
+  /**
+   * @param {number} v
+   * @param {number} w
+   */
   unlink(v, w) {
     if (this.pointer[v] === w) {
       this.write(v, NOBODY, this.flag[v]);
@@ -222,7 +288,11 @@ export class Machine {
     this.countEdge(v, w, -1);
   }
 
-  /** A name becomes present, or is no longer. */
+  /**
+   * A name becomes present, or is no longer.
+   * @param {number} v
+   * @param {number} here
+   */
   setPresent(v, here) {
     this.nodeCharges -= this.nodeCharge(v);
     this.present += here - this.here[v];
@@ -230,11 +300,15 @@ export class Machine {
     this.nodeCharges += this.nodeCharge(v);
   }
 
+  /** @param {number} v */
   join(v) {
     this.setPresent(v, 1);
   }
 
-  /** The node goes, with its edges and the pointers that cross them. */
+  /**
+   * The node goes, with its edges and the pointers that cross them.
+   * @param {number} v
+   */
   leave(v) {
     for (const w of [...this.neighbours[v]]) {
       this.unlink(v, w);
@@ -243,7 +317,12 @@ export class Machine {
     this.setPresent(v, 0);
   }
 
-  /** Counts an edge that no pointer crosses. */
+  /**
+   * Counts an edge that no pointer crosses.
+   * @param {number} v
+   * @param {number} w
+   * @param {number} sign
+   */
   countEdge(v, w, sign) {
     this.openEdges += this.isClosed(v, w) ? 0 : sign;
     this.open[v] += this.isOpenTo(w, v) ? sign : 0;
@@ -252,18 +331,24 @@ export class Machine {
     this.look(w);
   }
 
-  /** All moves at once: what each writes is read in the state before the step. */
+  /**
+   * All moves at once: what each writes is read in the state before the step.
+   * @param {Move[]} moves
+   */
   step(moves) {
-    const writes = moves.map(({ node, rule, target }) =>
-      rule === "update" ? [node, this.pointer[node], this.isMarried(node) ? 1 : 0] : [node, target, this.flag[node]],
+    const writes = moves.map(
+      ({ node, rule, target }) =>
+        rule === "update" ? [node, this.pointer[node], this.isMarried(node) ? 1 : 0] : [node, target, this.flag[node]],
     );
     for (const [node, target, flag] of writes) {
       this.write(node, target, flag);
     }
   }
 
+  /** @param {number} spent */
   status(spent) {
     const { present, edgeCount, pairCount, enabledCount, charge } = this;
-    return `nodes=${present} edges=${edgeCount} pairs=${pairCount} enabled=${enabledCount} charge=${charge} spent=${spent}`;
+    return `nodes=${present} edges=${edgeCount} pairs=${pairCount} enabled=${enabledCount} charge=${charge} spent=${
+      spent}`;
   }
 }

@@ -1,14 +1,21 @@
-// Puts the page together: a transcript that stands in it is played; else there is a network to break. Transcripts that are dropped
-// on it are judged by the engine inside, and played.
-import { byId } from "./svg.mjs";
-import { Playing } from "./playing.mjs";
-import { canRun, Engine } from "./playground/engine.mjs";
-import { LabPage } from "./playground/lab_page.mjs";
-import { listenToFiles } from "./playground/opening.mjs";
+// Puts the page together: a transcript that stands in it is played; else there is a network to break. What is opened,
+// dropped or pasted is told apart: the engine inside judges a transcript, plays a script, and links a graph.
+import {Playing} from "./playing.mjs";
+import {canRun, Engine} from "./playground/engine.mjs";
+import {forget, keep, kept} from "./playground/keeping.mjs";
+import {LabPage} from "./playground/lab_page.mjs";
+import {listenToFiles} from "./playground/opening.mjs";
+import {kindOf} from "./playground/text_kinds.mjs";
+import {byId, nameWindow} from "./svg.mjs";
 
 const LONGEST_SHOWN = 300;
-const WITHOUT = "The engine of this page wants 64-bit WebAssembly memory, which this browser lacks: Chrome 133, Edge 133, Firefox 134 and later ones have it. Transcripts can be played here all the same: open one.";
+// so many milliseconds after a change is it kept; larger ones are kept only when the page is left
+const SOON = 400;
+const LARGE = 1 << 20;
+const WITHOUT =
+  "The engine of this page needs 64-bit WebAssembly memory, which this browser lacks: Chrome 133, Edge 133, Firefox 134 and later ones have it. Transcripts can be played here all the same: open one.";
 
+/** @param {string} id */
 function dataOf(id) {
   return JSON.parse(byId(id).textContent);
 }
@@ -16,70 +23,179 @@ function dataOf(id) {
 class Page {
   constructor() {
     this.playing = new Playing();
+    /** @type {LabPage | null} */
     this.lab = null;
+    /**
+     * The transcript that was opened here, while it is played.
+     * @type {string | null}
+     */
+    this.opened = null;
     const bytes = dataOf("engine");
     this.runs = bytes !== null && canRun();
-    // loaded once, when it is wanted first
+    // loaded once, when it is needed first
+    /** @type {Promise<Engine> | undefined} */
+    this.loaded = undefined;
     this.engine = () => (this.loaded ??= Engine.load(Uint8Array.from(atob(bytes), (letter) => letter.charCodeAt(0))));
     byId("to-lab").hidden = !this.runs;
-    byId("to-lab").addEventListener("click", () => this.openLab());
+    byId("to-lab").addEventListener("click", () => this.openLab(null));
+    /**
+     * The transcript that stands in the page, or null.
+     * @type {string | null}
+     */
+    this.embedded = dataOf("transcript");
+    byId("to-transcript").hidden = this.embedded === null;
+    byId("to-transcript").addEventListener("click", () => this.play(this.embedded, dataOf("judge")));
     byId("refusal-close").addEventListener("click", () => this.refuse(null));
-    listenToFiles((bytes) => this.judge(bytes));
+    listenToFiles((data, name) => this.open(data, name), (wrong) => this.refuse(wrong));
+    addEventListener("pagehide", () => this.keep());
   }
 
-  start() {
-    const text = dataOf("transcript");
-    if (text !== null) {
-      this.play(text, dataOf("judge"));
+  async start() {
+    const before = kept();
+    if (before?.view === "player" && before.transcript !== null) {
+      this.keptLab = before.lab;
+      await this.judge(new TextEncoder().encode(before.transcript));
+    } else if (this.embedded !== null && before?.view !== "lab") {
+      this.play(this.embedded, dataOf("judge"));
     } else {
-      this.openLab();
+      await this.openLab(before?.lab ?? null);
     }
   }
 
+  /**
+   * @param {string} text
+   * @param {Judge} judge
+   */
   play(text, judge) {
     this.lab?.leave();
     document.body.classList.remove("lab");
     this.playing.begin(text, judge);
   }
 
-  async openLab() {
+  /** @param {import("./playground/keeping.mjs").KeptLab | null} state what was kept before a reload, or null */
+  async openLab(state) {
+    if (this.runs) {
+      const engine = await this.engine();
+      this.lab ??= this.labPage(engine);
+    }
+    this.showLab(state);
+  }
+
+  /** @param {import("./playground/keeping.mjs").KeptLab | null} state */
+  showLab(state) {
     if (document.body.classList.contains("lab")) {
       return;
     }
     this.playing.end();
+    this.opened = null;
     document.body.classList.remove("hh", "manne", "broken", "undrawn");
     document.body.classList.add("lab");
-    document.title = "Break a network by hand";
-    byId("title").textContent = "Each node follows a few rules and knows its neighbours alone. Whatever you break, they pair up anew.";
-    if (!this.runs) {
+    nameWindow("Break a network by hand");
+    byId("title").textContent = "Each node knows its neighbours alone. Whatever you break, they pair up anew.";
+    if (this.lab) {
+      this.lab.enter(state ?? this.keptLab ?? null);
+    } else {
       document.body.classList.add("engineless");
       byId("hint").textContent = WITHOUT;
-      return;
     }
-    const engine = await this.engine();
-    this.lab ??= new LabPage(engine, (text) => this.judge(new TextEncoder().encode(text)), (wrong) => this.refuse(wrong));
-    this.lab.enter();
   }
 
-  /** Has the engine judge a transcript, and plays it where it is accepted. */
+  /** @param {Engine} engine */
+  labPage(engine) {
+    const lab =
+      new LabPage(engine, (text) => this.judge(new TextEncoder().encode(text)), (wrong) => this.refuse(wrong));
+    lab.play.hasChanged = () => this.keepSoon();
+    return lab;
+  }
+
+  /** Keeps what stands here for a reload, but for the large. */
+  keepSoon() {
+    this.soon ??= setTimeout(() => {
+      this.soon = null;
+      if (this.lab.play.labs.reduce((sum, lab) => sum + lab.size, 0) < LARGE) {
+        this.keep();
+      }
+    }, SOON);
+  }
+
+  keep() {
+    const isLab = document.body.classList.contains("lab");
+    const state = this.lab?.play.labs.length > 0 ? this.lab.state : this.keptLab ?? null;
+    if (isLab || this.opened !== null) {
+      keep(isLab ? "lab" : "player", state, this.opened);
+    } else {
+      forget();
+    }
+  }
+
+  /**
+   * Opens a text of any kind.
+   * @param {Uint8Array} bytes
+   * @param {string} name the file's, or empty
+   */
+  async open(bytes, name) {
+    const text = new TextDecoder().decode(bytes);
+    const kind = kindOf(text, name);
+    if (kind === "transcript") {
+      await this.judge(bytes);
+    } else if (kind === "nothing" || kind === "GraphML") {
+      const said = kind === "nothing" ?
+        "There is nothing in it." :
+        "GraphML and other XML are not read here: save the graph as an edge list, or as node-link JSON.";
+      this.refuse({ said, line: "" });
+    } else if (!this.runs) {
+      this.refuse({ said: WITHOUT, line: "" });
+    } else {
+      await this.openInLab(text, name, kind);
+    }
+  }
+
+  /**
+   * @param {string} text
+   * @param {string} name
+   * @param {string} kind
+   */
+  async openInLab(text, name, kind) {
+    const engine = await this.engine();
+    this.lab ??= this.labPage(engine);
+    this.lab.openText(text, name, kind, () => this.showLab(null));
+  }
+
+  /**
+   * Has the engine judge a transcript, and plays it if it is accepted.
+   * @param {Uint8Array} bytes
+   */
   async judge(bytes) {
     const text = new TextDecoder().decode(bytes);
     if (!this.runs) {
+      this.opened = text;
       this.play(text, { verdict: null });
       return;
     }
     const { said, accepted, line } = (await this.engine()).audit(bytes);
-    this.refuse(accepted ? null : { said: `The transcript is refused: ${said}`, line: text.split("\n")[line - 1] || "(there is no such line, or it is empty)" });
+    this.refuse(accepted ? null : {
+      said: `The transcript is refused: ${said}`,
+      line: text.split("\n")[line - 1] || "(there is no such line, or it is empty)"
+    });
     if (accepted) {
+      this.opened = text;
       this.play(text, { here: true, verdict: said });
+    } else if (!this.playing.isOn && !document.body.classList.contains("lab")) {
+      await this.openLab(null);
     }
   }
 
-  /** Shows what is wrong with what was given, and the line where it is; null where nothing is wrong. */
+  /**
+   * Shows what is wrong with what was given, and the line where it is; null if nothing is wrong.
+   * @param {Wrong | null} wrong
+   */
   refuse(wrong) {
     byId("refusal").hidden = wrong === null;
     byId("refusal-said").textContent = wrong?.said ?? "";
     byId("refusal-line").textContent = (wrong?.line ?? "").slice(0, LONGEST_SHOWN);
+    if (wrong) {
+      byId("refusal").scrollIntoView({ block: "nearest" });
+    }
   }
 }
 

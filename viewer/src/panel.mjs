@@ -1,15 +1,19 @@
 // What stands beside the drawing: the entry with its reply, the entries near it, and the state in numbers.
-import { counted, grouped } from "./numbers.mjs";
-import { byId } from "./svg.mjs";
+import {counted, grouped} from "./numbers.mjs";
+import {byId} from "./svg.mjs";
 
 const NEAR = 3;
 const LONGEST = 400;
 
+/** @param {string} text */
 function cut(text) {
   return text.length > LONGEST ? `${text.slice(0, LONGEST)} … (${grouped(text.length)} characters)` : text;
 }
 
-/** What stands before the first entry: nothing, or the entries that led to a base. */
+/**
+ * What stands before the first entry: nothing, or the entries that led to a base.
+ * @param {import("./transcript.mjs").Transcript} transcript
+ */
 function openingOf(transcript) {
   if (!transcript.state) {
     return { kind: "", event: "the opening state", reply: "no entry yet" };
@@ -18,13 +22,20 @@ function openingOf(transcript) {
   return { kind: "base", event: transcript.opening, reply: `the state that ${before} led to` };
 }
 
+/**
+ * @param {import("./transcript.mjs").Transcript} transcript
+ * @param {number} number
+ * @param {number} current
+ */
 function item(transcript, number, current) {
   const made = document.createElement("li");
   const button = document.createElement("button");
   const entry = number === transcript.first ? null : transcript.entry(number);
   button.type = "button";
-  button.dataset.entry = number;
-  button.textContent = entry ? cut(`${entry.number} ${entry.event} = ${entry.reply}`) : transcript.state ? `${number} the base` : `${number} the opening state`;
+  button.dataset.entry = String(number);
+  button.textContent = entry ? cut(`${entry.number} ${entry.event} = ${entry.reply}`) :
+    transcript.state ? `${number} the base` :
+                       `${number} the opening state`;
   button.tabIndex = -1;
   made.classList.toggle("refused", Boolean(entry?.refused));
   made.classList.toggle("disturbs", Boolean(entry?.disturbs));
@@ -35,7 +46,10 @@ function item(transcript, number, current) {
   return made;
 }
 
-/** A base further down, which is no entry and is not gone to. */
+/**
+ * A base further down, which is no entry and is not gone to.
+ * @param {string} line
+ */
 function baseItem(line) {
   const made = document.createElement("li");
   made.className = "base";
@@ -44,16 +58,25 @@ function baseItem(line) {
 }
 
 export class Panel {
+  /**
+   * @param {import("./replay.mjs").Replay} replay
+   * @param {(number: number) => void} goTo
+   */
   constructor(replay, goTo) {
     this.replay = replay;
     byId("near").addEventListener("click", (event) => {
-      const button = event.target.closest("button");
+      const button = /** @type {Element} */ (event.target).closest("button");
       if (button) {
         goTo(Number(button.dataset.entry));
       }
     });
   }
 
+  /**
+   * @param {import("./machine.mjs").Machine} machine
+   * @param {number} number
+   * @param {Entry} entry
+   */
   show(machine, number, entry) {
     this.showEntry(number, entry);
     this.showNear(number);
@@ -78,6 +101,10 @@ export class Panel {
     byId("quiet").classList.toggle("stable", machine.enabledCount === 0);
   }
 
+  /**
+   * @param {number} number
+   * @param {Entry | null} entry
+   */
   showEntry(number, entry) {
     const { kind, event, reply } = entry ?? openingOf(this.replay.transcript);
     byId("number").textContent = grouped(number);
@@ -85,9 +112,13 @@ export class Panel {
     byId("reply").textContent = cut(reply);
     byId("entry").classList.toggle("refused", Boolean(entry?.refused));
     byId("entry").classList.toggle("disturbs", Boolean(entry?.disturbs));
-    byId("kind").textContent = entry?.refused ? "⊘ refused" : entry?.disturbs ? "↯ disturbance" : kind === "base" ? kind : "";
+    byId("kind").textContent = entry?.refused ? "⊘ refused" :
+      entry?.disturbs                         ? "↯ disturbance" :
+      kind === "base"                         ? kind :
+                                                "";
   }
 
+  /** @param {number} number */
   showNear(number) {
     const { transcript } = this.replay;
     const first = Math.max(transcript.first, Math.min(number - NEAR, transcript.last - 2 * NEAR));

@@ -1,22 +1,34 @@
 // The drawing as a file of its own, as it is seen: SVG, or PNG that the browser makes of it.
-import { byId } from "./svg.mjs";
+import {byId} from "./svg.mjs";
 
 const TEXT_STYLES = ["fill", "font-size", "font-weight", "font-family", "text-anchor"];
 const SHAPE_STYLES = ["fill", "stroke", "stroke-width", "stroke-dasharray", "stroke-linecap", "opacity"];
 // what an element has where nothing is said
-const PLAIN = { stroke: "none", "stroke-width": "1px", "stroke-dasharray": "none", "stroke-linecap": "butt", opacity: "1" };
+/** @type {Record<string, string>} */
+const PLAIN = {
+  stroke: "none",
+  "stroke-width": "1px",
+  "stroke-dasharray": "none",
+  "stroke-linecap": "butt",
+  opacity: "1"
+};
 const DROPPED = /^(class|tabindex|role|aria-.*|data-.*)$/;
 // a PNG is twice as fine as what is seen, and at least so many pixels wide or high
 const PNG_SCALE = 2;
 const PNG_PIXELS = 1600;
 const MOST_PIXELS = 8192;
 
+/** @param {Element} element */
 function isSeen(element) {
   const style = getComputedStyle(element);
   return style.display !== "none" && style.visibility !== "hidden";
 }
 
-/** Writes how an element looks into a copy of it. */
+/**
+ * Writes how an element looks into a copy of it.
+ * @param {Element} element
+ * @param {Element} copy
+ */
 function writeStyles(element, copy) {
   const style = getComputedStyle(element);
   for (const name of element.localName === "text" ? TEXT_STYLES : SHAPE_STYLES) {
@@ -27,52 +39,85 @@ function writeStyles(element, copy) {
   }
 }
 
-/** A copy of an element with all that is seen in it, which needs no style sheet. */
+/**
+ * Writes by how much an element is enlarged into a copy of it.
+ * @param {Element} element
+ * @param {Element} copy
+ */
+function writeScale(element, copy) {
+  const { scale } = getComputedStyle(element);
+  if (scale && scale !== "none" && scale !== "1") {
+    copy.setAttribute("transform", `scale(${scale}) ${element.getAttribute("transform") ?? ""}`.trim());
+  }
+}
+
+/**
+ * A copy of an element with all that is seen in it, which needs no style sheet.
+ * @param {Element} element
+ * @param {boolean} always whether what is not seen is copied too
+ * @returns {Element}
+ */
 function copyOf(element, always) {
-  const made = element.cloneNode(false);
+  const made = /** @type {Element} */ (element.cloneNode(false));
   for (const { name } of [...element.attributes].filter(({ name }) => DROPPED.test(name))) {
     made.removeAttribute(name);
   }
+  writeScale(element, made);
   if (element.children.length === 0) {
     writeStyles(element, made);
   }
   for (const child of element.childNodes) {
     if (child.nodeType === Node.TEXT_NODE) {
       made.append(child.cloneNode());
-    } else if (child.nodeType === Node.ELEMENT_NODE && (always || child.localName === "defs" || isSeen(child))) {
+    } else if (child instanceof Element && (always || child.localName === "defs" || isSeen(child))) {
       made.append(copyOf(child, always || child.localName === "defs"));
     }
   }
   return made;
 }
 
-/** A copy of the drawing, names that are too small to be read on the page included. */
+/**
+ * A copy of the drawing, with names that are too small to be read on the page, and with the heads of arrows.
+ * @param {SVGSVGElement} svg
+ */
 function drawingOf(svg) {
   const nameless = svg.classList.contains("nameless");
   svg.classList.remove("nameless");
   const made = copyOf(svg, false);
+  if (!svg.querySelector("defs")) {
+    made.prepend(copyOf(document.querySelector("#marks defs"), true));
+  }
   svg.classList.toggle("nameless", nameless);
   return made;
 }
 
-/** The text of an SVG file that shows what an SVG element of the page shows, on the page's paper. */
+/**
+ * The text of an SVG file that shows what an SVG element of the page shows, on the page's paper.
+ * @param {SVGSVGElement} svg
+ * @param {string} title
+ */
 export function standalone(svg, title) {
   const made = drawingOf(svg);
-  const [left, top, width, height] = svg.getAttribute("viewBox").split(" ");
+  const [left, top, width, height] = svg.getAttribute("viewBox").split(" ").map(Number);
   const paper = document.createElementNS(svg.namespaceURI, "rect");
   const colour = getComputedStyle(document.body).backgroundColor;
-  Object.entries({ x: left, y: top, width, height, fill: colour }).forEach(([key, value]) => paper.setAttribute(key, value));
+  Object.entries({ x: left, y: top, width, height, fill: colour })
+    .forEach(([key, value]) => paper.setAttribute(key, String(value)));
   const name = document.createElementNS(svg.namespaceURI, "title");
   name.textContent = title;
   made.prepend(name, paper);
   made.removeAttribute("id");
   const scale = Math.min(svg.clientWidth / width, svg.clientHeight / height);
-  made.setAttribute("width", Math.round(width * scale));
-  made.setAttribute("height", Math.round(height * scale));
+  made.setAttribute("width", String(Math.round(width * scale)));
+  made.setAttribute("height", String(Math.round(height * scale)));
   return `${new XMLSerializer().serializeToString(made)}\n`;
 }
 
-/** The PNG of an SVG text. */
+/**
+ * The PNG of an SVG text.
+ * @param {string} text
+ * @returns {Promise<Blob>}
+ */
 async function pngOf(text) {
   const image = new Image();
   image.src = `data:image/svg+xml;charset=utf-8,${encodeURIComponent(text)}`;
@@ -85,6 +130,10 @@ async function pngOf(text) {
   return new Promise((done) => canvas.toBlob(done, "image/png"));
 }
 
+/**
+ * @param {Blob} blob
+ * @param {string} name
+ */
 function hand(blob, name) {
   const link = document.createElement("a");
   link.href = URL.createObjectURL(blob);
@@ -93,14 +142,20 @@ function hand(blob, name) {
   setTimeout(() => URL.revokeObjectURL(link.href), 10_000);
 }
 
-/** Lets the buttons save what `svg` shows; `told()` is the file's name without its end, and its title. */
-export function listenToSaving(svg, told) {
-  byId("save-svg").addEventListener("click", () => {
-    const { name, title } = told();
+/**
+ * Lets two buttons save a picture.
+ * @param {string} svgButton
+ * @param {string} pngButton
+ * @param {() => { svg: SVGSVGElement, name: string, title: string }} told the picture, the file's name without its end,
+ *   and the title
+ */
+export function listenToSaving(svgButton, pngButton, told) {
+  byId(svgButton).addEventListener("click", () => {
+    const { svg, name, title } = told();
     hand(new Blob([standalone(svg, title)], { type: "image/svg+xml" }), `${name}.svg`);
   });
-  byId("save-png").addEventListener("click", async () => {
-    const { name, title } = told();
+  byId(pngButton).addEventListener("click", async () => {
+    const { svg, name, title } = told();
     hand(await pngOf(standalone(svg, title)), `${name}.png`);
   });
 }

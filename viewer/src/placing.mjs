@@ -8,30 +8,59 @@ const DOWN = 12;
 // so many pixels farther away is it worth that nothing is covered where all would be
 const WORTH = 500;
 
-/** How far a place is from a box; 0 inside. */
+/**
+ * How far a place is from a box; 0 inside.
+ * @param {Place} place
+ * @param {Box} box
+ */
 function distanceToBox({ x, y }, { left, top, width, height }) {
+  /**
+   * @param {number} at
+   * @param {number} from
+   * @param {number} size
+   */
   const beyond = (at, from, size) => Math.max(from - at, 0, at - from - size);
   return Math.hypot(beyond(x, left, width), beyond(y, top, height));
 }
 
-/** Boxes of a size in a room: right and left of a place, and all over the room. */
+/**
+ * Boxes of a size in a room: right and left of a place, and all over the room.
+ * @param {Place} place
+ * @param {{ left: number, right: number, top: number, bottom: number }} room
+ * @param {Size} size
+ */
 function boxes(place, room, { width, height }) {
   const [left, right] = [room.left + BORDER, Math.max(room.left + BORDER, room.right - width - BORDER)];
   const [top, bottom] = [room.top + BORDER, Math.max(room.top + BORDER, room.bottom - height - BORDER)];
   const level = Math.max(top, Math.min(bottom, place.y - height / 3));
-  const beside = [place.x + GAP, place.x - GAP - width].filter((at) => at >= left && at <= right).map((at) => ({ left: at, top: level, width, height }));
+  const beside = [place.x + GAP, place.x - GAP - width]
+                   .filter((at) => at >= left && at <= right)
+                   .map((at) => ({ left: at, top: level, width, height }));
+  /**
+   * @param {number} from
+   * @param {number} to
+   * @param {number} at
+   * @param {number} steps
+   */
   const share = (from, to, at, steps) => from + ((to - from) * at) / (steps - 1);
   const over = Array.from({ length: ACROSS * DOWN }, (_, at) => ({
-    left: share(left, right, at % ACROSS, ACROSS),
-    top: share(top, bottom, Math.floor(at / ACROSS), DOWN),
-    width,
-    height,
-  }));
+                                                       left: share(left, right, at % ACROSS, ACROSS),
+                                                       top: share(top, bottom, Math.floor(at / ACROSS), DOWN),
+                                                       width,
+                                                       height,
+                                                     }));
   return [...beside, ...over];
 }
 
-/** The best box of a size for what lies at a place of the room; `shareIn` tells which share of all things a box covers. */
+/**
+ * The best box of a size for what lies at a place of the room; `shareIn` tells which share of all things a box covers.
+ * @param {Place} place
+ * @param {Size} size
+ * @param {(box: Box) => number} shareIn
+ * @param {{ left: number, right: number, top: number, bottom: number }} room
+ */
 export function bestBox(place, room, size, shareIn) {
+  /** @param {Box} box */
   const cost = (box) => {
     const far = distanceToBox(place, box);
     return WORTH * shareIn(box) + far + (far < GAP - 1 ? 2 * WORTH : 0);

@@ -1,22 +1,45 @@
 // Where the page stands in the transcript: slider, buttons, keys, and playing on by itself.
-import { grouped } from "./numbers.mjs";
-import { byId } from "./svg.mjs";
+import {grouped} from "./numbers.mjs";
+import {byId, field} from "./svg.mjs";
 
 const FAR = 10;
 
 export class Player {
-  /** `show` draws an entry; `replay` knows where disturbances are. What is told to `moved` is where somebody went. */
+  /**
+   * `show` draws an entry; `replay` knows where disturbances are. What is told to `moved` is where somebody went.
+   * @param {import("./replay.mjs").Replay} replay
+   * @param {(number: number) => void} show
+   */
   constructor(replay, show) {
     const { first, last, state } = replay.transcript;
-    Object.assign(this, { replay, show, first, last, at: first, since: null, moved: () => {} });
+    this.replay = replay;
+    this.show = show;
+    this.first = first;
+    this.last = last;
+    this.at = first;
+    this.owed = 0;
+    /**
+     * When the last picture was while it plays, or null.
+     * @type {number | null}
+     */
+    this.since = null;
+    /**
+     * Is told where somebody went.
+     * @type {(number: number) => void}
+     */
+    this.moved = () => {};
     if (state) {
       byId("first").title = "the base (Home)";
       byId("first").setAttribute("aria-label", "the base");
     }
-    byId("slider").max = byId("go").max = last;
-    byId("slider").min = byId("go").min = first;
-    byId("slider").addEventListener("input", () => this.goTo(Number(byId("slider").value)));
-    byId("go").addEventListener("change", () => this.goTo(Number(byId("go").value)));
+    field("slider").max = field("go").max = String(last);
+    field("slider").min = field("go").min = String(first);
+    field("slider").addEventListener("input", () => this.goTo(Number(field("slider").value)));
+    field("go").addEventListener("change", () => this.goTo(Number(field("go").value)));
+    /**
+     * What buttons and keys do.
+     * @type {Record<string, () => void>}
+     */
     this.actions = {
       first: () => this.goTo(first),
       back: () => this.goTo(this.at - 1),
@@ -33,24 +56,28 @@ export class Player {
     }
   }
 
-  /** Goes to an entry by hand: playing stops. */
+  /**
+   * Goes to an entry by hand: playing stops.
+   * @param {number} number
+   */
   goTo(number) {
     this.pause();
     this.move(number);
   }
 
+  /** @param {number} number */
   move(number) {
     this.at = Math.min(this.last, Math.max(this.first, Math.round(number) || 0));
-    byId("slider").value = byId("go").value = this.at;
+    field("slider").value = field("go").value = String(this.at);
     byId("slider").setAttribute("aria-valuetext", `entry ${grouped(this.at)} of ${grouped(this.last)}`);
-    byId("first").disabled = byId("back").disabled = byId("previous").disabled = this.at === this.first;
-    byId("last").disabled = byId("forward").disabled = byId("next").disabled = this.at === this.last;
+    field("first").disabled = field("back").disabled = field("previous").disabled = this.at === this.first;
+    field("last").disabled = field("forward").disabled = field("next").disabled = this.at === this.last;
     this.show(this.at);
     this.moved(this.at);
   }
 
   get speed() {
-    return Number(byId("speed").value);
+    return Number(field("speed").value);
   }
 
   toggle() {
@@ -80,7 +107,10 @@ export class Player {
     byId("entry").setAttribute("aria-live", playing ? "off" : "polite");
   }
 
-  /** One frame: as many entries as are due by now. */
+  /**
+   * One frame: as many entries as are due by now.
+   * @param {number} now
+   */
   tick(now) {
     if (this.since === null) {
       return;

@@ -1,45 +1,77 @@
 // Plays a transcript: it is replayed, and each part of the page shows the entry that is gone to.
-import { Address } from "./address.mjs";
-import { MOST_DRAWN } from "./drawing.mjs";
-import { Inspector } from "./inspector.mjs";
-import { showJudge } from "./judge.mjs";
-import { listen, PLAYER_KEYS } from "./keys.mjs";
-import { counted, grouped } from "./numbers.mjs";
-import { Panel } from "./panel.mjs";
-import { listenToSaving } from "./picture.mjs";
-import { Player } from "./player.mjs";
-import { plotsOf } from "./plots.mjs";
-import { Replay } from "./replay.mjs";
-import { Stage } from "./stage.mjs";
-import { byId } from "./svg.mjs";
-import { nodesOf, Transcript, TranscriptFault } from "./transcript.mjs";
+import {Address} from "./address.mjs";
+import {MOST_DRAWN} from "./drawing.mjs";
+import {Inspector} from "./inspector.mjs";
+import {showJudge} from "./judge.mjs";
+import {listen, PLAYER_KEYS} from "./keys.mjs";
+import {counted, grouped} from "./numbers.mjs";
+import {Panel} from "./panel.mjs";
+import {listenToSaving} from "./picture.mjs";
+import {Player} from "./player.mjs";
+import {plotsOf} from "./plots.mjs";
+import {Replay} from "./replay.mjs";
+import {Stage} from "./stage.mjs";
+import {byId, field, graphic, nameWindow} from "./svg.mjs";
+import {nodesOf, Transcript, TranscriptFault} from "./transcript.mjs";
 
-const RULE_SET_NAMES = { hh: "Hsu and Huang", manne: "Manne, Mjelde, Pilard and Tixeuil" };
+const RULE_SET_NAMES = {
+  hh: "Hsu and Huang",
+  manne: "Manne, Mjelde, Pilard and Tixeuil"
+};
 // the parts of the page in which a transcript is played
 const PARTS = ["player", "bar"];
 
-function showTitle({ nodes, length, rules, first, state }) {
-  const size = `${counted(nodes, "node")}, ${counted(length, "entry", "entries")}`;
-  const base = state ? `, from the base at entry ${grouped(first)}` : "";
-  byId("title").textContent = `${size}, rules of ${RULE_SET_NAMES[rules]}${base}`;
-  document.title = `${rules}: ${size}${base}`;
+/**
+ * How large a transcript is.
+ * @param {Transcript} transcript
+ */
+function sizeOf({ nodes, length }) {
+  return `${counted(nodes, "node")}, ${counted(length, "entry", "entries")}`;
 }
 
-/** The stage, or null with a word on what is there in its place. */
+/**
+ * The base with which a transcript begins, in words.
+ * @param {Transcript} transcript
+ */
+function baseOf({ first, state }) {
+  return state ? `, from the base at entry ${grouped(first)}` : "";
+}
+
+/** @param {Transcript} transcript */
+function titleOf(transcript) {
+  return `${transcript.rules}: ${sizeOf(transcript)}${baseOf(transcript)}`;
+}
+
+/** @param {Transcript} transcript */
+function showTitle(transcript) {
+  byId("title").textContent =
+    `${sizeOf(transcript)}, rules of ${RULE_SET_NAMES[transcript.rules]}${baseOf(transcript)}`;
+  nameWindow(titleOf(transcript));
+}
+
+/**
+ * The stage, or null with a word on what is there in its place.
+ * @param {import("./replay.mjs").Replay} replay
+ */
 function stageOf(replay) {
   const { nodes } = replay.transcript;
   if (nodes > 0 && nodes <= MOST_DRAWN) {
-    return new Stage(byId("graph"), nodes, replay.edgesEver);
+    return new Stage(graphic("graph"), nodes, replay.edgesEver);
   }
   document.body.classList.add("undrawn");
-  byId("undrawn").textContent =
-    nodes === 0
-      ? "No nodes: there is nothing to draw. The plots stand in the drawing's place."
-      : `${grouped(nodes)} nodes: up to ${grouped(MOST_DRAWN)} are drawn. The plots of the whole transcript stand in the drawing's place; a node that is found by its number is told of here.`;
+  byId("undrawn").textContent = nodes === 0 ?
+    "No nodes: there is nothing to draw. The plots stand in the drawing's place." :
+    `${grouped(nodes)} nodes: up to ${
+      grouped(
+        MOST_DRAWN)} are drawn. The plots of the whole transcript stand in the drawing's place; a node that is found by its number is told of here.`;
   return null;
 }
 
-/** What the buttons and keys of the drawing do. */
+/**
+ * What the buttons and keys of the drawing do.
+ * @param {import("./stage.mjs").Stage | null} stage
+ * @param {import("./inspector.mjs").Inspector} inspector
+ */
 function drawingActions(stage, inspector) {
   const zoom = stage?.zoom;
   return {
@@ -50,32 +82,49 @@ function drawingActions(stage, inspector) {
     "node-behind": () => inspector.stepNode(1),
     edge: () => inspector.stepEdge(),
     "let-go": () => inspector.pick(null),
-    find: () => byId("find").select(),
+    find: () => field("find").select(),
   };
 }
 
+/**
+ * @param {number} nodes
+ * @param {import("./inspector.mjs").Inspector} inspector
+ * @param {import("./stage.mjs").Stage | null} stage
+ */
 function listenToFinding(nodes, inspector, stage) {
-  const field = byId("find");
-  field.max = nodes;
-  field.addEventListener("input", () => {
-    const node = Number(field.value);
+  const wanted = field("find");
+  wanted.max = String(nodes);
+  wanted.addEventListener("input", () => {
+    const node = Number(wanted.value);
     const known = Number.isInteger(node) && node >= 1 && node <= nodes;
-    field.setCustomValidity(known || field.value === "" ? "" : `names are 1 to ${grouped(nodes)}`);
+    wanted.setCustomValidity(known || wanted.value === "" ? "" : `names are 1 to ${grouped(nodes)}`);
     inspector.pick(known ? { node } : null);
     if (known) {
       stage?.reveal({ node });
     }
   });
-  field.addEventListener("change", () => field.reportValidity());
+  wanted.addEventListener("change", () => wanted.reportValidity());
 }
 
-/** What a saved picture is called. */
+/**
+ * What a saved picture is called.
+ * @param {Replay} replay
+ * @param {number} number
+ */
 function pictureOf({ transcript }, number) {
   const { rules, nodes } = transcript;
-  return { name: `matching-${rules}-${nodes}-entry-${number}`, title: `${document.title}: after entry ${grouped(number)}` };
+  return {
+    svg: graphic("graph"),
+    name: `matching-${rules}-${nodes}-entry-${number}`,
+    title: `${titleOf(transcript)}: after entry ${grouped(number)}`
+  };
 }
 
-/** Plays a replay until `signal` ends it; the player. */
+/**
+ * Plays a replay until `signal` ends it; the player.
+ * @param {import("./replay.mjs").Replay} replay
+ * @param {AbortSignal} signal
+ */
 function play(replay, signal) {
   const { transcript } = replay;
   const stage = stageOf(replay);
@@ -91,29 +140,38 @@ function play(replay, signal) {
     panel.show(machine, number, entry);
     plots.forEach((plot) => plot.point(number));
     inspector.show();
-    document.body.dataset.entry = number;
+    document.body.dataset.entry = String(number);
   });
-  const actions = { ...drawingActions(stage, inspector), ...player.actions };
+  /** @type {Record<string, () => void>} */
+  const actions = {...drawingActions(stage, inspector), ...player.actions };
   ["zoom-in", "zoom-out", "zoom-fit"].forEach((name) => byId(name).addEventListener("click", actions[name]));
   plots.forEach((plot) => plot.draw());
   new ResizeObserver(() => plots.forEach((plot) => plot.draw())).observe(byId("plots"));
   listenToFinding(transcript.nodes, inspector, stage);
-  listenToSaving(byId("graph"), () => pictureOf(replay, player.at));
+  listenToSaving("save-svg", "save-png", () => pictureOf(replay, player.at));
   listen(actions, PLAYER_KEYS, signal);
-  player.goTo(address.entry);
-  player.moved = (number) => address.show(number);
+  player.goTo(address.entry ?? replay.opening);
+  player.moved = (/** @type {number} */ number) => address.show(number);
   signal.addEventListener("abort", () => player.pause());
 }
 
 
-/** Says what is wrong with the text, and shows nothing else. */
+/**
+ * Says what is wrong with the text, and shows nothing else.
+ * @param {Error} wrong
+ */
 function refuse(wrong) {
   document.body.classList.add("broken");
   byId("title").textContent = `This is no transcript: ${wrong.message}.`;
-  document.title = "no transcript";
+  nameWindow("no transcript");
 }
 
-/** Puts the transcript of a text on the page, with what its judge said of it. */
+/**
+ * Puts the transcript of a text on the page, with what its judge said of it.
+ * @param {string} text
+ * @param {Judge} judge
+ * @param {AbortSignal} signal
+ */
 function show(text, judge, signal) {
   const replay = new Replay(new Transcript(text));
   const { rules } = replay.transcript;
@@ -127,11 +185,15 @@ function show(text, judge, signal) {
 /** The part of the page that plays transcripts, one after another. */
 export class Playing {
   constructor() {
-    this.fresh = PARTS.map((id) => byId(id).cloneNode(true));
+    this.fresh = PARTS.map((id) => /** @type {Element} */ (byId(id).cloneNode(true)));
     this.ended = null;
   }
 
-  /** Plays a text in the place of what was played before. */
+  /**
+   * Plays a text in the place of what was played before.
+   * @param {string} text
+   * @param {Judge} judge
+   */
   begin(text, judge) {
     this.end();
     this.ended = new AbortController();
@@ -147,6 +209,11 @@ export class Playing {
       refuse(wrong);
       showJudge(judge, "no transcript");
     }
+  }
+
+  /** Whether a transcript is played. */
+  get isOn() {
+    return this.ended !== null && !this.ended.signal.aborted;
   }
 
   /** Lets go of keys and the address. */

@@ -1,16 +1,36 @@
 // Plots over entries: lines, with epochs as bands behind them.
-import { bandPath, columnsOf, meanPath, stepOf, stepPath, strideOf } from "./curves.mjs";
-import { grouped } from "./numbers.mjs";
-import { add, byId } from "./svg.mjs";
+import {bandPath, columnsOf, meanPath, stepOf, stepPath, strideOf} from "./curves.mjs";
+import {grouped} from "./numbers.mjs";
+import {add, graphic} from "./svg.mjs";
 
-const MARGIN = { left: 52, right: 14, top: 8, bottom: 18 };
+const MARGIN = {
+  left: 52,
+  right: 14,
+  top: 8,
+  bottom: 18
+};
 // epochs narrower than so many pixels are not told apart, and have no bands
 const LEAST_BAND = 2;
 
+/**
+ * A line's name, which is its class too, and its value after each entry.
+ * @typedef {{ name: string, valueAt: (number: number) => number }} PlotLine
+ */
+
 export class Plot {
-  /** `lines` are name, class and value of each line, lowest first; the greatest value is that of `top`. */
+  /**
+   * `lines` are name, class and value of each line, lowest first; the greatest value is that of `top`.
+   * @param {SVGSVGElement} svg
+   * @param {import("./replay.mjs").Replay} replay
+   * @param {(number: number) => void} goTo
+   * @param {PlotLine[]} lines
+   */
   constructor(svg, replay, lines, goTo) {
-    Object.assign(this, { svg, replay, lines, goTo });
+    this.svg = svg;
+    this.replay = replay;
+    this.lines = lines;
+    this.goTo = goTo;
+    this.width = this.height = 0;
     this.first = replay.transcript.first;
     this.last = replay.transcript.last;
     this.top = 1;
@@ -26,6 +46,7 @@ export class Plot {
     svg.addEventListener("pointermove", (event) => event.buttons & 1 && this.seek(event));
   }
 
+  /** @param {PointerEvent} event */
   seek(event) {
     const x = event.clientX - this.svg.getBoundingClientRect().left;
     const share = (x - MARGIN.left) / (this.width - MARGIN.left - MARGIN.right);
@@ -36,10 +57,12 @@ export class Plot {
     return this.last - this.first;
   }
 
+  /** @param {number} number */
   xOf(number) {
     return MARGIN.left + ((number - this.first) / (this.length || 1)) * (this.width - MARGIN.left - MARGIN.right);
   }
 
+  /** @param {number} value */
   yOf(value) {
     return this.height - MARGIN.bottom - (value / this.top) * (this.height - MARGIN.top - MARGIN.bottom);
   }
@@ -65,9 +88,14 @@ export class Plot {
     caption.textContent = this.stride === 1 ? "" : `mean and range of ${grouped(this.stride)} entries`;
   }
 
+  /** @param {PlotLine} line */
   drawLine(line) {
+    /** @param {number} place */
     const valueAt = (place) => line.valueAt(this.first + place);
-    const [xOf, yOf] = [(place) => this.xOf(this.first + place), (value) => this.yOf(value)];
+    /** @param {number} at */
+    const xOf = (at) => this.xOf(this.first + at);
+    /** @param {number} value */
+    const yOf = (value) => this.yOf(value);
     if (this.stride === 1) {
       add(this.svg, "path", { class: `line ${line.name}`, d: stepPath(valueAt, this.length, xOf, yOf) });
       return;
@@ -96,17 +124,24 @@ export class Plot {
     for (let value = 0; value <= this.top; value += step) {
       const y = this.yOf(value);
       add(this.svg, "line", { class: "grid", x1: MARGIN.left, x2: this.width - MARGIN.right, y1: y, y2: y });
-      add(this.svg, "text", { class: "tick", x: MARGIN.left - 6, y, dy: "0.35em", "text-anchor": "end" }, grouped(value));
+      add(
+        this.svg, "text", { class: "tick", x: MARGIN.left - 6, y, dy: "0.35em", "text-anchor": "end" }, grouped(value));
     }
     const along = stepOf(Math.max(1, this.length), (this.width - MARGIN.left - MARGIN.right) / 80);
     for (let number = Math.ceil(this.first / along) * along; number <= this.last; number += along) {
       const x = this.xOf(number);
       const anchor = x > this.width - 30 ? "end" : "middle";
-      add(this.svg, "text", { class: "tick", x: anchor === "end" ? this.width - 4 : x, y: this.height - 4, "text-anchor": anchor }, grouped(number));
+      add(
+        this.svg, "text",
+        { class: "tick", x: anchor === "end" ? this.width - 4 : x, y: this.height - 4, "text-anchor": anchor },
+        grouped(number));
     }
   }
 
-  /** Moves the cursor to an entry. */
+  /**
+   * Moves the cursor to an entry.
+   * @param {number} number
+   */
   point(number) {
     this.at = number;
     const x = this.xOf(number).toFixed(1);
@@ -115,15 +150,20 @@ export class Plot {
   }
 }
 
-/** Both plots of the page: the budget, and the nodes. */
+/**
+ * Both plots of the page: the budget, and the nodes.
+ * @param {import("./replay.mjs").Replay} replay
+ * @param {(number: number) => void} goTo
+ */
 export function plotsOf(replay, goTo) {
-  const series = (name) => (number) => replay.valueAt(name, number);
+  /** @param {string} name */
+  const series = (name) => (/** @type {number} */ number) => replay.valueAt(name, number);
   const [charge, spent] = [series("charge"), series("spent")];
   const budget = [
     { name: "charge", valueAt: charge },
-    { name: "sum", valueAt: (number) => spent(number) + charge(number) },
-    { name: "bound", valueAt: (number) => replay.bound(number) },
+    { name: "sum", valueAt: (/** @type {number} */ number) => spent(number) + charge(number) },
+    { name: "bound", valueAt: (/** @type {number} */ number) => replay.bound(number) },
   ];
   const counts = ["pairs", "enabled"].map((name) => ({ name, valueAt: series(name) }));
-  return [new Plot(byId("budget"), replay, budget, goTo), new Plot(byId("counts"), replay, counts, goTo)];
+  return [new Plot(graphic("budget"), replay, budget, goTo), new Plot(graphic("counts"), replay, counts, goTo)];
 }

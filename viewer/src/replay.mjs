@@ -1,12 +1,13 @@
 // Replays a transcript once, keeps what the plots show of every entry, and a snapshot here and there to go back to.
-import { Machine, RULE_SETS } from "./machine.mjs";
-import { carryOut, changes, isPossible } from "./entries.mjs";
-import { movesOf, wordsOf } from "./transcript.mjs";
+import {Machine, RULE_SETS} from "./machine.mjs";
+import {carryOut, changes, isPossible} from "./entries.mjs";
+import {movesOf, wordsOf} from "./transcript.mjs";
 
 const SNAPSHOT_BYTES = 64 << 20;
 const LEAST_SPACING = 200;
 
 export class Replay {
+  /** @param {import("./transcript.mjs").Transcript} transcript */
   constructor(transcript) {
     this.transcript = transcript;
     this.machine = new Machine(transcript.rules, transcript.nodes, transcript.present);
@@ -16,10 +17,27 @@ export class Replay {
     this.at = transcript.first;
     this.weight = RULE_SETS[transcript.rules].weight;
     const places = transcript.length + 1;
-    this.series = Object.fromEntries(["charge", "spent", "nodes", "edges", "pairs", "enabled"].map((name) => [name, new Int32Array(places)]));
+    /**
+     * What the plots show, by its name and place.
+     * @type {Record<string, Int32Array>}
+     */
+    this.series = Object.fromEntries(
+      ["charge", "spent", "nodes", "edges", "pairs", "enabled"].map((name) => [name, new Int32Array(places)]));
+    /** @type {number[]} */
     this.disturbances = [];
+    // the last entry of each burst: disturbances between which nobody moves
+    /** @type {number[]} */
+    this.burstEnds = [];
+    /** @type {number | null} */
+    this.firstMove = null;
+    this.lastMove = 0;
     this.moves = 0;
+    /**
+     * Each edge that ever is.
+     * @type {Map<number, Link>}
+     */
     this.union = new Map();
+    /** @type {{ number: number, state: MachineState }[]} */
     this.snapshots = [];
     this.playOnce();
   }
@@ -42,6 +60,10 @@ export class Replay {
       }
       if (entry.disturbs) {
         this.disturbances.push(number);
+        this.noteBurst(number);
+      } else if (changes(entry)) {
+        this.firstMove ??= number;
+        this.lastMove = number;
       }
       if (entry.disturbs && entry.kind === "link") {
         this.meet(wordsOf(entry).map(Number));
@@ -51,7 +73,20 @@ export class Replay {
     this.at = last;
   }
 
-  /** Carries out an entry for the first time; what is spent then. */
+  /**
+   * Adds a disturbance to the burst before it, or begins one if somebody has moved since.
+   * @param {number} number
+   */
+  noteBurst(number) {
+    const goesOn = this.burstEnds.length > 0 && !(this.lastMove > this.burstEnds.at(-1));
+    this.burstEnds.splice(goesOn ? -1 : this.burstEnds.length, 1, number);
+  }
+
+  /**
+   * Carries out an entry for the first time; what is spent then.
+   * @param {Entry} entry
+   * @param {number} spent
+   */
   change(entry, spent) {
     if (!isPossible(this.machine, entry)) {
       throw this.transcript.fault(entry.number, "is nothing that the machine does there");
@@ -66,9 +101,14 @@ export class Replay {
   spacing() {
     const { nodes, edgeCount } = this.machine;
     const bytes = 6 * nodes + 8 * edgeCount + 100;
-    return Math.max(LEAST_SPACING, Math.ceil((nodes + edgeCount) / 10), Math.ceil((this.transcript.length * bytes) / SNAPSHOT_BYTES));
+    return Math.max(
+      LEAST_SPACING, Math.ceil((nodes + edgeCount) / 10), Math.ceil((this.transcript.length * bytes) / SNAPSHOT_BYTES));
   }
 
+  /**
+   * @param {number} number
+   * @param {number} spent
+   */
   note(number, spent) {
     const { machine, series } = this;
     const place = number - this.transcript.first;
@@ -80,12 +120,19 @@ export class Replay {
     series.enabled[place] = machine.enabledCount;
   }
 
-  /** What one of the series has after so many entries. */
+  /**
+   * What one of the series has after so many entries.
+   * @param {string} name
+   * @param {number} number
+   */
   valueAt(name, number) {
     return this.series[name][number - this.transcript.first];
   }
 
-  /** Remembers each edge that ever is, for the layout. */
+  /**
+   * Remembers each edge that ever is, for the layout.
+   * @param {number[]} ends
+   */
   meet(ends) {
     const [v, w] = ends.sort((a, b) => a - b);
     this.union.set(v * 65536 + w, [v, w]);
@@ -100,12 +147,16 @@ export class Replay {
     return `accepted: ${this.transcript.length} entries, ${this.disturbances.length + 1} epochs, ${this.moves} moves`;
   }
 
+  /** @param {number} number */
   bound(number) {
     return 2 * this.valueAt("edges", number) + this.weight * this.valueAt("nodes", number);
   }
 
-  /** The number of the disturbance that began the epoch of an entry, null where the transcript begins at a base behind it; and
-   * which epoch it is, counted from 1. */
+  /**
+   * The number of the disturbance that began the epoch of an entry, null where the transcript begins at a base behind
+   * it; and which epoch it is, counted from 1.
+   * @param {number} number
+   */
   epochAt(number) {
     let [low, high] = [0, this.disturbances.length];
     while (low < high) {
@@ -116,16 +167,35 @@ export class Replay {
     return { start: low === 0 ? opening : this.disturbances[low - 1], place: low + 1 };
   }
 
+  /**
+   * The end of the first burst that ends after an entry, or null.
+   * @param {number} number
+   */
   nextDisturbance(number) {
-    return this.disturbances[this.epochAt(number).place - 1] ?? null;
+    return this.burstEnds.find((end) => end > number) ?? null;
   }
 
-  /** The last disturbance before an entry. */
+  /**
+   * The end of the last burst that ends before an entry, or null.
+   * @param {number} number
+   */
   previousDisturbance(number) {
-    return this.disturbances[this.epochAt(number - 1).place - 2] ?? null;
+    return this.burstEnds.findLast((end) => end < number) ?? null;
   }
 
-  /** The machine after so many entries. */
+  /**
+   * The entry to open at: the base, or else the first move, so that nobody sees a network before it has its edges.
+   * Without moves it is the end of the first burst.
+   */
+  get opening() {
+    const { first, state } = this.transcript;
+    return state ? first : this.firstMove ?? this.burstEnds[0] ?? first;
+  }
+
+  /**
+   * The machine after so many entries.
+   * @param {number} number
+   */
   goTo(number) {
     const last = this.snapshots.findLast((snapshot) => snapshot.number <= number);
     if (last && (number < this.at || last.number > this.at)) {

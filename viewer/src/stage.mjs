@@ -1,27 +1,45 @@
 // The stage: the drawing of a network with its zoom, and the hands on it.
-import { Drawing, RADIUS } from "./drawing.mjs";
-import { Gestures } from "./gestures.mjs";
-import { thingAt } from "./hit.mjs";
-import { fill, layOut } from "./layout.mjs";
-import { Zoom } from "./zoom.mjs";
+import {Drawing, RADIUS} from "./drawing.mjs";
+import {Gestures} from "./gestures.mjs";
+import {thingAt} from "./hit.mjs";
+import {fill, layOut} from "./layout.mjs";
+import {Zoom} from "./zoom.mjs";
 
 // so many pixels from an edge is on it
 const REACH = 7;
 
 export class Stage {
-  /** The names 1 to `nodes`, with places for all edges that ever are. */
+  /**
+   * The names 1 to `nodes`, with places for all edges that ever are.
+   * @param {SVGSVGElement} svg
+   * @param {number} nodes
+   * @param {Link[]} edgesEver
+   */
   constructor(svg, nodes, edgesEver) {
     this.svg = svg;
     this.layout = fill(layOut(nodes, edgesEver));
     this.drawing = new Drawing(svg, this.layout, nodes, edgesEver);
-    this.zoom = new Zoom(svg, this.layout.width, this.layout.height, () => this.moved?.());
+    /**
+     * Is told when another part is seen.
+     * @type {() => void}
+     */
+    this.moved = () => {};
+    this.zoom = new Zoom(svg, this.layout.width, this.layout.height, (pixels) => {
+      this.moved();
+      return this.drawing.growFor(pixels);
+    });
   }
 
-  /** Lets hands in: what they point at is told to the inspector, and what they drag moves what is seen. */
+  /**
+   * Lets hands in: what they point at is told to the inspector, and what they drag moves what is seen.
+   * @param {import("./inspector.mjs").Inspector} inspector
+   * @param {() => import("./machine.mjs").Machine} machine
+   */
   listen(inspector, machine) {
+    /** @param {Place} place */
     const under = (place) => {
       const { x, y } = this.zoom.placeAt(place);
-      return thingAt(this.layout, machine(), x, y, RADIUS, REACH * this.zoom.unit);
+      return thingAt(this.layout, machine(), x, y, RADIUS * this.drawing.growth, REACH * this.zoom.unit);
     };
     this.moved = () => inspector.place();
     new Gestures(this.svg, {
@@ -33,33 +51,52 @@ export class Stage {
     });
   }
 
+  /**
+   * @param {import("./machine.mjs").Machine} machine
+   * @param {Entry} entry
+   * @param {number[]} lit
+   */
   show(machine, entry, lit) {
     this.drawing.show(machine, entry, lit);
   }
 
-  /** Marks a node or an edge; null marks none. */
+  /**
+   * Marks a node or an edge; null marks none.
+   * @param {Thing | null} thing
+   */
   pick(thing) {
     this.drawing.pick(thing);
   }
 
-  /** Where a node or the middle of an edge is in the drawing. */
+  /**
+   * Where a node or the middle of an edge is in the drawing.
+   * @param {Thing | null} thing
+   */
   placeOf(thing) {
     const { x, y } = this.layout;
     const [low, high] = thing.node ? [thing.node, thing.node] : [thing.low, thing.high];
     return [(x[low] + x[high]) / 2, (y[low] + y[high]) / 2];
   }
 
+  /** @param {Thing | null} thing */
   pixelOf(thing) {
-    return this.zoom.pixelAt(...this.placeOf(thing));
+    const [x, y] = this.placeOf(thing);
+    return this.zoom.pixelAt(x, y);
   }
 
-  /** Which share of the nodes that are drawn lies in a box of the window. */
+  /**
+   * Which share of the nodes that are drawn lies in a box of the window.
+   * @param {Box} box
+   */
   shareIn({ left, top, width, height }) {
-    const [from, to] = [this.zoom.placeAt({ x: left, y: top }), this.zoom.placeAt({ x: left + width, y: top + height })];
+    const [from, to] =
+      [this.zoom.placeAt({ x: left, y: top }), this.zoom.placeAt({ x: left + width, y: top + height })];
     return this.drawing.countIn(from, to, RADIUS) / this.drawing.nodes;
   }
 
+  /** @param {Thing | null} thing */
   reveal(thing) {
-    this.zoom.reveal(...this.placeOf(thing));
+    const [x, y] = this.placeOf(thing);
+    this.zoom.reveal(x, y);
   }
 }

@@ -1,17 +1,29 @@
 // Elements of the page.
 
-/** A new SVG element with these attributes, as the last child of `parent`. */
+/**
+ * A new SVG element with these attributes, as the last child of `parent`.
+ * @param {Element} parent
+ * @param {string} name
+ * @param {Record<string, string | number>} attributes
+ * @param {string} text
+ * @returns {SVGElement}
+ */
 export function add(parent, name, attributes = {}, text = "") {
   const made = document.createElementNS("http://www.w3.org/2000/svg", name);
   for (const [key, value] of Object.entries(attributes)) {
-    made.setAttribute(key, value);
+    made.setAttribute(key, String(value));
   }
   made.textContent = text;
   parent.append(made);
   return made;
 }
 
-/** A new HTML element with this text, as the last child of `parent`. */
+/**
+ * A new HTML element with this text, as the last child of `parent`.
+ * @param {Element} parent
+ * @param {string} name
+ * @param {string} text
+ */
 export function addText(parent, name, text) {
   const made = document.createElement(name);
   made.textContent = text;
@@ -19,6 +31,31 @@ export function addText(parent, name, text) {
   return made;
 }
 
+/** @param {string} id */
 export function byId(id) {
   return document.getElementById(id);
+}
+
+/**
+ * Names the window by what it shows.
+ * @param {string} text
+ */
+export function nameWindow(text) {
+  document.title = `${text} – Rudekpi`;
+}
+
+/**
+ * A picture of the page.
+ * @param {string} id
+ */
+export function graphic(id) {
+  return /** @type {SVGSVGElement} */ (/** @type {unknown} */ (document.getElementById(id)));
+}
+
+/**
+ * A field or a button of the page.
+ * @param {string} id
+ */
+export function field(id) {
+  return /** @type {HTMLInputElement} */ (document.getElementById(id));
 }

@@ -1,5 +1,5 @@
-// Reads a transcript. `console audit` has judged what it says; that each line has the form of one is looked at here once more,
-// so that any text at all is either a transcript or a fault with its line.
+// Reads a transcript. `console audit` has judged what it says; that each line has the form of one is looked at here
+// once more, so that any text at all is either a transcript or a fault with its line.
 
 const CHANGES = new Set(["link", "unlink", "point", "flag", "join", "leave"]);
 const MOST_NAMES = 65535;
@@ -22,13 +22,20 @@ const ENTRY = new RegExp(`[1-9]\\d{0,7} (?:${EVENTS.join("|")})\\n`, "y");
 
 /** Where a text is no transcript: its first line, counted from 1, that is wrong. */
 export class TranscriptFault extends Error {
+  /**
+   * @param {number} line
+   * @param {string} wrong
+   */
   constructor(line, wrong) {
     super(`line ${line} ${wrong}`);
     this.line = line;
   }
 }
 
-/** One line of a transcript, such as `3 step 1 = 1:seduce>2`. */
+/**
+ * One line of a transcript, such as `3 step 1 = 1:seduce>2`.
+ * @param {string} line
+ */
 export function readEntry(line) {
   const space = line.indexOf(" ");
   const sign = line.indexOf(" = ", space);
@@ -40,12 +47,18 @@ export function readEntry(line) {
   return { number: Number(line.slice(0, space)), event, reply, kind, refused, disturbs: CHANGES.has(kind) && !refused };
 }
 
-/** The words behind an event's kind: `["1", "2"]` of `link 1 2`. */
+/**
+ * The words behind an event's kind: `["1", "2"]` of `link 1 2`.
+ * @param {Entry} entry
+ */
 export function wordsOf(entry) {
   return entry.event.split(" ").slice(1);
 }
 
-/** The moves that a step's reply tells: who moved, by which rule, and to which target (0 where the rule takes none). */
+/**
+ * The moves that a step's reply tells: who moved, by which rule, and to which target (0 where the rule takes none).
+ * @param {Entry} entry
+ */
 export function movesOf(entry) {
   return entry.reply.split(" ").map((word) => {
     const [, node, rule, target] = /^(\d+):([a-z]+)(?:>(\d+))?$/.exec(word);
@@ -53,8 +66,11 @@ export function movesOf(entry) {
   });
 }
 
-/** The nodes that an entry speaks of: the ends of an edge, whose register a fault wrote, who came or went, who moved, who was
- * asked about. */
+/**
+ * The nodes that an entry speaks of: the ends of an edge, whose register a fault wrote, who came or went, who moved,
+ * who was asked about.
+ * @param {Entry} entry
+ */
 export function nodesOf(entry) {
   if (entry.kind === "step" && !entry.refused) {
     return movesOf(entry).map((move) => move.node);
@@ -64,11 +80,20 @@ export function nodesOf(entry) {
   return named.map((word) => Number(word.split(">")[0]));
 }
 
+/**
+ * @param {string} text
+ * @param {number} at
+ */
 function lineAt(text, at) {
   return text.slice(0, at).split("\n").length;
 }
 
-/** The groups of a line that has to stand at a place. */
+/**
+ * The groups of a line that has to stand at a place.
+ * @param {RegExp} pattern
+ * @param {string} text
+ * @param {number} at
+ */
 function match(pattern, text, at) {
   pattern.lastIndex = at;
   const found = pattern.exec(text);
@@ -78,7 +103,13 @@ function match(pattern, text, at) {
   return found;
 }
 
-/** The numbers of a line, none of which is above `most`; `-` is 0. */
+/**
+ * The numbers of a line, none of which is above `most`; `-` is 0.
+ * @param {string[]} words
+ * @param {number} most
+ * @param {string} text
+ * @param {number} at
+ */
 function numbersOf(words, most, text, at) {
   const numbers = words.map((word) => (word === "-" ? 0 : Number(word)));
   if (numbers.some((number) => number > most)) {
@@ -87,7 +118,12 @@ function numbersOf(words, most, text, at) {
   return numbers;
 }
 
-/** The base whose lines begin at a place: its numbers, the state that they tell, as a machine loads it, and where they end. */
+/**
+ * The base whose lines begin at a place: its numbers, the state that they tell, as a machine loads it, and where they
+ * end.
+ * @param {string} text
+ * @param {number} at
+ */
 export function readBase(text, at) {
   const [head, rules, capacity, line, ...numbers] = match(BASE, text, at);
   const [names] = numbersOf([capacity], MOST_NAMES, text, at);
@@ -110,18 +146,48 @@ export function readBase(text, at) {
     ends.push(low, high);
     end += edge.length;
   }
-  return { rules, names, line, number, spent, nodes, end, state: { here, pointers, flags, ends: Int32Array.from(ends) } };
+  return {
+    rules,
+    names,
+    line,
+    number,
+    spent,
+    nodes,
+    end,
+    state: { here, pointers, flags, ends: Int32Array.from(ends) }
+  };
 }
 
-/** A header and entries numbered from 1, or a base and entries numbered behind it: `first` is the number at which it opens, `last`
- * that of its last entry, and `length` how many it has. An entry is read from its line when it is asked for. Names are 1 to `nodes`.
- * Behind a header the first are present at the start, `present` of them; a base has a `state`. `bases` are the lines that tell the
- * numbers of bases, each by the entry behind which it stands. A text that is none is a `TranscriptFault`. */
+/**
+ * A header and entries numbered from 1, or a base and entries numbered behind it: `first` is the number at which it
+ * opens, `last` that of its last entry, and `length` how many it has. An entry is read from its line when it is asked
+ * for. Names are 1 to `nodes`. Behind a header the first are present at the start, `present` of them; a base has a
+ * `state`. `bases` are the lines that tell the numbers of bases, each by the entry behind which it stands. A text that
+ * is none is a `TranscriptFault`.
+ */
 export class Transcript {
+  /** @param {string} text */
   constructor(text) {
     this.text = text;
+    /**
+     * Where each entry begins.
+     * @type {number[]}
+     */
     this.starts = [];
+    /**
+     * The lines of bases, by the entry after which they stand.
+     * @type {Map<number, string>}
+     */
     this.bases = new Map();
+    /** @type {RuleName} */
+    this.rules = "hh";
+    this.nodes = this.present = this.first = this.spent = 0;
+    /**
+     * The state of the base with which it begins, or null.
+     * @type {MachineState | null}
+     */
+    this.state = null;
+    this.opening = "";
     let at = text.startsWith("matching2 ") ? this.openAtBase() : this.openAtHeader();
     while (at < text.length) {
       at = text[at] === "m" ? this.passBase(at) : this.passEntry(at);
@@ -134,17 +200,25 @@ export class Transcript {
     const [header, rules, ...words] = match(HEADER, this.text, 0);
     const [nodes, present] = numbersOf(words.filter(Boolean), MOST_NAMES, this.text, 0);
     numbersOf(words.slice(1).filter(Boolean), nodes, this.text, 0);
-    Object.assign(this, { rules, nodes, present: present ?? nodes, first: 0, spent: 0, state: null });
+    this.rules = /** @type {RuleName} */ (rules);
+    this.nodes = nodes;
+    this.present = present ?? nodes;
     return header.length;
   }
 
   openAtBase() {
     const base = readBase(this.text, 0);
-    Object.assign(this, { rules: base.rules, nodes: base.names, present: base.nodes, first: base.number, spent: base.spent, state: base.state });
+    this.rules = /** @type {RuleName} */ (base.rules);
+    this.nodes = base.names;
+    this.present = base.nodes;
+    this.first = base.number;
+    this.spent = base.spent;
+    this.state = base.state;
     this.opening = base.line;
     return base.end;
   }
 
+  /** @param {number} at */
   passBase(at) {
     const base = readBase(this.text, at);
     if (base.rules !== this.rules || base.names !== this.nodes || base.number !== this.first + this.starts.length) {
@@ -154,6 +228,7 @@ export class Transcript {
     return base.end;
   }
 
+  /** @param {number} at */
   passEntry(at) {
     const [line] = match(ENTRY, this.text, at);
     if (Number.parseInt(line, 10) !== this.first + this.starts.length + 1) {
@@ -163,12 +238,17 @@ export class Transcript {
     return at + line.length;
   }
 
+  /** @param {number} number */
   entry(number) {
     const at = this.starts[number - this.first - 1];
     return readEntry(this.text.slice(at, this.text.indexOf("\n", at)));
   }
 
-  /** What is wrong with an entry, as a fault of its line. */
+  /**
+   * What is wrong with an entry, as a fault of its line.
+   * @param {number} number
+   * @param {string} wrong
+   */
   fault(number, wrong) {
     return new TranscriptFault(lineAt(this.text, this.starts[number - this.first - 1]), wrong);
   }

@@ -1,19 +1,35 @@
 // Shows a part of a drawing, which buttons, keys, the wheel and fingers choose.
-import { View } from "./view.mjs";
+import {View} from "./view.mjs";
 
 // names smaller than so many pixels are left out: nobody reads them, and they are what takes time to draw
 const NAME_SIZE = 10;
-const LEAST_NAME = 4;
+const LEAST_NAME = 5;
 // so many units a pixel, and a name can still be read
 const READABLE = 1.6;
 
 export class Zoom {
-  /** `changed` is called whenever another part is seen; names of fewer pixels than `leastName` are left out. */
-  constructor(svg, width, height, changed = () => {}, leastName = LEAST_NAME) {
-    Object.assign(this, { svg, changed, leastName, view: new View(width, height) });
+  /**
+   * @param {SVGSVGElement} svg
+   * @param {number} width
+   * @param {number} height
+   * @param {(pixels: number) => number} changed is told whenever another part is seen how many pixels a unit has then,
+   *   and returns
+   *     by which factor nodes are enlarged
+   * @param {number} leastName names of fewer pixels are left out
+   */
+  constructor(svg, width, height, changed, leastName = LEAST_NAME) {
+    this.svg = svg;
+    this.changed = changed;
+    this.leastName = leastName;
+    this.view = new View(width, height);
     this.apply();
-    new ResizeObserver(() => this.apply()).observe(svg);
+    this.watch = new ResizeObserver(() => this.apply());
+    this.watch.observe(svg);
     svg.addEventListener("wheel", (event) => this.turn(event), { passive: false });
+  }
+
+  close() {
+    this.watch.disconnect();
   }
 
   fit() {
@@ -21,12 +37,17 @@ export class Zoom {
     this.apply();
   }
 
+  /** @param {number} factor */
   by(factor) {
     this.view.by(factor);
     this.apply();
   }
 
-  /** Moves so that a place of the drawing is seen, nearer than before where its names can't be read. */
+  /**
+   * Moves so that a place of the drawing is seen, nearer than before if its names can't be read.
+   * @param {number} x
+   * @param {number} y
+   */
   reveal(x, y) {
     if (this.unit > READABLE) {
       this.view.by(this.unit);
@@ -37,6 +58,10 @@ export class Zoom {
     this.apply();
   }
 
+  /**
+   * @param {Place} from
+   * @param {Place} to
+   */
   drag(from, to) {
     if (this.view.scale > 1) {
       this.view.drag((to.x - from.x) * this.unit, (to.y - from.y) * this.unit);
@@ -44,7 +69,12 @@ export class Zoom {
     }
   }
 
-  /** Two fingers moved from one place to another, and apart by a factor. */
+  /**
+   * Two fingers moved from one place to another, and apart by a factor.
+   * @param {number} factor
+   * @param {Place} from
+   * @param {Place} to
+   */
   pinch(factor, from, to) {
     const { x, y } = this.placeAt(from);
     this.view.by(factor, x, y);
@@ -57,8 +87,8 @@ export class Zoom {
     svg.setAttribute("viewBox", view.box.map((n) => n.toFixed(2)).join(" "));
     svg.classList.toggle("zoomed", view.scale > 1);
     const pixels = Math.min(svg.clientWidth / view.width, svg.clientHeight / view.height);
-    svg.classList.toggle("nameless", NAME_SIZE * pixels < this.leastName);
-    this.changed();
+    const growth = this.changed(pixels);
+    svg.classList.toggle("nameless", NAME_SIZE * pixels * growth < this.leastName);
   }
 
   /** So many units of the drawing a pixel. */
@@ -66,15 +96,24 @@ export class Zoom {
     return 1 / this.svg.getScreenCTM().a;
   }
 
-  /** The place of the drawing at a place of the window, and the other way round. */
+  /**
+   * The place of the drawing at a place of the window.
+   * @param {Place} place
+   */
   placeAt({ x, y }) {
     return new DOMPoint(x, y).matrixTransform(this.svg.getScreenCTM().inverse());
   }
 
+  /**
+   * The place of the window at a place of the drawing.
+   * @param {number} x
+   * @param {number} y
+   */
   pixelAt(x, y) {
     return new DOMPoint(x, y).matrixTransform(this.svg.getScreenCTM());
   }
 
+  /** @param {WheelEvent} event */
   turn(event) {
     const page = document.documentElement;
     if (!event.ctrlKey && page.scrollHeight > page.clientHeight) {

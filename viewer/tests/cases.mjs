@@ -1,17 +1,12 @@
 // The transcripts that stand in the repository's case files: those that `audit` accepts there.
-import { readdirSync, readFileSync } from "node:fs";
+import {readdirSync, readFileSync} from "node:fs";
 
 const TESTS = new URL("../../tests/", import.meta.url);
 const EXAMPLES = new URL("../../examples/", import.meta.url);
 
 /** The indented lines below a part, with the two spaces taken away. */
 function linesBelow(part) {
-  return part
-    .split("\n")
-    .slice(1)
-    .filter((line) => line.startsWith("  "))
-    .map((line) => `${line.slice(2)}\n`)
-    .join("");
+  return part.split("\n").slice(1).filter((line) => line.startsWith("  ")).map((line) => `${line.slice(2)}\n`).join("");
 }
 
 /** Name and text of each whole transcript of the case files. */
@@ -21,7 +16,11 @@ export function* transcriptsOfCases() {
       const parts = text.split(/^(?=(?:words|in|out|err|status|audited|each)\b)/m);
       const out = parts.find((part) => /^out\n  matching2? /.test(part));
       if (out && parts.some((part) => part.startsWith("audited accepted: "))) {
-        yield { name: `${file}: ${text.slice(0, text.indexOf("\n"))}`, text: linesBelow(out), audited: /audited (accepted: .*)/.exec(text)[1] };
+        yield {
+          name: `${file}: ${text.slice(0, text.indexOf("\n"))}`,
+          text: linesBelow(out),
+          audited: /audited (accepted: .*)/.exec(text)[1]
+        };
       }
     }
   }
@@ -41,7 +40,12 @@ export function* picturesOfCases() {
     const words = /^words picture(?: --entry[ =](\d+))?$/m.exec(text);
     const [given, out] = ["in\n", "out\n  graph"].map((head) => parts.find((part) => part.startsWith(head)));
     if (words && given && out) {
-      yield { name: text.slice(0, text.indexOf("\n")), entry: words[1], text: linesBelow(given), picture: linesBelow(out) };
+      yield {
+        name: text.slice(0, text.indexOf("\n")),
+        entry: words[1],
+        text: linesBelow(given),
+        picture: linesBelow(out)
+      };
     }
   }
 }

@@ -1,10 +1,12 @@
 import assert from "node:assert/strict";
 import test from "node:test";
-import { bandPath, columnsOf, meanPath, stepOf, stepPath, strideOf } from "../src/curves.mjs";
-import { counted, grouped } from "../src/numbers.mjs";
+import {bandPath, columnsOf, meanPath, stepOf, stepPath, strideOf} from "../src/curves.mjs";
+import {counted, grouped} from "../src/numbers.mjs";
 
 test("steps of an axis", () => {
-  assert.deepEqual([stepOf(1, 4), stepOf(9, 4), stepOf(10, 4), stepOf(120, 4), stepOf(1500, 4), stepOf(90_000, 10)], [1, 5, 5, 50, 500, 10_000]);
+  assert.deepEqual(
+    [stepOf(1, 4), stepOf(9, 4), stepOf(10, 4), stepOf(120, 4), stepOf(1500, 4), stepOf(90_000, 10)],
+    [1, 5, 5, 50, 500, 10_000]);
 });
 
 test("a line holds each value until the next entry", () => {
@@ -17,14 +19,15 @@ test("so many entries share a column: none while each has a pixel, then as many 
   assert.deepEqual([strideOf(0, 600), strideOf(599, 600), strideOf(600, 600), strideOf(250_000, 600)], [1, 1, 3, 834]);
 });
 
-test("columns have the least, the greatest and the mean of their entries, and the last one of those that are left", () => {
-  const values = [1, 5, 3, 2, 2, 8, 7];
-  assert.deepEqual(columnsOf((k) => values[k], 6, 3), [
-    { middle: 1, least: 1, most: 5, mean: 3 },
-    { middle: 4, least: 2, most: 8, mean: 4 },
-    { middle: 6, least: 7, most: 7, mean: 7 },
-  ]);
-});
+test(
+  "columns have the least, the greatest and the mean of their entries, and the last one of those that are left", () => {
+    const values = [1, 5, 3, 2, 2, 8, 7];
+    assert.deepEqual(columnsOf((k) => values[k], 6, 3), [
+      { middle: 1, least: 1, most: 5, mean: 3 },
+      { middle: 4, least: 2, most: 8, mean: 4 },
+      { middle: 6, least: 7, most: 7, mean: 7 },
+    ]);
+  });
 
 test("a quarter of a million entries are a line of means and a band, of some hundred places each", () => {
   const last = 250_000;
@@ -40,5 +43,7 @@ test("a quarter of a million entries are a line of means and a band, of some hun
 
 test("digits are grouped by commas, and a noun goes with its count", () => {
   assert.deepEqual([0, 999, 1000, 65535, 16777216].map(grouped), ["0", "999", "1,000", "65,535", "16,777,216"]);
-  assert.deepEqual([counted(1, "entry", "entries"), counted(2000, "entry", "entries"), counted(0, "node"), counted(1, "node")], ["1 entry", "2,000 entries", "0 nodes", "1 node"]);
+  assert.deepEqual(
+    [counted(1, "entry", "entries"), counted(2000, "entry", "entries"), counted(0, "node"), counted(1, "node")],
+    ["1 entry", "2,000 entries", "0 nodes", "1 node"]);
 });

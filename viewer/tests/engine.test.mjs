@@ -1,26 +1,46 @@
-// The engine inside the playground beside the program, on scripts that are drawn by chance: the same bytes of each script, and the same
-// verdict on each transcript, whole or damaged. SCRIPTS says how many; 200 where nothing is said.
+// The engine inside the playground beside the program, on scripts that are drawn by chance: the same bytes of each
+// script, and the same verdict on each transcript, whole or damaged. SCRIPTS says how many; 200 where nothing is said.
 import assert from "node:assert/strict";
 import test from "node:test";
-import { drawn, engineOfPage, program, whatIsMissing } from "./wasm.mjs";
-import { EngineFault } from "../src/playground/engine.mjs";
-import { BadLine, Lab } from "../src/playground/lab.mjs";
-import { Replay } from "../src/replay.mjs";
-import { Transcript } from "../src/transcript.mjs";
+import {drawn, engineOfPage, program, whatIsMissing} from "./wasm.mjs";
+import {EngineFault} from "../src/playground/engine.mjs";
+import {BadLine, Lab, MOST_FAULTS, MOST_TEXT} from "../src/playground/lab.mjs";
+import {Replay} from "../src/replay.mjs";
+import {Transcript} from "../src/transcript.mjs";
 
 const SCRIPTS = Number(process.env.SCRIPTS ?? 200);
 const LINES = 60;
 const DAMAGES = 3;
-const BAD_LINES = ["lnk 1 2", "link 1", "step 1  2", " status", "link 1 2 ", "flag 1 2", "drive 1", "link 01 2", "step \u00e9", "<img src=x>", "matching hh 2"];
+const BAD_LINES = [
+  "lnk 1 2", "link 1", "step 1  2", " status", "link 1 2 ", "flag 1 2", "drive 1", "link 01 2", "step \u00e9",
+  "<img src=x>", "matching hh 2"
+];
 const skip = whatIsMissing();
 
 function lineOf(next, nodes) {
   const name = () => 1 + next(nodes + 1);
   const kinds = [
-    () => `link ${name()} ${name()}`, () => `link ${name()} ${name()}`, () => `link ${name()} ${name()}`, () => `unlink ${name()} ${name()}`,
-    () => `point ${name()} ${name()}`, () => `point ${name()} -`, () => `flag ${name()} ${next(2)}`, () => `join ${name()}`, () => `leave ${name()}`,
-    () => `step ${name()}`, () => `step ${name()} ${name()}`, () => `step ${name()}>${name()}`, () => "step", () => `show ${name()}`, () => "enabled", () => "matching",
-    () => "status", () => "checkpoint", () => "", () => `drive ${next(100000)} ${1 + next(9)}`, () => `scramble ${next(100000)} ${1 + next(5)}`,
+    () => `link ${name()} ${name()}`,
+    () => `link ${name()} ${name()}`,
+    () => `link ${name()} ${name()}`,
+    () => `unlink ${name()} ${name()}`,
+    () => `point ${name()} ${name()}`,
+    () => `point ${name()} -`,
+    () => `flag ${name()} ${next(2)}`,
+    () => `join ${name()}`,
+    () => `leave ${name()}`,
+    () => `step ${name()}`,
+    () => `step ${name()} ${name()}`,
+    () => `step ${name()}>${name()}`,
+    () => "step",
+    () => `show ${name()}`,
+    () => "enabled",
+    () => "matching",
+    () => "status",
+    () => "checkpoint",
+    () => "",
+    () => `drive ${next(100000)} ${1 + next(9)}`,
+    () => `scramble ${next(100000)} ${1 + next(5)}`,
   ];
   return kinds[next(kinds.length)]();
 }
@@ -91,12 +111,15 @@ test(`the engine writes what the program writes of ${SCRIPTS} scripts, and judge
     for (const text of texts) {
       const verdict = program(["audit"], text);
       const { said, accepted: isAccepted } = engine.audit(Buffer.from(text, "latin1"));
-      assert.deepEqual({ status: isAccepted ? 0 : 1, text: `${said}\n` }, verdict, `seed ${seed}: ${JSON.stringify(text)}`);
+      assert.deepEqual(
+        { status: isAccepted ? 0 : 1, text: `${said}\n` }, verdict, `seed ${seed}: ${JSON.stringify(text)}`);
       [refused, accepted] = [refused + verdict.status, accepted + 1 - verdict.status];
     }
   }
   // what is compared is not all of one kind
-  assert.ok(bad > SCRIPTS / 10 && refused > SCRIPTS && accepted > SCRIPTS, `${bad} bad lines, ${refused} refused, ${accepted} accepted`);
+  assert.ok(
+    bad > SCRIPTS / 10 && refused > SCRIPTS && accepted > SCRIPTS,
+    `${bad} bad lines, ${refused} refused, ${accepted} accepted`);
 });
 
 /** A state in the words that the page shows. */
@@ -104,39 +127,76 @@ function shown(machine, spent) {
   const { pointer, flag, here, rule } = machine;
   const edges = machine.edges().map(([v, w]) => v * 65536 + w).sort((a, b) => a - b);
   const suitors = [...machine.suitors];
-  return { pointer: [...pointer], flag: [...flag], here: [...here], rule, edges, suitors, status: machine.status(spent), bound: machine.bound };
+  return {
+    pointer: [...pointer],
+    flag: [...flag],
+    here: [...here],
+    rule,
+    edges,
+    suitors,
+    status: machine.status(spent),
+    bound: machine.bound
+  };
 }
 
-test("what the page shows of the engine is what its player replays, at each entry of 200 transcripts", { skip }, async () => {
-  const engine = await engineOfPage();
-  let entries = 0;
-  for (let seed = 1; seed <= 200; seed += 1) {
-    const script = scriptOf(seed + 5000);
-    const { text } = program(wordsOf(script), script.lines.map((line) => `${line}\n`).join(""));
-    const replay = new Replay(new Transcript(text));
-    const lab = new Lab(engine, script);
-    for (let number = 1; number <= replay.transcript.last; number += 1) {
-      lab.feed(replay.transcript.entry(number).event);
-      const seen = lab.look();
-      assert.deepEqual(shown(seen, seen.spent), shown(replay.goTo(number), replay.valueAt("spent", number)), `seed ${seed}, entry ${number}`);
-      entries += 1;
+test(
+  "what the page shows of the engine is what its player replays, at each entry of 200 transcripts", { skip },
+  async () => {
+    const engine = await engineOfPage();
+    let entries = 0;
+    for (let seed = 1; seed <= 200; seed += 1) {
+      const script = scriptOf(seed + 5000);
+      const { text } = program(wordsOf(script), script.lines.map((line) => `${line}\n`).join(""));
+      const replay = new Replay(new Transcript(text));
+      const lab = new Lab(engine, script);
+      for (let number = 1; number <= replay.transcript.last; number += 1) {
+        lab.feed(replay.transcript.entry(number).event);
+        const seen = lab.look();
+        assert.deepEqual(
+          shown(seen, seen.spent), shown(replay.goTo(number), replay.valueAt("spent", number)),
+          `seed ${seed}, entry ${number}`);
+        entries += 1;
+      }
+      assert.equal(
+        lab.transcript.replace(/^matching2.*\n(?:(?:base|node|edge) .*\n)*/gm, ""),
+        text.replace(/^matching2.*\n(?:(?:base|node|edge) .*\n)*/gm, ""), `seed ${seed}`);
+      lab.free();
     }
-    assert.equal(lab.transcript.replace(/^matching2.*\n(?:(?:base|node|edge) .*\n)*/gm, ""), text.replace(/^matching2.*\n(?:(?:base|node|edge) .*\n)*/gm, ""), `seed ${seed}`);
-    lab.free();
-  }
-  assert.ok(entries > 5000, `${entries} entries`);
-});
+    assert.ok(entries > 5000, `${entries} entries`);
+  });
 
 test("a lab takes no bad line, and plays other lines from the start", { skip }, async () => {
   const lab = new Lab(await engineOfPage(), { rules: "hh", names: 4, present: 3 });
   ["link 1 2", "link 2 3", "step 1"].forEach((line) => lab.feed(line));
-  assert.throws(() => lab.feed("no command"), new BadLine(4, "no command"));
+  assert.throws(() => lab.feed("no command"), new BadLine(4, "no command", "is no command"));
   assert.equal(lab.script, "link 1 2\nlink 2 3\nstep 1\n");
   assert.equal(lab.transcript, "matching hh 4 3\n1 link 1 2 = ok\n2 link 2 3 = ok\n3 step 1 = 1:seduce>2\n");
   assert.equal(lab.words, "run --rules hh --nodes 4 --present 3");
   lab.replay(["link 1 2"]);
   assert.equal(lab.transcript, "matching hh 4 3\n1 link 1 2 = ok\n");
   assert.deepEqual([lab.seen.told.edges, lab.seen.charge, lab.seen.enabledNodes], [1, 2, [1, 2]]);
-  assert.throws(() => lab.replay(["link 1 2", "lnk"]), new BadLine(2, "lnk"));
+  assert.throws(() => lab.replay(["link 1 2", "lnk"]), new BadLine(2, "lnk", "is no command"));
+  lab.free();
+});
+
+test("a lab takes no line that would have the page stand still, and says which and why", { skip }, async () => {
+  const lab = new Lab(await engineOfPage(), { rules: "hh", names: 3, present: 3 });
+  const begun = performance.now();
+  const full = "scramble 1 1000000";
+  assert.throws(() => lab.replay(["link 1 2", full]), {
+    name: "Error",
+    line: 2,
+    text: full,
+    message: /^line 2 writes more than 100,000 registers, .*: scramble 1 1000000$/
+  });
+  assert.equal(lab.script, "link 1 2\n");
+  const lines = Array.from({ length: 200 }, (_, at) => `scramble ${at} ${MOST_FAULTS}`);
+  assert.throws(() => lab.replay(lines), { message: /^line \d+ comes after 16,777,216 characters of transcript/});
+  assert.ok(lab.size > MOST_TEXT && lab.lines.length < 20, `${lab.size} characters of ${lab.lines.length} lines`);
+  assert.ok(performance.now() - begun < 5000, `${performance.now() - begun} ms`);
+  // a drive ends where nothing is enabled, however many steps it has
+  const drive = "link 1 2\ndrive 1 1000000\n";
+  lab.replay(drive.trimEnd().split("\n"));
+  assert.equal(lab.transcript, program(["run", "--rules", "hh", "--nodes", "3"], drive).text);
   lab.free();
 });

@@ -1,7 +1,7 @@
 import assert from "node:assert/strict";
 import test from "node:test";
-import { freeAngles } from "../src/drawing.mjs";
-import { fill, layOut, ringOf, SPACING } from "../src/layout.mjs";
+import {freeAngles} from "../src/drawing.mjs";
+import {fill, layOut, ringOf, SPACING} from "../src/layout.mjs";
 
 const ring = (nodes) => Array.from({ length: nodes }, (_, at) => [at + 1, ((at + 1) % nodes) + 1]);
 const path = (nodes) => ring(nodes).slice(0, -1);
@@ -49,7 +49,10 @@ test("what lies on a ring", () => {
 });
 
 test("every node has a place of its own, inside the box", () => {
-  const networks = [[1, []], [2, [[1, 2]]], [7, []], [61, ring(61)], [300, ring(300)], [40, path(40)], [60, scattered(60, 110)], [300, scattered(300, 600)], [30, scattered(30, 20)]];
+  const networks = [
+    [1, []], [2, [[1, 2]]], [7, []], [61, ring(61)], [300, ring(300)], [40, path(40)], [60, scattered(60, 110)],
+    [300, scattered(300, 600)], [30, scattered(30, 20)]
+  ];
   for (const [nodes, edges] of networks) {
     const layout = layOut(nodes, edges);
     const name = `${nodes} nodes, ${edges.length} edges`;
@@ -70,27 +73,34 @@ test("a long ring takes far less room than a circle", () => {
 });
 
 test("marks stand where there is room: in one wide gap, else in the two widest", () => {
-  const near = (found, wanted) => found.forEach((angle, at) => assert.ok(Math.abs(angle - wanted[at]) < 1e-9, `${found}`));
+  const near = (found, wanted) =>
+    found.forEach((angle, at) => assert.ok(Math.abs(angle - wanted[at]) < 1e-9, `${found}`));
   near(freeAngles([]), [-Math.PI / 4, -Math.PI / 4 + 1]);
   near(freeAngles([0]), [Math.PI - 0.5, Math.PI + 0.5]);
   near(freeAngles([0, Math.PI / 2]), [(5 * Math.PI) / 4 - 0.5, (5 * Math.PI) / 4 + 0.5]);
   near(freeAngles([0, Math.PI / 2, Math.PI, -Math.PI / 2]), [-Math.PI / 4, Math.PI / 4]);
 });
 
-test("a small drawing fills the box: its nodes come to stand farther apart, and keep their places to one another", () => {
-  for (const [nodes, edges] of [[2, [[1, 2]]], [5, ring(5)], [9, path(9)], [12, scattered(12, 20)]]) {
-    const small = layOut(nodes, edges);
-    const { x, y, width, height } = fill(small);
-    assert.ok(width >= 400 && height >= 260, `${nodes} nodes: ${width} by ${height}`);
-    const [wide, high] = [x, y].map((places) => Math.max(...places.slice(1)) - Math.min(...places.slice(1)));
-    assert.ok(wide > 0.6 * width || high > 0.8 * height, `${nodes} nodes: ${wide} by ${high} of ${width} by ${height}`);
-    const share = (x[2] - x[1]) / (small.x[2] - small.x[1]);
-    for (let v = 1; v <= nodes; v += 1) {
-      assert.ok(Math.abs(x[v] - x[1] - share * (small.x[v] - small.x[1])) < 1e-6 && Math.abs(y[v] - y[1] - share * (small.y[v] - small.y[1])) < 1e-6);
-      assert.ok(x[v] >= SPACING / 2 - 1e-6 && x[v] <= width - SPACING / 2 + 1e-6 && y[v] >= SPACING / 2 - 1e-6 && y[v] <= height - SPACING / 2 + 1e-6);
+test(
+  "a small drawing fills the box: its nodes come to stand farther apart, and keep their places to one another", () => {
+    for (const [nodes, edges] of [[2, [[1, 2]]], [5, ring(5)], [9, path(9)], [12, scattered(12, 20)]]) {
+      const small = layOut(nodes, edges);
+      const { x, y, width, height } = fill(small);
+      assert.ok(width >= 400 && height >= 260, `${nodes} nodes: ${width} by ${height}`);
+      const [wide, high] = [x, y].map((places) => Math.max(...places.slice(1)) - Math.min(...places.slice(1)));
+      assert.ok(
+        wide > 0.6 * width || high > 0.8 * height, `${nodes} nodes: ${wide} by ${high} of ${width} by ${height}`);
+      const share = (x[2] - x[1]) / (small.x[2] - small.x[1]);
+      for (let v = 1; v <= nodes; v += 1) {
+        assert.ok(
+          Math.abs(x[v] - x[1] - share * (small.x[v] - small.x[1])) < 1e-6
+          && Math.abs(y[v] - y[1] - share * (small.y[v] - small.y[1])) < 1e-6);
+        assert.ok(
+          x[v] >= SPACING / 2 - 1e-6 && x[v] <= width - SPACING / 2 + 1e-6 && y[v] >= SPACING / 2 - 1e-6
+          && y[v] <= height - SPACING / 2 + 1e-6);
+      }
     }
-  }
-});
+  });
 
 test("one node stands in the middle of the box, and a large drawing is left as it is", () => {
   const { x, y, width, height } = fill(layOut(1, []));

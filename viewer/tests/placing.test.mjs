@@ -1,11 +1,20 @@
 import assert from "node:assert/strict";
 import test from "node:test";
-import { bestBox } from "../src/placing.mjs";
+import {bestBox} from "../src/placing.mjs";
 
-const ROOM = { left: 10, top: 20, right: 810, bottom: 520 };
-const SIZE = { width: 300, height: 200 };
+const ROOM = {
+  left: 10,
+  top: 20,
+  right: 810,
+  bottom: 520
+};
+const SIZE = {
+  width: 300,
+  height: 200
+};
 /** Which share of these places a box covers. */
-const counting = (places) => ({ left, top, width, height }) => places.filter(([x, y]) => x >= left && x <= left + width && y >= top && y <= top + height).length / places.length;
+const counting = (places) => ({ left, top, width, height }) =>
+  places.filter(([x, y]) => x >= left && x <= left + width && y >= top && y <= top + height).length / places.length;
 
 test("a card stands right of what it tells of, left where there is no room, and in the room", () => {
   assert.deepEqual(bestBox({ x: 200, y: 200 }, ROOM, SIZE, () => 0), { left: 222, top: 200 - 200 / 3, ...SIZE });
@@ -23,7 +32,8 @@ test("it goes where it covers less, and never over what it tells of while there 
   assert.equal(counting([...crowd, [200, 200]])(box), 0);
   const strip = Array.from({ length: 300 }, (_, at) => [400 + at, 30 + 160 * (at % 4)]);
   const near = bestBox({ x: 600, y: 270 }, ROOM, SIZE, counting(strip));
-  const far = Math.hypot(Math.max(near.left - 600, 600 - near.left - 300, 0), Math.max(near.top - 270, 270 - near.top - 200, 0));
+  const far =
+    Math.hypot(Math.max(near.left - 600, 600 - near.left - 300, 0), Math.max(near.top - 270, 270 - near.top - 200, 0));
   assert.ok(far < 260 && counting(strip)(near) < 0.2, `${far} ${counting(strip)(near)}`);
 });
 

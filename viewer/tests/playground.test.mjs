@@ -1,11 +1,12 @@
-// What the playground makes by itself: networks to begin with, addresses that hold a script, places of nodes, and its sentences.
+// What the playground makes by itself: networks to begin with, addresses that hold a script, places of nodes, and its
+// sentences.
 import assert from "node:assert/strict";
 import test from "node:test";
-import { frame, freePlace, placesOf, within } from "../src/playground/places.mjs";
-import { PRESETS, presetOf } from "../src/playground/presets.mjs";
-import { readAddress, writeAddress } from "../src/playground/sharing.mjs";
-import { Story, toldOf } from "../src/playground/story.mjs";
-import { Tools } from "../src/playground/tools.mjs";
+import {frame, freePlace, placesOf, within} from "../src/playground/places.mjs";
+import {PRESETS, presetOf} from "../src/playground/presets.mjs";
+import {readAddress, writeAddress} from "../src/playground/sharing.mjs";
+import {Story, toldOf} from "../src/playground/story.mjs";
+import {Tools} from "../src/playground/tools.mjs";
 
 /** How many parts hang together. */
 function parts(nodes, links) {
@@ -52,19 +53,21 @@ test("a script goes into an address and out of it", () => {
   const address = writeAddress(lab);
   assert.equal(address, "#script=link+1+2;point+1+-;step+1%3E2;join+5&rules=manne&nodes=5&present=4");
   assert.deepEqual(readAddress(address), lab);
-  assert.deepEqual(readAddress("#script=link+1+2%0Alink+2+7%0A"), { rules: "hh", names: 7, present: 7, lines: ["link 1 2", "link 2 7"] });
-  assert.equal(writeAddress({ ...lab, lines: Array(600).fill("link 1 2") }), null);
+  assert.deepEqual(
+    readAddress("#script=link+1+2%0Alink+2+7%0A"),
+    { rules: "hh", names: 7, present: 7, lines: ["link 1 2", "link 2 7"] });
+  assert.equal(writeAddress({...lab, lines: Array(600).fill("link 1 2") }), null);
   assert.equal(readAddress(""), null);
   assert.equal(readAddress("#17"), null);
 });
 
 test("an address that holds no script is told of", () => {
   for (const [address, said] of [
-    ["#script=link+1+2&nodes=601", /nodes has to be a number from 0 to 600/],
-    ["#script=&nodes=-1", /nodes has to be/],
-    ["#script=&nodes=3&present=4", /present has to be a number from 0 to 3/],
-    ["#script=&rules=constructor", /rules are hh or manne/],
-    [`#script=${"a".repeat(4001)}`, /longer than 4000/],
+         ["#script=link+1+2&nodes=601", /nodes has to be a number from 0 to 600/],
+         ["#script=&nodes=-1", /nodes has to be/],
+         ["#script=&nodes=3&present=4", /present has to be a number from 0 to 3/],
+         ["#script=&rules=constructor", /rules are hh or manne/],
+         [`#script=${"a".repeat(4001)}`, /longer than 4000/],
   ]) {
     assert.throws(() => readAddress(address), said);
   }
@@ -103,9 +106,14 @@ test("what happened is told in a sentence", () => {
 
 test("a tool does what it says", () => {
   const done = [];
-  const note = (name) => (...words) => done.push([name, ...words.filter((word) => typeof word === "string" || word === null || word?.node)]);
-  const tools = new Tools(Object.fromEntries(["disturb", "move", "choose", "say", "settle"].map((name) => [name, note(name)])));
-  const lab = { names: 3, seen: { nodes: 3, here: [0, 1, 1, 0], flag: [0, 0, 1, 0], rule: [null, "marry", null, null] } };
+  const note = (name) => (...words) =>
+    done.push([name, ...words.filter((word) => typeof word === "string" || word === null || word?.node)]);
+  const tools =
+    new Tools(Object.fromEntries(["disturb", "move", "choose", "say", "settle"].map((name) => [name, note(name)])));
+  const lab = {
+    names: 3,
+    seen: { nodes: 3, here: [0, 1, 1, 0], flag: [0, 0, 1, 0], rule: [null, "marry", null, null] }
+  };
   const tap = (name, thing, place = null) => {
     tools.take(name);
     tools.tap(lab, thing, place);
@@ -114,7 +122,9 @@ test("a tool does what it says", () => {
   tap("flag", { node: 2 });
   tap("node", { node: 1 });
   tap("move", { node: 1 });
-  assert.deepEqual(done.filter(([name]) => name === "disturb" || name === "move"), [["disturb", "unlink 1 2"], ["disturb", "flag 2 0"], ["disturb", "leave 1"], ["move", "step 1"]]);
+  assert.deepEqual(
+    done.filter(([name]) => name === "disturb" || name === "move"),
+    [["disturb", "unlink 1 2"], ["disturb", "flag 2 0"], ["disturb", "leave 1"], ["move", "step 1"]]);
   done.length = 0;
   tools.take("node");
   tools.tap(lab, null, { x: 1, y: 2 });

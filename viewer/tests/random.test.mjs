@@ -1,14 +1,14 @@
-// The machine of the page beside the program, state by state, on scripts that are drawn by chance: after each command the program
-// writes a base, in which all registers and edges stand, and is asked what is enabled, for the pairs and for the status. The
-// program is the repository's as it is built, or the one that CONSOLE names.
+// The machine of the page beside the program, state by state, on scripts that are drawn by chance: after each command
+// the program writes a base, in which all registers and edges stand, and is asked what is enabled, for the pairs and
+// for the status. The program is the repository's as it is built, or the one that CONSOLE names.
 import assert from "node:assert/strict";
-import { spawnSync } from "node:child_process";
-import { existsSync } from "node:fs";
-import { fileURLToPath } from "node:url";
+import {spawnSync} from "node:child_process";
+import {existsSync} from "node:fs";
+import {fileURLToPath} from "node:url";
 import test from "node:test";
-import { baseAt, enabledOf, pairsOf } from "./states.mjs";
-import { Replay } from "../src/replay.mjs";
-import { Transcript } from "../src/transcript.mjs";
+import {baseAt, enabledOf, pairsOf} from "./states.mjs";
+import {Replay} from "../src/replay.mjs";
+import {Transcript} from "../src/transcript.mjs";
 
 const SCRIPTS = 200;
 const COMMANDS = 30;
@@ -23,9 +23,20 @@ function drawn(seed) {
 function commandOf(next, nodes) {
   const name = () => 1 + next(nodes + 1);
   const kinds = [
-    () => `link ${name()} ${name()}`, () => `link ${name()} ${name()}`, () => `link ${name()} ${name()}`, () => `unlink ${name()} ${name()}`,
-    () => `point ${name()} ${name()}`, () => `point ${name()} -`, () => `flag ${name()} ${next(2)}`, () => `join ${name()}`, () => `leave ${name()}`,
-    () => `step ${name()}`, () => `step ${name()} ${name()}`, () => `step ${name()}>${name()}`, () => `drive ${next(1000)} ${1 + next(4)}`, () => `scramble ${next(1000)} ${1 + next(3)}`,
+    () => `link ${name()} ${name()}`,
+    () => `link ${name()} ${name()}`,
+    () => `link ${name()} ${name()}`,
+    () => `unlink ${name()} ${name()}`,
+    () => `point ${name()} ${name()}`,
+    () => `point ${name()} -`,
+    () => `flag ${name()} ${next(2)}`,
+    () => `join ${name()}`,
+    () => `leave ${name()}`,
+    () => `step ${name()}`,
+    () => `step ${name()} ${name()}`,
+    () => `step ${name()}>${name()}`,
+    () => `drive ${next(1000)} ${1 + next(4)}`,
+    () => `scramble ${next(1000)} ${1 + next(3)}`,
   ];
   return kinds[next(kinds.length)]();
 }
@@ -34,13 +45,18 @@ function scriptOf(seed) {
   const next = drawn(seed);
   const nodes = 2 + next(9);
   const present = nodes - next(2);
-  const lines = Array.from({ length: COMMANDS }, () => `${commandOf(next, nodes)}\ncheckpoint\nenabled\nmatching\nstatus\n`);
-  return { words: ["run", "--rules", ["hh", "manne"][seed % 2], "--nodes", `${nodes}`, "--present", `${present}`], text: lines.join("") };
+  const lines =
+    Array.from({ length: COMMANDS }, () => `${commandOf(next, nodes)}\ncheckpoint\nenabled\nmatching\nstatus\n`);
+  return {
+    words: ["run", "--rules", ["hh", "manne"][seed % 2], "--nodes", `${nodes}`, "--present", `${present}`],
+    text: lines.join("")
+  };
 }
 
 /** The bases of a transcript, each as its number and its lines. */
 function basesOf(text) {
-  return [...text.matchAll(/^matching2 .*\nbase (\d+) .*\n(?:node .*\n|edge .*\n)*/gm)].map((found) => ({ number: Number(found[1]), lines: found[0].trimEnd().split("\n"), at: found.index }));
+  return [...text.matchAll(/^matching2 .*\nbase (\d+) .*\n(?:node .*\n|edge .*\n)*/gm)].map(
+    (found) => ({ number: Number(found[1]), lines: found[0].trimEnd().split("\n"), at: found.index }));
 }
 
 /** Compares each base and each answer of a transcript with the machine's; how many there were. */
@@ -54,24 +70,31 @@ function compare(text, seed) {
   for (let number = transcript.last; number > transcript.first; number -= 1) {
     const { kind, reply } = transcript.entry(number);
     const machine = replay.goTo(number);
-    const answers = { enabled: () => enabledOf(machine), matching: () => pairsOf(machine), status: () => machine.status(replay.valueAt("spent", number)) };
+    const answers = {
+      enabled: () => enabledOf(machine),
+      matching: () => pairsOf(machine),
+      status: () => machine.status(replay.valueAt("spent", number))
+    };
     assert.equal(answers[kind]?.() ?? reply, reply, `seed ${seed}, entry ${number}`);
   }
   return bases;
 }
 
-test("the state at each entry of 200 scripts is the program's, from the start and from a base on", { skip: !existsSync(PROGRAM) && `no program at ${PROGRAM}` }, () => {
-  let [bases, kinds] = [0, new Set()];
-  for (let seed = 1; seed <= SCRIPTS; seed += 1) {
-    const { words, text } = scriptOf(seed);
-    const made = spawnSync(PROGRAM, words, { input: text, encoding: "ascii", maxBuffer: 1 << 26 });
-    assert.equal(made.status, 0, `seed ${seed}: ${made.stderr}`);
-    const found = compare(made.stdout, seed);
-    bases += found.length;
-    const behind = found[seed % found.length];
-    compare(made.stdout.slice(behind.at), seed);
-    [...made.stdout.matchAll(/^\d+ ([a-z]+).* = (?!refused)/gm)].forEach((entry) => kinds.add(entry[1]));
-  }
-  assert.equal(bases, SCRIPTS * COMMANDS);
-  assert.deepEqual([...kinds].sort(), ["enabled", "flag", "join", "leave", "link", "matching", "point", "status", "step", "unlink"]);
-});
+test(
+  "the state at each entry of 200 scripts is the program's, from the start and from a base on",
+  { skip: !existsSync(PROGRAM) && `no program at ${PROGRAM}` }, () => {
+    let [bases, kinds] = [0, new Set()];
+    for (let seed = 1; seed <= SCRIPTS; seed += 1) {
+      const { words, text } = scriptOf(seed);
+      const made = spawnSync(PROGRAM, words, { input: text, encoding: "ascii", maxBuffer: 1 << 26 });
+      assert.equal(made.status, 0, `seed ${seed}: ${made.stderr}`);
+      const found = compare(made.stdout, seed);
+      bases += found.length;
+      const behind = found[seed % found.length];
+      compare(made.stdout.slice(behind.at), seed);
+      [...made.stdout.matchAll(/^\d+ ([a-z]+).* = (?!refused)/gm)].forEach((entry) => kinds.add(entry[1]));
+    }
+    assert.equal(bases, SCRIPTS * COMMANDS);
+    assert.deepEqual(
+      [...kinds].sort(), ["enabled", "flag", "join", "leave", "link", "matching", "point", "status", "step", "unlink"]);
+  });

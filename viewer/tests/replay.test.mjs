@@ -1,13 +1,14 @@
-// The replay against what stands in the repository's case files, examples, README and docs/USE.md: replies that were found by hand.
+// The replay against what stands in the repository's case files, examples, README and docs/USE.md: replies that were
+// found by hand.
 import assert from "node:assert/strict";
 import test from "node:test";
-import { readFileSync } from "node:fs";
-import { picturesOfCases, transcriptsOfCases, transcriptsOfExamples } from "./cases.mjs";
-import { baseAt, enabledOf, pairsOf } from "./states.mjs";
-import { Machine } from "../src/machine.mjs";
-import { carryOut } from "../src/entries.mjs";
-import { Replay } from "../src/replay.mjs";
-import { readEntry, Transcript } from "../src/transcript.mjs";
+import {readFileSync} from "node:fs";
+import {picturesOfCases, transcriptsOfCases, transcriptsOfExamples} from "./cases.mjs";
+import {baseAt, enabledOf, pairsOf} from "./states.mjs";
+import {Machine} from "../src/machine.mjs";
+import {carryOut} from "../src/entries.mjs";
+import {Replay} from "../src/replay.mjs";
+import {readEntry, Transcript} from "../src/transcript.mjs";
 
 /** The reply to a question, as the machine has it. */
 function answer(replay, entry) {
@@ -25,11 +26,14 @@ function answer(replay, entry) {
   return null;
 }
 
-const replays = [...transcriptsOfCases(), ...transcriptsOfExamples()].map((found) => ({ ...found, replay: new Replay(new Transcript(found.text)) }));
+const replays = [...transcriptsOfCases(), ...transcriptsOfExamples()].map(
+  (found) => ({...found, replay: new Replay(new Transcript(found.text)) }));
 
 test("there are enough transcripts to compare with", () => {
   assert.ok(replays.length > 60, `${replays.length} transcripts`);
-  const questions = replays.flatMap(({ replay: { transcript } }) => Array.from({ length: transcript.length }, (_, at) => transcript.entry(transcript.first + at + 1)));
+  const questions = replays.flatMap(
+    ({ replay: { transcript } }) =>
+      Array.from({ length: transcript.length }, (_, at) => transcript.entry(transcript.first + at + 1)));
   const asked = (kind) => questions.filter((entry) => entry.kind === kind && !entry.refused).length;
   assert.ok(asked("status") > 50 && asked("enabled") > 50 && asked("matching") > 20 && asked("show") > 20);
 });
@@ -117,8 +121,10 @@ test("there are pictures to compare with", () => {
 });
 
 test("the budget of the ring of three of docs/USE.md: from its bound 9 to silence in 3 moves", () => {
-  const events = ["link 1 2", "link 2 3", "link 1 3", "point 1 2", "point 2 3", "point 3 1"].map((event, at) => `${at + 1} ${event} = ok`);
-  const text = ["matching hh 3", ...events, "7 step 1 = 1:abandon", "8 step 2 = 2:abandon", "9 step 1 = 1:marry>3", ""].join("\n");
+  const events = ["link 1 2", "link 2 3", "link 1 3", "point 1 2", "point 2 3", "point 3 1"].map(
+    (event, at) => `${at + 1} ${event} = ok`);
+  const text =
+    ["matching hh 3", ...events, "7 step 1 = 1:abandon", "8 step 2 = 2:abandon", "9 step 1 = 1:marry>3", ""].join("\n");
   const { series, disturbances } = new Replay(new Transcript(text));
   assert.deepEqual([...series.charge], [0, 2, 4, 6, 5, 6, 9, 6, 5, 0]);
   assert.deepEqual([...series.spent], [0, 0, 0, 0, 0, 0, 0, 1, 2, 3]);
@@ -128,7 +134,9 @@ test("the budget of the ring of three of docs/USE.md: from its bound 9 to silenc
 
 test("the bounds that docs/USE.md tells of a network of 1,000 nodes and 3,000 edges", () => {
   for (const [rules, bound] of [["hh", 7000], ["manne", 9000]]) {
-    const links = Array.from({ length: 3000 }, (_, at) => `${at + 1} link ${(at % 1000) + 1} ${((at + 1 + Math.floor(at / 1000)) % 1000) + 1} = ok`);
+    const links = Array.from(
+      { length: 3000 },
+      (_, at) => `${at + 1} link ${(at % 1000) + 1} ${((at + 1 + Math.floor(at / 1000)) % 1000) + 1} = ok`);
     const replay = new Replay(new Transcript(`matching ${rules} 1000\n${links.join("\n")}\n`));
     assert.equal(replay.bound(3000), bound);
     assert.equal(replay.machine.bound, bound);
@@ -136,13 +144,17 @@ test("the bounds that docs/USE.md tells of a network of 1,000 nodes and 3,000 ed
 });
 
 test("a step goes where its reply tells, and not to the least target", () => {
-  const replay = new Replay(new Transcript("matching hh 3\n1 link 1 2 = ok\n2 link 2 3 = ok\n3 step 2 = 2:seduce>3\n4 step 3 = 3:marry>2\n"));
+  const replay = new Replay(
+    new Transcript("matching hh 3\n1 link 1 2 = ok\n2 link 2 3 = ok\n3 step 2 = 2:seduce>3\n4 step 3 = 3:marry>2\n"));
   assert.equal(pairsOf(replay.goTo(4)), "2-3");
   assert.equal(replay.goTo(3).pointer[2], 3);
 });
 
 test("nodes that come and go: who is there, the charge and the bound", () => {
-  const events = ["join 3 = ok", "link 1 3 = ok", "step 1 = 1:seduce>3", "step 3 = 3:marry>1", "leave 1 = ok", "leave 1 = refused 1 unknown-node"];
+  const events = [
+    "join 3 = ok", "link 1 3 = ok", "step 1 = 1:seduce>3", "step 3 = 3:marry>1", "leave 1 = ok",
+    "leave 1 = refused 1 unknown-node"
+  ];
   const text = ["matching hh 3 2", ...events.map((event, at) => `${at + 1} ${event}`), ""].join("\n");
   const replay = new Replay(new Transcript(text));
   assert.deepEqual([...replay.series.nodes], [2, 3, 3, 3, 3, 2, 2]);
@@ -154,7 +166,10 @@ test("nodes that come and go: who is there, the charge and the bound", () => {
 });
 
 test("a partner that leaves leaves an update, and its name comes back unflagged", () => {
-  const events = ["link 1 2 = ok", "step 1 = 1:seduce>2", "step 2 = 2:marry>1", "step 1 2 = 1:update 2:update", "leave 2 = ok", "join 2 = ok"];
+  const events = [
+    "link 1 2 = ok", "step 1 = 1:seduce>2", "step 2 = 2:marry>1", "step 1 2 = 1:update 2:update", "leave 2 = ok",
+    "join 2 = ok"
+  ];
   const text = ["matching manne 2", ...events.map((event, at) => `${at + 1} ${event}`), ""].join("\n");
   const replay = new Replay(new Transcript(text));
   assert.equal(replay.goTo(5).status(0), "nodes=1 edges=0 pairs=0 enabled=1 charge=2 spent=0");
@@ -170,13 +185,43 @@ test("README's first transcript", () => {
   assert.equal(`7 status = ${replay.goTo(7).status(replay.series.spent[7])}`, text.trimEnd().split("\n").at(-1));
 });
 
-test("disturbances before and behind an entry", () => {
-  const text = "matching hh 2\n1 show 1 = -\n2 link 1 2 = ok\n3 link 1 2 = refused 3 already-linked\n4 point 1 2 = ok\n5 step 2 = 2:marry>1\n";
-  const replay = new Replay(new Transcript(text));
-  assert.deepEqual([0, 1, 2, 3, 4, 5].map((number) => replay.nextDisturbance(number)), [2, 2, 4, 4, null, null]);
-  assert.deepEqual([0, 1, 2, 3, 4, 5].map((number) => replay.previousDisturbance(number)), [null, null, null, 2, 2, 4]);
-  assert.deepEqual([0, 1, 2, 3, 4, 5].map((number) => replay.epochAt(number).start), [0, 0, 2, 2, 4, 4]);
-});
+test(
+  "bursts of disturbances before and behind an entry: one ends where somebody moves, and not at a question or a refusal",
+  () => {
+    const text = [
+      "matching hh 2",
+      "1 show 1 = -",
+      "2 link 1 2 = ok",
+      "3 link 1 2 = refused 3 already-linked",
+      "4 point 1 2 = ok",
+      "5 step 2 = 2:marry>1",
+      "6 unlink 1 2 = ok",
+      "7 status = nodes=2 edges=0 pairs=0 enabled=0 charge=0 spent=0",
+      "8 link 1 2 = ok",
+      "9 step 1 = 1:seduce>2",
+      "10 point 1 - = ok",
+      "",
+    ].join("\n");
+    const replay = new Replay(new Transcript(text));
+    const entries = Array.from({ length: 11 }, (_, number) => number);
+    assert.deepEqual(entries.map((number) => replay.nextDisturbance(number)), [4, 4, 4, 4, 8, 8, 8, 8, 10, 10, null]);
+    assert.deepEqual(
+      entries.map((number) => replay.previousDisturbance(number)), [null, null, null, null, null, 4, 4, 4, 4, 8, 8]);
+    assert.deepEqual(entries.map((number) => replay.epochAt(number).start), [0, 0, 2, 2, 4, 4, 6, 6, 8, 8, 10]);
+  });
+
+test(
+  "a transcript opens at its first move; one without moves at the end of its first burst, and one with a base at that",
+  () => {
+    const opening = (...lines) => new Replay(new Transcript([...lines, ""].join("\n"))).opening;
+    assert.equal(
+      opening("matching hh 3", "1 link 1 2 = ok", "2 link 2 3 = ok", "3 step 1 = 1:seduce>2", "4 step 2 = 2:marry>1"),
+      3);
+    assert.equal(opening("matching hh 3", "1 enabled = none", "2 link 1 2 = ok", "3 link 2 3 = ok", "4 show 1 = -"), 3);
+    assert.equal(opening("matching hh 3", "1 show 1 = -"), 0);
+    assert.equal(opening("matching hh 3"), 0);
+    assert.equal(opening(...BASE, "3 step 2 = 2:marry>1"), 2);
+  });
 
 test("a long transcript is entered anywhere: the counts are those of a walk from its beginning", () => {
   const lines = ["matching manne 6"];
@@ -187,7 +232,9 @@ test("a long transcript is entered anywhere: the counts are those of a walk from
   for (let number = 1; number <= 1500; number += 1) {
     const [v, w] = [1 + next(6), 1 + next(6)];
     const linked = machine.neighbours[v].has(w);
-    const events = [`flag ${v} ${next(2)}`, v === w ? `point ${v} -` : `${linked ? ["unlink", "point"][next(2)] : "link"} ${v} ${w}`];
+    const events = [
+      `flag ${v} ${next(2)}`, v === w ? `point ${v} -` : `${linked ? ["unlink", "point"][next(2)] : "link"} ${v} ${w}`
+    ];
     lines.push(`${number} ${events[next(2)]} = ok`);
     carryOut(machine, readEntry(lines.at(-1)));
     statuses.push(machine.status(0));
@@ -205,7 +252,8 @@ test("a long transcript is entered anywhere: the counts are those of a walk from
 const BASE = ["matching2 hh 2", "base 2 spent=1 nodes=2 edges=1", "node 1 2 0", "node 2 - 0", "edge 1 2"];
 
 test("a base among the entries changes nothing", () => {
-  const text = ["matching hh 2", "1 link 1 2 = ok", "2 step 1 = 1:seduce>2", ...BASE, "3 step 2 = 2:marry>1", ""].join("\n");
+  const text =
+    ["matching hh 2", "1 link 1 2 = ok", "2 step 1 = 1:seduce>2", ...BASE, "3 step 2 = 2:marry>1", ""].join("\n");
   const { series, disturbances } = new Replay(new Transcript(text));
   assert.deepEqual([...series.charge], [0, 2, 1, 0]);
   assert.deepEqual([...series.spent], [0, 0, 1, 2]);
@@ -219,7 +267,9 @@ test("a transcript that begins with a base: its state, charge and spent, and the
   assert.deepEqual([2, 3, 4].map((number) => replay.bound(number)), [4, 4, 2]);
   assert.deepEqual([2, 3, 4].map((number) => replay.nextDisturbance(number)), [4, 4, null]);
   assert.deepEqual([2, 3, 4].map((number) => replay.previousDisturbance(number)), [null, null, null]);
-  assert.deepEqual([2, 3, 4].map((number) => replay.epochAt(number)), [{ start: null, place: 1 }, { start: null, place: 1 }, { start: 4, place: 2 }]);
+  assert.deepEqual(
+    [2, 3, 4].map((number) => replay.epochAt(number)),
+    [{ start: null, place: 1 }, { start: null, place: 1 }, { start: 4, place: 2 }]);
   assert.deepEqual(replay.edgesEver, [[1, 2]]);
   assert.equal(replay.goTo(2).status(1), "nodes=2 edges=1 pairs=0 enabled=1 charge=1 spent=1");
   assert.equal(pairsOf(replay.goTo(3)), "1-2");

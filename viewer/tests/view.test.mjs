@@ -1,6 +1,6 @@
 import assert from "node:assert/strict";
 import test from "node:test";
-import { View } from "../src/view.mjs";
+import {View} from "../src/view.mjs";
 
 const rounded = (view) => view.box.map((n) => Math.round(1000 * n) / 1000);
 
@@ -44,5 +44,7 @@ test("a drag moves what is seen along with the hand", () => {
 test("what is seen well", () => {
   const view = new View(400, 200);
   view.by(2);
-  assert.deepEqual([view.sees(200, 100, 20), view.sees(110, 100, 20), view.sees(200, 145, 20), view.sees(10, 10, 0)], [true, false, false, false]);
+  assert.deepEqual(
+    [view.sees(200, 100, 20), view.sees(110, 100, 20), view.sees(200, 145, 20), view.sees(10, 10, 0)],
+    [true, false, false, false]);
 });

@@ -1,9 +1,10 @@
-// The engine of the page that lies in release/, or of the page that PLAYGROUND names; and the program beside which it is tried.
-import { existsSync, readFileSync } from "node:fs";
-import { spawnSync } from "node:child_process";
-import { fileURLToPath } from "node:url";
-import { setFlagsFromString } from "node:v8";
-import { canRun, Engine } from "../src/playground/engine.mjs";
+// The engine of the page that lies in release/, or of the page that PLAYGROUND names; and the program beside which it
+// is tried.
+import {existsSync, readFileSync} from "node:fs";
+import {spawnSync} from "node:child_process";
+import {fileURLToPath} from "node:url";
+import {setFlagsFromString} from "node:v8";
+import {canRun, Engine} from "../src/playground/engine.mjs";
 
 // what browsers have by themselves, node has behind a flag
 setFlagsFromString("--experimental-wasm-memory64");

@@ -9,8 +9,8 @@ typedef unsigned char u8;
 enum { HEADER = 16, LEAST_CLASS = 5, CLASSES = 64, PAGE = 65536, LEAST_PAGES = 16 };
 
 struct tried {
-  u64 done;
-  u8 *at;
+    u64 done;
+    u8 *at;
 };
 
 extern u8 __heap_base;
@@ -18,71 +18,73 @@ static u8 *top, *end;
 static u8 *free_blocks[CLASSES];
 
 static int class_of(u64 size) {
-  int class = LEAST_CLASS;
-  while ((1ul << class) < size + HEADER) class++;
-  return class;
+    int class = LEAST_CLASS;
+    while ((1ul << class) < size + HEADER) class ++;
+    return class;
 }
 
 /* Lets memory grow until so many bytes lie between top and end; 0 where that is refused. */
 static int has_room(u64 size) {
-  if (!top) {
-    top = (u8 *)(((u64)&__heap_base + HEADER - 1) & -(u64)HEADER);
-    end = (u8 *)(__builtin_wasm_memory_size(0) * PAGE);
-  }
-  u64 left = end > top ? (u64)(end - top) : 0;
-  if (left >= size) return 1;
-  u64 pages = (size - left + PAGE - 1) / PAGE + 1;
-  if (pages < LEAST_PAGES) pages = LEAST_PAGES;
-  if (__builtin_wasm_memory_grow(0, pages) == (u64)-1) return 0;
-  end += pages * PAGE;
-  return 1;
+    if (!top) {
+        top = (u8 *)(((u64)&__heap_base + HEADER - 1) & -(u64)HEADER);
+        end = (u8 *)(__builtin_wasm_memory_size(0) * PAGE);
+    }
+    u64 left = end > top ? (u64)(end - top) : 0;
+    if (left >= size) return 1;
+    u64 pages = (size - left + PAGE - 1) / PAGE + 1;
+    if (pages < LEAST_PAGES) pages = LEAST_PAGES;
+    if (__builtin_wasm_memory_grow(0, pages) == (u64)-1) return 0;
+    end += pages * PAGE;
+    return 1;
 }
 
 static u8 *take(u64 size) {
-  if (size >= 1ul << 40) return 0;
-  int class = class_of(size);
-  u8 *block = free_blocks[class];
-  if (block) {
-    free_blocks[class] = *(u8 **)(block + HEADER);
+    if (size >= 1ul << 40) return 0;
+    int class = class_of(size);
+    u8 *block = free_blocks[class];
+    if (block) {
+        free_blocks[class] = *(u8 **)(block + HEADER);
+        return block + HEADER;
+    }
+    if (!has_room(1ul << class)) return 0;
+    block = top;
+    top += 1ul << class;
+    *(int *)block = class;
     return block + HEADER;
-  }
-  if (!has_room(1ul << class)) return 0;
-  block = top;
-  top += 1ul << class;
-  *(int *)block = class;
-  return block + HEADER;
 }
 
 static struct tried told(u8 *at) {
-  struct tried it = {at != 0, at ? at : (u8 *)HEADER};
-  return it;
+    struct tried it = {at != 0, at ? at : (u8 *)HEADER};
+    return it;
 }
 
 struct tried rattle_alloc(u64 size, u64 align) {
-  return told(take(size));
+    (void)align;
+    return told(take(size));
 }
 
 void rattle_dealloc(u8 *at) {
-  u8 *block = at - HEADER;
-  int class = *(int *)block;
-  *(u8 **)at = free_blocks[class];
-  free_blocks[class] = block;
+    u8 *block = at - HEADER;
+    int class = *(int *)block;
+    *(u8 **)at = free_blocks[class];
+    free_blocks[class] = block;
 }
 
 struct tried rattle_realloc(u8 *at, u64 kept, u64 size, u64 align) {
-  if (size < 1ul << 40 && class_of(size) == *(int *)(at - HEADER)) return told(at);
-  u8 *to = take(size);
-  if (!to) return told(0);
-  __builtin_memcpy(to, at, kept);
-  rattle_dealloc(at);
-  return told(to);
+    (void)align;
+    if (size < 1ul << 40 && class_of(size) == *(int *)(at - HEADER)) return told(at);
+    u8 *to = take(size);
+    if (!to) return told(0);
+    __builtin_memcpy(to, at, kept);
+    rattle_dealloc(at);
+    return told(to);
 }
 
 /* Room for what the page hands over and is handed; null where there is none. */
 u8 *rudekpi_room(u64 size) {
-  return take(size);
+    return take(size);
 }
 
 void rudekpi_give_back(u8 *at) {
-  rattle_dealloc(at);
+    rattle_dealloc(at);
 }

@@ -1,21 +1,31 @@
 // The node that was chosen, in words, with what can be done to it.
-import { explain } from "../explain.mjs";
-import { addText, byId } from "../svg.mjs";
+import {explain} from "../explain.mjs";
+import {addText, byId} from "../svg.mjs";
 
 export class Card {
-  /** `acts` are those of the tools. */
+  /** @param {import("./tools.mjs").Acts} acts */
   constructor(acts) {
-    Object.assign(this, { acts, lab: null, thing: null });
+    this.acts = acts;
+    /** @type {import("./lab.mjs").Lab | null} */
+    this.lab = null;
+    /** @type {Thing | null} */
+    this.thing = null;
     byId("let-go").addEventListener("click", () => acts.choose(null));
     byId("do-move").addEventListener("click", () => acts.move(this.lab, `step ${this.thing.node}`));
     byId("do-free").addEventListener("click", () => acts.disturb(`point ${this.thing.node} -`));
-    byId("do-flag").addEventListener("click", () => acts.disturb(`flag ${this.thing.node} ${1 - this.lab.seen.flag[this.thing.node]}`));
+    byId("do-flag").addEventListener(
+      "click", () => acts.disturb(`flag ${this.thing.node} ${1 - this.lab.seen.flag[this.thing.node]}`));
     byId("do-leave").addEventListener("click", () => acts.disturb(`leave ${this.thing.node}`));
     byId("do-cut").addEventListener("click", () => acts.disturb(`unlink ${this.thing.low} ${this.thing.high}`));
   }
 
+  /**
+   * @param {import("./lab.mjs").Lab} lab
+   * @param {Thing | null} thing
+   */
   show(lab, thing) {
-    Object.assign(this, { lab, thing });
+    this.lab = lab;
+    this.thing = thing;
     byId("chosen").hidden = thing === null;
     if (thing === null) {
       return;

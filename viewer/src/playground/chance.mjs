@@ -2,7 +2,10 @@
 
 const MODULUS = 2147483647;
 
-/** Draws numbers of 0 and more below 1. */
+/**
+ * Draws numbers of 0 and more below 1.
+ * @param {number} seed
+ */
 export function chanceOf(seed) {
   let state = (Math.abs(Math.round(seed)) % (MODULUS - 1)) + 1;
   const next = () => (state = (state * 48271) % MODULUS) / MODULUS;

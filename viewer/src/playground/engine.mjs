@@ -1,11 +1,30 @@
-// The engine inside the page: the proved code as a module for a 64-bit WebAssembly memory, called as C calls the library. Where the
-// words of include/rudekpi.h say more, they hold here too.
+// The engine inside the page: the proved code as a module for a 64-bit WebAssembly memory, called as C calls the
+// library. Where the words of include/rudekpi.h say more, they hold here too.
 
-const RULES = { hh: 0, manne: 1 };
+/**
+ * The calls of the module: places in its memory are of 64 bits.
+ * @typedef {object} Calls
+ * @property {WebAssembly.Memory} memory
+ * @property {(size: bigint) => bigint} rudekpi_room
+ * @property {(at: bigint) => void} rudekpi_give_back
+ * @property {(text: bigint, length: bigint, verdict: bigint) => void} rudekpi_audit
+ * @property {(rules: number, names: number, present: number, slot: bigint) => number} rudekpi_session_new
+ * @property {(slot: bigint, line: bigint, length: bigint, entries: bigint) => number} rudekpi_session_feed
+ * @property {(slot: bigint) => bigint} rudekpi_session_length
+ * @property {(slot: bigint, to: bigint, size: bigint) => void} rudekpi_session_read
+ * @property {(slot: bigint) => void} rudekpi_session_free
+ */
+
+const RULES = {
+  hh: 0,
+  manne: 1
+};
 const SLOT_BYTES = 16;
 const VERDICT_BYTES = 32;
-const STATUSES = ["done", "not a command", "the log is full", "memory was refused", "there is no session", "out of range"];
-const VERDICTS = ["accepted", "bad header", "not a transcript line", "out of order", "not the machine's reply", "bad base"];
+const STATUSES =
+  ["done", "not a command", "the log is full", "memory was refused", "there is no session", "out of range"];
+const VERDICTS =
+  ["accepted", "bad header", "not a transcript line", "out of order", "not the machine's reply", "bad base"];
 // a module of nothing but a memory of 64 bits
 const WIDE = Uint8Array.of(0, 97, 115, 109, 1, 0, 0, 0, 5, 3, 1, 4, 0);
 
@@ -16,6 +35,7 @@ export function canRun() {
 
 /** What the engine did not do, and why. */
 export class EngineFault extends Error {
+  /** @param {number} status that of the library, from 1 */
   constructor(status) {
     super(STATUSES[status]);
     this.status = status;
@@ -24,11 +44,17 @@ export class EngineFault extends Error {
 
 /** Room in the module's memory that grows as it must. */
 class Room {
+  /** @param {Calls} calls */
   constructor(calls) {
-    Object.assign(this, { calls, at: 0n, size: 0 });
+    this.calls = calls;
+    this.at = 0n;
+    this.size = 0;
   }
 
-  /** Where so many bytes lie. */
+  /**
+   * Where so many bytes lie.
+   * @param {number} size
+   */
   of(size) {
     if (this.at === 0n || size > this.size) {
       if (this.at !== 0n) {
@@ -43,7 +69,10 @@ class Room {
     return this.at;
   }
 
-  /** The bytes there; a later call may move them. */
+  /**
+   * The bytes there; a later call may move them.
+   * @param {number} size
+   */
   bytes(size) {
     const at = this.of(size);
     return new Uint8Array(this.calls.memory.buffer, Number(at), size);
@@ -51,28 +80,47 @@ class Room {
 }
 
 export class Engine {
+  /** @param {Calls} calls */
   constructor(calls) {
-    Object.assign(this, { calls, given: new Room(calls), taken: new Room(calls) });
+    this.calls = calls;
+    this.given = new Room(calls);
+    this.taken = new Room(calls);
   }
 
-  /** The engine of a module's bytes. */
+  /**
+   * The engine of a module's bytes.
+   * @param {BufferSource} bytes
+   */
   static async load(bytes) {
     const { instance } = await WebAssembly.instantiate(bytes, {});
-    return new Engine(instance.exports);
+    return new Engine(/** @type {Calls} */ (/** @type {unknown} */ (instance.exports)));
   }
 
-  /** Hands bytes over: where they lie. */
+  /**
+   * Hands bytes over: where they lie.
+   * @param {Uint8Array} bytes
+   */
   give(bytes) {
     this.given.bytes(bytes.length + 1).set(bytes);
     return this.given.at;
   }
 
-  /** A new network of the names 1 to `names`, the first of which are present, so many; an `EngineFault` where there is none. */
+  /**
+   * A new network of the names 1 to `names`, the first `present` of which are present. Throws an `EngineFault` if there
+   * is none.
+   * @param {RuleName} rules
+   * @param {number} names
+   * @param {number} present
+   */
   begin(rules, names, present) {
     return new Session(this, RULES[rules], names, present);
   }
 
-  /** What the audit says of a transcript: a line as the program writes it, whether it accepts, and the first wrong line, else 0. */
+  /**
+   * What the audit says of a transcript: a line as the program writes it, whether it accepts, and the first wrong line,
+   * else 0.
+   * @param {Uint8Array} bytes
+   */
   audit(bytes) {
     const at = this.give(bytes);
     const verdict = this.taken.of(VERDICT_BYTES);
@@ -83,27 +131,40 @@ export class Engine {
     if (kind >= VERDICTS.length) {
       throw new EngineFault(3);
     }
-    const said = kind === 0 ? `accepted: ${entries} entries, ${epochs} epochs, ${moves} moves` : `line ${line}: ${VERDICTS[kind]}`;
+    const said =
+      kind === 0 ? `accepted: ${entries} entries, ${epochs} epochs, ${moves} moves` : `line ${line}: ${VERDICTS[kind]}`;
     return { said, accepted: kind === 0, line: Number(line) };
   }
 }
 
 /** A network that goes along a script, line by line, and its text that was not read yet. */
 export class Session {
+  /**
+   * @param {Engine} engine
+   * @param {number} rules
+   * @param {number} names
+   * @param {number} present
+   */
   constructor(engine, rules, names, present) {
     const { calls } = engine;
-    Object.assign(this, { engine, calls, slot: new Room(calls) });
+    this.engine = engine;
+    this.calls = calls;
+    this.slot = new Room(calls);
     this.slot.bytes(SLOT_BYTES).fill(0);
     this.hear(calls.rudekpi_session_new(rules, names, present, this.slot.at));
   }
 
+  /** @param {number} status */
   hear(status) {
     if (status !== 0) {
       throw new EngineFault(status);
     }
   }
 
-  /** Carries out the next line; an `EngineFault` where it is none, or where there is no room. */
+  /**
+   * Carries out the next line. Throws an `EngineFault` if it is none, or if there is no room.
+   * @param {string} line
+   */
   feed(line) {
     const bytes = new TextEncoder().encode(line);
     const at = this.engine.give(bytes);

@@ -1,20 +1,50 @@
-// A network in hands: its script so far, the transcript that the engine writes of it, and how it stands. A second session goes
-// along, so that what the page asks for its picture stands in no transcript.
-import { EngineFault } from "./engine.mjs";
-import { Seen } from "./seen.mjs";
+// A network in hands: its script so far, the transcript that the engine writes of it, and its state. A second session
+// goes along, so that the questions that the page asks for its picture stand in no transcript.
+import {grouped} from "../numbers.mjs";
+import {EngineFault} from "./engine.mjs";
+import {Seen} from "./seen.mjs";
 
-/** A line that is no command, by its number from 1. */
+/** @typedef {import("./engine.mjs").Engine} Engine */
+/** @typedef {import("./engine.mjs").Session} Session */
+
+// What one line and one lab may make here. The engine takes more, but the page would stand still while it does.
+export const MOST_FAULTS = 100_000;
+export const MOST_TEXT = 1 << 24;
+const LONGEST_SHOWN = 60;
+
+/** A line that was not carried out. `line` is its number from 1, `text` the line. */
 export class BadLine extends Error {
-  constructor(number, line) {
-    super(`line ${number} is no command: ${line.length > 60 ? `${line.slice(0, 60)} …` : line}`);
+  /**
+   * @param {number} number
+   * @param {string} text
+   * @param {string} why
+   */
+  constructor(number, text, why) {
+    super(`line ${number} ${why}: ${text.length > LONGEST_SHOWN ? `${text.slice(0, LONGEST_SHOWN)} …` : text}`);
     this.line = number;
+    this.text = text;
+    this.why = why;
   }
 }
 
 export class Lab {
-  /** `network` is the rules, the number of names, and how many of them are present at the start. */
-  constructor(engine, network) {
-    Object.assign(this, { engine, ...network, seen: new Seen(network.rules, network.names) });
+  /**
+   * @param {Engine} engine
+   * @param {{ rules: RuleName, names: number, present: number }} network
+   */
+  constructor(engine, { rules, names, present }) {
+    this.engine = engine;
+    this.rules = rules;
+    this.names = names;
+    this.present = present;
+    this.seen = new Seen(rules, names);
+    /** Whether a line was fed since the engine last told its state. */
+    this.fed = false;
+    /**
+     * The nodes that moved since the last picture.
+     * @type {number[]}
+     */
+    this.lit = [];
     this.begin();
   }
 
@@ -22,33 +52,72 @@ export class Lab {
     const { engine, rules, names, present } = this;
     this.session = engine.begin(rules, names, present);
     this.asked = engine.begin(rules, names, present);
-    Object.assign(this, { lines: [], parts: [this.session.read()], entries: 0 });
+    /** @type {string[]} */
+    this.lines = [];
+    this.parts = [this.session.read()];
+    this.size = this.parts[0].length;
     this.asked.read();
     this.seen.ask(this.asked);
   }
 
-  /** Carries out a line: the text of its entries. A `BadLine` where it is none, and nothing has changed then. */
+  /**
+   * Carries out a line and returns the text of its entries. Throws a `BadLine`, and changes nothing, if it is no
+   * command or if it would make more than this page holds.
+   * @param {string} line
+   */
   feed(line) {
+    this.admit(line);
     try {
       this.session.feed(line);
     } catch (wrong) {
-      throw wrong instanceof EngineFault && wrong.status === 1 ? new BadLine(this.lines.length + 1, line) : wrong;
+      throw wrong instanceof EngineFault && wrong.status === 1 ? this.bad(line, "is no command") : wrong;
     }
     this.asked.feed(line);
     this.lines.push(line);
     const text = this.session.read();
+    this.size += text.length;
     this.parts.push(text);
     return text;
   }
 
-  /** Has the engine tell how it stands. */
+  /**
+   * Throws a `BadLine` if a line would make more than this page holds.
+   * @param {string} line
+   */
+  admit(line) {
+    const [, faults] = /^scramble \d+ (\d+)$/.exec(line) ?? [];
+    if (Number(faults) > MOST_FAULTS) {
+      throw this.bad(
+        line,
+        `writes more than ${grouped(MOST_FAULTS)} registers, which this page takes at once (console run takes them)`);
+    }
+    if (this.size > MOST_TEXT) {
+      throw this.bad(
+        line,
+        `comes after ${grouped(MOST_TEXT)} characters of transcript, and this page holds no more (console run does)`);
+    }
+  }
+
+  /**
+   * @param {string} line
+   * @param {string} why
+   */
+  bad(line, why) {
+    return new BadLine(this.lines.length + 1, line, why);
+  }
+
+  /** Has the engine tell its state. */
   look() {
     this.asked.read();
     this.seen.ask(this.asked);
+    this.fed = false;
     return this.seen;
   }
 
-  /** Plays other lines from the start. Where one is bad, those before it stay. */
+  /**
+   * Plays other lines from the start. If one is bad, those before it stay.
+   * @param {string[]} lines
+   */
   replay(lines) {
     this.free();
     this.begin();
@@ -68,10 +137,23 @@ export class Lab {
     return this.parts[0];
   }
 
+  /** All edges that the engine ever accepted, each once. */
+  get linksEver() {
+    const made = [...this.transcript.matchAll(/^\d+ link (\d+) (\d+) = ok$/gm)].map(
+      ([, v, w]) => [Number(v), Number(w)].sort((a, b) => a - b));
+    return [...new Map(made.map(([v, w]) => [v * 65536 + w, /** @type {Link} */ ([v, w])])).values()];
+  }
+
   /** The words of the command line that makes the same transcript of the script. */
   get words() {
     const { rules, names, present } = this;
     return `run --rules ${rules} --nodes ${names}${present === names ? "" : ` --present ${present}`}`;
+  }
+
+  /** What a saved script or transcript is called, so that a script's name tells its network. */
+  get fileName() {
+    const { rules, names, present } = this;
+    return `matching-${rules}-${names}${present === names ? "" : `-${present}`}`;
   }
 
   free() {

@@ -1,137 +1,320 @@
-// The playground's buttons, fields and keys, and what it begins with: a small network, or the script that stands in the address.
-import { LAB_KEYS, listen } from "../keys.mjs";
-import { byId } from "../svg.mjs";
-import { BadLine } from "./lab.mjs";
-import { Playground } from "./playground.mjs";
-import { MOST_NODES, PRESETS, presetOf } from "./presets.mjs";
-import { AddressFault, readAddress } from "./sharing.mjs";
-import { TOOLS } from "./tools.mjs";
+// The playground's buttons, fields and keys, and what it begins with: what was there before a reload, the script of the
+// address, or a small network.
+import {LAB_KEYS, listen} from "../keys.mjs";
+import {counted} from "../numbers.mjs";
+import {listenToSaving} from "../picture.mjs";
+import {byId, field} from "../svg.mjs";
+import {Playground} from "./playground.mjs";
+import {MOST_NODES, PRESETS, presetOf} from "./presets.mjs";
+import {readAddress} from "./sharing.mjs";
+import {isTold, SPARE, sourceOf, tryOut} from "./sources.mjs";
+import {TOOLS} from "./tools.mjs";
 
-// so many further names may join
-const SPARE = 12;
 const NEARER = 1.4;
 // so many units does a key move a node
 const STRIDE = 12;
+// the network of the selectors that is none of the presets
+const OWN = "own";
 
-function ends(lines) {
-  const found = new Map();
-  for (const line of lines) {
-    const [, v, w] = /^link (\d+) (\d+)$/.exec(line) ?? [];
-    if (v) {
-      found.set(`${Math.min(v, w)}-${Math.max(v, w)}`, [Number(v), Number(w)]);
-    }
-  }
-  return [...found.values()];
+/** @typedef {import("./keeping.mjs").KeptLab} KeptLab */
+/** @typedef {import("./sources.mjs").Source} Source */
+/** @typedef {import("./tools.mjs").ToolName} ToolName */
+
+function isCalm() {
+  return matchMedia("(prefers-reduced-motion: reduce)").matches;
 }
 
 export class LabPage {
-  /** `judge(text)` judges a transcript and plays it; `refuse(wrong)` tells what was refused. */
+  /**
+   * @param {import("./engine.mjs").Engine} engine
+   * @param {(text: string) => void} judge judges a transcript and plays it
+   * @param {(wrong: Wrong | null) => void} refuse tells what was refused
+   */
   constructor(engine, judge, refuse) {
     this.play = new Playground(engine, judge);
+    this.engine = engine;
     this.refuse = refuse;
+    /**
+     * What was opened in place of a preset, or null.
+     * @type {Source | null}
+     */
+    this.source = null;
+    /** @type {AbortController | null} */
+    this.ended = null;
+    const presets = /** @type {HTMLSelectElement} */ (byId("preset"));
     for (const [kind, { name }] of Object.entries(PRESETS)) {
-      byId("preset").add(new Option(name, kind));
+      presets.add(new Option(name, kind));
     }
+    presets.add(new Option("", OWN));
+    this.own = presets.options[presets.options.length - 1];
+    this.own.hidden = true;
     this.listenToChoice();
     this.listenToMoves();
-    this.ended = null;
+    this.play.work.listen();
   }
 
   listenToChoice() {
-    byId("preset").addEventListener("change", () => {
-      byId("size").value = PRESETS[byId("preset").value].nodes;
+    field("preset").addEventListener("change", () => {
+      if (field("preset").value === OWN) {
+        return;
+      }
+      field("size").value = String(PRESETS[field("preset").value].nodes);
       this.openPreset();
     });
-    ["size", "seed", "rules"].forEach((id) => byId(id).addEventListener("change", () => this.openPreset()));
-    byId("which").addEventListener("change", () => this.play.turnTo(this.play.labs.findIndex((lab) => lab.rules === byId("which").value)));
-    document.querySelectorAll("[data-tool]").forEach((button) => button.addEventListener("click", () => this.take(button.dataset.tool)));
+    ["size", "seed"].forEach((id) => field(id).addEventListener("change", () => this.openPreset()));
+    field("rules").addEventListener(
+      "change", () => (this.source ? this.openSource(this.source, this.rules) : this.openPreset()));
+    field("which").addEventListener(
+      "change", () => this.play.turnTo(this.play.labs.findIndex((lab) => lab.rules === field("which").value)));
+    for (const button of toolButtons()) {
+      button.addEventListener("click", () => this.take(/** @type {ToolName} */ (button.dataset.tool)));
+    }
   }
 
   listenToMoves() {
     const { play } = this;
-    byId("run").addEventListener("click", () => play.run(!play.runner.on));
-    byId("step").addEventListener("click", () => play.stepNow());
-    byId("scramble").addEventListener("click", () => play.scramble());
+    byId("run").addEventListener("click", () => play.daemon.run(!play.daemon.runner.on));
+    byId("step").addEventListener("click", () => play.daemon.stepNow());
+    byId("scramble").addEventListener("click", () => play.daemon.scramble());
     byId("undo").addEventListener("click", () => play.undo());
-    byId("pace").addEventListener("change", () => (play.runner.speed = Number(byId("pace").value)));
+    byId("redo").addEventListener("click", () => play.redo());
+    field("pace").addEventListener("change", () => (play.daemon.runner.speed = Number(field("pace").value)));
+    /** @param {(zoom: import("../zoom.mjs").Zoom) => void} by */
     const zoom = (by) => play.panes.forEach((pane) => by(pane.zoom));
     byId("nearer").addEventListener("click", () => zoom((it) => it.by(NEARER)));
     byId("farther").addEventListener("click", () => zoom((it) => it.by(1 / NEARER)));
     byId("whole").addEventListener("click", () => zoom((it) => it.fit()));
+    listenToSaving("lab-svg", "lab-png", () => ({
+                                           svg: play.panes[play.at].svg,
+                                           name: play.lab.fileName,
+                                           title: `${play.lab.rules}: ${counted(play.lab.seen.present, "node")} after ${
+                                             counted(play.lab.lines.length, "line")} of the script`,
+                                         }));
   }
 
-  /** What keys do. */
+  /**
+   * What keys do.
+   * @returns {Record<string, () => void>}
+   */
   get actions() {
     const { play } = this;
+    /** @param {string} id */
     const press = (id) => () => byId(id).click();
-    const shift = (dx, dy) => () => play.chosen?.node && play.settle(play.chosen.node, { x: play.layout.x[play.chosen.node] + dx, y: play.layout.y[play.chosen.node] + dy });
+    /**
+     * @param {number} dx
+     * @param {number} dy
+     */
+    const shift = (dx, dy) => () => {
+      const node = play.chooser.thing?.node;
+      if (node) {
+        play.settle(node, { x: play.layout.x[node] + dx, y: play.layout.y[node] + dy });
+      }
+    };
     return {
-      run: press("run"), step: press("step"), undo: press("undo"), scramble: press("scramble"),
-      "zoom-in": press("nearer"), "zoom-out": press("farther"), "zoom-fit": press("whole"),
-      ...Object.fromEntries(Object.keys(TOOLS).map((name) => [name, () => this.take(name)])),
+      run: press("run"),
+      step: press("step"),
+      undo: press("undo"),
+      redo: press("redo"),
+      scramble: press("scramble"),
+      "zoom-in": press("nearer"),
+      "zoom-out": press("farther"),
+      "zoom-fit": press("whole"),
+      ...Object.fromEntries(Object.keys(TOOLS).map((name) => [name, () => this.take(/** @type {ToolName} */ (name))])),
       join: () => play.tools.join(play.lab, null),
-      "node-before": () => play.walk(-1), "node-behind": () => play.walk(1), edge: () => play.turnEdge(),
-      act: () => play.chosen && play.tools.tap(play.lab, play.chosen, null),
-      "let-go": () => play.choose(null),
-      left: shift(-STRIDE, 0), right: shift(STRIDE, 0), up: shift(0, -STRIDE), down: shift(0, STRIDE),
+      "node-before": () => play.chooser.walk(play.lab.seen, -1),
+      "node-behind": () => play.chooser.walk(play.lab.seen, 1),
+      edge: () => play.chooser.turn(play.lab.seen),
+      act: () => play.chooser.thing && play.tools.tap(play.lab, play.chooser.thing, null),
+      "let-go": () => play.chooser.choose(null),
+      left: shift(-STRIDE, 0),
+      right: shift(STRIDE, 0),
+      up: shift(0, -STRIDE),
+      down: shift(0, STRIDE),
     };
   }
 
-  /** Shows the playground, and goes on where it was left. */
-  enter() {
+  /**
+   * Shows the playground, and goes on where it was left, or with what was kept before a reload.
+   * @param {KeptLab | null} kept
+   */
+  enter(kept) {
     this.ended = new AbortController();
     listen(this.actions, LAB_KEYS, this.ended.signal);
     addEventListener("hashchange", () => this.openAddress(), { signal: this.ended.signal });
     if (this.play.labs.length === 0) {
       this.take("cut");
-      this.openPreset();
-      this.openAddress();
+      if (!kept || !this.restore(kept)) {
+        this.openPreset();
+        this.openAddress();
+      }
     }
   }
 
   leave() {
-    this.play.run(false);
+    this.play.daemon.run(false);
     this.ended?.abort();
   }
 
+  /** @param {ToolName} name */
   take(name) {
     this.play.tools.take(name);
-    this.play.choose(null);
+    this.play.chooser.choose(null);
     document.body.dataset.tool = name;
     const finger = matchMedia("(pointer: coarse)").matches;
-    byId("hint").textContent = finger ? TOOLS[name].hint.replace("Click", "Tap").replaceAll("click", "tap") : TOOLS[name].hint;
-    document.querySelectorAll("[data-tool]").forEach((button) => button.setAttribute("aria-pressed", button.dataset.tool === name));
+    byId("hint").textContent =
+      finger ? TOOLS[name].hint.replace("Click", "Tap").replaceAll("click", "tap") : TOOLS[name].hint;
+    toolButtons().forEach((button) => button.setAttribute("aria-pressed", String(button.dataset.tool === name)));
   }
 
+  /** @returns {RuleName[]} */
   get rules() {
-    const { value } = byId("rules");
-    return value === "both" ? ["hh", "manne"] : [value];
+    const { value } = field("rules");
+    return value === "both" ? ["hh", "manne"] : [/** @type {RuleName} */ (value)];
   }
 
   openPreset() {
-    const nodes = Math.min(MOST_NODES, Math.max(2, Math.round(Number(byId("size").value)) || 2));
-    byId("size").value = nodes;
-    const network = presetOf(byId("preset").value, nodes, Number(byId("seed").value));
+    const wanted = Number(field("size").value);
+    const nodes = Math.min(MOST_NODES, Math.max(2, Math.round(wanted) || 2));
+    const network = presetOf(field("preset").value, nodes, Number(field("seed").value));
     const lines = network.links.map(([v, w]) => `link ${v} ${w}`);
-    this.play.open(this.rules, { ...network, names: nodes + SPARE, present: nodes }, lines);
-    this.play.run(true);
+    this.source = null;
+    this.play.open(
+      {...network, names: nodes + SPARE, present: nodes, labs: this.rules.map((rules) => ({ rules, lines })) });
+    this.showChoice(nodes);
+    this.sayChoice(wanted === nodes ? "" : `A network to begin with has 2 to ${MOST_NODES} nodes: here are ${nodes}.`);
+    this.play.daemon.run(!isCalm());
   }
 
-  /** Plays the script of the address, where there is one. */
+  /**
+   * Has the selectors tell what is there.
+   * @param {number} nodes
+   */
+  showChoice(nodes) {
+    const { source } = this;
+    this.own.hidden = source === null;
+    this.own.textContent = source?.title ?? "";
+    if (source) {
+      field("preset").value = OWN;
+    }
+    field("size").value = String(nodes);
+    field("size").disabled = field("seed").disabled = source !== null;
+    field("rules").value = this.play.labs.length > 1 ? "both" : this.play.lab.rules;
+  }
+
+  /** @param {string} said */
+  sayChoice(said) {
+    byId("choice-said").textContent = said;
+    byId("choice-said").hidden = said === "";
+  }
+
+  /**
+   * Opens a script or a graph under some rules. Throws a `BadLine`, and changes nothing, if a line is none.
+   * @param {Source} source
+   * @param {RuleName[]} rules
+   */
+  openSource(source, rules) {
+    this.play.open({...source, labs: rules.map((name) => ({ rules: name, lines: source.lines })) });
+    this.source = source;
+    this.showChoice(source.present);
+    this.sayChoice("");
+    this.play.daemon.run(false);
+  }
+
+  /**
+   * Opens a text of a kind that `kindOf` told. What is wrong with it is told, and then nothing has changed.
+   * @param {string} text
+   * @param {string} name the file's, or empty
+   * @param {string} kind
+   * @param {() => void} enter shows the playground, once the text is known to be good
+   */
+  openText(text, name, kind, enter) {
+    try {
+      const opened = sourceOf(text, name, kind, this.rules);
+      tryOut(this.engine, opened);
+      enter();
+      this.openSource(opened.source, opened.rules);
+      this.refuse(null);
+      this.play.daemon.run(kind !== "script" && !isCalm());
+      this.play.story.say(opened.said);
+    } catch (wrong) {
+      if (!isTold(wrong)) {
+        throw wrong;
+      }
+      this.refuse(
+        { said: `The ${kind} ${name === "" ? "" : `${name} `}is refused: ${wrong.message}.`, line: wrong.text ?? "" });
+    }
+  }
+
+  /** Plays the script of the address, if it holds one. */
   openAddress() {
     try {
       const held = readAddress(location.hash);
       if (held !== null) {
         const { rules, names, present, lines } = held;
-        this.play.open([rules], { names, present, nodes: names, links: ends(lines) }, lines);
-        byId("rules").value = rules;
-        this.play.run(false);
+        this.openSource({ names, present, nodes: names, lines, title: "the script of a link" }, [rules]);
+        this.refuse(null);
       }
     } catch (wrong) {
-      if (!(wrong instanceof AddressFault || wrong instanceof BadLine)) {
+      if (!isTold(wrong)) {
         throw wrong;
       }
-      this.refuse({ said: `The address holds no script that can be played: ${wrong.message}.`, line: "" });
+      this.refuse(
+        { said: `The address holds no script that can be played: ${wrong.message}.`, line: wrong.text ?? "" });
     }
   }
+
+  /**
+   * What a reload brings back.
+   * @returns {KeptLab}
+   */
+  get state() {
+    const { layout, ...plan } = this.play.plan;
+    const places = {...layout, x: [...layout.x], y: [...layout.y] };
+    const { at, daemon: { seed: daemonSeed } } = this.play;
+    return {
+      plan,
+      places,
+      placeless: [...this.play.placeless],
+      at,
+      source: this.source,
+      preset: field("preset").value,
+      size: field("size").value,
+      seed: field("seed").value,
+      daemonSeed
+    };
+  }
+
+  /**
+   * Brings back what was kept; returns whether it could be.
+   * @param {KeptLab} kept
+   */
+  restore(kept) {
+    try {
+      const { plan, places } = kept;
+      const layout = {...places, x: Float64Array.from(places.x), y: Float64Array.from(places.y) };
+      this.source = kept.source;
+      this.play.open({...plan, layout });
+      this.play.placeless = new Set(kept.placeless);
+      this.play.daemon.seed = kept.daemonSeed;
+      field("preset").value = kept.preset;
+      field("seed").value = kept.seed;
+      this.showChoice(Number(kept.size));
+      this.play.turnTo(kept.at);
+      this.play.daemon.run(false);
+      this.play.draw();
+      this.play.story.say("Here is what stood on the page before it was loaded again.");
+      return true;
+    } catch {
+      // what another version of the page kept is not worth a word
+      this.source = null;
+      return false;
+    }
+  }
+}
+
+/** @returns {HTMLButtonElement[]} */
+function toolButtons() {
+  return [...document.querySelectorAll("[data-tool]")]
+    .filter((button) => button instanceof HTMLButtonElement)
+    .map((button) => /** @type {HTMLButtonElement} */ (button));
 }

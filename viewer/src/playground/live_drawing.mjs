@@ -1,9 +1,14 @@
 // The drawing of a network whose nodes are moved by hand and whose edges come and go.
-import { Drawing } from "../drawing.mjs";
-import { add } from "../svg.mjs";
+import {Drawing} from "../drawing.mjs";
+import {add} from "../svg.mjs";
 
 export class LiveDrawing extends Drawing {
-  /** The names 1 to `names`, at the places of `layout`. */
+  /**
+   * The names 1 to `names`, at the places of `layout`.
+   * @param {SVGSVGElement} svg
+   * @param {Layout} layout
+   * @param {number} names
+   */
   constructor(svg, layout, names) {
     super(svg, layout, names, []);
     this.hanging = Array.from({ length: names + 1 }, () => new Map());
@@ -12,11 +17,20 @@ export class LiveDrawing extends Drawing {
     this.band = add(this.layers.picks, "line", { class: "band" });
   }
 
+  /**
+   * @param {import("../machine.mjs").Machine} machine
+   * @param {Entry} entry
+   * @param {number[]} lit
+   */
   show(machine, entry, lit) {
     this.machine = machine;
     super.show(machine, entry, lit);
   }
 
+  /**
+   * @param {number} low
+   * @param {number} high
+   */
   edge(low, high) {
     const known = super.edge(low, high);
     this.hanging[low].set(high, known);
@@ -24,7 +38,12 @@ export class LiveDrawing extends Drawing {
     return known;
   }
 
-  /** Marks stand where the edges of now leave room. */
+  /**
+   * Marks stand where the edges of now leave room.
+   * @param {import("../machine.mjs").Machine} machine
+   * @param {number} v
+   * @param {boolean} isLit
+   */
   showNode(machine, v, isLit) {
     const marked = machine.rule[v] !== null || machine.flag[v] === 1;
     const turned = marked && this.turns(machine, v);
@@ -35,7 +54,11 @@ export class LiveDrawing extends Drawing {
     }
   }
 
-  /** Whether the edges of a node lie otherwise than when its marks were placed. */
+  /**
+   * Whether the edges of a node lie otherwise than when its marks were placed.
+   * @param {import("../machine.mjs").Machine} machine
+   * @param {number} v
+   */
   turns(machine, v) {
     const [x, y] = this.place(v);
     const ends = [...machine.neighbours[v]];
@@ -48,7 +71,10 @@ export class LiveDrawing extends Drawing {
     return true;
   }
 
-  /** Draws a node, and what hangs on it, where it lies now. */
+  /**
+   * Draws a node, and what hangs on it, where it lies now.
+   * @param {number} v
+   */
   replace(v) {
     const [x, y] = this.place(v).map((at) => at.toFixed(1));
     this.shapes[v].group.setAttribute("transform", `translate(${x} ${y})`);
@@ -67,23 +93,35 @@ export class LiveDrawing extends Drawing {
     }
   }
 
-  /** Draws the arrow of a node anew. */
+  /**
+   * Draws the arrow of a node anew.
+   * @param {number} v
+   */
   turn(v) {
     this.pointers.get(v)?.line.remove();
     this.pointers.delete(v);
     this.showPointer(this.machine, v);
   }
 
-  /** A line from a node to a place, as long as a hand draws it; null takes it away. */
+  /**
+   * A line from a node to a place, as long as a hand draws it; null takes it away.
+   * @param {Place | null} place
+   * @param {number | null} node
+   */
   stretch(node, place) {
     this.band.classList.toggle("drawn", place !== null);
     if (place !== null) {
       const [x1, y1] = this.place(node);
-      Object.entries({ x1, y1, x2: place.x, y2: place.y }).forEach(([key, value]) => this.band.setAttribute(key, value));
+      Object.entries({ x1, y1, x2: place.x, y2: place.y }).forEach(([
+                                                                     key, value
+                                                                   ]) => this.band.setAttribute(key, String(value)));
     }
   }
 
-  /** Marks a node or an edge, in the way of a class; null marks none. */
+  /**
+   * Marks a node or an edge, in the way of a class; null marks none.
+   * @param {Thing | null} thing
+   */
   pick(thing, as = "") {
     super.pick(thing);
     [...this.layers.picks.children].forEach((mark) => as && mark.classList.add(as));

@@ -1,40 +1,67 @@
 // One network of the page: its picture with the hands on it, and its charge under its bound.
-import { RADIUS } from "../drawing.mjs";
-import { Gestures } from "../gestures.mjs";
-import { thingAt } from "../hit.mjs";
-import { counted, grouped } from "../numbers.mjs";
-import { byId } from "../svg.mjs";
-import { Zoom } from "../zoom.mjs";
-import { LiveDrawing } from "./live_drawing.mjs";
-import { frame } from "./places.mjs";
-import { Trace } from "./trace.mjs";
+import {RADIUS} from "../drawing.mjs";
+import {Gestures} from "../gestures.mjs";
+import {thingAt} from "../hit.mjs";
+import {counted, grouped} from "../numbers.mjs";
+import {byId} from "../svg.mjs";
+import {Zoom} from "../zoom.mjs";
+import {LiveDrawing} from "./live_drawing.mjs";
+import {frame} from "./places.mjs";
+import {Trace} from "./trace.mjs";
 
 // so many pixels from an edge is on it, for a mouse and for a finger
 const REACH = 8;
 const FINGER_REACH = 18;
 // names of fewer pixels are left out here, as they take longer to draw than all else
 const LEAST_NAME = 7;
-const RULE_SET_NAMES = { hh: "rules of Hsu and Huang", manne: "rules of Manne and others" };
+const RULE_SET_NAMES = {
+  hh: "rules of Hsu and Huang",
+  manne: "rules of Manne and others"
+};
+
+/**
+ * What hands do in a picture. `draws` says whether a drag draws a line from a node, and does not move it.
+ * @typedef {object} Hands
+ * @property {(thing: Thing | null, place: Place) => void} tap
+ * @property {(node: number, thing: Thing | null) => void} pair
+ * @property {(thing: Thing | null) => void} point
+ * @property {() => boolean} draws
+ * @property {(node: number, x: number, y: number) => void} moved
+ */
 
 export class Pane {
-  /** `hands` are `tap(thing, place)`, `pair(node, thing)`, `point(thing)` and `moved(node)`; `draws()` says whether a drag draws a
-   * line from a node, and does not move it. */
+  /**
+   * @param {import("./lab.mjs").Lab} lab
+   * @param {Layout} layout
+   * @param {Hands} hands
+   */
   constructor(lab, layout, hands) {
-    const root = byId("pane").content.cloneNode(true).firstElementChild;
-    Object.assign(this, { lab, layout, hands, root, grip: null });
+    const template = /** @type {HTMLTemplateElement} */ (byId("pane"));
+    const root =
+      /** @type {HTMLElement} */ (/** @type {Element} */ (template.content.cloneNode(true)).firstElementChild);
+    this.lab = lab;
+    this.layout = layout;
+    this.hands = hands;
+    this.root = root;
+    /**
+     * The node that a hand holds, or null.
+     * @type {number | null}
+     */
+    this.grip = null;
     byId("panes").append(root);
-    const part = (name) => root.querySelector(`.${name}`);
-    this.parts = Object.fromEntries(["rules", "state", "graph", "numbers", "spent", "left"].map((name) => [name, part(name)]));
-    this.parts.rules.textContent = RULE_SET_NAMES[lab.rules];
+    /** @param {string} name */
+    const part = (name) => /** @type {HTMLElement} */ (root.querySelector(`.${name}`));
+    this.parts = { state: part("state"), numbers: part("numbers"), spent: part("spent"), left: part("left") };
+    part("rules").textContent = RULE_SET_NAMES[lab.rules];
     root.classList.add(lab.rules);
-    this.svg = this.parts.graph;
+    this.svg = /** @type {SVGSVGElement} */ (/** @type {unknown} */ (part("graph")));
     this.svg.id = `graph-${lab.rules}`;
     if (!layout.framed && this.svg.clientHeight > 0) {
       frame(layout, this.svg.clientWidth / this.svg.clientHeight);
     }
     this.drawing = new LiveDrawing(this.svg, layout, lab.names);
-    this.zoom = new Zoom(this.svg, layout.width, layout.height, () => {}, LEAST_NAME);
-    this.trace = new Trace(part("trace"));
+    this.zoom = new Zoom(this.svg, layout.width, layout.height, (pixels) => this.drawing.growFor(pixels), LEAST_NAME);
+    this.trace = new Trace(part("history"));
     new Gestures(this.svg, {
       hover: (place) => hands.point(this.under(place)),
       leave: () => hands.point(null),
@@ -46,12 +73,21 @@ export class Pane {
     });
   }
 
-  /** The node or edge under a place of the window. */
+  /**
+   * The node or edge under a place of the window.
+   * @param {Place} place
+   */
   under(place) {
     const { x, y } = this.zoom.placeAt(place);
-    return thingAt(this.layout, this.lab.seen, x, y, RADIUS, (place.finger ? FINGER_REACH : REACH) * this.zoom.unit);
+    return thingAt(
+      this.layout, this.lab.seen, x, y, RADIUS * this.drawing.growth,
+      (place.finger ? FINGER_REACH : REACH) * this.zoom.unit);
   }
 
+  /**
+   * @param {Place} from
+   * @param {Place} to
+   */
   drag(from, to) {
     if (this.grip === null) {
       this.zoom.drag(from, to);
@@ -63,6 +99,7 @@ export class Pane {
     }
   }
 
+  /** @param {Place} place */
   drop(place) {
     const { grip } = this;
     this.grip = null;
@@ -72,27 +109,37 @@ export class Pane {
     }
   }
 
-  /** Shows how the engine says that the network stands, behind an entry that names the nodes in `lit`. */
+  /**
+   * Shows the state of the network as the engine told it, after an entry that names the nodes in `lit`.
+   * @param {Entry | null} entry
+   * @param {number[]} lit
+   */
   show(entry, lit) {
     const { seen } = this.lab;
     this.drawing.show(seen, entry, lit);
-    const { spent, left, numbers, state } = this.parts;
-    const { charge, bound } = seen;
-    spent.style.width = `${(100 * seen.spent) / (bound || 1)}%`;
-    left.style.width = `${(100 * charge) / (bound || 1)}%`;
-    numbers.textContent = `spent ${grouped(seen.spent)} + charge ${grouped(charge)} ≤ bound ${grouped(bound)}`;
+    this.meter();
     const quiet = seen.enabledCount === 0;
-    state.textContent = quiet ? `✓ stable, ${counted(seen.pairCount, "pair")}` : `${grouped(seen.enabledCount)} may move`;
-    state.classList.toggle("stable", quiet);
+    this.parts.state.textContent =
+      quiet ? `✓ stable, ${counted(seen.pairCount, "pair")}` : `${grouped(seen.enabledCount)} may move`;
+    this.parts.state.classList.toggle("stable", quiet);
   }
 
-  /** Adds how it stands to the line below the picture. */
+  /** The bar of the moves that were spent and that can come, of the bound. */
+  meter() {
+    const { charge, bound, spent } = this.lab.seen;
+    this.parts.spent.style.width = `${(100 * spent) / (bound || 1)}%`;
+    this.parts.left.style.width = `${(100 * charge) / (bound || 1)}%`;
+    this.parts.numbers.textContent = `spent ${grouped(spent)} + charge ${grouped(charge)} ≤ bound ${grouped(bound)}`;
+  }
+
+  /** Adds the state to the lines below the picture. */
   note() {
     const { charge, spent, bound } = this.lab.seen;
     this.trace.note(charge, spent + charge, bound);
   }
 
   close() {
+    this.zoom.close();
     this.root.remove();
   }
 }

@@ -1,5 +1,6 @@
-// Where nodes lie: places of a preset, or found by the layout of the transcripts' page; hands may move them, and newcomers find room.
-import { fill, layOut, SPACING } from "../layout.mjs";
+// Where nodes lie: places of a preset, or found by the layout of the transcripts' page; hands may move them, and
+// newcomers find room.
+import {fill, layOut, SPACING} from "../layout.mjs";
 
 // a unit of a preset's places
 const UNIT = 62;
@@ -8,8 +9,14 @@ const BORDER = SPACING / 2;
 const ACROSS = 24;
 const DOWN = 16;
 
-/** The same places, with room for all names. */
+/**
+ * The same places, with room for all names.
+ * @param {Layout} layout
+ * @param {number} names
+ * @returns {Layout}
+ */
 function forNames({ x, y, width, height }, names) {
+  /** @param {Float64Array} from */
   const longer = (from) => {
     const made = new Float64Array(names + 1);
     made.set(from.subarray(0, names + 1));
@@ -18,39 +25,72 @@ function forNames({ x, y, width, height }, names) {
   return { x: longer(x), y: longer(y), width, height };
 }
 
-/** Places of a network of so many names; `places` of the first nodes where a preset has them, else they are found from `links`. */
-export function placesOf({ nodes, links, places }, names) {
+/**
+ * Places of a network of so many names: those that it has for its first nodes, else they are found from its links.
+ * @param {Network} network
+ * @param {number} names
+ */
+export function placesOf({nodes, links, places}, names) {
   if (!places) {
     return forNames(fill(layOut(nodes, links)), names);
   }
   const [xs, ys] = [0, 1].map((axis) => places.map((place) => place[axis] * UNIT));
   const [left, top] = [xs, ys].map((numbers) => numbers.reduce((a, b) => Math.min(a, b)));
   const sizes = [xs, ys].map((numbers, axis) => numbers.reduce((a, b) => Math.max(a, b)) - [left, top][axis] + SPACING);
+  /**
+   * @param {number[]} numbers
+   * @param {number} from
+   */
   const along = (numbers, from) => Float64Array.from([0, ...numbers.map((at) => at - from + BORDER)]);
   return forNames(fill({ x: along(xs, left), y: along(ys, top), width: sizes[0], height: sizes[1] }), names);
 }
 
-/** Gives a layout the form of the picture in which it is seen, so many times wider than high: what it has stays in the middle. */
+/**
+ * Gives a layout the form of the picture in which it is seen, so many times wider than high: what it has stays in the
+ * middle.
+ * @param {Layout} layout
+ * @param {number} form
+ */
 export function frame(layout, form) {
   const { x, y, width, height } = layout;
   const [wide, high] = [Math.max(width, height * form), Math.max(height, width / form)];
-  [layout.x, layout.y] = [x.map((at) => at + (wide - width) / 2), y.map((at) => at + (high - height) / 2)];
-  [layout.width, layout.height, layout.framed] = [wide, high, true];
+  layout.x = x.map((at) => at + (wide - width) / 2);
+  layout.y = y.map((at) => at + (high - height) / 2);
+  Object.assign(layout, { width: wide, height: high, framed: true });
 }
 
-/** A place inside the drawing, as near as can be. */
-export function within({ width, height }, x, y) {
+/**
+ * A place inside the drawing, as near as can be.
+ * @param {Size} size
+ * @param {number} x
+ * @param {number} y
+ */
+export function within({width, height}, x, y) {
+  /**
+   * @param {number} at
+   * @param {number} size
+   */
   const clamp = (at, size) => Math.min(size - BORDER, Math.max(BORDER, at));
   return [clamp(x, width), clamp(y, height)];
 }
 
-/** The place that is farthest from all nodes that are there. */
+/**
+ * The place that is farthest from all nodes that are there.
+ * @param {Layout} layout
+ * @param {Uint8Array} here
+ */
 export function freePlace(layout, here) {
   const { x, y, width, height } = layout;
-  const candidates = Array.from({ length: ACROSS * DOWN }, (_, at) => [
-    BORDER + ((width - 2 * BORDER) * (at % ACROSS)) / (ACROSS - 1),
-    BORDER + ((height - 2 * BORDER) * Math.floor(at / ACROSS)) / (DOWN - 1),
+  const candidates = Array.from(
+    { length: ACROSS * DOWN },
+    (_, at) =>
+      [BORDER + ((width - 2 * BORDER) * (at % ACROSS)) / (ACROSS - 1),
+       BORDER + ((height - 2 * BORDER) * Math.floor(at / ACROSS)) / (DOWN - 1),
   ]);
-  const room = ([px, py]) => x.reduce((least, at, v) => (here[v] ? Math.min(least, Math.hypot(at - px, y[v] - py)) : least), Infinity);
-  return candidates.map((place) => ({ place, room: room(place) })).reduce((best, next) => (next.room > best.room ? next : best)).place;
+  /** @param {number[]} place */
+  const room = ([px, py]) =>
+    x.reduce((least, at, v) => (here[v] ? Math.min(least, Math.hypot(at - px, y[v] - py)) : least), Infinity);
+  return candidates.map((place) => ({ place, room: room(place) }))
+    .reduce((best, next) => (next.room > best.room ? next : best))
+    .place;
 }

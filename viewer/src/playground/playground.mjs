@@ -1,44 +1,99 @@
 // The playground: one network, or the same one under both rule sets, in the hands of whoever opens the page.
-import { counted } from "../numbers.mjs";
-import { byId } from "../svg.mjs";
-import { nodesOf, readEntry } from "../transcript.mjs";
-import { Card } from "./card.mjs";
-import { Lab } from "./lab.mjs";
-import { Pane } from "./pane.mjs";
-import { freePlace, placesOf, within } from "./places.mjs";
-import { Runner } from "./runner.mjs";
-import { Story } from "./story.mjs";
-import { Texts } from "./texts.mjs";
-import { Tools } from "./tools.mjs";
+import {counted} from "../numbers.mjs";
+import {byId, field} from "../svg.mjs";
+import {nodesOf, readEntry} from "../transcript.mjs";
+import {Card} from "./card.mjs";
+import {Chooser} from "./chooser.mjs";
+import {Daemon} from "./daemon.mjs";
+import {BadLine, Lab} from "./lab.mjs";
+import {Pane} from "./pane.mjs";
+import {Past} from "./past.mjs";
+import {freePlace, placesOf, within} from "./places.mjs";
+import {Story} from "./story.mjs";
+import {Texts} from "./texts.mjs";
+import {Tools} from "./tools.mjs";
+import {Work} from "./work.mjs";
 
 // so many milliseconds does an edge that came or went stay marked
 const MARKED = 1600;
 // and nodes that moved lit
 const LIT = 700;
-const LAST_SEED = 999_999_999;
 
-/** The last entry of some lines of a transcript; null where there is none. */
+/**
+ * The last entry of some lines of a transcript, or null.
+ * @param {string} text
+ */
 function lastEntry(text) {
   const line = text.trimEnd().split("\n").at(-1);
   return /^\d/.test(line) ? readEntry(line) : null;
 }
 
+/**
+ * @param {string[]} one
+ * @param {string[]} other
+ */
+function isSame(one, other) {
+  return one.length === other.length && one.every((line, at) => line === other[at]);
+}
+
 export class Playground {
-  /** `judge(text)` judges a transcript and plays it. */
+  /**
+   * @param {import("./engine.mjs").Engine} engine
+   * @param {(text: string) => void} judge judges a transcript and plays it
+   */
   constructor(engine, judge) {
-    Object.assign(this, { engine, labs: [], panes: [], past: [], at: 0, chosen: null, seed: 0, stretch: false, changed: null, fading: null, calming: null });
+    this.engine = engine;
+    /** @type {Lab[]} */
+    this.labs = [];
+    /** @type {Pane[]} */
+    this.panes = [];
+    /** Which lab the card and the texts tell of. */
+    this.at = 0;
+    /**
+     * The entry whose edge is marked.
+     * @type {Entry | null}
+     */
+    this.changed = null;
+    /**
+     * Is called after each change.
+     * @type {() => void}
+     */
+    this.hasChanged = () => {};
+    this.past = new Past();
+    this.work = new Work();
     const acts = {
+      /** @param {string} line */
       disturb: (line) => this.disturb(line),
+      /**
+       * @param {Lab} lab
+       * @param {string} line
+       */
       move: (lab, line) => this.move(lab, line),
-      choose: (thing) => this.choose(thing),
+      /** @param {Thing | null} thing */
+      choose: (thing) => this.chooser.choose(thing),
+      /**
+       * @param {string} text
+       * @param {boolean} [wrong]
+       */
       say: (text, wrong) => this.story.say(text, wrong),
+      /**
+       * @param {number} node
+       * @param {Place | null} place
+       */
       settle: (node, place) => this.settle(node, place),
     };
+    this.chooser = new Chooser((thing) => this.showChosen(thing));
     this.story = new Story(byId("story"));
     this.tools = new Tools(acts);
     this.card = new Card(acts);
-    this.runner = new Runner(() => this.stepAll(), (count) => count > 0 && this.show(count));
-    this.texts = new Texts(() => this.lab, { play: (lines) => this.playLines(lines), judge, pause: () => this.run(false), say: acts.say });
+    this.daemon = new Daemon(this);
+    this.texts = new Texts(() => this.lab, {
+      play: (lines) => this.playLines(lines),
+      judge,
+      pause: () => this.daemon.run(false),
+      say: acts.say,
+      saved: () => this.work.saved()
+    });
   }
 
   /** The network whose texts and nodes are told of. */
@@ -46,33 +101,65 @@ export class Playground {
     return this.labs[this.at];
   }
 
-  /** Begins anew: `network` has names, present, nodes, links and places; each of `rules` plays the lines. A `BadLine` is thrown where
-   * one is none, and all stays as it was. */
-  open(rules, network, lines) {
-    const { names, present } = network;
-    const labs = rules.map((name) => new Lab(this.engine, { rules: name, names, present }));
+  /**
+   * Begins anew. Throws a `BadLine`, and changes nothing, if a line is none.
+   * @param {Plan} plan
+   */
+  open(plan) {
+    const { names, present } = plan;
+    /** @type {Lab[]} */
+    const labs = [];
     try {
-      labs.forEach((lab) => lab.replay(lines));
+      for (const { rules, lines } of plan.labs) {
+        labs.push(new Lab(this.engine, { rules, names, present }));
+        labs.at(-1).replay(lines);
+      }
     } catch (wrong) {
       labs.forEach((lab) => lab.free());
       throw wrong;
     }
     this.labs.forEach((lab) => lab.free());
     this.panes.forEach((pane) => pane.close());
-    Object.assign(this, { labs, past: [], at: 0, stretch: false, changed: null, layout: placesOf(network, names) });
+    this.labs = labs;
+    this.past = new Past();
+    this.at = 0;
+    this.daemon.stretch = false;
+    this.changed = null;
+    this.layout = plan.layout ?? placesOf({...plan, links: plan.links ?? labs[0].linksEver }, names);
     // names that were given no place
-    this.placeless = new Set(Array.from({ length: names - network.nodes }, (_, at) => network.nodes + 1 + at));
+    this.placeless =
+      new Set(plan.layout ? [] : Array.from({ length: names - plan.nodes }, (_, at) => plan.nodes + 1 + at));
     byId("panes").classList.toggle("two", labs.length > 1);
     this.panes = labs.map((lab, at) => this.paneOf(lab, at));
     byId("which").hidden = labs.length < 2;
     document.body.classList.toggle("flagless", labs.every((lab) => !lab.seen.flags));
+    this.work.saved();
     this.texts.edit(false);
-    this.choose(null);
+    this.chooser.choose(null);
     this.story.open();
     this.placeNewcomers();
     this.show(0);
   }
 
+  /**
+   * What `open` makes the same of.
+   * @returns {Plan}
+   */
+  get plan() {
+    const { names, present } = this.lab;
+    return {
+      names,
+      present,
+      nodes: names,
+      labs: this.labs.map(({ rules, lines }) => ({ rules, lines: lines.slice() })),
+      layout: this.layout
+    };
+  }
+
+  /**
+   * @param {Lab} lab
+   * @param {number} at
+   */
   paneOf(lab, at) {
     const pane = new Pane(lab, this.layout, {
       tap: (thing, place) => {
@@ -88,43 +175,62 @@ export class Playground {
     return pane;
   }
 
-  /** Which of two networks the card and the texts tell of. */
+  /**
+   * Which of two networks the card and the texts tell of.
+   * @param {number} at
+   */
   turnTo(at) {
-    if (at !== this.at) {
+    if (at !== this.at && this.labs[at]) {
       this.at = at;
       this.texts.edit(false);
       this.texts.write();
     }
-    byId("which").value = this.lab.rules;
+    field("which").value = this.lab.rules;
   }
 
-  /** Remembers where all scripts stand, for `undo`. */
+  /**
+   * Remembers where all scripts stand, for `undo`.
+   * @param {boolean} whole
+   */
   remember(whole = false) {
-    this.past.push(this.labs.map((lab) => (whole ? lab.lines.slice() : lab.lines.length)));
-    this.stretch = false;
+    this.past.remember(this.labs, whole);
+    this.daemon.stretch = false;
   }
 
-  /** Feeds a line to some networks: their entries. */
+  /**
+   * Feeds a line to some networks: their entries.
+   * @param {string} line
+   * @param {Lab[]} labs
+   */
   feed(line, labs) {
     return labs.map((lab) => {
       const text = this.feedOne(line, lab);
       lab.fed = true;
-      (lab.lit ??= []).push(...text.split("\n").filter((entry) => entry.includes(" step ")).map(readEntry).flatMap(nodesOf));
+      lab.lit.push(...text.split("\n").filter((entry) => entry.includes(" step ")).map(readEntry).flatMap(nodesOf));
       return text;
     });
   }
 
+  /**
+   * @param {string} line
+   * @param {Lab} lab
+   */
   feedOne(line, lab) {
     try {
       return lab.feed(line);
     } catch (wrong) {
-      this.run(false);
-      this.story.say(`The engine does not go on: ${wrong.message}.`, true);
+      this.daemon.run(false);
+      const why = wrong instanceof BadLine ? `The line ${wrong.text} ${wrong.why}.` :
+                                             `The engine does not go on: ${wrong.message}.`;
+      this.story.say(why, true);
       throw wrong;
     }
   }
 
-  /** An edit, a fault or a scramble, in all networks that have what it writes. */
+  /**
+   * An edit, a fault or a scramble, in all networks that have what it writes.
+   * @param {string} line
+   */
   disturb(line) {
     const labs = this.labs.filter((lab) => lab.seen.flags || !line.startsWith("flag "));
     if (labs.length === 0) {
@@ -132,7 +238,11 @@ export class Playground {
       return;
     }
     this.remember();
-    const texts = this.feed(line, labs);
+    const texts = this.attempt(() => this.feed(line, labs));
+    if (texts === null) {
+      return;
+    }
+    this.work.acted();
     this.look(labs);
     const refused = texts.map(lastEntry).find((entry) => entry?.refused);
     if (refused) {
@@ -146,160 +256,141 @@ export class Playground {
     this.show(0);
   }
 
-  /** A step that a hand chose, in one network. */
+  /**
+   * What an act comes to, or null if its line was not carried out, which has been told then.
+   * @template T
+   * @param {() => T} act
+   * @param {boolean} begins whether the act was remembered as one of its own
+   * @returns {T | null}
+   */
+  attempt(act, begins = true) {
+    try {
+      return act();
+    } catch (wrong) {
+      if (!(wrong instanceof BadLine)) {
+        throw wrong;
+      }
+      if (begins) {
+        this.past.forget();
+      }
+      return null;
+    }
+  }
+
+  /**
+   * A step that a hand chose, in one network.
+   * @param {Lab} lab
+   * @param {string} line
+   */
   move(lab, line) {
     this.remember();
-    this.feed(line, [lab]);
-    this.show(1);
-  }
-
-  /** One move of each network, by the daemon that was chosen; whether there was one. */
-  stepAll() {
-    return this.labs.map((lab) => this.stepOne(lab)).some(Boolean);
-  }
-
-  stepOne(lab) {
-    if (!lab.fed && lab.seen.enabledCount === 0) {
-      return false;
-    }
-    const all = byId("daemon").value === "all" && lab.seen.flags;
-    const enabled = all && lab.fed ? lab.look().enabledNodes : lab.seen.enabledNodes;
-    if (all && enabled.length === 0) {
-      return false;
-    }
-    if (!this.stretch) {
-      this.remember();
-      this.stretch = true;
-    }
-    this.seed = (this.seed % LAST_SEED) + 1;
-    const [text] = this.feed(all ? `step ${enabled.join(" ")}` : `drive ${this.seed} 1`, [lab]);
-    if (text === "") {
-      // nothing was enabled
-      lab.lines.pop();
-    }
-    return text !== "";
-  }
-
-  /** One move by hand on the button. */
-  stepNow() {
-    this.run(false);
-    this.stretch = false;
-    if (this.stepAll()) {
+    if (this.attempt(() => this.feed(line, [lab]))) {
+      this.work.acted();
       this.show(1);
-    } else {
-      this.story.say("Nothing is enabled: all is stable.");
     }
-    this.stretch = false;
   }
 
-  run(on) {
-    if (on) {
-      this.runner.start();
-    } else {
-      this.runner.stop();
+  /**
+   * Tells where it has come to, after so many further moves.
+   * @param {number} moves
+   */
+  tell(moves) {
+    if (this.labs.length > 0) {
+      const enabled = this.labs.reduce((sum, { seen }) => sum + seen.enabledCount, 0);
+      this.story.goesOn(moves, enabled, this.lab.seen.pairCount);
     }
-    byId("run").textContent = on ? "❚❚ pause" : "▶ run";
-    byId("run").setAttribute("aria-pressed", on);
-  }
-
-  scramble() {
-    const count = Math.min(1000, Math.max(1, Math.round(Number(byId("faults").value)) || 1));
-    this.seed += 1;
-    this.disturb(`scramble ${this.seed} ${count}`);
   }
 
   /** Takes the last act back: its lines go, and the rest is played again. */
   undo() {
-    this.run(false);
-    const point = this.past.pop();
-    if (!point) {
-      this.story.say("There is nothing to take back.");
+    this.retrace(this.past.back(this.labs), "There is nothing to take back.", "Taken back");
+  }
+
+  /** Does again what was taken back last. */
+  redo() {
+    this.retrace(this.past.again(this.labs), "There is nothing to do again.", "Done again");
+  }
+
+  /**
+   * Plays the lines that each lab has before or after an act.
+   * @param {string[][] | null} scripts
+   * @param {string} nothing what is said if there was no such act
+   * @param {string} done
+   */
+  retrace(scripts, nothing, done) {
+    this.daemon.run(false);
+    if (scripts === null) {
+      this.story.say(nothing);
       return;
     }
     const before = this.lab.lines.length;
-    this.labs.forEach((lab, at) => {
-      const kept = point[at];
-      if (typeof kept !== "number" || lab.lines.length > kept) {
-        lab.replay(typeof kept === "number" ? lab.lines.slice(0, kept) : kept);
-      }
-    });
-    Object.assign(this, { stretch: false, changed: null });
+    scripts.forEach((lines, at) => isSame(lines, this.labs[at].lines) || this.labs[at].replay(lines));
+    this.daemon.stretch = false;
+    this.changed = null;
+    this.work.acted();
     this.story.open();
     this.texts.drop();
-    this.draw();
-    this.story.say(`Taken back: ${counted(Math.abs(before - this.lab.lines.length), "line")} of the script.`);
+    this.placeNewcomers();
+    this.show(0);
+    this.story.say(`${done}: ${counted(Math.abs(before - this.lab.lines.length), "line")} of the script.`);
   }
 
-  /** Plays the script that somebody wrote, in the network that is told of; whether all its lines are commands. */
+  /**
+   * Plays a script in the network that is told of. Throws a `BadLine`, and changes nothing, if a line is none.
+   * @param {string[]} lines
+   */
   playLines(lines) {
     const { lab } = this;
     const before = lab.lines.slice();
+    this.daemon.run(false);
     this.remember(true);
     try {
       lab.replay(lines);
     } catch (wrong) {
       lab.replay(before);
-      this.past.pop();
-      this.story.say(`The script was not played: ${wrong.message}.`, true);
-      return false;
+      this.past.forget();
+      throw wrong;
     }
-    this.run(false);
+    this.work.acted();
     this.placeNewcomers();
     this.story.open();
     this.show(0);
     this.story.say(`Played: ${counted(lines.length, "line")}.`);
-    return true;
   }
 
-  choose(thing) {
-    this.chosen = thing;
+  /** @param {Thing | null} thing */
+  showChosen(thing) {
     this.panes.forEach((pane) => pane.drawing.pick(thing));
     if (this.labs.length > 0) {
       this.card.show(this.lab, thing);
     }
   }
 
-  /** Chooses the next node that is there, or the one before. */
-  walk(step) {
-    const { seen } = this.lab;
-    const from = this.chosen?.node ?? this.chosen?.low ?? (step > 0 ? 0 : seen.nodes + 1);
-    for (let v = from + step; v >= 1 && v <= seen.nodes; v += step) {
-      if (seen.here[v]) {
-        this.choose({ node: v });
-        return;
-      }
-    }
-  }
-
-  /** Chooses the next edge of the node that is chosen, or of the end from which that began. */
-  turnEdge() {
-    const { chosen } = this;
-    const hub = chosen?.node ?? (chosen?.high === this.hub ? this.hub : chosen?.low ?? 0);
-    const others = [...this.lab.seen.neighbours[hub]].sort((a, b) => a - b);
-    const at = chosen?.node ? -1 : others.findIndex((w) => w === chosen?.low || w === chosen?.high);
-    const other = others[at + 1] ?? others[0];
-    if (other) {
-      this.hub = hub;
-      this.choose({ low: Math.min(hub, other), high: Math.max(hub, other) });
-    }
-  }
-
-  /** Marks what a click would hit. */
+  /**
+   * Marks what a click would hit.
+   * @param {Thing | null} thing
+   */
   aim(thing) {
     const aimed = this.tools.aims(thing);
     this.panes.forEach((pane) => {
       const cuts = this.tools.name === "cut" && aimed?.low;
       pane.svg.classList.toggle("aimed", aimed !== null);
-      pane.drawing.pick(aimed ?? this.chosen, cuts ? "cutting" : "");
+      pane.drawing.pick(aimed ?? this.chooser.thing, cuts ? "cutting" : "");
     });
   }
 
-  /** Puts a node where a hand wants it; where room is for null. */
+  /**
+   * Puts a node where a hand wants it, or with null where there is room.
+   * @param {number} node
+   * @param {Place | null} place
+   */
   settle(node, place) {
     const [x, y] = place ? within(this.layout, place.x, place.y) : freePlace(this.layout, this.lab.seen.here);
-    [this.layout.x[node], this.layout.y[node]] = [x, y];
+    this.layout.x[node] = x;
+    this.layout.y[node] = y;
     this.placeless.delete(node);
     this.panes.forEach((pane) => pane.drawing.replace(node));
+    this.hasChanged();
   }
 
   /** Nodes that nobody placed get places of their own. */
@@ -308,7 +399,10 @@ export class Playground {
     here.forEach((present, v) => present && this.placeless.has(v) && this.settle(v, null));
   }
 
-  /** An edge that came or went is marked for a while. */
+  /**
+   * An edge that came or went is marked for a while.
+   * @param {Entry | null} entry
+   */
   mark(entry) {
     clearTimeout(this.fading);
     this.changed = entry?.disturbs ? entry : null;
@@ -318,36 +412,40 @@ export class Playground {
     }, MARKED);
   }
 
-  /** Has the engine tell of networks that have come on since it told of them last. */
+  /**
+   * Has the engine tell of networks that have come on since it told of them last.
+   * @param {Lab[]} labs
+   */
   look(labs) {
-    for (const lab of labs.filter((it) => it.fed !== false)) {
-      lab.look();
-      lab.fed = false;
-    }
+    labs.filter((lab) => lab.fed).forEach((lab) => lab.look());
   }
 
-  /** Has the engine tell of all networks, behind so many moves, and shows it. */
+  /**
+   * Has the engine tell of all networks, after so many moves, and shows it.
+   * @param {number} moves
+   */
   show(moves) {
     this.look(this.labs);
     this.panes.forEach((pane) => pane.note());
     this.draw();
-    const enabled = this.labs.reduce((sum, { seen }) => sum + seen.enabledCount, 0);
-    this.story.goesOn(moves, enabled, this.lab.seen.pairCount);
+    this.tell(moves);
   }
 
   draw() {
     clearTimeout(this.calming);
-    if (this.labs.some((lab) => lab.lit?.length > 0)) {
+    if (this.labs.some((lab) => lab.lit.length > 0)) {
       this.calming = setTimeout(() => this.draw(), LIT);
     }
     this.panes.forEach((pane) => {
-      pane.show(this.changed, pane.lab.lit ?? []);
+      pane.show(this.changed, pane.lab.lit);
       pane.lab.lit = [];
     });
-    if (this.chosen !== null) {
-      this.card.show(this.lab, this.chosen);
+    if (this.chooser.thing !== null) {
+      this.card.show(this.lab, this.chooser.thing);
     }
-    byId("undo").disabled = this.past.length === 0;
+    field("undo").disabled = this.past.acts.length === 0;
+    field("redo").disabled = this.past.undone.length === 0;
     this.texts.show();
+    this.hasChanged();
   }
 }

@@ -1,7 +1,7 @@
-// Networks to begin with: their nodes are 1 to `nodes`, `links` their edges, and `places` where the nodes lie, by their names; where
-// there are none, the page finds places by itself.
-import { distanceToStretch } from "../hit.mjs";
-import { chanceOf } from "./chance.mjs";
+// Networks to begin with: their nodes are 1 to `nodes`, `links` their edges, and `places` where the nodes lie, by their
+// names; where there are none, the page finds places by itself.
+import {distanceToStretch} from "../hit.mjs";
+import {chanceOf} from "./chance.mjs";
 
 export const MOST_NODES = 500;
 // how much wider than high a field of nodes is
@@ -13,22 +13,29 @@ const JITTER = 0.24;
 // no link of a mesh comes nearer to a third node
 const CLEAR = 0.3;
 const RACK_HOSTS = 8;
+// so many leaves of a star lie on one circle
+const ROUND = 40;
 
+/** @param {number} nodes */
 function ring(nodes) {
   const links = Array.from({ length: nodes - 1 }, (_, at) => [at + 1, at + 2]);
   return { links: nodes > 2 ? [...links, [1, nodes]] : links };
 }
 
+/** @param {number} nodes */
 function path(nodes) {
   return { links: Array.from({ length: nodes - 1 }, (_, at) => [at + 1, at + 2]) };
 }
 
+/** @param {number} nodes */
 function columnsOf(nodes) {
   return Math.max(1, Math.round(Math.sqrt(nodes * WIDE)));
 }
 
+/** @param {number} nodes */
 function grid(nodes) {
   const columns = columnsOf(nodes);
+  /** @type {Link[]} */
   const links = [];
   for (let v = 1; v <= nodes; v += 1) {
     if (v % columns !== 0 && v < nodes) {
@@ -42,18 +49,47 @@ function grid(nodes) {
   return { links, places };
 }
 
-function star(nodes) {
-  const round = (at) => [(2 * Math.PI * at) / (nodes - 1) - Math.PI / 2, Math.max(1.6, nodes / 6)];
-  const places = Array.from({ length: nodes }, (_, at) => (at === 0 ? [0, 0] : [round(at)[1] * Math.cos(round(at)[0]), round(at)[1] * Math.sin(round(at)[0])]));
-  return { links: Array.from({ length: nodes - 1 }, (_, at) => [1, at + 2]), places };
+/**
+ * A place by its angle and its distance from the middle.
+ * @param {number} angle
+ * @param {number} far
+ * @returns {Link}
+ */
+function around(angle, far) {
+  return [far * Math.cos(angle), far * Math.sin(angle)];
 }
 
+/**
+ * The hub in the middle, and the others on a circle; many lie as the seeds of a sunflower do (Vogel, 1979), since their
+ * circle would be too large to be seen.
+ * @param {number} nodes
+ */
+function star(nodes) {
+  const leaves = nodes - 1;
+  /** @param {number} at */
+  const onCircle = (at) => around((2 * Math.PI * at) / leaves - Math.PI / 2, Math.max(1.6, nodes / 6));
+  /** @param {number} at */
+  const inFlower = (at) => around(at * Math.PI * (3 - Math.sqrt(5)), 0.6 * Math.sqrt(at + 3));
+  const places =
+    Array.from({ length: nodes }, (_, at) => (at === 0 ? [0, 0] : (leaves > ROUND ? inFlower : onCircle)(at)));
+  return { links: Array.from({ length: leaves }, (_, at) => [1, at + 2]), places };
+}
+
+/**
+ * @param {number[]} one
+ * @param {number[]} other
+ */
 function distance([x1, y1], [x2, y2]) {
   return Math.hypot(x1 - x2, y1 - y2);
 }
 
-/** All pairs of places that are no farther apart than `reach`. */
+/**
+ * All pairs of places that are no farther apart than `reach`.
+ * @param {Link[]} places
+ * @param {number} reach
+ */
 function near(places, reach) {
+  /** @type {Link[]} */
   const links = [];
   places.forEach((place, at) => {
     for (let other = at + 1; other < places.length; other += 1) {
@@ -65,10 +101,15 @@ function near(places, reach) {
   return links;
 }
 
-/** Radios that lie by chance, each of which hears what is near; none lies on another, so that all can be seen. */
+/**
+ * Radios that lie by chance, each of which hears what is near; none lies on another, so that all can be seen.
+ * @param {number} nodes
+ * @param {number} seed
+ */
 function unitDisk(nodes, seed) {
   const chance = chanceOf(seed);
   const height = Math.sqrt(nodes / WIDE);
+  /** @type {Link[]} */
   const places = [];
   for (let apart = 0.62; places.length < nodes; apart *= 0.97) {
     for (let tries = 0; tries < 40 && places.length < nodes; tries += 1) {
@@ -81,13 +122,22 @@ function unitDisk(nodes, seed) {
   return { links: near(places, DISK_REACH), places };
 }
 
-/** Whether a link between two places runs past all others. */
+/**
+ * Whether a link between two places runs past all others.
+ * @param {Link[]} places
+ * @param {number} v
+ * @param {number} w
+ */
 function isClear(places, v, w) {
   return places.every(([x, y], at) => at === v || at === w || distanceToStretch(x, y, places[v], places[w]) > CLEAR);
 }
 
-/** Routers and what hangs on them, on a grid that was shaken: one of three is a router, which hears the routers near it; each other
- * node hears the two routers that are nearest, of those whose links run past all others where there are any. */
+/**
+ * Routers and what hangs on them, on a grid that was shaken: one of three is a router, which hears the routers near it;
+ * each other node hears the two routers that are nearest, of those whose links run past all others where there are any.
+ * @param {number} nodes
+ * @param {number} seed
+ */
 function mesh(nodes, seed) {
   const chance = chanceOf(seed);
   const columns = columnsOf(nodes);
@@ -96,25 +146,39 @@ function mesh(nodes, seed) {
     const row = Math.floor(at / columns);
     return [(at % columns) + (row % 2) * 0.5 + shaken(), row * 0.95 + shaken()];
   });
+  /** @param {number} at */
   const isRouter = (at) => ((at % columns) + 2 * Math.floor(at / columns) + (Math.floor(at / columns) >> 1)) % 3 === 1;
   const routers = places.flatMap((_, at) => (isRouter(at) ? [at] : []));
-  const links = near(places, MESH_REACH).filter(([v, w]) => isRouter(v - 1) && isRouter(w - 1) && isClear(places, v - 1, w - 1));
+  const links =
+    near(places, MESH_REACH).filter(([v, w]) => isRouter(v - 1) && isRouter(w - 1) && isClear(places, v - 1, w - 1));
   places.forEach((place, at) => {
     if (!isRouter(at)) {
       const nearest = [...routers].sort((v, w) => distance(place, places[v]) - distance(place, places[w])).slice(0, 4);
       const clear = nearest.filter((router) => isClear(places, at, router));
-      (clear.length > 0 ? clear : nearest).slice(0, 2).forEach((router) => links.push([Math.min(at, router) + 1, Math.max(at, router) + 1]));
+      (clear.length > 0 ? clear : nearest).slice(0, 2).forEach((router) => links.push([
+        Math.min(at, router) + 1, Math.max(at, router) + 1
+      ]));
     }
   });
   return { links, places };
 }
 
-/** A tree that hangs together, and as many further edges as make three of two nodes. */
+/**
+ * A tree that hangs together, and as many further edges as make three of two nodes.
+ * @param {number} nodes
+ * @param {number} seed
+ */
 function random(nodes, seed) {
   const chance = chanceOf(seed);
+  /** @param {number} most */
   const below = (most) => Math.floor(chance() * most);
   const links = new Map();
-  const link = (v, w) => v !== w && links.set(Math.min(v, w) * 65536 + Math.max(v, w), [Math.min(v, w), Math.max(v, w)]);
+  /**
+   * @param {number} v
+   * @param {number} w
+   */
+  const link = (v, w) =>
+    v !== w && links.set(Math.min(v, w) * 65536 + Math.max(v, w), [Math.min(v, w), Math.max(v, w)]);
   for (let v = 2; v <= nodes; v += 1) {
     link(v, 1 + below(v - 1));
   }
@@ -125,10 +189,15 @@ function random(nodes, seed) {
   return { links: [...links.values()] };
 }
 
-/** Hosts in racks: a partner that holds a host's copy has to stand in the rack beside it, so that no rack takes both away. */
+/**
+ * Hosts in racks: a partner that holds a host's copy has to stand in the rack beside it, so that no rack takes both
+ * away.
+ * @param {number} nodes
+ */
 function racks(nodes) {
   const hosts = Math.min(RACK_HOSTS, Math.max(2, Math.round(Math.sqrt(nodes / WIDE))));
   const places = Array.from({ length: nodes }, (_, at) => [Math.floor(at / hosts) * 1.9, at % hosts]);
+  /** @type {Link[]} */
   const links = [];
   for (let v = 1; v + hosts <= nodes; v += 1) {
     const [rack, place] = [Math.floor((v - 1) / hosts), (v - 1) % hosts];
@@ -142,19 +211,32 @@ function racks(nodes) {
   return { links, places };
 }
 
-/** By their words in the page: how many nodes there are at first, and how they are made of a number of nodes and a seed. */
+/**
+ * By their words in the page: how many nodes there are at first, and how they are made of a number of nodes and a
+ * seed.
+ */
+/**
+ * @type {Record<string, { name: string, nodes: number, make: (nodes: number, seed: number) => { links: Link[],
+ *   places?: Link[] } }>}
+ */
 export const PRESETS = {
-  mesh: { name: "wireless mesh", nodes: 15, make: mesh },
-  ring: { name: "ring", nodes: 12, make: ring },
-  path: { name: "path", nodes: 12, make: path },
-  grid: { name: "grid", nodes: 24, make: grid },
-  star: { name: "star", nodes: 12, make: star },
-  disk: { name: "unit disk", nodes: 30, make: unitDisk },
-  random: { name: "random", nodes: 24, make: random },
-  racks: { name: "racks of backup partners", nodes: 24, make: racks },
+  mesh: {name: "wireless mesh", nodes: 15, make: mesh},
+  ring: {name: "ring", nodes: 12, make: ring},
+  path: {name: "path", nodes: 12, make: path},
+  grid: {name: "grid", nodes: 24, make: grid},
+  star: {name: "star", nodes: 12, make: star},
+  disk: {name: "unit disk", nodes: 30, make: unitDisk},
+  random: {name: "random", nodes: 24, make: random},
+  racks: {name: "racks of backup partners", nodes: 24, make: racks},
 };
 
-/** A network of a kind, of 2 to 500 nodes. */
+/**
+ * A network of a kind, of 2 to 500 nodes.
+ * @param {number} nodes
+ * @param {number} seed
+ * @param {string} kind
+ * @returns {Network & { links: Link[] }}
+ */
 export function presetOf(kind, nodes, seed) {
   const count = Math.min(MOST_NODES, Math.max(2, Math.round(nodes) || 2));
   return { nodes: count, ...PRESETS[kind].make(count, seed) };

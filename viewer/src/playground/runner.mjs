@@ -4,9 +4,21 @@
 const MOST_TIME = 8;
 
 export class Runner {
-  /** `step()` lets each network move once, and says whether one did; `shown(count)` shows what came of so many of that. */
+  /**
+   * @param {() => boolean} step lets each network move once, and says whether one did
+   * @param {(count: number) => void} shown shows what came of so many of that
+   */
   constructor(step, shown) {
-    Object.assign(this, { step, shown, on: false, speed: 4, owed: 0, since: null });
+    this.step = step;
+    this.shown = shown;
+    this.on = false;
+    this.speed = 4;
+    this.owed = 0;
+    /**
+     * When the last picture was, or null.
+     * @type {number | null}
+     */
+    this.since = null;
   }
 
   start() {
@@ -22,7 +34,10 @@ export class Runner {
     this.on = false;
   }
 
-  /** One picture: as many moves as are due by now. */
+  /**
+   * One picture: as many moves as are due by now.
+   * @param {number} now
+   */
   tick(now) {
     if (!this.on) {
       this.since = null;

@@ -1,13 +1,21 @@
-// A script in the page's address: `#script=link+1+2;drive+7+100&rules=manne&nodes=4`. Whoever wrote the address is not known, so what
-// stands there is only ever text for the engine.
-import { MOST_NODES } from "./presets.mjs";
+// A script in the page's address: `#script=link+1+2;drive+7+100&rules=manne&nodes=4`. Whoever wrote the address is not
+// known, so what stands there is only ever text for the engine.
+import {MOST_NODES} from "./presets.mjs";
 
 const MOST_CHARACTERS = 4000;
+/** More names than this are none of a network that is drawn here. */
 export const MOST_NAMES = MOST_NODES + 100;
 
 /** What is wrong with an address. */
 export class AddressFault extends Error {}
 
+/**
+ * A number of an address, or null if it has none of that name.
+ * @param {URLSearchParams} fields
+ * @param {string} key
+ * @param {number} least
+ * @param {number} most
+ */
 function numberOf(fields, key, least, most) {
   const word = fields.get(key);
   if (word === null) {
@@ -19,14 +27,22 @@ function numberOf(fields, key, least, most) {
   return Number(word);
 }
 
-/** The greatest name that a line of a script speaks of. */
-function namesIn(lines) {
-  const spoken = lines.filter((line) => /^(?:link|unlink|point|flag|join|leave|step|show) /.test(line)).flatMap((line) => line.match(/\d+/g) ?? []);
+/**
+ * The greatest name of which the lines of a script speak, and 2 at least.
+ * @param {string[]} lines
+ */
+export function namesIn(lines) {
+  const spoken =
+    lines.filter((line) => /^(?:link|unlink|point|flag|join|leave|step|show) /.test(line))
+      .flatMap((line) => (line.startsWith("flag") ? line.match(/\d+/g)?.slice(0, 1) : line.match(/\d+/g)) ?? []);
   return spoken.reduce((most, word) => Math.max(most, word.length < 6 ? Number(word) : 0), 2);
 }
 
-/** The script that an address holds, with its network: `{ rules, names, present, lines }`; null where it holds none, and an
- * `AddressFault` where that can't be one. Lines are not looked at: that is the engine's. */
+/**
+ * The script of an address with its network, or null if it holds none. Throws an `AddressFault` if that can't be one.
+ * Lines are not looked at: that is the engine's.
+ * @param {string} hash
+ */
 export function readAddress(hash) {
   const fields = new URLSearchParams(hash.replace(/^#/, ""));
   const script = fields.get("script");
@@ -43,11 +59,14 @@ export function readAddress(hash) {
   }
   const names = numberOf(fields, "nodes", 0, MOST_NAMES) ?? Math.min(MOST_NAMES, namesIn(lines));
   const present = numberOf(fields, "present", 0, names) ?? names;
-  return { rules, names, present, lines };
+  return { rules: /** @type {RuleName} */ (rules), names, present, lines };
 }
 
-/** The end of an address that holds a lab's script; null where that is too long. */
-export function writeAddress({ rules, names, present, lines }) {
+/**
+ * The end of an address that holds a lab's script, or null if that is too long.
+ * @param {{ rules: string, names: number, present: number, lines: string[] }} lab
+ */
+export function writeAddress({rules, names, present, lines}) {
   const script = lines.join(";");
   if (script.length > MOST_CHARACTERS) {
     return null;

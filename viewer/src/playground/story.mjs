@@ -1,8 +1,10 @@
-// What has happened, in a sentence: what was broken, how many moves it took until all was stable, and how many it could have taken.
-import { counted, grouped } from "../numbers.mjs";
+// What has happened, in a sentence: what was broken, how many moves it took until all was stable, and how many it could
+// have taken.
+import {counted, grouped} from "../numbers.mjs";
 
 // so many milliseconds does a word stand that is none of the story's own
 const HELD = 2500;
+/** @type {Record<string, (words: string[]) => string>} */
 const BROKEN = {
   unlink: ([v, w]) => `The link ${v} – ${w} is cut.`,
   link: ([v, w]) => `A link ${v} – ${w} came.`,
@@ -13,28 +15,51 @@ const BROKEN = {
   scramble: ([, count]) => `${counted(Number(count), "register")} scrambled.`,
 };
 
-/** What a line of a script did, as a sentence. */
+/**
+ * What a line of a script did, as a sentence.
+ * @param {string} line
+ */
 export function toldOf(line) {
   const [kind, ...words] = line.split(" ");
   return BROKEN[kind]?.(words) ?? "";
 }
 
 export class Story {
+  /** @param {Element} place */
   constructor(place) {
-    Object.assign(this, { place });
+    this.place = place;
+    /** Whether the network moves by itself. */
+    this.runs = true;
     this.open();
   }
 
   open() {
-    Object.assign(this, { broken: "", moves: 0, most: null, opening: true, until: 0 });
+    this.broken = "";
+    this.moves = 0;
+    this.most = 0;
+    this.opening = true;
+    this.until = 0;
   }
 
-  /** Somebody broke something; the charge behind it is the most moves that can come. */
+  /**
+   * Somebody broke something; the charge after it is the most moves that can come.
+   * @param {string} line
+   * @param {number} most
+   */
   breaks(line, most) {
-    Object.assign(this, { broken: toldOf(line), moves: 0, most, opening: false, until: 0 });
+    this.broken = toldOf(line);
+    this.moves = 0;
+    this.most = most;
+    this.opening = false;
+    this.until = 0;
   }
 
-  /** Shows where it has come to: so many further moves, and how many nodes may move still. */
+  /**
+   * Shows where it has come to: so many further moves, and how many nodes may move still.
+   * @param {number} moves
+   * @param {number} enabled
+   * @param {number} pairs
+   */
   goesOn(moves, enabled, pairs) {
     this.moves += moves;
     if (performance.now() >= this.until) {
@@ -44,11 +69,12 @@ export class Story {
 
   mending() {
     if (this.opening) {
-      return "The nodes are looking for partners …";
+      return this.runs ? "The nodes are looking for partners …" : "The nodes wait: run lets them look for partners.";
     }
     return `${this.broken} Mending: ${counted(this.moves, "move")} so far, of at most ${grouped(this.most)}.`;
   }
 
+  /** @param {number} pairs */
   settled(pairs) {
     if (this.opening) {
       return `${counted(pairs, "pair")}, and nothing is left to do. Now break something.`;
@@ -59,12 +85,20 @@ export class Story {
     return `${this.broken} Mended in ${counted(this.moves, "move")}; at most ${grouped(this.most)} could have come.`;
   }
 
-  /** Says something else, which stands for a while. */
+  /**
+   * Says something else, which stands for a while.
+   * @param {string} text
+   * @param {boolean} wrong
+   */
   say(text, wrong = false) {
     this.until = performance.now() + HELD;
     this.write(text, wrong);
   }
 
+  /**
+   * @param {string} text
+   * @param {boolean} wrong
+   */
   write(text, wrong) {
     this.place.classList.toggle("wrong", wrong);
     if (this.place.textContent !== text) {

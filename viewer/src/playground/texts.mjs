@@ -1,20 +1,63 @@
 // The script and the transcript beside the picture: shown as they grow, edited, copied and saved.
-import { byId } from "../svg.mjs";
-import { copy, save } from "./files.mjs";
-import { writeAddress } from "./sharing.mjs";
+import {byId, field} from "../svg.mjs";
+import {EngineFault} from "./engine.mjs";
+import {copy, save} from "./files.mjs";
+import {BadLine} from "./lab.mjs";
+import {writeAddress} from "./sharing.mjs";
 
-// so many milliseconds lie between two writings of a text that grows; more where it is long, as a field takes long to show it
+// so many milliseconds lie between two writings of a text that grows; more where it is long, as a field takes long to
+// show it
 const GAP = 300;
 const CHARACTERS_A_MILLISECOND = 15;
 // farther down than any text goes
 const BOTTOM = 1e8;
-const KINDS = ["script", "transcript"];
+const KINDS = /** @type {const} */ (["script", "transcript"]);
+
+/** @typedef {typeof KINDS[number]} TextKind */
+
+/**
+ * The lines of a script that somebody typed, without empty ones, each with its number from 1 in the text.
+ * @param {string} text
+ */
+export function linesOf(text) {
+  const all = text.split(/\r\n|\n|\r/).map((line, at) => ({ line: line.trim(), number: at + 1 }));
+  const kept = all.filter(({ line }) => line !== "");
+  return { lines: kept.map(({ line }) => line), numbers: kept.map(({ number }) => number) };
+}
+
+/**
+ * What a `BadLine` says with the number that its line has in the text.
+ * @param {BadLine} wrong
+ * @param {number[]} numbers
+ */
+export function renumbered(wrong, numbers) {
+  return new BadLine(numbers[wrong.line - 1] ?? wrong.line, wrong.text, wrong.why);
+}
+
+/**
+ * @typedef {object} TextActs
+ * @property {(lines: string[]) => void} play throws a `BadLine` if a line is none
+ * @property {(text: string) => void} judge
+ * @property {() => void} pause
+ * @property {(text: string, wrong?: boolean) => void} say
+ * @property {() => void} saved
+ */
 
 export class Texts {
-  /** `lab()` is the network whose texts are shown; `acts` are `play(lines)`, `judge(text)`, `pause()` and `say(text, wrong)`. */
+  /**
+   * @param {() => import("./lab.mjs").Lab} lab the network whose texts are shown
+   * @param {TextActs} acts
+   */
   constructor(lab, acts) {
-    Object.assign(this, { lab, acts, kind: "script", written: -Infinity, timer: null, edited: false });
-    this.field = byId("text");
+    this.lab = lab;
+    this.acts = acts;
+    /** @type {TextKind} */
+    this.kind = "script";
+    this.written = -Infinity;
+    /** @type {ReturnType<typeof setTimeout> | null} */
+    this.timer = null;
+    this.edited = false;
+    this.field = field("text");
     KINDS.forEach((kind) => byId(`show-${kind}`).addEventListener("click", () => this.turnTo(kind)));
     this.field.addEventListener("focus", () => {
       acts.pause();
@@ -23,18 +66,18 @@ export class Texts {
     this.field.addEventListener("input", () => this.edit(true));
     byId("text-use").addEventListener("click", () => this.use());
     byId("text-copy").addEventListener("click", () => this.copy(this.field.value, this.kind));
-    byId("text-save").addEventListener("click", () => save(this.field.value, this.fileName));
+    byId("text-save").addEventListener("click", () => this.save());
     byId("text-link").addEventListener("click", () => this.link());
   }
 
   get fileName() {
-    const { rules, names } = this.lab();
-    return `matching-${rules}-${names}.${this.kind}`;
+    return `${this.lab().fileName}.${this.kind}`;
   }
 
+  /** @param {TextKind} kind */
   turnTo(kind) {
     this.kind = kind;
-    KINDS.forEach((name) => byId(`show-${name}`).setAttribute("aria-selected", name === kind));
+    KINDS.forEach((name) => byId(`show-${name}`).setAttribute("aria-selected", String(name === kind)));
     byId("text-use").textContent = kind === "script" ? "play it" : "judge it, and play";
     byId("text-link").hidden = kind !== "script";
     this.field.setAttribute("aria-label", kind === "script" ? "The script, a line each" : "The transcript");
@@ -42,9 +85,11 @@ export class Texts {
     this.write();
   }
 
+  /** @param {boolean} edited */
   edit(edited) {
     this.edited = edited;
-    byId("text-use").disabled = !edited && this.kind === "script";
+    this.refuse("");
+    field("text-use").disabled = !edited && this.kind === "script";
   }
 
   /** Lets go of what was edited, and shows the text as it is. */
@@ -53,9 +98,22 @@ export class Texts {
     this.write();
   }
 
+  /**
+   * Says below the field what is wrong with its text; an empty text is nothing wrong.
+   * @param {string} said
+   */
+  refuse(said) {
+    byId("text-wrong").textContent = said;
+    byId("text-wrong").hidden = said === "";
+    this.field.setAttribute("aria-invalid", String(said !== ""));
+  }
+
   /** Has the text shown soon; what somebody edits is left alone. */
   show() {
-    this.timer ??= setTimeout(() => this.write(), Math.max(0, this.written + Math.max(GAP, this.field.value.length / CHARACTERS_A_MILLISECOND) - performance.now()));
+    this.timer ??= setTimeout(
+      () => this.write(),
+      Math.max(
+        0, this.written + Math.max(GAP, this.field.value.length / CHARACTERS_A_MILLISECOND) - performance.now()));
   }
 
   write() {
@@ -74,13 +132,61 @@ export class Texts {
     const text = this.field.value;
     if (this.kind === "transcript") {
       this.acts.judge(text);
-    } else if (this.acts.play(text.split("\n").map((line) => line.trim()).filter((line) => line !== ""))) {
+      return;
+    }
+    const { lines, numbers } = linesOf(text);
+    try {
+      this.acts.play(lines);
       this.drop();
+    } catch (wrong) {
+      this.tell(wrong, numbers);
     }
   }
 
+  /**
+   * Tells why a script was not played, where it stands.
+   * @param {Error} wrong
+   * @param {number[]} numbers those of its lines in the field
+   */
+  tell(wrong, numbers) {
+    if (wrong instanceof BadLine) {
+      const told = renumbered(wrong, numbers);
+      this.mark(told.line);
+      this.refuse(`The script was not played: ${told.message}.`);
+    } else if (wrong instanceof EngineFault) {
+      this.refuse(`The script was not played, since the engine does not go on: ${wrong.message}.`);
+    } else {
+      throw wrong;
+    }
+  }
+
+  /**
+   * Selects a line of the field.
+   * @param {number} number
+   */
+  mark(number) {
+    const lines = this.field.value.split("\n");
+    const from = lines.slice(0, number - 1).reduce((sum, line) => sum + line.length + 1, 0);
+    this.edited = true;
+    this.field.focus();
+    this.field.setSelectionRange(from, from + (lines[number - 1]?.length ?? 0));
+  }
+
+  save() {
+    save(this.field.value, this.fileName);
+    this.acts.saved();
+  }
+
+  /**
+   * @param {string} text
+   * @param {string} what
+   */
   async copy(text, what) {
-    this.acts.say((await copy(text, this.field)) ? `The ${what} is copied.` : `The ${what} could not be copied.`);
+    const copied = await copy(text, this.field);
+    this.acts.say(copied ? `The ${what} is copied.` : `The ${what} could not be copied.`, !copied);
+    if (copied) {
+      this.acts.saved();
+    }
   }
 
   async link() {

@@ -1,16 +1,39 @@
-// What a click, a tap or Enter on a node, an edge or an empty place does, by the tool that is in hand. Each act is a line of a script.
-import { explainNode } from "../explain.mjs";
+// What a click, a tap or Enter on a node, an edge or an empty place does, by the tool that is in hand. Each act is a
+// line of a script.
+import {explainNode} from "../explain.mjs";
 
-/** What is said of a tool, and what it needs of the rules. */
+/** @typedef {import("./lab.mjs").Lab} Lab */
+/** @typedef {import("./seen.mjs").Seen} Seen */
+/** @typedef {"cut" | "link" | "point" | "flag" | "node" | "move"} ToolName */
+
+/**
+ * What tools do to networks.
+ * @typedef {object} Acts
+ * @property {(line: string) => void} disturb
+ * @property {(lab: Lab, line: string) => void} move
+ * @property {(thing: Thing | null) => void} choose
+ * @property {(text: string, wrong?: boolean) => void} say
+ * @property {(node: number, place: Place | null) => void} settle
+ */
+
+/**
+ * What is said of a tool, and whether a drag with it draws a line.
+ * @type {Record<ToolName, { hint: string, draws: boolean }>}
+ */
 export const TOOLS = {
-  cut: { hint: "Click a link to cut it.", tapped: "Tap a link to cut it.", draws: false },
-  link: { hint: "Drag from one node to another to link them.", draws: true },
-  point: { hint: "Drag from a node to its neighbour: it points there. Click a node twice: it points nowhere.", draws: true },
-  flag: { hint: "Click a node to flip its flag.", draws: false },
-  node: { hint: "Click an empty place: a node joins. Click a node: it leaves.", draws: false },
-  move: { hint: "Click a node with a yellow ring: it moves.", draws: false },
+  cut: {hint: "Click a link to cut it.", draws: false},
+  link: {hint: "Drag from one node to another to link them.", draws: true},
+  point:
+    {hint: "Drag from a node to its neighbour: it points there. Click a node twice: it points nowhere.", draws: true},
+  flag: {hint: "Click a node to flip its flag.", draws: false},
+  node: {hint: "Click an empty place: a node joins. Click a node: it leaves.", draws: false},
+  move: {hint: "Click a node with a yellow ring: it moves.", draws: false},
 };
 
+/**
+ * The first name that is absent, or 0.
+ * @param {Seen} seen
+ */
 function firstAbsent(seen) {
   for (let v = 1; v <= seen.nodes; v += 1) {
     if (!seen.here[v]) {
@@ -21,30 +44,51 @@ function firstAbsent(seen) {
 }
 
 export class Tools {
-  /** `acts` are `disturb(line)`, `move(lab, line)`, `choose(thing)`, `say(text)` and `settle(node, place)`. */
+  /** @param {Acts} acts */
   constructor(acts) {
-    Object.assign(this, { acts, name: "cut", from: null });
+    this.acts = acts;
+    /** @type {ToolName} */
+    this.name = "cut";
+    /**
+     * The first of two nodes, or null.
+     * @type {number | null}
+     */
+    this.from = null;
   }
 
+  /** @param {ToolName} name */
   take(name) {
-    Object.assign(this, { name, from: null });
+    this.name = name;
+    this.from = null;
   }
 
   get draws() {
     return TOOLS[this.name].draws;
   }
 
-  /** What lies under the pointer and would be hit: null where a click there does nothing to it. */
+  /**
+   * What lies under the pointer and would be hit, or null if a click there does nothing to it.
+   * @param {Thing | null} thing
+   */
   aims(thing) {
     return thing !== null && (this.name === "cut" || thing.node) ? thing : null;
   }
 
-  /** A click on a thing of a lab's picture; null where there is nothing, at a place of the picture. */
+  /**
+   * A click on a thing of a lab's picture, or on nothing, at a place of the picture.
+   * @param {Lab} lab
+   * @param {Thing | null} thing
+   * @param {Place | null} place
+   */
   tap(lab, thing, place) {
     this[this.name](lab, thing, place);
   }
 
-  /** A line was drawn from a node to a thing. */
+  /**
+   * A line was drawn from a node to a thing.
+   * @param {number} node
+   * @param {Thing | null} thing
+   */
   pair(node, thing) {
     this.from = null;
     if (this.name === "point") {
@@ -54,6 +98,10 @@ export class Tools {
     }
   }
 
+  /**
+   * @param {Lab} lab
+   * @param {Thing | null} thing
+   */
   cut(lab, thing) {
     if (thing?.low) {
       this.acts.choose(null);
@@ -63,7 +111,11 @@ export class Tools {
     }
   }
 
-  /** The first node is kept until a second one is clicked. */
+  /**
+   * The first node is kept until a second one is clicked.
+   * @param {Thing | null} thing
+   * @param {(node: number) => string} said
+   */
   ends(thing, said) {
     if (!thing?.node) {
       this.from = null;
@@ -79,20 +131,37 @@ export class Tools {
     }
   }
 
+  /**
+   * @param {Lab} lab
+   * @param {Thing | null} thing
+   */
   link(lab, thing) {
     this.ends(thing, (node) => `Node ${node}: now the node to link it with.`);
   }
 
+  /**
+   * @param {Lab} lab
+   * @param {Thing | null} thing
+   */
   point(lab, thing) {
     this.ends(thing, (node) => `Node ${node}: now the neighbour to point at; itself for nowhere.`);
   }
 
+  /**
+   * @param {Lab} lab
+   * @param {Thing | null} thing
+   */
   flag(lab, thing) {
     if (thing?.node) {
       this.acts.disturb(`flag ${thing.node} ${1 - lab.seen.flag[thing.node]}`);
     }
   }
 
+  /**
+   * @param {Lab} lab
+   * @param {Thing | null} thing
+   * @param {Place | null} place
+   */
   node(lab, thing, place) {
     if (thing?.node) {
       this.acts.choose(null);
@@ -102,7 +171,11 @@ export class Tools {
     }
   }
 
-  /** The first name that is absent joins, at a place, or where room is. */
+  /**
+   * The first name that is absent joins, at a place, or where there is room.
+   * @param {Lab} lab
+   * @param {Place | null} place
+   */
   join(lab, place) {
     const node = firstAbsent(lab.seen);
     if (node === 0) {
@@ -113,6 +186,10 @@ export class Tools {
     this.acts.disturb(`join ${node}`);
   }
 
+  /**
+   * @param {Lab} lab
+   * @param {Thing | null} thing
+   */
   move(lab, thing) {
     if (!thing?.node) {
       return;

@@ -1,16 +1,28 @@
-// A line of how the charge went, under the bound, over what was shown last.
-import { add } from "../svg.mjs";
+// How the charge went, under the bound, over the last changes that were shown.
+import {counted, grouped} from "../numbers.mjs";
+import {add} from "../svg.mjs";
 
 const LENGTH = 160;
 const HEIGHT = 100;
 
 export class Trace {
-  constructor(svg) {
+  /** @param {Element} root holds the picture, and the words at its axes */
+  constructor(root) {
+    /** @type {Record<string, number[]>} */
     this.values = { charge: [], sum: [], bound: [] };
+    const svg = root.querySelector("svg");
+    this.top = root.querySelector(".top");
+    this.along = root.querySelector(".along");
     svg.setAttribute("viewBox", `0 -4 ${LENGTH} ${HEIGHT + 8}`);
-    this.paths = Object.fromEntries(["bound", "sum", "charge"].map((name) => [name, add(svg, "path", { class: `line ${name}` })]));
+    this.paths =
+      Object.fromEntries(["bound", "sum", "charge"].map((name) => [name, add(svg, "path", { class: `line ${name}` })]));
   }
 
+  /**
+   * @param {number} charge
+   * @param {number} sum
+   * @param {number} bound
+   */
   note(charge, sum, bound) {
     for (const [name, value] of Object.entries({ charge, sum, bound })) {
       const values = this.values[name];
@@ -28,5 +40,7 @@ export class Trace {
       const steps = values.map((value, at) => `${at} ${(HEIGHT * (1 - value / top)).toFixed(1)}H${at + 1}`);
       this.paths[name].setAttribute("d", `M${steps.join("L")}`);
     }
+    this.top.textContent = `${grouped(top)} moves`;
+    this.along.textContent = `the last ${counted(this.values.bound.length, "change")} shown`;
   }
 }

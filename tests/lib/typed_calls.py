@@ -1,33 +1,24 @@
 """The library's calls that are given numbers in place of a line, beside what the line's entry says."""
+
+from __future__ import annotations
+
 import ctypes
 import re
+from typing import Any, Optional
+
+from .c_structs import COUNTS, Counts, Item, Row, Told
 
 DONE, REFUSED = 0, 6
 RULES = {"update": 1, "marry": 2, "seduce": 3, "abandon": 4}
-COUNTS = ("nodes", "edges", "pairs", "enabled", "charge", "spent")
 EDITS = {"link": 2, "unlink": 2, "join": 1, "leave": 1, "point": 2, "flag": 2}
+# The calls of the library by their names behind `rudekpi_`.
+Calls = dict[str, Any]
 
 
-class Told(ctypes.Structure):
-    _fields_ = [(name, ctypes.c_uint32) for name in ("entry", "refusal", "target")] + [("rows", ctypes.c_size_t)]
-
-
-class Row(ctypes.Structure):
-    _fields_ = [(name, ctypes.c_uint32) for name in ("node", "rule", "other")]
-
-
-class Item(ctypes.Structure):
-    _fields_ = [("node", ctypes.c_uint32), ("wish", ctypes.c_uint32)]
-
-
-class Counts(ctypes.Structure):
-    _fields_ = [(name, ctypes.c_uint32) for name in COUNTS]
-
-
-def typed(library, slot):
+def typed(library: ctypes.CDLL, slot: Any) -> Calls:
     """The calls of a shared library, with their types."""
     number, told = ctypes.c_uint32, ctypes.POINTER(Told)
-    of = {name: [number] for name in ("join", "leave", "show")} | {
+    of: dict[str, list[Any]] = {name: [number] for name in ("join", "leave", "show")} | {
         name: [number] * 2 for name in ("link", "unlink", "point")
     }
     of |= {
@@ -38,16 +29,18 @@ def typed(library, slot):
         "checkpoint": [],
     }
     of |= {"status": [ctypes.POINTER(Counts)]} | {name: [ctypes.c_uint64, number] for name in ("drive", "scramble")}
-    calls = {}
+    calls: Calls = {}
     for name, words in of.items():
         calls[name] = library[f"rudekpi_{name}"]
         calls[name].argtypes = [slot, *words, told]
-    for name, words in {
+    others: dict[str, list[Any]] = {
         "rows": [ctypes.POINTER(Row), ctypes.c_size_t],
         "transcript": [ctypes.c_bool],
         "partner": [number, ctypes.POINTER(number)],
         "moves_left": [ctypes.POINTER(number)],
-    }.items():
+        "is_at_rest": [number, ctypes.POINTER(ctypes.c_bool)],
+    }
+    for name, words in others.items():
         calls[name] = library[f"rudekpi_{name}"]
         calls[name].argtypes = [slot, *words]
     for name, count in EDITS.items():
@@ -58,7 +51,6 @@ def typed(library, slot):
             *[ctypes.c_bool] * (name == "flag"),
             ctypes.POINTER(number),
         ]
-    for name in EDITS:
         calls[f"reach_of_{name}"] = library[f"rudekpi_reach_of_{name}"]
         calls[f"reach_of_{name}"].argtypes = [
             *calls[f"cost_of_{name}"].argtypes[:-1],
@@ -66,13 +58,11 @@ def typed(library, slot):
             ctypes.c_size_t,
             ctypes.POINTER(ctypes.c_size_t),
         ]
-    calls["is_at_rest"] = library.rudekpi_is_at_rest
-    calls["is_at_rest"].argtypes = [slot, number, ctypes.POINTER(ctypes.c_bool)]
     calls["rows"].restype = ctypes.c_size_t
     return calls
 
 
-def made(calls, slot, line, told):
+def made(calls: Calls, slot: Any, line: str, told: Told) -> tuple[int, Optional[list[int]]]:
     """The status of the call that stands for a line, and what it tells of counts."""
     word, *names = line.split(" ")
     numbers = [int(name) if name != "-" else 0 for name in names] if word != "step" else []
@@ -85,7 +75,7 @@ def made(calls, slot, line, told):
     return calls[{"matching": "pairs"}.get(word, word)](slot, *numbers, told), None
 
 
-def rows(calls, slot):
+def rows(calls: Calls, slot: Any) -> list[tuple[int, int, int]]:
     """The rows of the last answer, which are handed out whole or not at all."""
     size = calls["rows"](slot, Row(), 0)
     room = (Row * (size + 1))(*[Row(9, 9, 9)] * (size + 1))
@@ -96,16 +86,16 @@ def rows(calls, slot):
     return [(row.node, row.rule, row.other) for row in room[:size]]
 
 
-def row_of(word):
+def row_of(word: str) -> tuple[int, int, int]:
     """A row as a reply writes it: `1:seduce>2`, `1:seduce` or `1-2`."""
     if "-" in word:
         low, high = word.split("-")
         return int(low), 0, int(high)
-    node, rule, target = re.fullmatch(r"(\d+):([a-z]+)>?(\d*)", word).groups()
+    node, rule, target = re.findall(r"^(\d+):([a-z]+)>?(\d*)$", word)[0]
     return int(node), RULES[rule], int(target or 0)
 
 
-def expected(line, entries, base):
+def expected(line: str, entries: list[str], base: int) -> tuple[object, ...]:
     """What a line's entries say: the status, the numbers that are told, the rows, and the counts."""
     word = line.split(" ")[0]
     if word in ("drive", "scramble", "checkpoint"):
@@ -121,7 +111,7 @@ def expected(line, entries, base):
     return DONE, (int(number), 0, target, len(listed)), listed, counts
 
 
-def differs(calls, slot, line, text, last):
+def differs(calls: Calls, slot: Any, line: str, text: bytes, last: int) -> Optional[str]:
     """What is wrong with the call for a line whose text, with the entries in front of it so many, is this, or None."""
     entries = [it for it in text.decode().splitlines() if re.match(r"\d", it)]
     told = Told(9, 9, 9, 9)
@@ -131,9 +121,10 @@ def differs(calls, slot, line, text, last):
     return None if found == wanted else f"{line}: {found} for {wanted}"
 
 
-def partners(calls, slot, nodes):
+def partners(calls: Calls, slot: Any, nodes: int) -> set[tuple[int, int]]:
     """The pairs, as each node tells its partner."""
-    found, pairs = ctypes.c_uint32(), set()
+    found = ctypes.c_uint32()
+    pairs: set[tuple[int, int]] = set()
     for node in range(1, nodes + 2):
         if calls["partner"](slot, node, found) != DONE:
             raise ValueError(f"no answer for the partner of {node}")
@@ -142,15 +133,15 @@ def partners(calls, slot, nodes):
     return pairs
 
 
-def cost(calls, slot, kind, *numbers):
+def cost(calls: Calls, slot: Any, kind: str, *numbers: Optional[int]) -> int:
     """What an edit or a fault is told to cost."""
     found = ctypes.c_uint32(9)
     if calls[f"cost_of_{kind}"](slot, *(number or 0 for number in numbers), found) != DONE:
         raise ValueError(f"no cost for {kind} {numbers}")
-    return found.value
+    return int(found.value)
 
 
-def reach(calls, slot, room, kind, *numbers):
+def reach(calls: Calls, slot: Any, room: int, kind: str, *numbers: Optional[int]) -> tuple[Optional[list[int]], int]:
     """Whom an edit or a fault is told to reach, and how many; the list is None where nothing was written to `out`."""
     out, count = (ctypes.c_uint32 * (room + 1))(*[0] * (room + 1)), ctypes.c_size_t(9)
     if calls[f"reach_of_{kind}"](slot, *(number or 0 for number in numbers), out, room, count) != DONE:
@@ -159,7 +150,7 @@ def reach(calls, slot, room, kind, *numbers):
     return (None if count.value > room and not written else written), count.value
 
 
-def is_at_rest(calls, slot, node):
+def is_at_rest(calls: Calls, slot: Any, node: int) -> bool:
     """Whether a node is told to be at rest."""
     found = ctypes.c_bool(True)
     if calls["is_at_rest"](slot, node, found) != DONE:
@@ -167,13 +158,14 @@ def is_at_rest(calls, slot, node):
     return found.value
 
 
-def left(calls, slot):
+def left(calls: Calls, slot: Any) -> int:
     """How many moves can still come, as the library says."""
     found = ctypes.c_uint32(9)
-    status = calls["moves_left"](slot, ctypes.byref(found))
-    return found.value if not status else f"status {status}"
+    if calls["moves_left"](slot, ctypes.byref(found)) != DONE:
+        raise ValueError("no answer how many moves can still come")
+    return int(found.value)
 
 
-def most_left(rules, charge, nodes):
+def most_left(rules: int, charge: int, nodes: int) -> int:
     """The smaller of the charge and, under the rules 0, n²/2 + n - 2 with the half rounded down; never below 0."""
     return min(charge, max(0, nodes * nodes // 2 + nodes - 2)) if rules == 0 else charge

@@ -1,17 +1,28 @@
-"""Verdicts of a transcript's parts, joined by the library, beside the program's verdict on the whole."""
+"""Verdicts of a transcript's parts, joined by the library, beside its verdict on the whole."""
+
+from __future__ import annotations
 
 import ctypes
 import re
+from typing import Callable, Iterator, Optional, Sequence, Tuple, Union
+
+from .c_structs import Verdict
 
 DONE, BAD_ARGUMENT = 0, 5
 ACCEPTED, DAMAGED_LINE, UNJUDGED = 0, 2, 6
 BASE = re.compile(rb"^matching2 [^\n]*\nbase \d+ spent=\d+ nodes=(\d+) edges=(\d+)\n", re.M)
 # a verdict's numbers, in their order
 FIELDS = ("kind", "entries", "epochs", "moves", "line")
+Numbers = Tuple[int, ...]
+# the library's call, which joins to the first verdict the second, behind so many lines
+Join = Callable[[Verdict, ctypes.c_uint64, Verdict], int]
+# a part's verdict, and how many lines stand before the part
+Told = Tuple[Numbers, int]
 
 
-def seams(text):
-    """Where each base behind the first line begins and ends, if the text has as many lines there as its numbers tell."""
+def seams(text: bytes) -> Iterator[tuple[int, int]]:
+    """Where each base behind the first line begins and ends, if the text has as many lines there as its numbers
+    tell."""
     for found in BASE.finditer(text, 1):
         lines = int(found[1]) + int(found[2])
         behind = text[found.end() :].split(b"\n", lines)
@@ -19,47 +30,48 @@ def seams(text):
             yield found.start(), len(text) - len(behind[-1])
 
 
-def numbers(verdict):
+def numbers(verdict: Verdict) -> Numbers:
     return tuple(getattr(verdict, name) for name in FIELDS)
 
 
-def joined(join, made, verdicts):
-    """The numbers of the verdicts as one; of each is told how many lines stand before it. Raises `ValueError` where they are not joined."""
+def joined(join: Join, verdicts: Sequence[Told]) -> Numbers:
+    """The numbers of the verdicts as one. Raises `ValueError` where they are not joined."""
     (first, _), *others = verdicts
-    whole = made(*first)
+    whole = Verdict(*first)
     for verdict, lines in others:
-        status = join(whole, ctypes.c_uint64(lines), made(*verdict))
+        status = join(whole, ctypes.c_uint64(lines), Verdict(*verdict))
         if status != DONE:
             raise ValueError(f"status {status}")
     return numbers(whole)
 
 
-def joined_backwards(join, made, verdicts):
+def joined_backwards(join: Join, verdicts: Sequence[Told]) -> Numbers:
     """The same, where the last two are joined first, then the one before them."""
     *others, (whole, before) = verdicts
     for verdict, lines in reversed(others):
-        first = made(*verdict)
-        status = join(first, ctypes.c_uint64(before - lines), made(*whole))
+        first = Verdict(*verdict)
+        status = join(first, ctypes.c_uint64(before - lines), Verdict(*whole))
         if status != DONE:
             raise ValueError(f"status {status}")
         whole, before = numbers(first), lines
     return whole
 
 
-def differs(join, made, judge, text):
-    """What is wrong with the joined verdicts of a text's parts, cut at each of its bases; or how many parts there were."""
+def differs(join: Join, judge: Callable[[bytes], Numbers], text: bytes) -> Union[str, int]:
+    """What is wrong with the joined verdicts of a text's parts, cut at each of its bases; or how many parts there
+    were."""
     cuts = list(seams(text))
     starts, ends = [0, *(start for start, _ in cuts)], [*(end for _, end in cuts), len(text)]
     verdicts = [(judge(text[start:end]), text.count(b"\n", 0, start)) for start, end in zip(starts, ends)]
     wanted = judge(text)
     for way in (joined, joined_backwards):
-        found = way(join, made, verdicts)
+        found = way(join, verdicts)
         if found != wanted:
             return f"{way.__name__}: {found} of {len(verdicts)} parts, where the whole is {wanted}"
     return len(verdicts)
 
 
-def at_limits(join, made):
+def at_limits(join: Join) -> Optional[str]:
     """What is wrong where verdicts are none, or their sums do not fit, or memory was refused; or None."""
     fine, far, unsaid = (ACCEPTED, 1, 1, 1, 0), (DAMAGED_LINE, 0, 0, 0, 9), (UNJUDGED, 0, 0, 0, 0)
     for first, lines, second, status, wanted in (
@@ -78,8 +90,8 @@ def at_limits(join, made):
         ((ACCEPTED, 1, 1, 2**64 - 1, 0), 5, fine, BAD_ARGUMENT, (ACCEPTED, 1, 1, 2**64 - 1, 0)),
         (fine, 2**64 - 1, far, BAD_ARGUMENT, fine),
     ):
-        whole = made(*first)
-        found = join(whole, ctypes.c_uint64(lines), made(*second))
+        whole = Verdict(*first)
+        found = join(whole, ctypes.c_uint64(lines), Verdict(*second))
         if (found, numbers(whole)) != (status, wanted):
             return f"{first} and {second} behind {lines} lines: status {found}, {numbers(whole)}"
     return None

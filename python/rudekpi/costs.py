@@ -1,0 +1,56 @@
+"""The words of an edit or a fault of which something is asked beforehand, and why it would be refused."""
+
+from __future__ import annotations
+
+from typing import Sequence
+
+from .names import Names
+from .numbers import MOST_EDGES, counted, number_within
+from .replies import Name
+from .state import State
+
+# the edits and faults, with how many words each is told
+COSTED = {"link": 2, "unlink": 2, "join": 1, "leave": 1, "point": 2, "flag": 2}
+# those that name two nodes
+PAIRED = ("link", "unlink", "point")
+
+
+def numbers_of_edit(names: Names, word: str, given: Sequence[Name], asked: str = "cost") -> list[int]:
+    """The numbers of an edit's or a fault's words, 0 for the pointer that is null. Raises `ValueError` for what is
+    none, which has no such thing as is asked, and `TypeError` where it is told another number of words."""
+    if word not in COSTED:
+        raise ValueError(f"{' or '.join(COSTED)} has a {asked}, and not {word!r}")
+    if len(given) != COSTED[word]:
+        raise TypeError(f"{word} is told {counted(COSTED[word], 'word')}, and not {len(given)}")
+    node = names.number_of(given[0])
+    if word == "flag":
+        return [node, number_within(given[1], 1, "a flag")]
+    if word == "point" and given[1] is None:
+        return [node, 0]
+    return [node, *map(names.number_of, given[1:])]
+
+
+def why_refused(state: State, word: str, node: int, other: int = 0) -> str:
+    """The refusal with which a network in this state answers an edit or a fault; no text where it carries it out."""
+    near = state.neighbours
+    if word == "join":
+        return "already-present" if node in near else "unknown-node" if node > state.count else ""
+    if word == "flag" and state.rules == "hh":
+        return "no-flag"
+    if node not in near or (word in PAIRED and other and other not in near):
+        return "unknown-node"
+    if word == "point":
+        return "not-neighbour" if other and other not in near[node] else ""
+    return why_no_edge(state, word, node, other) if word in PAIRED else ""
+
+
+def why_no_edge(state: State, word: str, a: int, b: int) -> str:
+    """The same of a `link` or `unlink` of nodes that are present."""
+    if a == b:
+        return "self-loop"
+    is_linked = b in state.neighbours[a]
+    if word == "unlink":
+        return "" if is_linked else "not-linked"
+    if is_linked:
+        return "already-linked"
+    return "too-many-edges" if sum(map(len, state.neighbours.values())) >= 2 * MOST_EDGES else ""

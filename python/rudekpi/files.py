@@ -1,0 +1,40 @@
+"""Files that are written as a whole or not at all."""
+
+from __future__ import annotations
+
+import contextlib
+import os
+import stat
+import uuid
+from typing import Optional, Union
+
+
+def write_whole(path: Union[str, os.PathLike[str]], data: bytes) -> None:
+    """Writes a file by way of another one beside it, so that it is there as a whole, or as it was before. What is no
+    plain file, as a device or a pipe, is written to, and so is a file in a folder that takes no other. Raises
+    `OSError`."""
+    real = os.path.realpath(path)
+    old = mode_of(real)
+    if old is not None and not (stat.S_ISREG(old) and os.access(os.path.dirname(real), os.W_OK)):
+        with open(real, "wb") as file:
+            file.write(data)
+        return
+    other = os.path.join(os.path.dirname(real), f".{os.path.basename(real)[:100]}.{uuid.uuid4().hex}")
+    try:
+        with open(other, "xb") as file:
+            file.write(data)
+            if old is not None:
+                os.fchmod(file.fileno(), stat.S_IMODE(old))
+        os.replace(other, real)
+    except BaseException:
+        with contextlib.suppress(FileNotFoundError):
+            os.unlink(other)
+        raise
+
+
+def mode_of(path: str) -> Optional[int]:
+    """What kind of file is at a path, and who may do what with it; None where there is none."""
+    try:
+        return os.stat(path).st_mode
+    except FileNotFoundError:
+        return None

@@ -1,0 +1,52 @@
+"""A simple undirected graph, within the limits of a network."""
+
+from __future__ import annotations
+
+from dataclasses import dataclass, field
+
+from .numbers import MOST_EDGES, MOST_NODES
+from .replies import Name
+
+
+def check_sizes(title: str, nodes: int, edges: int) -> None:
+    """Raises `ValueError` if a network cannot have that many nodes and edges; called before anything is built."""
+    if min(nodes, edges) < 0:
+        raise ValueError(f"{title}: no number is below 0")
+    if nodes > MOST_NODES:
+        raise ValueError(f"{title}: a network has at most {MOST_NODES} nodes")
+    if edges > MOST_EDGES:
+        raise ValueError(f"{title}: a network has at most {MOST_EDGES} edges")
+
+
+@dataclass(frozen=True)
+class Graph:
+    """A simple undirected graph with a title; the order of the nodes is that of their numbers in a network.
+
+    Raises `ValueError` if a node or an edge is there twice, an edge is a loop or names a node that is not there, or
+    there are more than 65,535 nodes or 1,048,576 edges.
+    """
+
+    title: str
+    nodes: tuple[Name, ...]
+    edges: tuple[tuple[Name, Name], ...] = field(repr=False)
+
+    def __post_init__(self) -> None:
+        check_sizes(self.title, len(self.nodes), len(self.edges))
+        place = {node: at for at, node in enumerate(self.nodes)}
+        if len(place) != len(self.nodes):
+            raise ValueError(f"{self.title}: a node is there twice")
+        seen = set()
+        for a, b in self.edges:
+            if a not in place or b not in place:
+                raise ValueError(f"{self.title}: the edge of {a!r} and {b!r} names a node that is not there")
+            if a == b:
+                raise ValueError(f"{self.title}: {a!r} is linked with itself")
+            key = edge_key(place[a], place[b])
+            if key in seen:
+                raise ValueError(f"{self.title}: the edge of {a!r} and {b!r} is there twice")
+            seen.add(key)
+
+
+def edge_key(a: int, b: int) -> int:
+    """One number for an edge, by the places of its two nodes in either order."""
+    return min(a, b) * (MOST_NODES + 1) + max(a, b)

@@ -1,0 +1,180 @@
+"""What plots of sweeps show: each run where it belongs, and each bound where it holds."""
+
+import itertools
+import os
+import pathlib
+import unittest
+
+from rudekpi import plots
+from rudekpi.sweeps import Row
+from support import Timed
+
+try:
+    import matplotlib
+except ImportError:
+    matplotlib = None
+
+
+def row(graph="ring:9", rules="hh", daemon="seeded", seed=0, hit="5 faults", n=9, moves=4, bound=27):
+    return Row(graph, rules, n, 9, daemon, seed, hit, 1, moves, 9, bound, 4, 0.1)
+
+
+def named(figure):
+    """The panels of a figure by their titles."""
+    return {axes.get_title(): axes for axes in figure.get_axes() if axes.get_title()}
+
+
+def runs_of(axes):
+    """Each run that is drawn, as its place on the axis and its moves."""
+    return [tuple(map(float, point)) for dots in axes.collections[:] if is_dots(dots) for point in dots.get_offsets()]
+
+
+def is_dots(drawn):
+    return type(drawn).__name__ == "PathCollection"
+
+
+def bounds_of(axes):
+    """Each line of a bound: from where to where, and how high."""
+    lines = [line for line in axes.get_lines() if line.get_color() == plots.BOUND]
+    return sorted((*map(float, line.get_xdata()), float(line.get_ydata()[0])) for line in lines)
+
+
+def notes_of(axes):
+    return [it.get_text() for it in axes.texts if it.get_text().startswith("bound")]
+
+
+@unittest.skipUnless(matplotlib, "no matplotlib")
+class Panels(Timed):
+    engines = ("program",)
+
+    def test_a_panel_for_each_graph_and_disturbance(self):
+        words = itertools.product(("ring:9", "gnp:9,0.5,1"), ("5 faults", "10 faults"), ("hh", "manne"))
+        rows = [row(graph, rules, hit=hit) for graph, hit, rules in words]
+        figure = plots.panels_figure(rows)
+        # graphs of one size are not one, 5 stands in front of 10, and each graph has a line of its own
+        self.assertEqual(
+            list(named(figure)),
+            ["gnp:9,0.5,1\n5 faults", "gnp:9,0.5,1\n10 faults", "ring:9\n5 faults", "ring:9\n10 faults"],
+        )
+        self.assertEqual(plots.columns_of(list(plots.panels_of(rows))), 2)
+        for axes in named(figure).values():
+            self.assertEqual(len(runs_of(axes)), 2)
+
+    def test_each_run_stands_by_its_daemon_and_rules(self):
+        rows = [
+            row(rules=rules, daemon=daemon, seed=seed, moves=10 * place + seed % 3)
+            for place, (daemon, rules) in enumerate([("age", "hh"), ("age", "manne"), ("seeded", "hh")])
+            for seed in range(60)
+        ]
+        [axes] = named(plots.panels_figure(rows)).values()
+        self.assertEqual([it.get_text() for it in axes.get_xticklabels()], ["age\nhh", "age\nmanne", "seeded\nhh"])
+        runs = runs_of(axes)
+        self.assertEqual(sorted(moves for _, moves in runs), sorted(float(it.moves) for it in rows))
+        for at, moves in runs:
+            self.assertEqual(round(at), moves // 10)
+            self.assertLess(abs(at - round(at)), 0.45)
+        # no two hide each other
+        self.assertEqual(len(set(runs)), len(rows))
+
+    def test_bounds_are_drawn_where_they_hold(self):
+        rows = [row("ring:9", moves=8, bound=27), row("ring:9", "manne", moves=9, bound=45)]
+        rows += [row("ring:8", n=8, moves=7, bound=24), row("ring:8", "manne", n=8, moves=9, bound=40, seed=1)]
+        rows += [row("ring:8", "manne", n=8, moves=9, bound=36, seed=2)]
+        # more than four times the moves of one panel: no panel draws them
+        panels = named(plots.panels_figure(rows))
+        self.assertEqual([bounds_of(axes) for axes in panels.values()], [[], []])
+        self.assertEqual(notes_of(panels["ring:9\n5 faults"]), ["bound\n\u2191 27", "bound\n\u2191 45"])
+        self.assertEqual(notes_of(panels["ring:8\n5 faults"]), ["bound\n\u2191 24", "bound\n\u2191 36 to\n40"])
+        near = [row(it.graph, it.rules, moves=3 * it.moves, bound=it.bound, seed=it.seed) for it in rows]
+        panels = named(plots.panels_figure(near))
+        wide = [(place - 0.45, place + 0.45) for place in range(2)]
+        self.assertEqual(bounds_of(panels["ring:9\n5 faults"]), [(*wide[0], 27.0), (*wide[1], 45.0)])
+        self.assertEqual(bounds_of(panels["ring:8\n5 faults"]), [(*wide[0], 24.0), (*wide[1], 36.0), (*wide[1], 40.0)])
+        self.assertEqual([notes_of(axes) for axes in panels.values()], [[], []])
+
+    def test_the_axis_reaches_as_far_as_what_is_drawn(self):
+        for moves, bound, least, most in [
+            (0, 0, 1, 2),
+            (3, 5000, 3, 4),
+            (900, 1000, 1000, 1100),
+            (900, 9000, 900, 1200),
+        ]:
+            [axes] = named(plots.panels_figure([row(moves=moves, bound=bound)])).values()
+            low, high = axes.get_ylim()
+            with self.subTest(moves=moves, bound=bound):
+                self.assertLess(low, 0)
+                self.assertTrue(least < high < most, high)
+
+    def test_panels_of_one_disturbance_have_one_axis_if_they_are_near(self):
+        rows = [row("ring:9", moves=20, bound=900), row("ring:8", moves=30, bound=900)]
+        rows += [
+            row("ring:9", moves=200, bound=900, hit="90 faults"),
+            row("ring:8", moves=30, bound=900, hit="90 faults"),
+        ]
+        tops, _ = plots.tops_of(plots.panels_of(rows))
+        self.assertEqual(
+            tops,
+            {
+                ("ring:8", "5 faults"): 30,
+                ("ring:9", "5 faults"): 30,
+                ("ring:8", "90 faults"): 30,
+                ("ring:9", "90 faults"): 200,
+            },
+        )
+
+    def test_what_makes_no_plot(self):
+        path = os.path.join(self.folder(), "a.svg")
+        for plot in (plots.of_rows, plots.over_graphs):
+            self.assertRaisesRegex(ValueError, "no rows", plot, [], path)
+        many = [row(f"ring:{n}") for n in range(3, 64)]
+        self.assertRaisesRegex(ValueError, "61 panels", plots.of_rows, many, path)
+        self.assertRaisesRegex(ValueError, "61 panels", plots.check, path, 61)
+        self.assertRaisesRegex(ValueError, "no name of a picture", plots.check, path + ".txt")
+        self.assertEqual(os.listdir(os.path.dirname(path)), [])
+        plots.check(path, 60)
+        plots.of_rows(many[:6], path)
+        self.assertIn("<svg", pathlib.Path(path).read_text())
+
+    def test_titles_are_shown_as_they_are(self):
+        long = "/a/folder/with/$x^{$/and/a/long/name/of/its/own/net.txt"
+        panels = named(plots.panels_figure([row(long), row("ring:9")]))
+        self.assertIn("..a/long/name/of/its/own/net.txt\n5 faults", panels)
+        two = plots.titles_of([f"/one{long}", f"/two{long}"])
+        self.assertEqual(
+            {title: text.replace("\n", "") for title, text in two.items()}, {it: plots.plain(it) for it in two}
+        )
+        # a title that matplotlib would take for a formula
+        plots.of_rows([row("$\\frac{$")], os.path.join(self.folder(), "a.png"))
+
+
+@unittest.skipUnless(matplotlib, "no matplotlib")
+class Growth(Timed):
+    engines = ("program",)
+
+    def test_graphs_near_in_size_do_not_mingle(self):
+        words = itertools.product((49, 50), ("age", "seeded"), ("hh", "manne"))
+        rows = [
+            row(f"ring:{n}", rules, daemon, n=n, moves=n, bound=n * (3 if rules == "hh" else 5))
+            for n, daemon, rules in words
+        ]
+        [axes] = plots.growth_figure(rows).get_axes()
+        runs = runs_of(axes)
+        self.assertEqual(len(runs), 8)
+        for at, moves in runs:
+            self.assertEqual(49 + round(at), moves)
+        self.assertEqual([it.get_text() for it in axes.get_xticklabels()], ["ring:49\n5 faults", "ring:50\n5 faults"])
+        for begin, end, bound in bounds_of(axes):
+            self.assertEqual(round(begin + 0.01), round(end - 0.01))
+            self.assertIn(bound / (49 + round(begin + 0.01)), (3, 5))
+        self.assertEqual(len(bounds_of(axes)), 8)
+
+    def test_runs_without_moves_are_seen(self):
+        [axes] = plots.growth_figure([row(moves=0), row("ring:90", n=90, moves=100, bound=270)]).get_axes()
+        self.assertEqual((axes.get_yscale(), axes.get_ylim()[0]), ("symlog", 0))
+        [axes] = plots.growth_figure([row(moves=30), row("ring:90", n=90, moves=100, bound=270)]).get_axes()
+        self.assertEqual(axes.get_yscale(), "log")
+        self.assertTrue(0 < axes.get_ylim()[0] < 30 and axes.get_ylim()[1] > 270)
+
+
+if __name__ == "__main__":
+    unittest.main()

@@ -1,0 +1,133 @@
+"""Runs the program with calls that fail, by a preloaded library that is built from tests/faults/refusing_calls.c."""
+
+from __future__ import annotations
+
+import argparse
+import dataclasses
+import errno
+import os
+import shutil
+import subprocess
+import tempfile
+import unittest
+from typing import IO, Mapping, Optional, Sequence, Union
+
+from .places import TOP
+from .runner import Checks
+
+# How a call fails: the error number, or 0 for a write that takes no byte.
+FAILS, INTERRUPTED, TAKES_NONE = errno.EIO, errno.EINTR, 0
+SOURCE = TOP / "tests" / "faults" / "refusing_calls.c"
+# What a run answers: its status, its output, and what it says on standard error. Without an end the status is `None`.
+Answer = tuple[Optional[int], bytes, Optional[bytes]]
+
+
+@dataclasses.dataclass(frozen=True)
+class Ended:
+    """How a run ended, and which failures its calls met, a letter each as refusing_calls.c has them; `l` if a thread
+    was left."""
+
+    status: Optional[int]
+    out: bytes
+    err: Optional[bytes]
+    met: bytes
+
+    def answer(self) -> Answer:
+        return self.status, self.out, self.err
+
+
+class Faulty:
+    """A program whose calls are made to fail. `folder` is for what is built and told; a run may take `wait` seconds."""
+
+    def __init__(self, program: str, folder: str, wait: float) -> None:
+        self.program, self.folder, self.wait = program, folder, wait
+        self.library: Optional[str] = None
+
+    def prepare(self) -> Optional[str]:
+        """Builds the library. Returns what is missing if that can't be done."""
+        compiler = shutil.which("cc")
+        if compiler is None:
+            return "cc"
+        self.library = os.path.join(self.folder, "refusing_calls.so")
+        words = [compiler, "-O1", "-shared", "-fPIC", "-o", self.library, str(SOURCE), "-ldl"]
+        subprocess.run(words, check=True)
+        return None
+
+    def refuses_memory(self) -> bool:
+        """Whether the program takes its memory from the C library."""
+        return b"m" in self.run(["--version"], REFUSE_MEMORY=1).met
+
+    def run(
+        self, words: Sequence[str], text: bytes = b"", err: Union[int, IO[bytes]] = subprocess.PIPE, **faults: object
+    ) -> Ended:
+        told = os.path.join(self.folder, "told")
+        with open(told, "wb"):
+            pass
+        environment = {**os.environ, "LD_PRELOAD": self.library or "", "FAULT_TOLD": told}
+        environment.update({name: str(number) for name, number in faults.items()})
+        status, out, told_err = self.ended(words, text, environment, err)
+        with open(told, "rb") as file:
+            return Ended(status, out, told_err, file.read(1000).removesuffix(b"e"))
+
+    def ended(
+        self,
+        words: Sequence[str],
+        text: bytes,
+        environment: Optional[Mapping[str, str]],
+        err: Union[int, IO[bytes]] = subprocess.PIPE,
+    ) -> Answer:
+        """How a run ended; its status is `None` if it took too long. What it says goes to `err`, and is `None` if that
+        is a file."""
+        try:
+            made = subprocess.run(
+                [self.program, *words],
+                input=text,
+                stdout=subprocess.PIPE,
+                stderr=err,
+                timeout=self.wait,
+                env=environment,
+            )
+        except subprocess.TimeoutExpired as late:
+            return None, late.stdout or b"", late.stderr or b""
+        return made.returncode, made.stdout, made.stderr
+
+    def plainly(self, words: Sequence[str], text: bytes = b"") -> Answer:
+        """A run in which nothing is made to fail."""
+        return self.ended(words, text, None)
+
+
+class Plain(Checks):
+    """Checks of a program whose calls do not fail; the tests of a class share its folder."""
+
+    program: Faulty
+    folder: str
+
+    @classmethod
+    def setUpClass(cls) -> None:
+        made = tempfile.TemporaryDirectory()
+        cls.addClassCleanup(made.cleanup)
+        cls.folder = made.name
+        cls.program = Faulty(cls.given.program, cls.folder, cls.given.wait)
+
+    def script(self, name: str, text: bytes) -> str:
+        """The path of a file in the folder, with this text."""
+        path = os.path.join(self.folder, name)
+        with open(path, "wb") as file:
+            file.write(text)
+        return path
+
+
+class Failing(Plain):
+    """Checks of a program whose calls are made to fail. All of them are skipped if there is no compiler."""
+
+    @classmethod
+    def setUpClass(cls) -> None:
+        super().setUpClass()
+        missing = cls.program.prepare()
+        if missing:
+            raise unittest.SkipTest(f"no {missing}")
+
+
+def wait_option(parser: argparse.ArgumentParser) -> None:
+    """Lets the words say how many seconds a run may take."""
+    parser.add_argument("--wait", type=float, default=60, metavar="SECONDS", help="how long a run may take")

@@ -1,0 +1,66 @@
+"""How many checks passed, failed and were skipped, and the last line that says so."""
+
+from __future__ import annotations
+
+import sys
+from typing import Sequence, TextIO
+
+# How much of a value is printed.
+SHOWN = 600
+INDENT = "    "
+
+
+def shown(value: object) -> str:
+    """A value as text, cut after its first characters."""
+    text = value if isinstance(value, str) else repr(value)
+    return text if len(text) <= SHOWN else f"{text[:SHOWN]} .."
+
+
+class Tally:
+    """Counts checks. Each that fails is printed as it fails, and each that is skipped is named."""
+
+    def __init__(self, out: TextIO = sys.stdout) -> None:
+        self.out = out
+        self.passed = self.failed = self.skipped = 0
+
+    def print(self, text: str) -> None:
+        print(text, file=self.out, flush=True)
+
+    def expect(self, name: str, came: object, wanted: object) -> bool:
+        """Counts whether a value is the one that is wanted, and returns it."""
+        return self.require(name, came == wanted, lambda: f"{shown(came)}, and not {shown(wanted)}")
+
+    def require(self, name: str, holds: object, told: object = "it does not hold") -> bool:
+        """Counts whether something holds, and returns it. `told` is printed with the name if it does not; a
+        function is called."""
+        if holds:
+            self.passed += 1
+        else:
+            self.fail(name, str(told()) if callable(told) else str(told))
+        return bool(holds)
+
+    def fail(self, name: str, told: str) -> None:
+        """Counts a check that failed, and prints its name and why: below it, if that has several lines."""
+        self.failed += 1
+        lines = told.rstrip("\n").split("\n")
+        self.print(
+            f"{name}: {lines[0]}" if len(lines) == 1 else "\n".join([f"{name}:", *(INDENT + it for it in lines)])
+        )
+
+    def same(self, name: str, differs: Sequence[str]) -> None:
+        """Counts a comparison, which passes if nothing differs. What differs is printed below the name."""
+        if differs:
+            self.failed += 1
+            self.print("\n".join([name, *(INDENT + line for line in differs)]))
+        else:
+            self.passed += 1
+
+    def skip(self, name: str, why: str) -> None:
+        """Counts a check that is skipped, and prints its name and what it lacks."""
+        self.skipped += 1
+        self.print(f"skipped: {name}: {why}")
+
+    def end(self) -> int:
+        """Prints the last line, and returns the exit status: 0 if some passed and none failed."""
+        self.print(f"{self.passed} passed, {self.failed} failed, {self.skipped} skipped")
+        return 1 if self.failed or not self.passed else 0

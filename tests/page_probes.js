@@ -1,0 +1,345 @@
+// What tests ask of a page. It stands in each page before its own script begins, and the page knows nothing of it.
+// tests/browser.py calls `probes.NAME(words)`; what comes back is plain data.
+"use strict";
+
+const probes = (() => {
+  const one = (selector) => document.querySelector(selector);
+  const all = (selector, root = document) => [...root.querySelectorAll(selector)];
+
+  /** Whether an element is drawn. */
+  const isShown = (element) => Boolean(element) && getComputedStyle(element).display !== "none"
+    && getComputedStyle(element).visibility === "visible";
+
+  const middleOf = (element) => {
+    const box = element.getBoundingClientRect();
+    return [box.left + box.width / 2, box.top + box.height / 2];
+  };
+
+  const paper = () => getComputedStyle(document.body).backgroundColor;
+  const digits = (text) => text.replace(/\D/g, "");
+
+  /** Name, mark, and whether it is filled, of each node of a picture that is seen. */
+  const nodesOf = (graph) => all(".nodes > g", graph).filter(isShown).map((group) => {
+    const mark = group.querySelector(".mark");
+    return [
+      Number(group.querySelector(".name").textContent), isShown(mark) ? mark.textContent : "",
+      getComputedStyle(group.querySelector(".body")).fill !== paper()
+    ];
+  });
+
+  /** A number from 0 that a seed draws (Park and Miller, 1988). */
+  const drawer = (seed) => {
+    let state = seed;
+    return (most) => (state = (state * 48271) % 2147483647) % most;
+  };
+
+  return {
+    // single things
+    text: (selector) => one(selector)?.textContent ?? null,
+    texts: (...selectors) => selectors.map((selector) => one(selector).textContent),
+    value: (selector) => one(selector).value,
+    setValue: (selector, value) => void (one(selector).value = value),
+    attribute: (selector, name) => one(selector)?.getAttribute(name) ?? null,
+    press: (selector) => one(selector).click(),
+    isPressable: (selector) =>
+      isShown(one(selector)) && one(selector).getClientRects().length > 0 && !one(selector).disabled,
+    focus: (selector) => one(selector).focus(),
+    blur: () => document.activeElement.blur(),
+    isHidden: (selector) => one(selector).hidden,
+    isDisabled: (selector) => one(selector).disabled,
+    style: (selector, name) => getComputedStyle(one(selector)).getPropertyValue(name),
+    count: (selector) => all(selector).length,
+    classes: (selector) => all(selector).map((element) => element.className),
+    heights: (...selectors) => selectors.map((selector) => one(selector).clientHeight),
+    validity: (selector) => one(selector).validationMessage,
+    title: () => document.title,
+    address: () => location.hash,
+    forgetAll: () => sessionStorage.clear(),
+    goTo: (hash) => void (location.hash = hash),
+    entry: () => document.body.dataset.entry,
+    historyLength: () => history.length,
+    widest: () => document.documentElement.scrollWidth,
+    top: () => scrollTo(0, 0),
+    show: (selector, block = "nearest") => one(selector).scrollIntoView({ block }),
+    place: (selector, at = 0) => middleOf(all(selector)[at]),
+    width: (selector) => one(selector).clientWidth,
+
+    /** Sets a field and tells the page, as a hand does that leaves it. */
+    choose: (selector, value) => {
+      one(selector).value = value;
+      one(selector).dispatchEvent(new Event("change", { bubbles: true }));
+    },
+
+    /** The bottom of an element is not below the top of another. */
+    isAbove: (upper, lower) => one(upper).getBoundingClientRect().bottom <= one(lower).getBoundingClientRect().top + 1,
+    tops: (selector) => all(selector).map((part) => Math.round(part.getBoundingClientRect().top)),
+
+    /** Whether something lies in the window, and nothing before it. */
+    isSeen: (selector) => {
+      const [x, y] = middleOf(one(selector));
+      return one(selector).contains(document.elementFromPoint(x, y));
+    },
+
+    /** Pictures and signs that are seen and have no name that a screen reader could say. */
+    nameless: () => all("svg, img, canvas, [role=img]")
+                      .filter(
+                        (it) => it.getClientRects().length > 0 && !it.closest("[aria-hidden=true]")
+                          && !it.getAttribute("aria-label") && !it.getAttribute("alt"))
+                      .map((it) => it.outerHTML.slice(0, 120)),
+
+    // pages that play transcripts
+    card: () => {
+      if (one("#card").hidden) {
+        return null;
+      }
+      const rows = all("#card-rows > div").map((row) => [row.children[0].textContent, row.children[1].textContent]);
+      return [one("#card-heading").textContent, one("#card-rule").textContent, Object.fromEntries(rows)];
+    },
+
+    /** How much of the drawing's width and height its nodes take. */
+    shares: () => {
+      const box = one("#graph").getBoundingClientRect();
+      const nodes = all(".nodes .body").map((node) => node.getBoundingClientRect());
+      const most = (key) => Math.max(...nodes.map((node) => node[key]));
+      const least = (key) => Math.min(...nodes.map((node) => node[key]));
+      return [(most("right") - least("left")) / box.width, (most("bottom") - least("top")) / box.height];
+    },
+
+    /** What something else covers, of the entry and the figures. */
+    covered: () => all("#entry p, #figures dd")
+                     .filter((part) => document.elementFromPoint(...middleOf(part)) !== part)
+                     .map((part) => part.id),
+
+    /**
+       Numbers of four digits and more without commas, and other signs between digits; a transcript's own lines are
+       left out.
+     */
+    ungrouped: () =>
+      all("body *:not(script, style, #event, #reply, #near *, #judged)")
+        .flatMap((part) => [...part.childNodes].filter((node) => node.nodeType === 3).map((node) => node.data))
+        .filter((text) => /\d{4}|\d[\u202f\u2009 ]\d/.test(text)),
+
+    /** Whether the drawing that an element is a part of takes room in the page. */
+    isLaidOut: (selector) => one(selector).ownerSVGElement.getClientRects().length > 0,
+
+    viewBox: (selector = "#graph") => one(selector).getAttribute("viewBox").split(" ").map(Number),
+    pathLengths: () => ["line", "range"].map(
+      (kind) => all(`#budget .${kind}`).map((path) => path.getAttribute("d").split(/[LHV]/).length)),
+
+    slide: (number) => {
+      one("#slider").value = number;
+      one("#slider").dispatchEvent(new Event("input", { bubbles: true }));
+    },
+
+    type: (number) => {
+      probes.choose("#go", number);
+      one("#go").blur();
+    },
+
+    /** Where the plot has its first and last entry, and its middle from top to bottom. */
+    plot: () => {
+      const [plot, cursor] = [one("#budget"), one("#budget .cursor")];
+      plot.scrollIntoView();
+      const box = plot.getBoundingClientRect();
+      const at = () => Number(cursor.getAttribute("x1"));
+      one("#first").click();
+      const first = at();
+      one("#last").click();
+      return [box.left + first, box.left + at(), box.top + box.height / 2];
+    },
+
+    /** The entry at which playing ends. */
+    ended: () => new Promise((done) => {
+      const ask = () =>
+        (one("#play").textContent.includes("play") ? done(document.body.dataset.entry) : setTimeout(ask, 20));
+      ask();
+    }),
+
+    /**
+     * What a reader of a played transcript sees, told from styles and places, not from names: who is filled, how wide
+     * a line is, where an arrow begins and ends.
+     */
+    played: () => {
+      const graph = one("#graph");
+      const drawn = isShown(graph);
+      const groups = drawn ? all(".nodes > g", graph).filter(isShown) : [];
+      const nameOf = (group) => Number(group.querySelector(".name").textContent);
+      const places = groups.map((group) => {
+        const { e, f } = group.transform.baseVal.getItem(0).matrix;
+        return [nameOf(group), e, f];
+      });
+      const at = (x, y) => places.reduce((best, [name, px, py]) => {
+        const far = Math.hypot(px - x, py - y);
+        return far < best[1] ? [name, far] : best;
+      }, [0, 30])[0];
+      const ends =
+        (line) => [at(line.x1.baseVal.value, line.y1.baseVal.value), at(line.x2.baseVal.value, line.y2.baseVal.value)];
+      const lines = (where) => (drawn ? all(where, graph).filter(isShown) : []);
+      const text = (id) => one(`#${id}`).textContent;
+      return {
+        drawn,
+        nodes: drawn ? nodesOf(graph) : [],
+        edges: lines(".edges > line:not(.change), .pairs > line")
+                 .map((line) => [...ends(line), parseFloat(getComputedStyle(line).strokeWidth)]),
+        arrows: lines(".pointers > line").filter((line) => getComputedStyle(line).markerEnd !== "none").map(ends),
+        lit: groups.filter((group) => isShown(group.querySelector(".halo"))).map(nameOf),
+        status:
+          ["nodes", "edges", "pairs", "enabled", "charge", "spent"].map((id) => `${id}=${digits(text(id))}`).join(" "),
+        number: text("number").replaceAll(",", ""),
+        event: text("event"),
+        reply: text("reply"),
+        kind: text("kind"),
+        change: lines(".changes > text").map((sign) => sign.textContent).join(""),
+        said: text("undrawn"),
+        sum: digits(text("sum")),
+        bound: digits(text("bound")),
+      };
+    },
+
+    // the playground
+    script: () => one("#text").value.trimEnd().split("\n"),
+
+    /** The lines of the script that a hand made: no moves of a daemon, and no links. */
+    acts: () => probes.script().filter((line) => !/^(drive|link) /.test(line)),
+    scriptLength: () => probes.script().length,
+
+    /** The script as it is now: the field shows it a while later. */
+    scriptNow: () => {
+      one("#show-script").click();
+      return probes.script();
+    },
+    ids: (selector) => all(selector).map((element) => element.id),
+    lastLine: () => probes.script().at(-1),
+    lastAct: () => probes.acts().at(-1) ?? null,
+
+    transcript: () => {
+      one("#show-transcript").click();
+      const text = one("#text").value;
+      one("#show-script").click();
+      return text;
+    },
+
+    isStable: () => all(".state").every((state) => state.textContent.includes("stable")),
+    isRunning: () => one("#run").getAttribute("aria-pressed") === "true",
+    /** So many pixels high are the smallest name and the least node of the picture; a name that is not drawn is 0. */
+    nameSize: () => Math.min(...all(".graph .node:not(.absent) .name")
+                               .map((name) => (isShown(name) ? name.getBoundingClientRect().height : 0))),
+    nodeSizes: () => {
+      const sizes = all(".graph .node:not(.absent) .body").map((body) => body.getBoundingClientRect().width);
+      return [Math.min(...sizes), Math.max(...sizes)];
+    },
+    present: () => all(".graph .node:not(.absent)").length,
+
+    /** The network that is drawn, told from styles: nodes that are filled, edges with their widths, arrows, marks. */
+    lab: (which) => {
+      const graph = document.getElementById(which);
+      const edges =
+        all("[data-ends]", graph)
+          .filter(isShown)
+          .map(
+            (line) =>
+              [...line.dataset.ends.split("-").map(Number), parseFloat(getComputedStyle(line).strokeWidth) > 4]);
+      const arrows =
+        all(".pointers > line", graph).filter(isShown).map((line) => line.dataset.pointer.split(">").map(Number));
+      const numbers = graph.closest(".pane")
+                        .querySelector(".numbers")
+                        .textContent.match(/[\d,]+/g)
+                        .map((word) => Number(word.replaceAll(",", "")));
+      return {
+        nodes: nodesOf(graph),
+        edges: edges.sort((a, b) => a[0] - b[0] || a[1] - b[1]),
+        arrows: arrows.sort((a, b) => a[0] - b[0]),
+        numbers
+      };
+    },
+
+    /** A place of the picture where nothing is, as far from all as can be. */
+    emptyPlace: () => {
+      const box = one(".graph").getBoundingClientRect();
+      const nodes = all(".graph .node:not(.absent) .body").map((node) => node.getBoundingClientRect());
+      const points = all("[data-ends]").filter(isShown).flatMap((line) => {
+        const [from, to] = [1, 2].map(
+          (end) => new DOMPoint(line[`x${end}`].baseVal.value, line[`y${end}`].baseVal.value)
+                     .matrixTransform(line.getScreenCTM()));
+        return Array.from(
+          { length: 60 },
+          (_, at) => (
+            { x: from.x + ((to.x - from.x) * at) / 59, y: from.y + ((to.y - from.y) * at) / 59, width: 0, height: 0 }));
+      });
+      let best = [0, 0, 0];
+      for (let at = 0; at < 900; at += 1) {
+        const [x, y] = [
+          box.left + 70 + ((box.width - 140) * (at % 30)) / 29,
+          box.top + 70 + ((box.height - 140) * Math.floor(at / 30)) / 29
+        ];
+        const far = [...nodes, ...points].reduce(
+          (least, it) => Math.min(least, Math.hypot(it.x + it.width / 2 - x, it.y + it.height / 2 - y)), 1e9);
+        if (far > best[2] && document.elementFromPoint(x, y)?.closest(".graph")) {
+          best = [x, y, far];
+        }
+      }
+      return best;
+    },
+
+    /** How many pictures a second the browser makes, and how many of them show moves. */
+    frames: () => new Promise((done) => {
+      const begun = performance.now();
+      let [frames, moved, last] = [0, 0, ""];
+      const look = () => {
+        frames += 1;
+        const now = one(".numbers").textContent;
+        moved += now === last ? 0 : 1;
+        last = now;
+        const spent = performance.now() - begun;
+        if (spent < 3000) {
+          requestAnimationFrame(look);
+        } else {
+          done([(1000 * frames) / spent, (1000 * moved) / spent]);
+        }
+      };
+      requestAnimationFrame(look);
+    }),
+
+    /** Writes a text in the place of the script, as hands do that type. */
+    write: (text) => {
+      one("#show-script").click();
+      one("#text").value = text;
+      one("#text").dispatchEvent(new Event("input", { bubbles: true }));
+    },
+
+    /** Pastes a text where the focus is. */
+    paste: (text) => {
+      const data = new DataTransfer();
+      data.setData("text/plain", text);
+      document.activeElement.dispatchEvent(
+        new ClipboardEvent("paste", { clipboardData: data, bubbles: true, cancelable: true }));
+    },
+
+    /** Whether the page asks before it is left, as if so many milliseconds had passed. */
+    asksToLeave: (later) => {
+      const now = performance.now.bind(performance);
+      performance.now = () => now() + later;
+      const event = new Event("beforeunload", { cancelable: true });
+      dispatchEvent(event);
+      performance.now = now;
+      return event.defaultPrevented;
+    },
+
+    /** The text that is selected in a field. */
+    selected: (selector) => one(selector).value.slice(one(selector).selectionStart, one(selector).selectionEnd),
+
+    /** What a hand may touch: the middle of each control that is seen, with what it is. */
+    controls: (seed, count) => {
+      const next = drawer(seed);
+      const seen =
+        all(
+          "button:not(:disabled), select, summary, input:not([type=file]), .graph .node:not(.absent) .body, [data-ends]:not(.absent)")
+          .filter((it) => it.getClientRects().length > 0 && it.id !== "project")
+          .map((it) => ({
+                 what: it.id || it.dataset.tool || it.dataset.ends || it.parentElement?.dataset.node || it.localName,
+                 kind: it.localName
+               }));
+      return Array.from({ length: count }, () => seen[next(seen.length)]);
+    },
+  };
+})();

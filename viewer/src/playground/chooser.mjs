@@ -1,0 +1,59 @@
+// The node or edge that is chosen, and the way to the next one by keys.
+
+/** @typedef {import("./seen.mjs").Seen} Seen */
+
+export class Chooser {
+  /** @param {(thing: Thing | null) => void} shown is told what is chosen */
+  constructor(shown) {
+    this.shown = shown;
+    /** @type {Thing | null} */
+    this.thing = null;
+    /** The node whose links are gone through, 0 if none is. */
+    this.hub = 0;
+  }
+
+  /** @param {Thing | null} thing */
+  choose(thing) {
+    this.thing = thing;
+    this.shown(thing);
+  }
+
+  /**
+   * Chooses the next node that is there, or the one before.
+   * @param {Seen} seen
+   * @param {number} step 1 or -1
+   */
+  walk(seen, step) {
+    const from = this.thing?.node ?? this.thing?.low ?? (step > 0 ? 0 : seen.nodes + 1);
+    for (let v = from + step; v >= 1 && v <= seen.nodes; v += step) {
+      if (seen.here[v]) {
+        this.choose({ node: v });
+        return;
+      }
+    }
+  }
+
+  /**
+   * Chooses the next link of the node that is chosen, or of the end from which that began. If nothing is chosen, or
+   * what is chosen is gone, it begins at the first node that has a link.
+   * @param {Seen} seen
+   */
+  turn(seen) {
+    const { thing } = this;
+    const hub = this.hubOf(seen);
+    const others = [...(seen.neighbours[hub] ?? [])].sort((a, b) => a - b);
+    const at = thing?.low ? others.findIndex((w) => w === thing.low || w === thing.high) : -1;
+    const other = others[at + 1] ?? others[0];
+    if (other) {
+      this.hub = hub;
+      this.choose({ low: Math.min(hub, other), high: Math.max(hub, other) });
+    }
+  }
+
+  /** @param {Seen} seen */
+  hubOf(seen) {
+    const { thing } = this;
+    const chosen = thing?.node ?? (thing && thing.high === this.hub ? this.hub : thing?.low ?? 0);
+    return chosen && seen.here[chosen] ? chosen : seen.neighbours.findIndex((others) => others.size > 0);
+  }
+}

@@ -1,0 +1,119 @@
+// Types that several modules share. They hold no code: the browser gets none of them.
+
+/** A node, or an edge by its ends with the lower one first. */
+interface Thing {
+  node?: number;
+  low?: number;
+  high?: number;
+}
+
+/** A place of a drawing, or of the window in pixels. */
+interface Place {
+  x: number;
+  y: number;
+  /** Whether a finger is there, where that is known. */
+  finger?: boolean;
+}
+
+/** Where nodes lie, by their numbers from 1, in a box from 0, 0. */
+interface Layout {
+  x: Float64Array;
+  y: Float64Array;
+  width: number;
+  height: number;
+  /** Whether the box has the form of the picture already. */
+  framed?: boolean;
+}
+
+/** The two ends of a link. */
+type Link = number[];
+
+/** In browsers and in node, and not yet in TypeScript's own library. */
+interface Array<T> {
+  findLast(isWanted: (value: T) => boolean): T | undefined;
+}
+
+type RuleName = "hh" | "manne";
+
+/** Registers and edges, as a machine loads them: `ends` holds both ends of each edge in turn. */
+interface MachineState {
+  here: Uint8Array;
+  pointers: Int32Array;
+  flags: Uint8Array;
+  ends: Int32Array;
+}
+
+/** A line of a transcript. */
+interface Entry {
+  number: number;
+  event: string;
+  reply: string;
+  kind: string;
+  refused: boolean;
+  disturbs: boolean;
+}
+
+/** A move of a step's reply; `target` is 0 for a rule that takes none. */
+interface Move {
+  node: number;
+  rule: string;
+  target: number;
+}
+
+/** A network to begin with. `places` are where the first nodes lie, if that is known. */
+interface Network {
+  nodes: number;
+  links?: Link[];
+  places?: Link[];
+}
+
+/** A network with the scripts that one or two labs play in it. */
+interface Plan extends Network {
+  names: number;
+  present: number;
+  labs: { rules: RuleName; lines: string[] }[];
+  /** Where nodes lie, if hands have moved them. */
+  layout?: Layout;
+}
+
+/** Who judged a transcript, and the verdict, or null if nobody did. */
+interface Judge {
+  program?: string;
+  own?: boolean;
+  here?: boolean;
+  verdict: string | null;
+}
+
+/** A box of the window. */
+interface Box {
+  left: number;
+  top: number;
+  width: number;
+  height: number;
+}
+
+interface Size {
+  width: number;
+  height: number;
+}
+
+/** What is wrong with a text, and its line, or an empty one. */
+interface Wrong {
+  said: string;
+  line: string;
+}
+
+/** What a node or an edge is, in words. */
+interface Explained {
+  heading: string;
+  rule: string | null;
+  rows: [string, string][];
+}
+
+/** A column of a plot that stands for several entries. */
+interface Column {
+  middle: number;
+  least: number;
+  most: number;
+  mean: number;
+}
