@@ -88,7 +88,8 @@ def epochs(transcript: Text, *, program: Program = None) -> list[Epoch]:
 def bounded(epoch: Epoch, rules: str) -> Epoch:
     """An epoch with the smaller of its bounds.
 
-    The epoch that an opening base cuts keeps the bound of the program: the base says what was spent, and no move shows it.
+    The epoch that an opening base cuts keeps the bound of the program: the base says what was spent, and no move shows
+    it.
     """
     if epoch.start is None:
         return epoch

@@ -138,10 +138,11 @@ def verdict_of(
 
 
 def joined(whole: Optional[Summary], found: Union[Summary, Damaged], lines: int) -> Summary:
-    """The verdict on the parts so far, if there are some, and on the next, as one; raises `Damaged`. `lines` of the whole stand
-    before the next, which matters only for a damage.
+    """The verdict on the parts so far, if there are some, and on the next, as one; raises `Damaged`. `lines` of the
+    whole stand before the next, which matters only for a damage.
 
-    The library joins them wherever there is one, whatever has judged the parts: its call is proved. Else the same sums are made here.
+    The library joins them wherever there is one, whatever has judged the parts: its call is proved. Else the same sums
+    are made here.
     """
     library = found_library()
     if whole and library:

@@ -229,9 +229,9 @@ class Epoch:
     """The part of a run after an accepted disturbance: the entry of that, its moves, and their bound. The entry is 0 if
     it is the start, and None if the transcript begins with a base, which does not tell it.
 
-    The bound is 2m + n (`hh`) or 2m + 3n (`manne`) with m edges and n nodes; under `hh` it is also at most n²/2 + n - 2,
-    the half rounded down, unless the entry is None. The cost is that of the disturbance, a sum of degrees; None in the
-    first epoch, which no disturbance of the transcript began."""
+    The bound is 2m + n (`hh`) or 2m + 3n (`manne`) with m edges and n nodes; under `hh` it is also at most n²/2 + n -
+    2, the half rounded down, unless the entry is None. The cost is that of the disturbance, a sum of degrees; None in
+    the first epoch, which no disturbance of the transcript began."""
 
     start: Optional[int]
     moves: int

@@ -22,8 +22,8 @@ def bound(rules: str, edges: int, nodes: int) -> int:
 
 
 def dense_bound(nodes: int) -> int:
-    """The most moves between two disturbances under `hh` among so many nodes, whatever the edges: n²/2 + n - 2, the half
-    rounded down; 0 for one node or none."""
+    """The most moves between two disturbances under `hh` among so many nodes, whatever the edges: n²/2 + n - 2, the
+    half rounded down; 0 for one node or none."""
     return max(0, nodes * nodes // 2 + nodes - 2)
 
 

@@ -1,12 +1,15 @@
 """How many moves can still come, and the bounds of epochs. The numbers are worked out by hand from the two bounds."""
 
+from __future__ import annotations
+
 import unittest
+from typing import Iterable
 
 from rudekpi import Network, daemons, epochs, graphs, longest
 from support import Timed
 
 
-def linked(rules, graph, pointers=()):
+def linked(rules: str, graph: graphs.Graph, pointers: Iterable[tuple[int, int]] = ()) -> Network:
     """A network of a graph, with pointers as faults have written them."""
     net = Network(rules, graph.nodes)
     for a, b in graph.edges:
@@ -17,7 +20,7 @@ def linked(rules, graph, pointers=()):
 
 
 class MovesLeft(Timed):
-    def test_what_the_nodes_allow_is_less(self):
+    def test_what_the_nodes_allow_is_less(self) -> None:
         # fifteen edges, none of them open for good: 2 * 15 and 6 pointers that are not answered
         cycle = [(node, node % 6 + 1) for node in range(1, 7)]
         with linked("hh", graphs.complete(6), cycle) as net:
@@ -26,33 +29,33 @@ class MovesLeft(Timed):
             # one move later the nodes allow as many as before: what is spent is not taken from it
             self.assertEqual(net.moves_left(), 22)
 
-    def test_the_charge_is_less(self):
+    def test_the_charge_is_less(self) -> None:
         with linked("hh", graphs.path(3)) as net:
             self.assertEqual((net.status().charge, net.moves_left()), (4, 4))
         with linked("hh", graphs.path(2)) as net:
             self.assertEqual((net.status().charge, net.moves_left()), (2, 2))
 
-    def test_the_other_rules_have_the_charge(self):
+    def test_the_other_rules_have_the_charge(self) -> None:
         cycle = [(node, node % 4 + 1) for node in range(1, 5)]
         with linked("manne", graphs.complete(4), cycle) as net:
             self.assertEqual((net.status().charge, net.moves_left()), (2 * 3 + 4 + 4, 14))
 
-    def test_of_few_nodes(self):
+    def test_of_few_nodes(self) -> None:
         for nodes in (0, 1):
             with self.subTest(nodes=nodes), Network("hh", nodes) as net:
                 self.assertEqual(net.moves_left(), 0)
 
-    def test_of_those_that_are_present(self):
+    def test_of_those_that_are_present(self) -> None:
         with Network("hh", 6, present=2) as net:
             net.link(1, 2)
             self.assertEqual(net.moves_left(), 2)
 
-    def test_of_a_network_that_is_closed(self):
+    def test_of_a_network_that_is_closed(self) -> None:
         net = Network("hh", 2)
         net.close()
         self.assertRaisesRegex(ValueError, "closed", net.moves_left)
 
-    def test_asking_the_library_is_no_entry(self):
+    def test_asking_the_library_is_no_entry(self) -> None:
         for engine, entries in (("library", 0), ("program", 1)):
             with self.subTest(engine), Network("hh", 2, engine=engine) as net:
                 net.moves_left()
@@ -60,7 +63,7 @@ class MovesLeft(Timed):
 
 
 class Bounds(Timed):
-    def test_epochs_in_a_dense_network(self):
+    def test_epochs_in_a_dense_network(self) -> None:
         graph = graphs.complete(6)
         with linked("hh", graph) as net:
             net.settle(daemons.Seeded(3))
@@ -70,7 +73,7 @@ class Bounds(Timed):
         # with five edges 2m + n is less
         self.assertEqual([epoch.bound for epoch in epochs(said)][:9], [6, 8, 10, 12, 14, 16, 18, 20, 22])
 
-    def test_the_epoch_that_a_base_cuts_has_the_charge_s_bound(self):
+    def test_the_epoch_that_a_base_cuts_has_the_charge_s_bound(self) -> None:
         with linked("hh", graphs.complete(4)) as net:
             net.step([1])
             net.checkpoint()
@@ -81,7 +84,7 @@ class Bounds(Timed):
         self.assertEqual([(it.start, it.bound) for it in epochs(cut)], [(None, 2 * 6 + 4)])
         self.assertEqual(epochs(said)[-1].bound, 10)
 
-    def test_the_longest_schedules_of_complete_graphs_reach_it(self):
+    def test_the_longest_schedules_of_complete_graphs_reach_it(self) -> None:
         for n in (2, 3, 4, 5):
             with self.subTest(n=n):
                 found = longest(graphs.complete(n), "hh")
@@ -89,7 +92,7 @@ class Bounds(Timed):
 
 
 class Drives(Timed):
-    def test_as_many_turns_as_the_charge_end_silent(self):
+    def test_as_many_turns_as_the_charge_end_silent(self) -> None:
         for rules in ("hh", "manne"):
             for seed in range(6):
                 with self.subTest(rules=rules, seed=seed), linked(rules, graphs.gnp(8, 0.5, seed)) as net:

@@ -119,8 +119,9 @@ class Rows(Timed):
                     self.assertEqual(said.encode(), case.verdict)
 
 
-def by_nodes(text, table):
-    """The program's table of epochs as the client tells it: under `hh` no bound is above n²/2 + n - 2, but where a base cuts the epoch."""
+def by_nodes(text: str, table: str) -> str:
+    """The program's table of epochs as the client tells it: under `hh` no bound is above n²/2 + n - 2, but where a base
+    cuts the epoch."""
     head, *rows = table.splitlines()
     if not table.startswith("start,") or text.split(" ")[1] != "hh":
         return table

@@ -251,7 +251,7 @@ class Transcripts(Timed):
                     judge(text)
                 self.assertEqual((caught.exception.line, caught.exception.why), (line, "bad base"))
 
-    def test_epochs(self):
+    def test_epochs(self) -> None:
         self.assertEqual(epochs(PAIR), [Epoch(0, 0, 0, 2, 2, None), Epoch(1, 2, 1, 2, 2, 2)])
         self.assertEqual(epochs(AT_BASE), [Epoch(None, 2, 1, 2, 4, None)])
         self.assertEqual(

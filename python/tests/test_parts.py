@@ -10,10 +10,10 @@ import threading
 import unittest
 import unittest.mock
 
-from rudekpi import Damaged, Lost, Network, audit, parts
+from rudekpi import Damaged, Lost, Network, Summary, audit, parts
 from rudekpi.audits import Slice
+from rudekpi.library import found_library
 from rudekpi.parts import Held, LostPart, audit_parts
-from rudekpi.replies import Summary
 from support import Losing, Timed
 
 
@@ -146,9 +146,10 @@ class Parts(Timed):
 
 
 class Joining(Timed):
-    """What verdicts on parts say of the whole: by the library's call where there is one, and by the same sums where there is none."""
+    """What verdicts on parts say of the whole: by the library's call if there is one, and by the same sums if there is
+    none."""
 
-    def tried(self):
+    def tried(self) -> None:
         fine = Summary(7, 3, 40)
         self.assertEqual(parts.joined(None, fine, 0), fine)
         self.assertEqual(parts.joined(fine, Summary(5, 4, 2), 0), Summary(12, 6, 42))
@@ -165,18 +166,18 @@ class Joining(Timed):
                 parts.joined(None, Damaged(line, why), 0)
             self.assertEqual((caught.exception.line, caught.exception.why), (line, why))
 
-    def test_by_sums(self):
+    def test_by_sums(self) -> None:
         with unittest.mock.patch.object(parts, "found_library", return_value=None):
             self.tried()
             text = transcript(8)
             self.assertEqual(audit_parts(text, size=100), audit(text))
 
-    def test_by_the_library(self):
-        if not parts.found_library():
+    def test_by_the_library(self) -> None:
+        if not found_library():
             self.skipTest("no library")
         self.tried()
 
-    def test_what_the_library_says_is_told(self):
+    def test_what_the_library_says_is_told(self) -> None:
         text = transcript(8)
         count = len(list(parts.parts_of(Held(text.encode()), 100, parts.PARTS_LEFT * len(os.sched_getaffinity(0)))))
         library = unittest.mock.Mock()

@@ -1,17 +1,21 @@
 """Who is at rest, and whom edits and faults would reach: compared with what edges and registers alone say."""
 
+from __future__ import annotations
+
 import random
+from typing import Any, Optional
 
 from rudekpi import Network, NoSuchCommand, Refused
+from rudekpi.replies import Name
 from support import Timed
 
 
-def lone(net, node):
+def lone(net: Network, node: Name) -> set[Name]:
     """The neighbours of a node that are in no pair."""
     return {other for other in net.neighbours(node) if net.partner(other) is None}
 
 
-def rests(net, node):
+def rests(net: Network, node: Name) -> bool:
     """Whether a node that is present is at rest, by the definition of docs/BOUNDS.md."""
     held, partner = net.registers(node), net.partner(node)
     if net.rules == "manne" and held.flag != (partner is not None):
@@ -19,34 +23,35 @@ def rests(net, node):
     return partner is not None or (held.pointer is None and not lone(net, node))
 
 
-def of_point(net, node, target):
+def of_point(net: Network, node: Name, target: Optional[Name]) -> set[Name]:
+    """Whom a pointer that is written reaches."""
     partner, pointer = net.partner(node), net.registers(node).pointer
     if partner is None:
         return set() if target in (None, pointer) else {node}
     return set() if target == partner else {node, partner} | lone(net, node) | lone(net, partner)
 
 
-def wanted(net, word, node, *rest):
+def wanted(net: Network, word: str, node: Name, other: Optional[Name] = None) -> set[Name]:
     """Whom an edit or a fault of nodes that are present reaches, by the table of docs/BOUNDS.md."""
     near, partner = net.neighbours(node), net.partner(node)
-    if word == "link":
-        return {node, *rest} if rest[0] not in (node, *near) and not partner and not net.partner(rest[0]) else set()
-    if word == "unlink":
-        return {node, partner} | lone(net, node) | lone(net, partner) if partner == rest[0] else set()
+    if word == "link" and other is not None:
+        return {node, other} if other not in (node, *near) and not partner and not net.partner(other) else set()
+    if word == "unlink" and partner is not None:
+        return {node, partner} | lone(net, node) | lone(net, partner) if partner == other else set()
     if word == "leave":
         return {partner} | lone(net, partner) if partner else set()
     if word == "flag":
-        return {node} if net.rules == "manne" and rest[0] != (partner is not None) else set()
-    return of_point(net, node, rest[0]) if rest[0] is None or rest[0] in near else set()
+        return {node} if net.rules == "manne" and other != (partner is not None) else set()
+    return of_point(net, node, other) if word == "point" and (other is None or other in near) else set()
 
 
 class ReachTold(Timed):
     """Worked rows, found by hand, in the network of tests/c/reach.c."""
 
-    engines = ("library",)
+    engines: tuple[str, ...] = ("library",)
     # ann and bob are a pair; cleo points at ann and gus at eve, who do not answer; hal is not there
     names = ("ann", "bob", "cleo", "dan", "eve", "fay", "gus", "hal")
-    rows = (
+    rows: tuple[tuple[tuple[Any, ...], str], ...] = (
         (("link", "cleo", "dan"), "cleo dan"),
         (("link", "cleo", "bob"), ""),
         (("unlink", "ann", "bob"), "ann bob cleo dan eve fay"),
@@ -63,13 +68,13 @@ class ReachTold(Timed):
         (("link", "ann", "bob"), ""),
         (("point", "dan", "eve"), ""),
     )
-    flags = (
+    flags: tuple[tuple[tuple[Any, ...], str], ...] = (
         (("flag", "ann", True), ""),
         (("flag", "ann", False), "ann"),
         (("flag", "dan", 1), "dan"),
     )
 
-    def filled(self, rules, engine=None):
+    def filled(self, rules: str, engine: Optional[str] = None) -> Network:
         net = Network(rules, self.names, present=7, engine=engine)
         for edge in ("ann bob", "ann cleo", "ann dan", "bob eve", "bob fay", "eve gus"):
             net.link(*edge.split())
@@ -77,7 +82,7 @@ class ReachTold(Timed):
             net.point(*pointer.split())
         return net
 
-    def test_by_the_library(self):
+    def test_by_the_library(self) -> None:
         for rules, restless in (
             ("hh", "cleo eve gus"),
             ("manne", "ann bob cleo eve gus"),
@@ -107,7 +112,7 @@ class ReachTold(Timed):
             self.assertRaisesRegex(ValueError, "closed", net.reach, "leave", "ann")
             self.assertRaisesRegex(ValueError, "closed", net.is_at_rest, "ann")
 
-    def test_by_the_program(self):
+    def test_by_the_program(self) -> None:
         with self.filled("hh", "program") as net:
             self.assertRaisesRegex(
                 NoSuchCommand,
@@ -122,7 +127,7 @@ class ReachTold(Timed):
             self.assertRaisesRegex(ValueError, "has a reach, and not 'show'", net.reach, "show", "ann")
             self.assertEqual(net.link("cleo", "dan").entry, 11)
 
-    def test_many_in_reach(self):
+    def test_many_in_reach(self) -> None:
         """More than the first question has room for: a pair with 200 other neighbours."""
         with Network("manne", 202, engine="library") as net:
             for leaf in range(3, 203):
@@ -137,9 +142,9 @@ class ReachTold(Timed):
 class ReachDrawn(Timed):
     """Random networks, in which it is compared with what is found here, and movers with who was restless or reached."""
 
-    engines = ("library",)
+    engines: tuple[str, ...] = ("library",)
 
-    def disturb(self, net, chance):
+    def disturb(self, net: Network, chance: random.Random) -> set[Name]:
         """Makes an edit or a fault, after its reach is compared. Returns who was restless or in reach."""
         word, node, other = chance.choice(["link", "link", "unlink", "point", "flag"]), *chance.sample(net.present, 2)
         rest = {
@@ -156,7 +161,7 @@ class ReachDrawn(Timed):
         self.assertLessEqual(set(net.restless()), may_move)
         return may_move
 
-    def play(self, rules, seed):
+    def play(self, rules: str, seed: int) -> None:
         chance = random.Random(seed)
         with Network(rules, 9, engine="library") as net:
             for _ in range(60):
@@ -170,7 +175,7 @@ class ReachDrawn(Timed):
                 leaver = chance.choice(net.present)
                 self.assertEqual(net.reach("leave", leaver), wanted(net, "leave", leaver))
 
-    def test_drawn(self):
+    def test_drawn(self) -> None:
         for rules in ("hh", "manne"):
             for seed in range(12):
                 with self.subTest(rules, seed=seed):
