@@ -10,7 +10,7 @@ import threading
 import unittest
 import unittest.mock
 
-from rudekpi import Damaged, Lost, Network, Summary, audit, parts
+from rudekpi import Damaged, Network, Summary, audit, parts
 from rudekpi.audits import Slice
 from rudekpi.library import found_library
 from rudekpi.parts import Held, LostPart, audit_parts
@@ -219,7 +219,7 @@ class Deaths(Timed):
         for count, at in ((3, 0), (3, 1), (64, 40)):
             text, found = self.in_parts(count)
             # at first all of them are handed out, in their order
-            with self.subTest(count=count, at=at), self.assertRaises(Lost) as caught:
+            with self.subTest(count=count, at=at), self.assertRaises(LostPart) as caught:
                 audit_parts(text, Losing((at + 1, count + 1)), size=1)
             lost, line = caught.exception, text[: found[at][0]].count(b"\n") + 1
             self.assertEqual((lost.start, lost.end, lost.line), (*found[at], line))

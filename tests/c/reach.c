@@ -17,8 +17,12 @@ static bool is_refused(void) {
     return was_refused = true;
 }
 
-void *__wrap_malloc(size_t size) { return is_refused() ? NULL : __real_malloc(size); }
-void *__wrap_realloc(void *old, size_t size) { return is_refused() ? NULL : __real_realloc(old, size); }
+void *__wrap_malloc(size_t size) {
+    return is_refused() ? NULL : __real_malloc(size);
+}
+void *__wrap_realloc(void *old, size_t size) {
+    return is_refused() ? NULL : __real_realloc(old, size);
+}
 
 enum kind { LINK, UNLINK, JOIN, LEAVE, POINT, FLAG };
 
@@ -30,34 +34,44 @@ struct row {
 };
 
 /* 1 and 2 are a pair; 3 points at 1 and 7 at 5, which do not answer; 4 and 6 are linked with 1 and 2; 8 is not present. */
-static const uint32_t edges[][2] = {{1, 2}, {1, 3}, {1, 4}, {2, 5}, {2, 6}, {5, 7}}, pointers[][2] = {{1, 2}, {2, 1}, {3, 1}, {7, 5}};
+static const uint32_t edges[][2] = {{1, 2}, {1, 3}, {1, 4}, {2, 5}, {2, 6}, {5, 7}},
+                      pointers[][2] = {{1, 2}, {2, 1}, {3, 1}, {7, 5}};
 
 /* who is at rest, from 1 on; the flags of the pair are not set */
 static const char *rests[2] = {"11010101", "00010101"};
 
 static const struct row rows[] = {
-    {LINK, 3, 4, {"34", "34"}},             /* neither is in a pair */
+    {LINK, 3, 4, {"34", "34"}}, /* neither is in a pair */
     {LINK, 5, 4, {"45", "45"}},
-    {LINK, 3, 2, {"", ""}},                 /* one is */
-    {UNLINK, 1, 2, {"123456", "123456"}},   /* a pair, and all their neighbours but 7 are in none */
+    {LINK, 3, 2, {"", ""}},               /* one is */
+    {UNLINK, 1, 2, {"123456", "123456"}}, /* a pair, and all their neighbours but 7 are in none */
     {UNLINK, 1, 3, {"", ""}},
-    {POINT, 1, 3, {"123456", "123456"}},    /* in a pair, and points elsewhere */
+    {POINT, 1, 3, {"123456", "123456"}}, /* in a pair, and points elsewhere */
     {POINT, 2, 0, {"123456", "123456"}},
-    {POINT, 1, 2, {"", ""}},                /* where it points already */
-    {POINT, 3, 0, {"", ""}},                /* in no pair, and points nowhere then */
+    {POINT, 1, 2, {"", ""}}, /* where it points already */
+    {POINT, 3, 0, {"", ""}}, /* in no pair, and points nowhere then */
     {POINT, 3, 1, {"", ""}},
-    {POINT, 5, 2, {"5", "5"}},              /* in no pair, and points elsewhere */
-    {FLAG, 1, 1, {"", ""}},                 /* right */
-    {FLAG, 1, 0, {"", "1"}},                /* wrong */
+    {POINT, 5, 2, {"5", "5"}}, /* in no pair, and points elsewhere */
+    {FLAG, 1, 1, {"", ""}},    /* right */
+    {FLAG, 1, 0, {"", "1"}},   /* wrong */
     {FLAG, 4, 1, {"", "4"}},
     {FLAG, 4, 0, {"", ""}},
     {JOIN, 8, 0, {"", ""}},
-    {LEAVE, 1, 0, {"256", "256"}},          /* its partner, with two neighbours that are in no pair */
+    {LEAVE, 1, 0, {"256", "256"}}, /* its partner, with two neighbours that are in no pair */
     {LEAVE, 2, 0, {"134", "134"}},
     {LEAVE, 3, 0, {"", ""}},
     /* refused */
-    {LINK, 3, 3, {"", ""}}, {LINK, 1, 2, {"", ""}}, {LINK, 3, 8, {"", ""}}, {LINK, 3, 65535, {"", ""}}, {UNLINK, 3, 4, {"", ""}},
-    {POINT, 4, 5, {"", ""}}, {POINT, 1, 65535, {"", ""}}, {FLAG, 8, 1, {"", ""}}, {JOIN, 1, 0, {"", ""}}, {JOIN, 9, 0, {"", ""}}, {LEAVE, 8, 0, {"", ""}},
+    {LINK, 3, 3, {"", ""}},
+    {LINK, 1, 2, {"", ""}},
+    {LINK, 3, 8, {"", ""}},
+    {LINK, 3, 65535, {"", ""}},
+    {UNLINK, 3, 4, {"", ""}},
+    {POINT, 4, 5, {"", ""}},
+    {POINT, 1, 65535, {"", ""}},
+    {FLAG, 8, 1, {"", ""}},
+    {JOIN, 1, 0, {"", ""}},
+    {JOIN, 9, 0, {"", ""}},
+    {LEAVE, 8, 0, {"", ""}},
 };
 
 static const uint32_t no_names[] = {0, 65536, UINT32_MAX};
@@ -69,14 +83,21 @@ static void fail(const char *what, size_t at) {
     exit(1);
 }
 
-static uint32_t asked(struct rudekpi_slot *slot, enum kind kind, uint32_t a, uint32_t b, uint32_t *out, size_t room, size_t *count) {
+static uint32_t asked(struct rudekpi_slot *slot, enum kind kind, uint32_t a, uint32_t b, uint32_t *out, size_t room,
+                      size_t *count) {
     switch (kind) {
-    case LINK: return rudekpi_reach_of_link(slot, a, b, out, room, count);
-    case UNLINK: return rudekpi_reach_of_unlink(slot, a, b, out, room, count);
-    case JOIN: return rudekpi_reach_of_join(slot, a, out, room, count);
-    case LEAVE: return rudekpi_reach_of_leave(slot, a, out, room, count);
-    case POINT: return rudekpi_reach_of_point(slot, a, b, out, room, count);
-    default: return rudekpi_reach_of_flag(slot, a, b, out, room, count);
+    case LINK:
+        return rudekpi_reach_of_link(slot, a, b, out, room, count);
+    case UNLINK:
+        return rudekpi_reach_of_unlink(slot, a, b, out, room, count);
+    case JOIN:
+        return rudekpi_reach_of_join(slot, a, out, room, count);
+    case LEAVE:
+        return rudekpi_reach_of_leave(slot, a, out, room, count);
+    case POINT:
+        return rudekpi_reach_of_point(slot, a, b, out, room, count);
+    default:
+        return rudekpi_reach_of_flag(slot, a, b, out, room, count);
     }
 }
 
@@ -98,7 +119,8 @@ static void ask_row(struct rudekpi_slot *slot, uint32_t rules, size_t at) {
         uint32_t out[ROOM];
         size_t count = 99;
         blank(out);
-        if (asked(slot, row->kind, row->a, row->b, out, room, &count) != RUDEKPI_DONE || count != wanted) fail("how many are in reach", at);
+        if (asked(slot, row->kind, row->a, row->b, out, room, &count) != RUDEKPI_DONE || count != wanted)
+            fail("how many are in reach", at);
         if (room < wanted) {
             expect_untouched(out, 0, at);
             continue;
@@ -136,13 +158,15 @@ static void give_bad_names(struct rudekpi_slot *slot) {
     for (size_t at = 0; at < 3; at++) {
         uint32_t name = no_names[at];
         bool is_at_rest = true;
-        if (rudekpi_is_at_rest(slot, name, &is_at_rest) != RUDEKPI_BAD_ARGUMENT || is_at_rest) fail("a bad name at rest", at);
+        if (rudekpi_is_at_rest(slot, name, &is_at_rest) != RUDEKPI_BAD_ARGUMENT || is_at_rest)
+            fail("a bad name at rest", at);
         for (enum kind kind = LINK; kind <= FLAG; kind++) {
             size_t count = 9;
             if (asked(slot, kind, name, 1, out, ROOM, &count) != RUDEKPI_BAD_ARGUMENT || count) fail("a bad name", at);
             bool has_other = kind == LINK || kind == UNLINK || (kind == POINT && name);
             count = 9;
-            if (has_other && (asked(slot, kind, 1, name, out, ROOM, &count) != RUDEKPI_BAD_ARGUMENT || count)) fail("a bad other name", at);
+            if (has_other && (asked(slot, kind, 1, name, out, ROOM, &count) != RUDEKPI_BAD_ARGUMENT || count))
+                fail("a bad other name", at);
         }
     }
     expect_untouched(out, 0, 0);
@@ -165,14 +189,17 @@ static void ask_each(uint32_t rules) {
     }
     for (uint32_t node = 1; node <= 8; node++) {
         bool is_at_rest = rests[rules][node - 1] == '0';
-        if (rudekpi_is_at_rest(&slot, node, &is_at_rest) != RUDEKPI_DONE || is_at_rest != (rests[rules][node - 1] == '1')) fail("who is at rest", node);
+        if (rudekpi_is_at_rest(&slot, node, &is_at_rest) != RUDEKPI_DONE ||
+            is_at_rest != (rests[rules][node - 1] == '1'))
+            fail("who is at rest", node);
     }
     bool beyond = false;
     if (rudekpi_is_at_rest(&slot, 65535, &beyond) != RUDEKPI_DONE || !beyond) fail("a name that nobody has", rules);
     give_bad_names(&slot);
     /* nothing was done: no entry came */
     if (rudekpi_session_length(&slot) != written) fail("a question that leaves a trace", rules);
-    if (rudekpi_show(&slot, 1, &told) != RUDEKPI_DONE || told.entry != 11 || told.target != 2) fail("a network that was changed", rules);
+    if (rudekpi_show(&slot, 1, &told) != RUDEKPI_DONE || told.entry != 11 || told.target != 2)
+        fail("a network that was changed", rules);
     rudekpi_session_free(&slot);
 }
 
@@ -184,7 +211,8 @@ int main(void) {
         uint32_t out[ROOM];
         size_t count = 9;
         blank(out);
-        if (asked(&none, rows[at].kind, rows[at].a, rows[at].b, out, ROOM, &count) != RUDEKPI_NO_SESSION || count) fail("a slot of none", at);
+        if (asked(&none, rows[at].kind, rows[at].a, rows[at].b, out, ROOM, &count) != RUDEKPI_NO_SESSION || count)
+            fail("a slot of none", at);
         expect_untouched(out, 0, at);
     }
     bool is_at_rest = true;
