@@ -31,16 +31,10 @@ def run(*words):
 
 class Page(Timed):
     def test_its_commands_are_commands(self):
-        lines = [
-            line.split(" -m rudekpi ")[1]
-            for line in PAGE.splitlines()
-            if line.startswith("python3 -m rudekpi ")
-        ]
+        lines = [line.split(" -m rudekpi ")[1] for line in PAGE.splitlines() if line.startswith("python3 -m rudekpi ")]
         self.assertEqual(len(lines), 2)
         for line in lines:
-            given = commands.parser_of().parse_args(
-                line.replace("edges.txt", "ring:5").split(" ")
-            )
+            given = commands.parser_of().parse_args(line.replace("edges.txt", "ring:5").split(" "))
             self.assertTrue(callable(given.run))
 
     @unittest.skipUnless(matplotlib, "no matplotlib")
@@ -68,25 +62,17 @@ class Page(Timed):
         for n in (1, 2, 3, 4):
             for graph in connected_graphs(n):
                 hh, manne = longest(graph, "hh"), max(
-                    (longest(it, "manne") for it in renamed(graph)),
-                    key=lambda it: it.moves,
+                    (longest(it, "manne") for it in renamed(graph)), key=lambda it: it.moves
                 )
                 found.setdefault((n, len(graph.edges)), []).append((hh, manne))
         for row in rows:
             n, m, count = map(int, row[:3])
-            self.assertEqual(
-                (row[4], row[7]), (str(2 * m + n), str(2 * m + 3 * n) if n < 6 else "")
-            )
+            self.assertEqual((row[4], row[7]), (str(2 * m + n), str(2 * m + 3 * n) if n < 6 else ""))
             self.assertEqual(row[5], str(max(0, n * n // 2 + n - 2)))
             if n < 5:
                 many = found[n, m]
                 spans = [sorted(it.moves for it in kind) for kind in zip(*many)]
-                told = [
-                    str(moves[0])
-                    if moves[0] == moves[-1]
-                    else f"{moves[0]} to {moves[-1]}"
-                    for moves in spans
-                ]
+                told = [str(moves[0]) if moves[0] == moves[-1] else f"{moves[0]} to {moves[-1]}" for moves in spans]
                 self.assertEqual((count, row[3], row[6]), (len(many), *told))
 
 
@@ -109,25 +95,12 @@ class Scripts(Timed):
     @unittest.skipUnless(matplotlib, "no matplotlib")
     def test_the_picture(self):
         folder = self.folder()
-        paths = [
-            os.path.join(folder, name) for name in ("one.svg", "two.svg", "rows.csv")
-        ]
+        paths = [os.path.join(folder, name) for name in ("one.svg", "two.svg", "rows.csv")]
         for path in paths[:2]:
-            done = run(
-                os.path.join(TOP, "bench", "moves"),
-                "--sizes",
-                "6,10",
-                "--seeds",
-                "2",
-                "--csv",
-                paths[2],
-                path,
-            )
+            done = run(os.path.join(TOP, "bench", "moves"), "--sizes", "6,10", "--seeds", "2", "--csv", paths[2], path)
             self.assertEqual((done.returncode, done.stderr), (0, ""))
             self.assertIn("<svg", pathlib.Path(path).read_text())
-        self.assertEqual(
-            len(pathlib.Path(paths[2]).read_text().splitlines()), 1 + 2 * 2 * 2 * 2
-        )
+        self.assertEqual(len(pathlib.Path(paths[2]).read_text().splitlines()), 1 + 2 * 2 * 2 * 2)
 
 
 if __name__ == "__main__":
