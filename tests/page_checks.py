@@ -1,4 +1,6 @@
 """What the pages say of the repository, beside examples and links: their form, what PROMISES.md names, and where definitions stand."""
+
+from __future__ import annotations
 import itertools
 import re
 

@@ -1,6 +1,8 @@
 """Sweeps and audits on a cluster: a scheduler of Dask and two workers as processes of this machine, one of them killed in the
 middle. Skipped where distributed is not there."""
 
+from __future__ import annotations
+
 import importlib.util
 import logging
 import os
@@ -10,10 +12,11 @@ import subprocess
 import sys
 import time
 import unittest
+from typing import Iterable
 
 from rudekpi import Damaged, Network, audit, graphs
 from rudekpi.parts import audit_parts
-from rudekpi.sweeps import sweep
+from rudekpi.sweeps import Row, sweep
 from support import TOP, Timed
 
 # nobody waits for a worker that is dead for as long as for one far away; set before distributed reads it, here and in the processes
@@ -25,7 +28,7 @@ HAS_DISTRIBUTED = importlib.util.find_spec("distributed") is not None
 class Cluster(Timed):
     seconds = 120
 
-    def start(self, module, *words):
+    def start(self, module: str, *words: str) -> subprocess.Popen[bytes]:
         folder = os.path.join(TOP, "python")
         run = subprocess.Popen(
             [sys.executable, "-m", module, *words],
@@ -38,7 +41,7 @@ class Cluster(Timed):
         self.addCleanup(run.kill)
         return run
 
-    def setUp(self):
+    def setUp(self) -> None:
         super().setUp()
         import distributed
 
@@ -65,10 +68,10 @@ class Cluster(Timed):
         self.addCleanup(self.client.close)
         self.client.wait_for_workers(2, timeout=60)
 
-    def test_the_same_rows_where_a_worker_dies(self):
+    def test_the_same_rows_where_a_worker_dies(self) -> None:
         words = ([graphs.grid(6, 6)], ["hh", "manne"], ["seeded", "least"], range(20), [0, 30])
 
-        def named(rows):
+        def named(rows: Iterable[Row]) -> list[str]:
             return sorted(str(vars(row) | {"seconds": 0}) for row in rows)
 
         wanted, made = named(sweep(*words)), []
@@ -80,7 +83,7 @@ class Cluster(Timed):
         self.assertIsNotNone(self.workers[0].wait(20))
         self.assertIsNone(self.workers[1].poll())
 
-    def test_the_same_verdict_where_a_worker_dies(self):
+    def test_the_same_verdict_where_a_worker_dies(self) -> None:
         with Network("hh", 30) as net:
             with net.batch() as batch:
                 for node in range(1, 30):
@@ -99,7 +102,7 @@ class Cluster(Timed):
         os.kill(self.workers[1].pid, signal.SIGKILL)
         self.assertEqual(audit_parts(text, executor, size=500), audit(text))
 
-    def test_a_file_that_has_changed_is_judged_again(self):
+    def test_a_file_that_has_changed_is_judged_again(self) -> None:
         # distributed gives what is called with the same words the answer that it has, while somebody holds that
         path, executor = pathlib.Path(self.folder(), "transcript"), self.client.get_executor()
         path.write_text("matching hh 2\n1 link 1 2 = no\n")
@@ -111,7 +114,7 @@ class Cluster(Timed):
         self.assertEqual(audit_parts(path, executor, shared=True).entries, 1)
         self.assertEqual(held.line, 2)
 
-    def test_by_the_command_line(self):
+    def test_by_the_command_line(self) -> None:
         import json
 
         with open(self.file) as file:
@@ -124,7 +127,7 @@ class Cluster(Timed):
 
 
 class WithoutDistributed(Timed):
-    def test_it_is_told(self):
+    def test_it_is_told(self) -> None:
         hides = "import sys; sys.modules['distributed'] = None; import rudekpi.__main__ as it; sys.exit(it.main(['sweep', '--graph', 'ring:5', '--dask', 'tcp://127.0.0.1:1']))"
         done = subprocess.run(
             [sys.executable, "-c", hides],

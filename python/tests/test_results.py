@@ -1,6 +1,8 @@
 """What a network answers beside its commands: results that leave a process, questions that cost no entry, drawings, pages, what is
 kept, and storms."""
 
+from __future__ import annotations
+
 import copy
 import dataclasses
 import multiprocessing
@@ -31,7 +33,7 @@ from support import Timed, told
 PAIR = "matching hh 2\n1 link 1 2 = ok\n2 step 1 = 1:seduce>2\n3 step 2 = 2:marry>1\n4 matching = 1-2\n"
 
 
-def every_result():
+def every_result() -> list[object]:
     """A result of every kind, errors among them."""
     with Network("manne", ["ann", ("bob", 2), 3.5]) as net:
         made = [
@@ -60,7 +62,7 @@ def every_result():
 
 
 class Results(Timed):
-    def test_each_can_be_pickled_and_copied(self):
+    def test_each_can_be_pickled_and_copied(self) -> None:
         made = every_result()
         self.assertGreater(len({type(it) for it in made}), 13)
         for result in made:
@@ -71,11 +73,11 @@ class Results(Timed):
                         self.assertEqual(again, result)
                         self.assertEqual(type(dataclasses.asdict(result)), dict)
 
-    def test_they_leave_a_process_pool(self):
+    def test_they_leave_a_process_pool(self) -> None:
         with multiprocessing.get_context("spawn").Pool(1) as pool:
             self.assertEqual(list(map(str, pool.apply(every_result))), list(map(str, every_result())))
 
-    def test_they_do_not_change(self):
+    def test_they_do_not_change(self) -> None:
         with Network("hh", 2) as net:
             net.link(1, 2)
             rules = net.enabled().rules
@@ -89,7 +91,7 @@ class Results(Timed):
             self.assertRaises(TypeError, change)
         self.assertEqual(rules, {1: "seduce", 2: "seduce"})
 
-    def test_of_bytes(self):
+    def test_of_bytes(self) -> None:
         for text in (PAIR.encode(), bytearray(PAIR.encode())):
             self.assertEqual((audit(text), epochs(text)), (audit(PAIR), epochs(PAIR)))
             with replay(text) as net:
@@ -100,7 +102,7 @@ class Results(Timed):
 
 
 class WrongWords(Timed):
-    def test_what_is_no_transcript(self):
+    def test_what_is_no_transcript(self) -> None:
         for wrong in (3, None, [109], pathlib.Path(os.devnull)):
             with self.subTest(wrong):
                 for judge in (audit, epochs, replay):
@@ -112,26 +114,26 @@ class WrongWords(Timed):
         for kind in (bytes, bytearray, memoryview):
             self.assertEqual(audit(kind(b"matching hh 2\n")), audit("matching hh 2\n"))
 
-    def test_what_is_no_daemon(self):
+    def test_what_is_no_daemon(self) -> None:
         with Network("hh", 2) as net:
             for wrong in (None, 3, daemons.ByName, daemons.Seeded):
                 with self.subTest(wrong):
                     self.assertRaisesRegex(TypeError, "is no daemon", net.settle, wrong)
             self.assertEqual(net.status().entry, 1, "nothing was asked")
 
-    def test_a_network_is_not_copied(self):
+    def test_a_network_is_not_copied(self) -> None:
         with Network("hh", 2) as net, Audit() as judge:
             for take in (pickle.dumps, copy.copy, copy.deepcopy):
                 self.assertRaisesRegex(TypeError, "belongs to one process", take, net)
                 self.assertRaisesRegex(TypeError, "belongs to one process", take, judge)
             self.assertEqual(net.status().nodes, 2)
 
-    def test_a_storm_of_one_text(self):
+    def test_a_storm_of_one_text(self) -> None:
         self.assertRaisesRegex(TypeError, "a list of scripts", storm, "link 1 2\n", nodes=2)
 
 
 class Questions(Timed):
-    def test_of_where_a_network_stands(self):
+    def test_of_where_a_network_stands(self) -> None:
         with Network("manne", ["ann", "bob", "cleo", "dan"], present=3) as net:
             net.link("cleo", "bob")
             net.link("ann", "bob")
@@ -155,7 +157,7 @@ class Questions(Timed):
                 self.assertRaisesRegex(ValueError, "no node has the name", ask, "eve")
         self.assertEqual((net.present, net.edges), (["ann", "cleo", "dan"], []), "a network that is closed answers too")
 
-    def test_they_agree_with_the_base_and_the_matching(self):
+    def test_they_agree_with_the_base_and_the_matching(self) -> None:
         for seed in range(6):
             drawn = random.Random(seed)
             with self.subTest(seed=seed), Network(drawn.choice(["hh", "manne"]), 12, present=9) as net:
@@ -176,7 +178,7 @@ class Questions(Timed):
                         {node: net.partner(node) for node in net.present if net.partner(node)}, dict(pairs.partners)
                     )
 
-    def test_a_network_tells_what_it_is(self):
+    def test_a_network_tells_what_it_is(self) -> None:
         with Network("hh", 2) as net:
             self.assertEqual(repr(net), "<Network hh, 2 nodes, 0 entries>")
             net.link(1, 2)
@@ -184,7 +186,7 @@ class Questions(Timed):
             self.assertEqual(net.audit().entries, 1)
         self.assertEqual(repr(net), "<Network hh, 2 nodes, 1 entry, closed>")
 
-    def test_drawings(self):
+    def test_drawings(self) -> None:
         with Network("manne", ["a<b", "bob", "cleo"]) as net:
             net.link("a<b", "bob")
             net.settle(list)
@@ -195,7 +197,7 @@ class Questions(Timed):
         with Network("hh", 1000) as net:
             self.assertNotIn("<svg", net._repr_html_())
 
-    def test_pictures(self):
+    def test_pictures(self) -> None:
         with Network("hh", 2) as net:
             net.link(1, 2)
             net.settle(lambda enabled: [min(enabled)])
@@ -209,7 +211,7 @@ class Questions(Timed):
                 net.picture(99)
             self.assertRaises(ValueError, net.picture, -1)
 
-    def test_a_page(self):
+    def test_a_page(self) -> None:
         path = pathlib.Path(self.folder(), "page.html")
         with Network("hh", 2) as net:
             net.link(1, 2)
@@ -219,7 +221,7 @@ class Questions(Timed):
 
 
 class Keeping(Timed):
-    def test_from_the_last_checkpoint_on(self):
+    def test_from_the_last_checkpoint_on(self) -> None:
         with Network("manne", 4, keep=False) as net:
             net.link(1, 2)
             self.assertEqual(net.transcript(), "matching manne 4\n1 link 1 2 = ok\n")
@@ -237,7 +239,7 @@ class Keeping(Timed):
             self.assertTrue(net.transcript().endswith("edge 2 3\n%d link 3 4 = ok\n" % (second.result().number + 1)))
             self.assertEqual(net.edges, [(1, 2), (2, 3), (3, 4)])
 
-    def test_as_one_that_keeps_all(self):
+    def test_as_one_that_keeps_all(self) -> None:
         for seed in range(4):
             kept = []
             for keep in (True, False):
@@ -254,7 +256,7 @@ class Keeping(Timed):
             self.assertEqual(others, same)
             self.assertEqual(part, whole[whole.rindex("matching2 ") :])
 
-    def test_memory(self):
+    def test_memory(self) -> None:
         with Network("hh", 3, keep=False) as net:
             for _ in range(30):
                 with net.batch() as batch:
@@ -268,7 +270,7 @@ class Keeping(Timed):
 
 
 class Storms(Timed):
-    def test_scripts_of_all_kinds(self):
+    def test_scripts_of_all_kinds(self) -> None:
         path = pathlib.Path(self.folder(), "script")
         path.write_text("link 3 4\n")
         said = storm(
@@ -281,7 +283,7 @@ class Storms(Timed):
             self.assertEqual(net.edges, [(1, 2), (2, 3), (3, 4)])
         self.assertTrue(storm(["join 2\n"], "hh", 3, present=1).startswith("matching hh 3 1\n"))
 
-    def test_what_is_wrong(self):
+    def test_what_is_wrong(self) -> None:
         with self.assertRaisesRegex(Ended, "status 2: ! script 2 line 1: not a command"):
             storm(["link 1 2\n", "lnik 1 2\n"], "hh", 2)
         with self.assertRaisesRegex(Ended, "status 3"):
