@@ -21,6 +21,7 @@ from rudekpi import Accepted, Base, Enabled, Fault, Matching, Moves, Network, Re
 from rudekpi.batch import Batch
 from rudekpi.direct import Direct
 from rudekpi.replies import Name
+from rudekpi.session import Session
 
 Reply = TypeVar("Reply")
 
@@ -135,6 +136,12 @@ class Losing(concurrent.futures.Executor):
         else:
             future.set_result(result)
         return future
+
+
+def session_of(net: Network) -> Session:
+    """The session of a network that a program plays."""
+    assert isinstance(net._session, Session)
+    return net._session
 
 
 def has_ended(net: Network) -> bool:

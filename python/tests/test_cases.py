@@ -10,11 +10,14 @@ import pathlib
 import re
 import types
 import unittest
-from typing import Callable, Iterable, Optional, Sequence
+from typing import TYPE_CHECKING, Callable, Iterable, Optional, Sequence
 
 from rudekpi import Damaged, Network, Turns, audit, epochs
 from rudekpi.replies import Name
 from support import TOP, Timed, play, spelled, told
+
+if TYPE_CHECKING:
+    from lib.case_files import Case
 
 
 def case_files() -> types.ModuleType:
@@ -65,6 +68,7 @@ class Rows(Timed):
         self.assertGreater(len([case for case in joins if case.status == 0]), 5)
 
     def run_of(self, case: Case) -> tuple[str, int, Optional[int], list[str], str]:
+        assert case.words is not None
         _, _, rules, _, nodes, *rest = (word.decode() for word in case.words)
         present = int(rest[1]) if rest else None
         return rules, int(nodes), present, text_of(case.blocks).splitlines(), text_of(case.out.blocks)

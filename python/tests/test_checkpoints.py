@@ -7,9 +7,12 @@ import os
 import random
 import subprocess
 import unittest
+from typing import Callable
 
 from rudekpi import Base, Damaged, Ended, Epoch, Garbled, Network, Registers, Summary, audit, epochs, replay
 from support import Timed, play, spelled
+
+JUDGES: tuple[Callable[..., object], ...] = (audit, epochs, replay)
 
 HEADER = "matching hh 2\n"
 BEFORE = "1 link 1 2 = ok\n2 step 1 = 1:seduce>2\n"
@@ -103,12 +106,12 @@ class Bases(Timed):
                 third, fourth = batch.checkpoint(), batch.checkpoint()
                 broken, last = batch.scramble(3, 2), batch.checkpoint()
             # 1 seduces, 2 marries, and both update
-            driven = driven.result()
-            self.assertEqual((sum(map(len, driven)), driven.status.spent), (4, 4))
+            turns = driven.result()
+            self.assertEqual((sum(map(len, turns)), turns.status.spent), (4, 4))
             pair = {1: Registers(2, True), 2: Registers(1, True), 3: NOWHERE, 4: NOWHERE}
             self.assertEqual(first.result(), Base(0, 0, dict.fromkeys(net.nodes, NOWHERE), ()))
-            self.assertEqual(second.result(), Base(driven.status.entry, 4, pair, ((1, 2),)))
-            self.assertEqual([third.result(), fourth.result()], [Base(driven.status.entry + 1, 4, pair, ((1, 2),))] * 2)
+            self.assertEqual(second.result(), Base(turns.status.entry, 4, pair, ((1, 2),)))
+            self.assertEqual([third.result(), fourth.result()], [Base(turns.status.entry + 1, 4, pair, ((1, 2),))] * 2)
             self.assertEqual([it.text for it in batch.refusals], ["already-linked"])
             self.assertEqual((last.result().number, last.result().spent), (broken.result().status.entry, 0))
 
@@ -248,7 +251,7 @@ class Transcripts(Timed):
             (AT_BASE.replace("spent=1", "spent=4"), 2),
             (few, 5),
         ]:
-            for judge in (audit, epochs, replay):
+            for judge in JUDGES:
                 with self.subTest(judge.__name__, text=text), self.assertRaises(Damaged) as caught:
                     judge(text)
                 self.assertEqual((caught.exception.line, caught.exception.why), (line, "bad base"))

@@ -12,7 +12,7 @@ import subprocess
 import sys
 import time
 import unittest
-from typing import Iterable
+from typing import Any, Iterable
 
 from rudekpi import Damaged, Network, audit, graphs
 from rudekpi.parts import audit_parts
@@ -64,7 +64,8 @@ class Cluster(Timed):
         last = time.monotonic() + 60
         while not os.path.exists(self.file) and time.monotonic() < last:
             time.sleep(0.05)
-        self.client = distributed.Client(scheduler_file=self.file, set_as_default=False, timeout=60)
+        client_of: Any = distributed.Client
+        self.client = client_of(scheduler_file=self.file, set_as_default=False, timeout=60)
         self.addCleanup(self.client.close)
         self.client.wait_for_workers(2, timeout=60)
 

@@ -5,7 +5,7 @@ from __future__ import annotations
 import pickle
 import random
 import unittest
-from typing import Any
+from typing import Any, Optional, Sequence
 
 from rudekpi import Enabled, Network, Settled, audit, daemons, graphs, rules
 from rudekpi.replies import Choice
@@ -92,7 +92,7 @@ class Daemons(Timed):
                     for enabled, moved in self.steps_of(daemons.ByName(greatest=True), rule_set, ring)
                 )
             )
-            moves = {}
+            moves: dict[int, int] = {}
             for place, (enabled, [node]) in enumerate(self.steps_of(daemons.ByAge(), rule_set, ring)):
                 self.assertTrue(all((moves.get(node, -1), node) <= (moves.get(other, -1), other) for other in enabled))
                 moves[node] = place
@@ -114,7 +114,8 @@ class Daemons(Timed):
                         state = follower.state()
                         before, falls = rules.charge(state), []
                         for node, rule in enabled.items():
-                            for target in rules.targets(state, node, rule) or [None]:
+                            targets: Sequence[Optional[int]] = rules.targets(state, node, rule)
+                            for target in targets or [None]:
                                 held, flags = dict(state.pointers), set(state.flags)
                                 state.move(node, rule, target)
                                 falls.append(before - rules.charge(state))
@@ -122,7 +123,8 @@ class Daemons(Timed):
                         wanted.append(choose(falls))
                         return greedy(enabled)
 
-                    wanted, charges = [], [net.status().charge]
+                    wanted: list[int] = []
+                    charges = [net.status().charge]
                     net.settle(looked)
                     # played again, the charges tell how far each move let it fall
                     with stirred(rule_set, graphs.gnp(8, 0.5, 2), 4) as again:

@@ -7,7 +7,7 @@ import re
 import subprocess
 import sys
 import unittest
-from typing import Collection
+from typing import AbstractSet, Collection
 
 from support import TOP, Timed
 
@@ -26,16 +26,18 @@ def link_of(text: str) -> frozenset[str]:
 
 
 class Examples(Timed):
-    def expect_maximal(self, pairs: Collection[frozenset[str]], links: Collection[frozenset[str]], at: str) -> None:
+    def expect_maximal(self, pairs: Collection[frozenset[str]], links: AbstractSet[frozenset[str]], at: str) -> None:
         """Pairs are links of which no two share a host, and each link shares one with a pair."""
         self.assertLessEqual(set(pairs), links, at)
         hosts = [host for pair in pairs for host in pair]
         self.assertEqual(len(hosts), len(set(hosts)), at)
         self.assertEqual([set(link) for link in links if not link & set(hosts)], [], at)
 
-    def expect_bounded(self, text: str, links: Collection[frozenset[str]], nodes: int) -> int:
+    def expect_bounded(self, text: str, links: AbstractSet[frozenset[str]], nodes: int) -> int:
         """The moves are within the charge, and that within 2m + 3n."""
-        moves, charge = map(int, re.search(r"(\d+) moves of (\d+) at most", text).groups())
+        found = re.search(r"(\d+) moves of (\d+) at most", text)
+        assert found is not None, text
+        moves, charge = map(int, found.groups())
         self.assertLessEqual(moves, charge, text)
         self.assertLessEqual(charge, 2 * len(links) + 3 * nodes, text)
         return moves
@@ -43,7 +45,7 @@ class Examples(Timed):
     def test_each_link_has_its_slot_once(self) -> None:
         lines = printed("link_schedule.py")
         across = [frozenset((row + str(column), row + str(column + 1))) for row in "abcd" for column in range(1, 5)]
-        down = [frozenset((a + str(column), b + str(column))) for a, b in ("ab", "bc", "cd") for column in range(1, 6)]
+        down = [frozenset((a + str(column), b + str(column))) for a, b in zip("abc", "bcd") for column in range(1, 6)]
         waiting = set(across + down)
         self.assertEqual(lines[0], "31 links wait")
         came, went, served, rounds, last_change = 31, 0, 0, 0, 0
@@ -77,7 +79,8 @@ class Examples(Timed):
             frozenset(("h01", "h07")),
             frozenset(("h04", "h10")),
         }
-        failed, moves = set(), 0
+        failed: set[str] = set()
+        moves = 0
         for line in lines[:-1]:
             event, told = line.split(": ", 1)
             word, _, host = event.partition(" ")
@@ -97,7 +100,9 @@ class Examples(Timed):
 
     def test_the_page_prints_what_it_says(self) -> None:
         with open(os.path.join(TOP, "docs", "PYTHON.md")) as file:
-            code, said = re.search(r"```python\n(.*?)```.*?```\n(.*?)```", file.read(), re.DOTALL).groups()
+            found = re.search(r"```python\n(.*?)```.*?```\n(.*?)```", file.read(), re.DOTALL)
+        assert found is not None
+        code, said = found.groups()
         words = [sys.executable, "-c", code]
         paths = dict(os.environ, PYTHONPATH=os.path.join(TOP, "python"))
         done = subprocess.run(words, env=paths, cwd="/", capture_output=True, text=True)

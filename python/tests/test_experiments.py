@@ -11,7 +11,7 @@ import sys
 import unittest
 
 from rudekpi import commands
-from rudekpi.schedules import connected_graphs, longest, renamed
+from rudekpi.schedules import Longest, connected_graphs, longest, renamed
 from support import TOP, Timed
 
 try:
@@ -41,7 +41,9 @@ class Page(Timed):
 
     @unittest.skipUnless(matplotlib, "no matplotlib")
     def test_its_code(self) -> None:
-        code = re.search(r"```python\n(.*?)```", PAGE, re.DOTALL)[1]
+        page = re.search(r"```python\n(.*?)```", PAGE, re.DOTALL)
+        assert page is not None
+        code = page[1]
         path = os.path.join(self.folder(), "out.svg")
         code = (
             code.replace("ring(50)", "ring(5)")
@@ -60,7 +62,7 @@ class Page(Timed):
             if re.match(r"\| [1-6] \| ", line)
         ]
         self.assertEqual(sum(int(row[2]) for row in rows), 143)
-        found = {}
+        found: dict[tuple[int, int], list[tuple[Longest, Longest]]] = {}
         for n in (1, 2, 3, 4):
             for graph in connected_graphs(n):
                 hh, manne = longest(graph, "hh"), max(

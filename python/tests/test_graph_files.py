@@ -69,7 +69,7 @@ class Read(Timed):
             self.assertEqual((graph.nodes, graph.edges), ((1, 2, 3), ((1, 2), (2, 3))))
 
     def test_edge_lists_that_are_none(self) -> None:
-        for text, why in [
+        wrong: list[tuple[Union[str, bytes], str]] = [
             ("# one\n1,2\n2,3\n", "line 2: expected names, and no ',' as in '1,2'; a file with commas is named .csv"),
             ("1;2\n", "line 1: expected names, and no ';'"),
             ("1 2\n2 2\n", "line 2: '2' is linked with itself"),
@@ -100,7 +100,8 @@ class Read(Timed):
             (b"1 2\n\xff\xfe1 2\n", "line 2: no UTF-8: byte 0xff"),
             ("a" * 1_048_577, "line 1: it has more than 1048576 bytes"),
             ("".join(f"{name}\n" for name in range(65_536)), "line 65536: a network has at most 65535 nodes"),
-        ]:
+        ]
+        for text, why in wrong:
             self.expect_refused("a.txt", text, why)
         for text, why in [
             ("1 2\n", "line 1: expected names with one ',' between them, and not '1 2'"),
@@ -111,7 +112,7 @@ class Read(Timed):
             self.expect_refused("a.csv", text, why)
 
     def test_more_edges_than_a_network_has(self) -> None:
-        self.assertEqual(graph_builder.MOST_EDGES, 1_048_576)
+        self.assertEqual(getattr(graph_builder, "MOST_EDGES"), 1_048_576)
         text = "".join(f"{a} {b}\n" for a, b in itertools.combinations(range(9), 2))
         with unittest.mock.patch.object(graph_builder, "MOST_EDGES", 35):
             self.expect_refused("a.txt", text, "line 36: a network has at most 35 edges")
@@ -184,7 +185,7 @@ class Read(Timed):
         self.assertEqual(self.read("a.graphml", arcs, undirected=True), wanted)
         arc = '<edge source="a" target="b" directed="true"/>'
         self.assertEqual(self.read("a.graphml", whole(some + arc), undirected=True), (wanted[0], (("a", "b"),)))
-        for text, why in [
+        wrong: list[tuple[Union[str, bytes], str]] = [
             (arcs, "line 3: a directed graph: --undirected"),
             (whole(some + "\n" + arc), "line 5: a directed graph: --undirected"),
             (whole(some + "\n" + edge.format("a", "a")), "line 5: 'a' is linked with itself"),
@@ -209,7 +210,8 @@ class Read(Timed):
             (b"<graphml>\xff</graphml>", "no XML: not well-formed"),
             ("<x", "no XML: unclosed token: line 1, column 0"),
             ('<!DOCTYPE a [<!ENTITY b "c">]><a/>', "line 1: expected no DOCTYPE"),
-        ]:
+        ]
+        for text, why in wrong:
             self.expect_refused("a.graphml", text, why)
 
     def test_node_link(self) -> None:
@@ -222,7 +224,7 @@ class Read(Timed):
         self.assertEqual(self.read("a.json", text(some, [("x", 1), (1, "x")], directed=True), undirected=True), wanted)
         self.assertEqual(self.read("a.json", text([{}, {}], [(0, 1)])), ((0, 1), ((0, 1),)))
         self.assertEqual(self.read("a.json", text([{"id": [0, 1]}, {"id": [0, 2]}], [])), (((0, 1), (0, 2)), ()))
-        for data, why in [
+        wrong: list[tuple[Union[str, bytes], str]] = [
             (text(some, [], directed=True), "a directed graph: --undirected"),
             (text(some, [], multigraph=True), "a multigraph"),
             (text(some, [(1, "x"), (1, "x")]), "edge 2: the edge of 1 and 'x' is there already, by edge 1"),
@@ -244,7 +246,8 @@ class Read(Timed):
             ('{"nodes": [], "nodes": [], "links": []}', "no JSON of a graph: an object has 'nodes' twice"),
             ("[" * 100_000, "no JSON of a graph: it is nested too deeply"),
             (b"\xff", "no JSON of a graph: "),
-        ]:
+        ]
+        for data, why in wrong:
             self.expect_refused("a.json", data, why)
 
     @unittest.skipUnless(networkx, "no networkx")

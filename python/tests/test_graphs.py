@@ -9,7 +9,7 @@ import resource
 import time
 import unittest
 import unittest.mock
-from typing import Iterable
+from typing import Callable, Iterable
 
 from rudekpi import generators, graphs
 from rudekpi.replies import Name
@@ -189,13 +189,14 @@ class Made(Timed):
         ):
             with self.subTest(words), self.assertRaises(ValueError):
                 graphs.graph_of(words)
-        for make, numbers in (
+        makes: list[tuple[Callable[..., Graph], list[int]]] = [
             (graphs.path, [-1]),
             (graphs.star, [-1]),
             (graphs.complete, [-2]),
             (graphs.grid, [-2, -3]),
             (graphs.unit_disk, [-1, 1]),
-        ):
+        ]
+        for make, numbers in makes:
             with self.subTest(make=make.__name__):
                 self.assertRaisesRegex(ValueError, "below 0", make, *numbers)
         for nodes, edges in [((1, 2), ((1, 1),)), ((1, 2), ((1, 3),)), ((1, 2), ((1, 2), (2, 1))), ((1, 1), ())]:

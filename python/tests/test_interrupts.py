@@ -19,7 +19,7 @@ from typing import Any, Callable, Optional
 
 import rudekpi
 from rudekpi import Ended, Network, audit
-from support import TOP, Timed, children, has_ended
+from support import TOP, Timed, children, has_ended, session_of
 
 PACKAGE = os.path.dirname(rudekpi.__file__)
 
@@ -250,7 +250,7 @@ def wait_until(is_so: Callable[[], bool], seconds: float = 5) -> None:
     last = time.monotonic() + seconds
     while not is_so() and time.monotonic() < last:
         gc.collect()
-        subprocess._cleanup()
+        getattr(subprocess, "_cleanup")()
         time.sleep(0.01)
 
 
@@ -301,7 +301,7 @@ class Sessions(Timed):
         net = Network("hh", 2)
         batch = net.batch()
         batch.link(1, 2)
-        pid = net._session.talk.run.numbers[0]
+        pid = session_of(net).talk.run.numbers[0]
         self.assertIn(pid, children())
         del net
         self.assertIn(pid, children(), "the batch still refers to it")
@@ -336,8 +336,8 @@ class Sessions(Timed):
                 try:
                     net.status()
                     told = b"answered"
-                except Ended as ended:
-                    told = ended.last_line.encode()
+                except Ended as inherited:
+                    told = inherited.last_line.encode()
                 os.write(come, told)
                 time.sleep(30)
                 os._exit(0)
@@ -345,7 +345,9 @@ class Sessions(Timed):
             self.addCleanup(os.kill, child, signal.SIGKILL)
             self.assertIn(b"belongs to another process", os.read(go, 200))
             self.assertEqual(net.link(1, 2).entry, 1)
-        self.assertEqual(net._session.talk.ended.status, 0, "it saw where its script ends, while the child is there")
+        ended = session_of(net).talk.ended
+        assert isinstance(ended, Ended)
+        self.assertEqual(ended.status, 0, "it saw where its script ends, while the child is there")
         os.close(go)
         os.close(come)
 

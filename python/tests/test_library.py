@@ -15,11 +15,12 @@ import threading
 import time
 import unittest
 import weakref
-from typing import Callable, Iterable, Optional, Union
+from typing import Any, Callable, Iterable, Optional, Union
 from unittest import mock
 
 from rudekpi import Audit, Damaged, Ended, Network, NoSuchCommand, Refused, Summary, audit, library
 from rudekpi.audits import Text
+from rudekpi.replies import Name
 from rudekpi.state import State
 from support import TOP, Timed, play, told
 
@@ -81,8 +82,8 @@ class Same(Timed):
 
     def lines(self, drawn: random.Random, nodes: int) -> list[str]:
         """The lines of a random script."""
-        node = lambda: drawn.randint(1, nodes + 1)
-        kinds = [
+        node: Callable[[], int] = lambda: drawn.randint(1, nodes + 1)
+        kinds: list[Callable[[], str]] = [
             lambda: f"link {node()} {node()}",
             lambda: f"link {node()} {node()}",
             lambda: f"unlink {node()} {node()}",
@@ -106,8 +107,11 @@ class Same(Timed):
         for seed in range(60):
             drawn = random.Random(seed)
             nodes, rules, keep = drawn.randint(1, 8), drawn.choice(["hh", "manne"]), drawn.random() < 0.7
-            names = drawn.choice([nodes, [f"n{number}" for number in range(nodes)]])
-            name = int if names == nodes else (lambda text: f"n{int(text) - 1}")
+            kinds: list[Union[int, list[str]]] = [nodes, [f"n{number}" for number in range(nodes)]]
+            names = drawn.choice(kinds)
+            name: Callable[[str], Name] = int
+            if names != nodes:
+                name = lambda text: f"n{int(text) - 1}"
             lines, found = self.lines(drawn, nodes), []
             if names != nodes:
                 # a name that is none is told by the client itself
@@ -174,14 +178,15 @@ class Same(Timed):
             with self.subTest(turn):
                 self.assertEqual(verdict(text, "library"), verdict(text, "program"))
         self.assertEqual(whys, {"not a transcript line", "out of order", "not the machine's reply", "bad base"})
-        for text in (
+        texts: list[Text] = [
             b"",
             b"x",
             "matching hh 2\n",
             bytearray(b"matching hh 2\n"),
             memoryview(b"matching hh 2\n1 show 1 = 2\n"),
-        ):
-            self.assertEqual(verdict(text, "library"), verdict(text, "program"))
+        ]
+        for given in texts:
+            self.assertEqual(verdict(given, "library"), verdict(given, "program"))
 
 
 class CostsTold(Timed):
@@ -190,7 +195,8 @@ class CostsTold(Timed):
     engines = ("library",)
     # ann and bob are a pair with two other edges each; cleo points at ann, who does not answer; gus is not there
     names = ("ann", "bob", "cleo", "dan", "eve", "fay", "gus")
-    rows = (
+    # a call, and what it costs under `hh` and `manne`, or why it is refused
+    rows: tuple[tuple[tuple[Any, ...], Union[int, str], Union[int, str]], ...] = (
         (("link", "cleo", "dan"), 2, 2),
         (("unlink", "ann", "bob"), 8, 12),
         (("unlink", "ann", "cleo"), 4, 0),
@@ -255,7 +261,8 @@ class CostsTold(Timed):
                         why = "" if net.cost_of(*event) >= 0 else "less than nothing"
                     except ValueError as error:
                         why = str(error)
-                    done = told(lambda: getattr(net, event[0])(*event[1:]))
+                    call: Callable[[], Any] = lambda: getattr(net, event[0])(*event[1:])
+                    done = told(call)
                     self.assertEqual(bool(why), isinstance(done, Refused), event)
                     if why:
                         self.assertIn(f"would be refused ({done.text})", why)
@@ -338,7 +345,12 @@ class Pieces(Timed):
             self.assertRaisesRegex(ValueError, "the audit is over", judge.feed, "4 status")
         self.assertEqual(judge.finish(), Summary(3, 2, 1))
         judge = Audit()
-        self.assertRaises(Damaged, lambda: [judge.feed("no header\n" * 9999) for _ in range(99)])
+
+        def feed() -> None:
+            for _ in range(99):
+                judge.feed("no header\n" * 9999)
+
+        self.assertRaises(Damaged, feed)
         for ask in (judge.finish, lambda: judge.feed(self.text), judge.finish):
             self.assertRaisesRegex(Damaged, "line 1: bad header", ask)
         judge.close()
@@ -523,7 +535,7 @@ class Memory(Timed):
             net = Network("manne", 65_535)
             session = weakref.ref(net._session)
             # half of them in a cycle
-            net.me = net if _ % 2 else None
+            setattr(net, "me", net if _ % 2 else None)
             del net
             gc.collect() if _ % 2 else None
             self.assertIsNone(session())
@@ -558,13 +570,14 @@ class Memory(Timed):
             child = os.fork()
             if child == 0:
                 said = []
-                for call in (
+                calls: list[Callable[[], object]] = [
                     net.status,
                     lambda: net.link(1, 2),
                     lambda: batch.show(1),
                     net.checkpoint,
                     lambda: net.drive(1, 1),
-                ):
+                ]
+                for call in calls:
                     try:
                         call()
                         said.append("answered")

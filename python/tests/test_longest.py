@@ -32,7 +32,7 @@ def allowed(
     """The moves of a node, written from the tables of the rules: what its pointer and flag become."""
 
     def suits(other: Name) -> bool:
-        return pointers[other] == node
+        return bool(pointers[other] == node)
 
     married = pointers[node] is not None and pointers[pointers[node]] == node
     if rules == "manne" and flags[node] != married:

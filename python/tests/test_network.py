@@ -8,6 +8,7 @@ import os
 import random
 import subprocess
 import unittest
+from typing import Any, Callable, Mapping
 
 import rudekpi
 from rudekpi import (
@@ -24,7 +25,10 @@ from rudekpi import (
     epochs,
     replay,
 )
+from rudekpi.replies import Choice
 from support import Timed, has_ended
+
+JUDGES: tuple[Callable[..., object], ...] = (audit, epochs, replay)
 
 PAIR = "matching hh 2\n1 link 1 2 = ok\n2 step 1 = 1:seduce>2\n3 step 2 = 2:marry>1\n4 matching = 1-2\n"
 # node 2 took the greater of the two targets that it may take
@@ -73,7 +77,7 @@ class Names(Timed):
 
 class WrongArguments(Timed):
     def test_a_network(self) -> None:
-        for words in [
+        wrong_words: list[tuple[str, Any]] = [
             ("foo", 1),
             ("hh", -1),
             ("hh", 65536),
@@ -81,9 +85,11 @@ class WrongArguments(Timed):
             ("hh", [1, 1]),
             ("hh", [1, None]),
             ("HH", 1),
-        ]:
+        ]
+        for words in wrong_words:
             with self.subTest(words), self.assertRaises(ValueError):
                 Network(*words)
+        nodes: Any
         for nodes in (2.5, None, [[]]):
             with self.subTest(nodes), self.assertRaises(TypeError):
                 Network("hh", nodes)
@@ -92,7 +98,7 @@ class WrongArguments(Timed):
 
     def test_nothing_is_asked(self) -> None:
         with Network("manne", 2) as net:
-            for call, *words in [
+            calls: list[tuple[Any, ...]] = [
                 (net.link, 0, 1),
                 (net.link, 1, 65536),
                 (net.unlink, -1, 1),
@@ -106,16 +112,18 @@ class WrongArguments(Timed):
                 (net.drive, 1, 1000001),
                 (net.scramble, 1, -1),
                 (net.step, [Wish(1, 0)]),
-            ]:
+            ]
+            for call, *words in calls:
                 with self.subTest(call.__name__, words=str(words)[:50]), self.assertRaises(ValueError):
                     call(*words)
-            for call, *words in [
+            calls = [
                 (net.link, "1", 2),
                 (net.step, 1),
                 (net.show, None),
                 (net.drive, 1.5, 1),
                 (net.link, 1, 2.0),
-            ]:
+            ]
+            for call, *words in calls:
                 with self.subTest(call.__name__, words=words), self.assertRaises(TypeError):
                     call(*words)
             self.assertEqual(net.transcript(), "matching manne 2\n")
@@ -227,8 +235,13 @@ class Daemons(Timed):
     def test_a_pair(self) -> None:
         with Network("manne", 2) as net:
             net.link(1, 2)
-            seen = []
-            settled = net.settle(lambda enabled: seen.append(dict(enabled)) or list(enabled))
+            seen: list[dict[int, str]] = []
+
+            def daemon(enabled: Enabled) -> list[int]:
+                seen.append(dict(enabled))
+                return list(enabled)
+
+            settled = net.settle(daemon)
             self.assertEqual(settled, Settled(steps=3, moves=4, charge=4))
             self.assertEqual(seen, [{1: "seduce"}, {2: "marry"}, {1: "update", 2: "update"}])
             self.assertEqual(net.settle(lambda enabled: self.fail("nobody is enabled")), Settled(0, 0, 0))
@@ -256,6 +269,7 @@ class Daemons(Timed):
             self.assertIn(f" step {every} = ", net.transcript())
 
     def test_wrong_choices(self) -> None:
+        choice: Any
         for choice, text in [
             ([], "chose nobody while 2"),
             (set(), "chose nobody"),
@@ -270,12 +284,18 @@ class Daemons(Timed):
         ]:
             with self.subTest(choice=str(choice)), Network("hh", 3) as net:
                 net.link(1, 2)
+                daemon: Callable[[Enabled], Any] = lambda enabled: choice
                 with self.assertRaisesRegex(WrongChoice, text):
-                    net.settle(lambda enabled: choice)
+                    net.settle(daemon)
                 self.assertEqual(net.status().spent, 0)
 
     def test_choices_that_the_network_refuses(self) -> None:
-        for rules, choice, number in [("hh", [1, 2], 9), ("manne", [1, 1], 10), ("hh", [Wish(1, 1)], 12)]:
+        refused: list[tuple[str, Choice, int]] = [
+            ("hh", [1, 2], 9),
+            ("manne", [1, 1], 10),
+            ("hh", [Wish(1, 1)], 12),
+        ]
+        for rules, choice, number in refused:
             with self.subTest(choice=str(choice)), Network(rules, 2) as net:
                 net.link(1, 2)
                 with self.assertRaises(Refused) as caught:
@@ -285,9 +305,10 @@ class Daemons(Timed):
     def test_one_that_disturbs(self) -> None:
         with Network("hh", 2) as net:
             net.link(1, 2)
+            last: Mapping[int, str] = {2: "marry"}
 
             def daemon(enabled: Enabled) -> list[int]:
-                if enabled == {2: "marry"}:
+                if enabled == last:
                     net.point(1, None)
                 return [max(enabled)] if 2 in enabled and "marry" in enabled.values() else [min(enabled)]
 
@@ -327,7 +348,7 @@ class Transcripts(Timed):
             (PAIR.replace("seduce", "marry"), 3),
             ("\u00fc\n", 1),
         ]:
-            for judge in (audit, epochs, replay):
+            for judge in JUDGES:
                 with self.subTest(judge.__name__, text=text), self.assertRaises(Damaged) as caught:
                     judge(text)
                 self.assertEqual(caught.exception.line, line)

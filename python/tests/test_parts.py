@@ -13,7 +13,7 @@ import unittest
 import unittest.mock
 from typing import Any, Callable, Union
 
-from rudekpi import Damaged, Lost, Network, Summary, audit, parts
+from rudekpi import Damaged, Network, Summary, audit, parts
 from rudekpi.audits import Slice
 from rudekpi.parts import Held, LostPart, audit_parts
 from support import Losing, Timed
@@ -165,7 +165,8 @@ class Deaths(Timed):
             path = pathlib.Path(self.folder(), "transcript")
             path.write_bytes(text)
             for lost in ((1,), (count,), (1, 2, count), range(1, count + 1)):
-                for given in (text, path):
+                forms: list[Union[bytes, pathlib.Path]] = [text, path]
+                for given in forms:
                     with self.subTest(count=count, lost=lost, given=type(given)):
                         executor = Losing(lost)
                         self.assertEqual(audit_parts(given, executor, size=1), audit(text))
@@ -177,7 +178,7 @@ class Deaths(Timed):
         for count, at in ((3, 0), (3, 1), (64, 40)):
             text, found = self.in_parts(count)
             # at first all of them are handed out, in their order
-            with self.subTest(count=count, at=at), self.assertRaises(Lost) as caught:
+            with self.subTest(count=count, at=at), self.assertRaises(LostPart) as caught:
                 audit_parts(text, Losing((at + 1, count + 1)), size=1)
             lost, line = caught.exception, text[: found[at][0]].count(b"\n") + 1
             self.assertEqual((lost.start, lost.end, lost.line), (*found[at], line))

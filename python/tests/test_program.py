@@ -10,12 +10,14 @@ import shutil
 import subprocess
 import sys
 import unittest
-from typing import Optional
+from typing import Callable, Mapping, Optional
 from unittest import mock
 
 import rudekpi
 from rudekpi import Ended, Garbled, Network, Refused, audit, epochs
 from support import TOP, Timed
+
+JUDGES: tuple[Callable[..., object], ...] = (audit, epochs)
 
 HEADER = "echo 'matching hh 3'\n"
 # answers the first line, and ends at the second
@@ -60,7 +62,7 @@ class Sizes(Timed):
                     batch.flag(node, True)
                 asked = [batch.enabled() for _ in range(400)]
                 stepped = batch.step(range(1, nodes + 1))
-            every = {node: "update" for node in range(1, nodes + 1)}
+            every: Mapping[int, str] = {node: "update" for node in range(1, nodes + 1)}
             self.assertTrue(all(it.result() == every for it in asked))
             self.assertEqual({(move.rule, move.target) for move in stepped.result()}, {("update", None)})
             self.assertEqual([move.node for move in stepped.result()], list(every))
@@ -144,7 +146,7 @@ class Ends(Timed):
             Network("hh", 3, program=self.program("echo usage >&2; echo 'bad words' >&2; exit 2"))
 
     def test_of_a_judge(self) -> None:
-        for judge in (audit, epochs):
+        for judge in JUDGES:
             with self.assertRaisesRegex(Ended, "status 4: ! out of memory"):
                 judge("matching hh 3\n", program=self.program("cat > /dev/null; echo '! out of memory' >&2; exit 4"))
 
@@ -222,7 +224,7 @@ class Answers(Timed):
             "echo 'line 1: bad header'",
             "echo start,moves,edges,nodes,bound,cost; echo 1,2",
         ):
-            for judge in (audit, epochs):
+            for judge in JUDGES:
                 with self.subTest(text), self.assertRaises(Garbled):
                     judge("", program=self.program("cat > /dev/null; " + text))
 
@@ -242,7 +244,11 @@ class Found(Timed):
 
     def test_that_is_not_there(self) -> None:
         for program in ("/no/such/program", os.path.join(TOP, "README.md"), TOP):
-            for call in (lambda: Network("hh", 1, program=program), lambda: audit("", program=program)):
+            calls: list[Callable[[], object]] = [
+                lambda: Network("hh", 1, program=program),
+                lambda: audit("", program=program),
+            ]
+            for call in calls:
                 with self.subTest(program), self.assertRaises(OSError) as caught:
                     call()
                 self.assertIn(program, str(caught.exception))

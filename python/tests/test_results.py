@@ -13,6 +13,7 @@ import pickle
 import random
 import subprocess
 import unittest
+from typing import Any, Callable
 
 from rudekpi import (
     Audit,
@@ -28,7 +29,7 @@ from rudekpi import (
     replay,
     storm,
 )
-from support import Timed, told
+from support import Timed, session_of, told
 
 PAIR = "matching hh 2\n1 link 1 2 = ok\n2 step 1 = 1:seduce>2\n3 step 2 = 2:marry>1\n4 matching = 1-2\n"
 
@@ -80,7 +81,7 @@ class Results(Timed):
     def test_they_do_not_change(self) -> None:
         with Network("hh", 2) as net:
             net.link(1, 2)
-            rules = net.enabled().rules
+            rules: Any = net.enabled().rules
         self.assertEqual(rules, {1: "seduce", 2: "seduce"})
         for change in (
             lambda: rules.update({1: "x"}),
@@ -103,10 +104,12 @@ class Results(Timed):
 
 class WrongWords(Timed):
     def test_what_is_no_transcript(self) -> None:
+        wrong: Any
         for wrong in (3, None, [109], pathlib.Path(os.devnull)):
             with self.subTest(wrong):
-                for judge in (audit, epochs, replay):
-                    self.assertRaisesRegex(TypeError, "a transcript is text or bytes", judge, wrong)
+                calls: list[Callable[..., object]] = [audit, epochs, replay]
+                for call in calls:
+                    self.assertRaisesRegex(TypeError, "a transcript is text or bytes", call, wrong)
                 with Audit() as judge:
                     self.assertRaisesRegex(TypeError, "a transcript is text or bytes", judge.feed, wrong)
         for wrong in (3, None, [109]):
@@ -123,7 +126,8 @@ class WrongWords(Timed):
 
     def test_a_network_is_not_copied(self) -> None:
         with Network("hh", 2) as net, Audit() as judge:
-            for take in (pickle.dumps, copy.copy, copy.deepcopy):
+            takes: list[Callable[..., object]] = [pickle.dumps, copy.copy, copy.deepcopy]
+            for take in takes:
                 self.assertRaisesRegex(TypeError, "belongs to one process", take, net)
                 self.assertRaisesRegex(TypeError, "belongs to one process", take, judge)
             self.assertEqual(net.status().nodes, 2)
@@ -266,7 +270,7 @@ class Keeping(Timed):
             self.assertLess(len(net.transcript()), 1000)
             self.assertEqual(net.status().entry, 90_001)
             if net.engine == "program":
-                self.assertLess(len(net._session.asked), 10)
+                self.assertLess(len(session_of(net).asked), 10)
 
 
 class Storms(Timed):
@@ -288,7 +292,7 @@ class Storms(Timed):
             storm(["link 1 2\n", "lnik 1 2\n"], "hh", 2)
         with self.assertRaisesRegex(Ended, "status 3"):
             storm([pathlib.Path("/no/such/script")], "hh", 2)
-        for words in [
+        wrong_words: list[dict[str, Any]] = [
             dict(rules="x"),
             dict(nodes=-1),
             dict(nodes=2, present=3),
@@ -296,7 +300,8 @@ class Storms(Timed):
             dict(workers=65),
             dict(roam=65),
             dict(turns=10**6 + 1),
-        ]:
+        ]
+        for words in wrong_words:
             with self.subTest(words), self.assertRaises(ValueError):
                 storm(["\n"], **words)
         for scripts in ([], ["\n"] * 65):

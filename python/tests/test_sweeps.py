@@ -12,11 +12,11 @@ import signal
 import time
 import unittest
 import unittest.mock
-from typing import Any, Iterable
+from typing import Any, Generator, Iterable, Union
 
-from rudekpi import Enabled, Lost, Network, WrongChoice, audits, daemons, graphs, sweeps, workers
+from rudekpi import Enabled, Network, WrongChoice, audits, daemons, graphs, sweeps, workers
 from rudekpi.replies import Name
-from rudekpi.sweeps import Disturbance, Row, sweep
+from rudekpi.sweeps import AnyDaemon, Disturbance, Row, sweep
 from support import Losing, Timed
 
 try:
@@ -46,11 +46,12 @@ def dies_once(enabled: Enabled) -> list[Name]:
         os.close(os.open(os.environ["RUDEKPI_TEST_DEATH"], os.O_CREAT | os.O_EXCL))
     except FileExistsError:
         return [min(enabled)]
-    os.kill(os.getpid(), signal.SIGKILL)
+    return dies(enabled)
 
 
-def dies(enabled: Enabled) -> None:
+def dies(enabled: Enabled) -> list[Name]:
     os.kill(os.getpid(), signal.SIGKILL)
+    return []
 
 
 ENDLESS = """
@@ -70,7 +71,12 @@ if __name__ == "__main__":
 
 class Rows(Timed):
     def test_of_all_that_is_asked(self) -> None:
-        hits = [0, Disturbance(20), Disturbance(9, "pointer"), Disturbance(9, "flag", joins=2, leaves=3)]
+        hits: list[Union[int, Disturbance]] = [
+            0,
+            Disturbance(20),
+            Disturbance(9, "pointer"),
+            Disturbance(9, "flag", joins=2, leaves=3),
+        ]
         made = list(sweep([RING, graphs.grid(3, 3)], ["manne"], ["seeded", "synchronous", "greedy"], range(2), hits))
         self.assertEqual(len(made), 2 * 3 * 2 * 4)
         self.assertEqual(len({(row.graph, row.daemon, row.seed, row.disturbance) for row in made}), 48)
@@ -119,25 +125,21 @@ class Rows(Timed):
             self.assertEqual(row.bound, audits.epochs(net.transcript())[-1].bound)
 
     def test_the_same_in_every_executor(self) -> None:
-        words = (
-            [RING, graphs.star(5)],
-            ["hh", "manne"],
-            ["seeded", "least", "synchronous", greatest],
-            range(4),
-            [0, 7],
-        )
+        chosen: list[AnyDaemon] = ["seeded", "least", "synchronous", greatest]
+        words = [RING, graphs.star(5)], ["hh", "manne"], chosen, range(4), [0, 7]
         wanted = without_time(sweep(*words))
         self.assertEqual(len(wanted), 2 * 4 * 2 * (3 + 4), "no synchronous daemon under hh")
-        with concurrent.futures.ThreadPoolExecutor(3) as executor:
-            self.assertEqual(without_time(sweep(*words, executor=executor)), wanted)
-        with concurrent.futures.ProcessPoolExecutor(2) as executor:
-            self.assertEqual(without_time(sweep(*words, executor=executor)), wanted)
+        with concurrent.futures.ThreadPoolExecutor(3) as threads:
+            self.assertEqual(without_time(sweep(*words, executor=threads)), wanted)
+        with concurrent.futures.ProcessPoolExecutor(2) as processes:
+            self.assertEqual(without_time(sweep(*words, executor=processes)), wanted)
 
     def test_of_nothing(self) -> None:
         self.assertEqual(list(sweep([])), [])
         [row] = sweep([graphs.path(0)], faults=[5])
         self.assertEqual((row.n, row.m, row.moves, row.bound), (0, 0, 0, 0))
-        for words in [dict(faults=-1), dict(registers="x"), dict(joins=-1)]:
+        wrong_words: list[dict[str, Any]] = [dict(faults=-1), dict(registers="x"), dict(joins=-1)]
+        for words in wrong_words:
             self.assertRaises(ValueError, Disturbance, **words)
 
     def test_errors_of_an_experiment_are_raised(self) -> None:
@@ -145,7 +147,7 @@ class Rows(Timed):
         self.assertRaises(FileNotFoundError, list, sweep([RING], program="/no/such/program"))
 
     def test_experiments_that_are_none_are_raised_at_once(self) -> None:
-        for words in [
+        wrong_values: list[dict[str, Any]] = [
             dict(daemons=["fair"]),
             dict(rules=["x"]),
             dict(seeds=[-1]),
@@ -157,15 +159,17 @@ class Rows(Timed):
             dict(seeds=itertools.count()),
             dict(seeds=range(1001), faults=range(1000)),
             dict(graphs=[RING, graphs.Graph("ring:12", (1, 2), ())]),
-        ]:
+        ]
+        for words in wrong_values:
             with self.subTest(words):
                 self.assertRaises(ValueError, sweep, **{"graphs": [RING], **words})
-        for words in [
+        wrong_types: list[dict[str, Any]] = [
             dict(graphs=["ring:5"]),
             dict(graphs="ring:5"),
             dict(graphs=[RING], daemons=[daemons.ByName]),
             dict(graphs=[RING], daemons=[None]),
-        ]:
+        ]
+        for words in wrong_types:
             with self.subTest(words):
                 self.assertRaises(TypeError, sweep, **words)
         left = sweeps.experiments_of(
@@ -220,7 +224,7 @@ class Workers(Timed):
         self.assertEqual(executor.asked, 3)
 
     def test_results_that_are_lost_again_and_again(self) -> None:
-        with self.assertRaisesRegex(Lost, "2 experiments are lost") as caught:
+        with self.assertRaisesRegex(sweeps.LostExperiments, "2 experiments are lost") as caught:
             list(sweep([RING], ["hh"], ["seeded"], range(2), executor=Losing(range(99))))
         self.assertEqual(sorted(it.seed for it in caught.exception.experiments), [0, 1])
 
@@ -263,7 +267,7 @@ class Workers(Timed):
         self.assertLess(len(made), 500)
 
     def test_an_interrupt_ends_experiments_that_take_long(self) -> None:
-        for processes, count in ((None, min(os.cpu_count(), 9)), (2, 2)):
+        for processes, count in ((None, min(os.cpu_count() or 1, 9)), (2, 2)):
             with self.subTest(processes=processes):
                 # where all of them play, none is still beginning, which Ctrl-C would end with words of its own
                 said = self.expect_end_by_interrupt(ENDLESS.replace("PROCESSES", str(processes)), "plays-*", count)
@@ -271,6 +275,7 @@ class Workers(Timed):
 
     def test_a_caller_who_stops_leaves_no_process(self) -> None:
         rows = sweep([RING], ["hh"], ["least"], range(500))
+        assert isinstance(rows, Generator)
         self.assertEqual(next(rows).graph, "ring:12")
         self.assertNotEqual(multiprocessing.active_children(), [])
         rows.close()
@@ -284,12 +289,15 @@ class Workers(Timed):
             time.sleep(0.01)
 
     def test_no_more_processes_than_experiments(self) -> None:
-        with unittest.mock.patch.object(workers, "ProcessPoolExecutor", wraps=workers.ProcessPoolExecutor) as made:
+        with unittest.mock.patch.object(
+            workers, "ProcessPoolExecutor", wraps=concurrent.futures.ProcessPoolExecutor
+        ) as made:
             self.assertEqual(len(list(sweep([RING], ["hh"], ["least"], range(2), processes=1000))), 2)
         self.assertEqual(made.call_args.args, (2,))
 
     def test_tasks_take_about_a_second(self) -> None:
-        tasks = sweeps.Tasks(range(1000), 4)
+        numbers: Any = range(1000)
+        tasks = sweeps.Tasks(numbers, 4)
         self.assertEqual(tasks.size(), 1)
         tasks.count, tasks.seconds = 100, 2.0
         self.assertEqual(tasks.size(), 50)

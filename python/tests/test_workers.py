@@ -12,7 +12,7 @@ import types
 import unittest
 import unittest.mock
 from concurrent.futures.process import BrokenProcessPool
-from typing import Any
+from typing import Any, Optional
 
 from rudekpi import workers
 from rudekpi.workers import Handing
@@ -26,13 +26,14 @@ def given_back(number: int, much: bytes) -> int:
     return number
 
 
-def dies_once(number: int, much: bytes, mark: str) -> int:
+def dies_once(number: int, much: bytes, mark: str) -> Optional[int]:
     """Kills its process where it makes the file."""
     try:
         os.close(os.open(mark, os.O_CREAT | os.O_EXCL))
     except FileExistsError:
         return number
     os.kill(os.getpid(), signal.SIGKILL)
+    return None
 
 
 def dies(number: int, much: bytes) -> None:
@@ -120,7 +121,8 @@ class Pools(Timed):
 
     def test_of_a_later_python_only_what_is_public_is_asked(self) -> None:
         with unittest.mock.patch.object(workers, "sys", types.SimpleNamespace(version_info=(3, 15, 0))):
-            for pool, first in ((KillsWorkers(), ["kill_workers"]), (OnlyPublic(), [])):
+            pools: list[tuple[OnlyPublic, list[str]]] = [(KillsWorkers(), ["kill_workers"]), (OnlyPublic(), [])]
+            for pool, first in pools:
                 workers.end_at_once(pool)
                 self.assertEqual(pool.asked, [*first, ("shutdown", True, True)])
 
