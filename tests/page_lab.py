@@ -9,8 +9,8 @@ import time
 from typing import Any, Sequence
 
 from browser import Browser, PageFault
-from page_runs import Pages
 from page_hands import saved, waited
+from page_runs import Pages
 
 TOP = os.path.dirname(os.path.dirname(os.path.abspath(__file__)))
 PLAYGROUND = f"{TOP}/release/playground.html"

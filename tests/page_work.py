@@ -8,8 +8,8 @@ import time
 import xml.etree.ElementTree as ElementTree
 
 from browser import Browser, PageFault
-from page_runs import Pages
 from page_hands import SVG, colours_of, saved, waited
+from page_runs import Pages
 from page_lab import (
     PLAYGROUND,
     TITLE,
