@@ -1,4 +1,4 @@
-"""What the pages say of the repository, beside examples and links: their form, what PROMISES.md names, and where definitions stand."""
+"""What the pages say of the repository, beside examples and links: their form, what PROMISES.md names, definitions."""
 
 from __future__ import annotations
 
@@ -25,14 +25,14 @@ Told = tuple[bool, str]
 
 
 def rows(page: pathlib.Path) -> Iterator[tuple[int, list[str]]]:
-    """The rows of a page's tables, each with its line's number and its cells, but for the lines that part head and body."""
+    """The rows of a page's tables, each with its line's number and its cells; not the lines between head and body."""
     for number, line in enumerate(page.read_text().splitlines(), 1):
         if line.startswith("| ") and line.endswith(" |"):
             yield number, [cell.strip() for cell in line[1:-1].replace("\\|", "\0").split("|")]
 
 
 def forms(top: pathlib.Path, pages: Iterable[pathlib.Path]) -> Iterator[Told]:
-    """What is said of the form of each page: no wide cell, no long line outside code and tables, no page that is too long."""
+    """What is said of the form of each page: no wide cell, no long line outside code and tables, no long page."""
     for page in pages:
         wide = [number for number, cells in rows(page) if any(len(cell) > CELL for cell in cells)]
         yield not wide, f"{page.name}: a cell of more than {CELL} characters in line {wide[:3]}"
@@ -48,7 +48,7 @@ def forms(top: pathlib.Path, pages: Iterable[pathlib.Path]) -> Iterator[Told]:
 
 
 def contracts(top: pathlib.Path) -> tuple[dict[str, set[str]], set[str], set[str]]:
-    """The names of the clauses of each function, by its name (an empty one is `=`); the laws of traits; the names of types."""
+    """The clauses of each function by its name (an empty one is `=`), the laws of traits, and the names of types."""
     clauses: dict[str, set[str]] = {}
     ghosts: set[str] = set()
     types: set[str] = set()
@@ -128,7 +128,7 @@ def lines_in(top: pathlib.Path, folder: str) -> int:
 
 
 def figures(top: pathlib.Path) -> Iterator[Told]:
-    """What is said of names and figures: the kit, the crates, the limits, the refusals, and how many lines there are."""
+    """What is said of names and figures: the kit, the crates, the limits, the refusals, and the numbers of lines."""
     readme, use, tree, costs = (
         (top / name).read_text() for name in ("README.md", "docs/USE.md", "docs/ARCHITECTURE.md", "docs/COSTS.md")
     )
@@ -160,7 +160,7 @@ def figures(top: pathlib.Path) -> Iterator[Told]:
 
 
 def help_lines(top: pathlib.Path) -> Iterator[Told]:
-    """What is said of the help's texts: no line is wider than 80 columns, where clap's own words around them are counted."""
+    """What is said of the help's texts: no line is wider than 80 columns, with clap's own words around them."""
     text = (top / "crates/command_words/src/help.rt").read_text()
     around = {"RULES": 29, "WORKERS": 13, "ROAM": 13, "TURNS": 16}
     for name, value in re.findall(r'const (\w+): &str =\s+"((?:[^"\\]|\\.)*)";', text):
@@ -175,7 +175,10 @@ def help_lines(top: pathlib.Path) -> Iterator[Told]:
 
 
 def quotes(top: pathlib.Path) -> Iterator[Told]:
-    """What is said of the mistake that README.md and PROMISES.md quote: its lines stand in the file that is linked, its clause in the source."""
+    """What is said of the mistake that README.md and PROMISES.md quote.
+
+    Its lines stand in the file that is linked, its clause in the source.
+    """
     sources = [path.read_text() for path in top.glob("crates/locked_net/src/*.rt")]
     for page in (top / "README.md", top / "docs/PROMISES.md"):
         text = page.read_text()

@@ -29,8 +29,10 @@ TOP = os.path.dirname(os.path.dirname(os.path.dirname(os.path.abspath(__file__))
 
 
 class Timed(unittest.TestCase):
-    """A test that fails where it takes longer than its seconds, so that a deadlock is a failure. It goes by an engine: tests/client makes
-    of each class one by each of its engines."""
+    """A test that fails if it takes longer than its seconds, so that a deadlock is a failure.
+
+    It goes by an engine: tests/client makes of each class one by each of its engines.
+    """
 
     seconds = 60
     engines: tuple[str, ...] = ("program", "library")
@@ -65,8 +67,10 @@ class Timed(unittest.TestCase):
         return path
 
     def expect_end_by_interrupt(self, script: str, marks: str, count: int) -> str:
-        """Runs a script in Python until it has made so many files of such names; Ctrl-C, as a terminal sends it to all its processes, then ends
-        them all. What it told on standard error."""
+        """Runs a script in Python until it has made `count` files whose names fit `marks`, then ends it by Ctrl-C.
+
+        All its processes get that, as from a terminal, and end. Returns what it told on standard error.
+        """
         folder = self.folder()
         with open(os.path.join(folder, "script.py"), "w") as file:
             file.write(script)
@@ -109,8 +113,10 @@ def end_group(group: int) -> None:
 
 
 class Losing(concurrent.futures.Executor):
-    """Does each task at once, and loses those results of which the numbers are among the ones that are said, as distributed does where a
-    worker dies while it hands a result over."""
+    """Does each task at once, and loses the results whose numbers, from 1, are in `lost`.
+
+    Distributed loses one like that if a worker dies while it hands a result over.
+    """
 
     def __init__(self, lost: Container[int] = (1,)) -> None:
         self.asked, self.lost = 0, lost
@@ -186,7 +192,7 @@ def told(call: Callable[[], Reply]) -> Union[Reply, Refused]:
 
 
 def spelled(reply: object, number: Callable[[Name], str] = str) -> str:
-    """The text of a reply in a transcript, of a base that below its head, with a function from a name to its number's text."""
+    """The text of a reply in a transcript, of a base its lines; `number` makes of a name its number's text."""
     if isinstance(reply, Accepted):
         return "ok"
     if isinstance(reply, Refused):

@@ -1,4 +1,4 @@
-"""The cases of tests/*.cases through the client: what is answered, read into its types and spelled again, is what they say."""
+"""The cases of tests/*.cases through the client: each answer, read into its type and spelled again, is theirs."""
 
 from __future__ import annotations
 
@@ -42,7 +42,7 @@ def text_of(blocks: Iterable[tuple[int, bytes]]) -> str:
 
 
 def entries_of(transcript: str) -> list[tuple[str, str]]:
-    """The events and replies below the header of a transcript; a base answers `checkpoint`, by the lines below its head."""
+    """The events and replies below the header of a transcript; a base's lines are the reply to `checkpoint`."""
     entries: list[tuple[str, str]] = []
     for line in transcript.splitlines()[1:]:
         if line.startswith("base "):

@@ -1,5 +1,5 @@
-"""Checkpoints through the client: bases by the caller's names, alone and in batches, in pieces, garbled, and in transcripts
-that go on."""
+"""Checkpoints through the client: bases by the caller's names, alone and in batches, in pieces, garbled, and in
+transcripts that go on."""
 
 from __future__ import annotations
 

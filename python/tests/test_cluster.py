@@ -1,5 +1,5 @@
-"""Sweeps and audits on a cluster: a scheduler of Dask and two workers as processes of this machine, one of them killed in the
-middle. Skipped where distributed is not there."""
+"""Sweeps and audits on a cluster: a scheduler of Dask and two workers as processes of this machine, one of them killed
+in the middle. Skipped where distributed is not there."""
 
 from __future__ import annotations
 
@@ -19,7 +19,8 @@ from rudekpi.parts import audit_parts
 from rudekpi.sweeps import Row, sweep
 from support import TOP, Timed
 
-# nobody waits for a worker that is dead for as long as for one far away; set before distributed reads it, here and in the processes
+# so that nobody waits for a dead worker as long as for one far away; set before distributed reads it, here and in
+# the processes
 os.environ["DASK_DISTRIBUTED__COMM__TIMEOUTS__CONNECT"] = "5s"
 HAS_DISTRIBUTED = importlib.util.find_spec("distributed") is not None
 
@@ -129,7 +130,9 @@ class Cluster(Timed):
 
 class WithoutDistributed(Timed):
     def test_it_is_told(self) -> None:
-        hides = "import sys; sys.modules['distributed'] = None; import rudekpi.__main__ as it; sys.exit(it.main(['sweep', '--graph', 'ring:5', '--dask', 'tcp://127.0.0.1:1']))"
+        words = ["sweep", "--graph", "ring:5", "--dask", "tcp://127.0.0.1:1"]
+        hides = "import sys; sys.modules['distributed'] = None; import rudekpi.__main__ as it; "
+        hides += f"sys.exit(it.main({words}))"
         done = subprocess.run(
             [sys.executable, "-c", hides],
             env=dict(os.environ, PYTHONPATH=os.path.join(TOP, "python")),

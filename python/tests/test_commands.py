@@ -1,4 +1,4 @@
-"""The command line of the package: the bench's commands, and the program's that are handed on; why lines are no commands."""
+"""The command line of the package: its own commands, the program's, which it hands on; why lines are no commands."""
 
 from __future__ import annotations
 
@@ -108,7 +108,7 @@ class HandedOn(Timed):
 
 
 class Streams(Timed):
-    """Standard streams and files that can't be read or written: one line on standard error that names what fails, as the program's."""
+    """Standard streams and files that can't be read or written: one line on standard error names what fails."""
 
     def told(self, words: str, status: int = 3) -> str:
         """What is told where the shell gives these streams, nothing else, and with this status."""
@@ -146,7 +146,8 @@ class Streams(Timed):
         self.assertEqual(self.told("json /none"), "! /none: No such file or directory")
 
     def test_a_reader_that_goes(self) -> None:
-        line = f"{sys.executable} -m rudekpi sweep --graph path:4 --seeds 300 --processes 1 | head -1; exit ${{PIPESTATUS[0]}}"
+        sweep = f"{sys.executable} -m rudekpi sweep --graph path:4 --seeds 300 --processes 1"
+        line = f"{sweep} | head -1; exit ${{PIPESTATUS[0]}}"
         done = subprocess.run(["bash", "-c", line], env=environment(), capture_output=True, text=True)
         self.assertEqual((done.returncode, done.stdout.count("\n")), (3, 1))
         self.assertEqual(done.stderr, "! write failed: Broken pipe\n")
@@ -444,10 +445,12 @@ class Lines(Timed):
 
     def test_a_session(self) -> None:
         page = os.path.join(self.folder(), "page.html")
-        given = f"link 1 2\nlnik 1 2\nlink 1 2\ndrive 7 9\n\ncheckpoint\npicture\naudit\nplay {page}\nplay\nhelp\nquit\nstatus\n"
+        given = "link 1 2\nlnik 1 2\nlink 1 2\ndrive 7 9\n\ncheckpoint\npicture\naudit\n"
+        given += f"play {page}\nplay\nhelp\nquit\nstatus\n"
         lines = said("shell", "--nodes", "2", "--rules", "hh", given=given)
         for text in (
-            "matching hh 2\n1 link 1 2 = ok\nnot sent: `lnik` is no command: `link` may be meant\n2 link 1 2 = refused 3 already-linked\n",
+            "matching hh 2\n1 link 1 2 = ok\nnot sent: `lnik` is no command: `link` may be meant\n"
+            "2 link 1 2 = refused 3 already-linked\n",
             "base 5 spent=2",
             "accepted: 5 entries",
             f"written: {page}",
@@ -469,7 +472,7 @@ class Lines(Timed):
             wanted = time.monotonic() + 20
             while not shown.endswith(b"> ") and time.monotonic() < wanted and select.select([end], [], [], 20)[0]:
                 shown += os.read(end, 4096)
-            # readline waits for keys only a moment after it has shown its prompt, and a signal in between tells it nothing
+            # readline waits for keys only a moment after its prompt is shown; a signal in between tells it nothing
             time.sleep(0.3)
             os.write(end, typed)
             shown += b"|"

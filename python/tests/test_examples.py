@@ -1,4 +1,4 @@
-"""The examples in Python: what they print is judged by what it says, with networks that the tests build for themselves."""
+"""The examples in Python: what they print is judged by what it says, with networks that the tests build."""
 
 from __future__ import annotations
 

@@ -1,5 +1,5 @@
-"""What docs/EXPERIMENTS.md shows: its commands, its code and its table, and the scripts that make its picture and its table, on small
-sizes."""
+"""What docs/EXPERIMENTS.md shows: its commands, its code and its table, and the scripts that make its picture and its
+table, on small sizes."""
 
 from __future__ import annotations
 

@@ -1,5 +1,5 @@
-"""Interrupts at any moment: each instruction of the client in turn, thousands of signals at random times, and Ctrl-C at a
-terminal; networks that nobody closes; children of this process."""
+"""Interrupts at any moment: each instruction of the client in turn, thousands of signals at random times, and Ctrl-C
+at a terminal; networks that nobody closes; children of this process."""
 
 from __future__ import annotations
 
@@ -65,7 +65,10 @@ class EachInstruction(Timed):
         step: int = 1,
         made: Callable[[], Network] = lambda: Network("manne", 4),
     ) -> int:
-        """Cuts a call short in front of each of its instructions, until it comes to its end, and looks at what is left."""
+        """Cuts a call short in front of each `step`th instruction until it ends, and looks at what is left.
+
+        Returns the number of the instruction at which nothing was cut.
+        """
         for number in range(0, 1_000_000, step):
             net = made()
             with At(number) as at:
@@ -85,11 +88,10 @@ class EachInstruction(Timed):
 
     def test_of_an_answer(self) -> None:
         net = Network("hh", 3)
-        made = lambda: net
         cuts = self.cut_everywhere(
             lambda net: net.show(2),
             lambda net: self.assertEqual((net.show(1).node, net.status().edges), (1, 0)),
-            made=made,
+            made=lambda: net,
         )
         if not cuts and sys.version_info >= (3, 12):
             # its `sys.settrace` tells of no instruction of a frame that has no loop
@@ -160,7 +162,7 @@ class RandomTimes(Timed):
     seconds = 120
 
     def cut_at_random(self, times: int, play: Callable[[], object]) -> int:
-        """Lets another thread send this one signals, `times` of them, while it plays; answers how many came while it did."""
+        """Has another thread send this one `times` signals while it plays; returns how many came while it did."""
         main, drawn = threading.get_ident(), random.Random(7)
         is_armed, is_done, came, handled = [False], [False], [0], [0]
 

@@ -1,5 +1,5 @@
-"""The library as an engine: where it is found, that it says what the program says, threads, interrupts between them, children of this
-process, and networks that nobody closes."""
+"""The library as an engine: where it is found, that it says what the program says, threads, interrupts between them,
+children of this process, and networks that nobody closes."""
 
 from __future__ import annotations
 
@@ -109,9 +109,10 @@ class Same(Timed):
             nodes, rules, keep = drawn.randint(1, 8), drawn.choice(["hh", "manne"]), drawn.random() < 0.7
             kinds: list[Union[int, list[str]]] = [nodes, [f"n{number}" for number in range(nodes)]]
             names = drawn.choice(kinds)
-            name: Callable[[str], Name] = int
-            if names != nodes:
-                name = lambda text: f"n{int(text) - 1}"
+
+            def name(text: str) -> Name:
+                return int(text) if names == nodes else f"n{int(text) - 1}"
+
             lines, found = self.lines(drawn, nodes), []
             if names != nodes:
                 # a name that is none is told by the client itself
@@ -288,7 +289,7 @@ class CostsTold(Timed):
 
 
 class Partners(Timed):
-    """With whom a node is paired, by the library, is what the library says, and not what the client makes of the transcript."""
+    """With whom a node is paired is, by the library, what the library says: the client makes it of no transcript."""
 
     def test_the_proved_answer_counts(self) -> None:
         with Network("hh", ["ann", "bob", "cleo", "dan"], present=3) as net:

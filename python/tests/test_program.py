@@ -1,5 +1,5 @@
-"""The talk with the program: replies of any size, commands by the ten thousands, programs that end early or answer amiss, and
-which program it is."""
+"""The talk with the program: replies of any size, commands by the ten thousands, programs that end early or answer
+amiss, and which program it is."""
 
 from __future__ import annotations
 

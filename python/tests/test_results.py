@@ -1,5 +1,5 @@
-"""What a network answers beside its commands: results that leave a process, questions that cost no entry, drawings, pages, what is
-kept, and storms."""
+"""What a network answers beside its commands: results that leave a process, questions that cost no entry, drawings,
+pages, what is kept, and storms."""
 
 from __future__ import annotations
 
@@ -231,7 +231,8 @@ class Keeping(Timed):
             self.assertEqual(net.transcript(), "matching manne 4\n1 link 1 2 = ok\n")
             net.checkpoint()
             net.link(2, 3)
-            base = "matching2 manne 4\nbase 1 spent=0 nodes=4 edges=1\nnode 1 - 0\nnode 2 - 0\nnode 3 - 0\nnode 4 - 0\nedge 1 2\n"
+            base = "matching2 manne 4\nbase 1 spent=0 nodes=4 edges=1\n"
+            base += "node 1 - 0\nnode 2 - 0\nnode 3 - 0\nnode 4 - 0\nedge 1 2\n"
             self.assertEqual(net.transcript(), base + "2 link 2 3 = ok\n")
             self.assertEqual((net.edges, net.audit().entries), ([(1, 2), (2, 3)], 1))
             with net.batch() as batch:
