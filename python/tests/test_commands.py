@@ -14,7 +14,6 @@ import subprocess
 import sys
 import time
 import unittest
-from typing import Any
 
 from rudekpi import script_words, sweeps
 from support import TOP, Timed
@@ -31,14 +30,13 @@ def environment(**more: str) -> dict[str, str]:
     return dict(os.environ, PYTHONPATH=os.path.join(TOP, "python"), **more)
 
 
-def rudekpi(*words: str, given: str = "", **more: Any) -> subprocess.CompletedProcess[str]:
+def rudekpi(*words: str, given: str = "") -> subprocess.CompletedProcess[str]:
     return subprocess.run(
         [sys.executable, "-m", "rudekpi", *words],
         input=given,
         env=environment(),
         capture_output=True,
         text=True,
-        **more,
     )
 
 

@@ -5,11 +5,12 @@ from __future__ import annotations
 import pickle
 import random
 import unittest
-from typing import Any, Optional, Sequence
+from typing import Optional, Sequence
 
 from rudekpi import Enabled, Network, Settled, audit, daemons, graphs, rules
 from rudekpi.replies import Choice
 from rudekpi.simple_graph import Graph
+from rudekpi.sweeps import AnyDaemon
 from support import Timed
 
 
@@ -63,7 +64,7 @@ class Daemons(Timed):
                 self.assertEqual(said, said[:1] * 3)
                 audit(said[0])
 
-    def steps_of(self, daemon: Any, rule_set: str, graph: Graph) -> list[tuple[list[int], list[int]]]:
+    def steps_of(self, daemon: AnyDaemon, rule_set: str, graph: Graph) -> list[tuple[list[int], list[int]]]:
         """The nodes that were enabled and those that moved, of each step."""
         with stirred(rule_set, graph, 3) as net:
             net.settle(daemon)
