@@ -1,8 +1,8 @@
-"""Makes the wheel of the package `rudekpi` beside it, with the program and the library of release/ in it: what pip calls by pyproject.toml.
+"""Makes the wheel of the package `rudekpi` beside it, with the program and the library of release/ in it.
 
-It stands on the standard library alone: so `pip install ./python` needs no index, where setuptools would have to be fetched, as a fresh
-environment has none. The same files make the same wheel to the byte. The program is for Linux on x86-64 with glibc 2.34 or later; where
-pip runs elsewhere the package is made without it.
+pip calls it by pyproject.toml. It needs the standard library alone, so `pip install ./python` needs no index:
+setuptools would have to be fetched, since a fresh environment has none. The same files make the same wheel to the byte.
+The program is for Linux on x86-64 with glibc 2.34 or later; where pip runs elsewhere the package is made without it.
 """
 
 from __future__ import annotations

@@ -1,4 +1,5 @@
-# Completes the words, flags and files of `console` and `rudekpi` in bash: `. scripts/completion.bash`. Made by scripts/completions.
+# Completes the words, flags and files of `console` and `rudekpi` in bash: `. scripts/completion.bash`.
+# Made by scripts/completions.
 
 _rudekpi_commands='run audit picture epochs storm'
 # what the Python package has beside the words of the program

@@ -1,5 +1,5 @@
-# Completes the words, flags and files of `console` and `rudekpi` in fish: `source scripts/completion.fish`, or put it
-# into ~/.config/fish/completions as rudekpi.fish. Made by scripts/completions.
+# Completes the words, flags and files of `console` and `rudekpi` in fish: `source scripts/completion.fish`,
+# or put it into ~/.config/fish/completions as rudekpi.fish. Made by scripts/completions.
 complete -c console -f
 complete -c console -n __fish_use_subcommand -a help -d 'tells of a command'
 complete -c console -n __fish_use_subcommand -a run -d 'reads a script and writes its transcript'

@@ -9,6 +9,7 @@ import shutil
 import subprocess
 import tempfile
 import time
+import weakref
 from typing import Any, Sequence
 
 PROBES = os.path.join(os.path.dirname(os.path.abspath(__file__)), "page_probes.js")
@@ -64,7 +65,9 @@ class Browser:
         self.complaints: list[str] = []
         self.fetched: list[str] = []
         self.seen: list[str] = []
-        self.home = tempfile.TemporaryDirectory(prefix="rudekpi-browser-", ignore_cleanup_errors=True)
+        self.home = tempfile.mkdtemp(prefix="rudekpi-browser-")
+        # at the latest when this process ends
+        self.remove_home = weakref.finalize(self, shutil.rmtree, self.home, ignore_errors=True)
         commands_out, self.commands = os.pipe()
         self.replies, replies_in = os.pipe()
 
@@ -74,7 +77,7 @@ class Browser:
             os.dup2(ends[0], 3)
             os.dup2(ends[1], 4)
 
-        words = [path, *WORDS, f"--user-data-dir={self.home.name}", f"--window-size={width},{height}", "about:blank"]
+        words = [path, *WORDS, f"--user-data-dir={self.home}", f"--window-size={width},{height}", "about:blank"]
         quiet = subprocess.DEVNULL
         self.run = subprocess.Popen(words, stdin=quiet, stdout=quiet, stderr=quiet, close_fds=False, preexec_fn=wire)
         os.close(commands_out)
@@ -101,7 +104,7 @@ class Browser:
             self.run.wait()
         os.close(self.commands)
         os.close(self.replies)
-        self.home.cleanup()
+        self.remove_home()
 
     def message(self, until: float) -> Any:
         while b"\0" not in self.left:

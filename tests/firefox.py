@@ -12,6 +12,7 @@ import socket
 import subprocess
 import tempfile
 import time
+import weakref
 from typing import Any
 
 from browser import PROBES, BrowserFault, PageFault
@@ -53,19 +54,21 @@ class Firefox:
 
     def __init__(self, path: str, wait: float = 60, width: int = 1280, height: int = 900) -> None:
         self.wait, self.number, self.left = wait, 0, b""
-        self.home = tempfile.TemporaryDirectory(prefix="rudekpi-firefox-", ignore_cleanup_errors=True)
-        preferences: dict[str, object] = {**PREFERENCES, "browser.download.dir": self.home.name}
-        with open(f"{self.home.name}/user.js", "w", encoding="ascii") as file:
+        self.home = tempfile.mkdtemp(prefix="rudekpi-firefox-")
+        # at the latest when this process ends
+        self.remove_home = weakref.finalize(self, shutil.rmtree, self.home, ignore_errors=True)
+        preferences: dict[str, object] = {**PREFERENCES, "browser.download.dir": self.home}
+        with open(f"{self.home}/user.js", "w", encoding="ascii") as file:
             file.writelines(
                 f"user_pref({json.dumps(key)}, {json.dumps(value)});\n" for key, value in preferences.items()
             )
         with open(PROBES, encoding="utf-8") as file:
             self.probes = file.read()
-        self.said = open(f"{self.home.name}/said", "wb+")
-        words = [path, "--headless", "--marionette", "--no-remote", "--profile", self.home.name, "about:blank"]
+        self.said = open(f"{self.home}/said", "wb+")
+        words = [path, "--headless", "--marionette", "--no-remote", "--profile", self.home, "about:blank"]
         places = {
             **os.environ,
-            "HOME": self.home.name,
+            "HOME": self.home,
             "MOZ_HEADLESS_WIDTH": str(width),
             "MOZ_HEADLESS_HEIGHT": str(height),
         }
@@ -78,7 +81,7 @@ class Firefox:
     def port(self) -> int:
         """The port that Firefox writes into its profile once it listens."""
         until = time.monotonic() + self.wait
-        path = f"{self.home.name}/MarionetteActivePort"
+        path = f"{self.home}/MarionetteActivePort"
         while time.monotonic() < until and self.run.poll() is None:
             if os.path.exists(path) and os.path.getsize(path) > 0:
                 with open(path, encoding="ascii") as file:
@@ -98,7 +101,7 @@ class Firefox:
             self.run.wait()
         self.wire.close()
         self.said.close()
-        self.home.cleanup()
+        self.remove_home()
 
     def message(self) -> Any:
         """The next message: its length, a colon, and JSON."""
@@ -124,7 +127,7 @@ class Firefox:
     @property
     def complaints(self) -> list[str]:
         """The errors of pages so far."""
-        with open(f"{self.home.name}/said", encoding="utf-8", errors="replace") as file:
+        with open(f"{self.home}/said", encoding="utf-8", errors="replace") as file:
             return [line.rstrip("\n") for line in file if line.startswith(SIGN)]
 
     def open(self, path: str) -> None:

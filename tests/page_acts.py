@@ -8,7 +8,12 @@ from __future__ import annotations
 import random
 import subprocess
 import time
-from typing import Any, Callable
+from typing import Callable, Protocol, Union
+
+from browser import Browser
+from firefox import Firefox
+
+AnyBrowser = Union[Browser, Firefox]
 
 WINDOW = (1280, 900)
 KEYS = [*" .zyxa123456+-0e", "ArrowUp", "ArrowDown", "Enter", "Escape"]
@@ -61,10 +66,19 @@ ADDRESSES = [
 ]
 
 
+class Counts(Protocol):
+    """What counts checks, and the program that judges."""
+
+    program: str
+
+    def expect(self, name: str, came: object, wanted: object) -> None:
+        """Counts a check, and prints what came if that is not what is wanted."""
+
+
 class Acts:
     """Acts that a seed draws, on the page of one browser."""
 
-    def __init__(self, browser: Any, program: str, page: str, seed: int) -> None:
+    def __init__(self, browser: AnyBrowser, program: str, page: str, seed: int) -> None:
         self.browser, self.program, self.page, self.draw = browser, program, page, random.Random(seed)
         self.done: list[str] = []
         ways: list[tuple[int, Callable[[], str]]] = [
@@ -189,7 +203,7 @@ class Acts:
         return str(made.stdout.decode().strip())
 
 
-def use(pages: Any, browser: Any, name: str, page: str, seed: int, count: int) -> None:
+def use(pages: Counts, browser: AnyBrowser, name: str, page: str, seed: int, count: int) -> None:
     """So many acts; the first hundred that end badly are told with the acts that led there."""
     acts = Acts(browser, pages.program, page, seed)
     acts.begin()

@@ -1,6 +1,11 @@
-"""What the pages say of the repository, beside examples and links: their form, what PROMISES.md names, and where definitions stand."""
+"""What the pages say of the repository, beside examples and links: their form, what PROMISES.md names, definitions."""
+
+from __future__ import annotations
+
 import itertools
+import pathlib
 import re
+from typing import Iterable, Iterator
 
 CELL = 300
 LINE = 160
@@ -15,17 +20,19 @@ CLAUSE = re.compile(r"^\s*ensures (?:(\w+) )?\{", re.M)
 GHOST = re.compile(r"^\s*ghost (\w+)[:=, ]", re.M)
 TYPE = re.compile(r"^\s*pub (?:trait|struct|enum) (\w+)", re.M)
 QUOTED = re.compile(r"`([^`]+)`")
+# Whether something agrees, and what to print if it does not.
+Told = tuple[bool, str]
 
 
-def rows(page):
-    """The rows of a page's tables, each with its line's number and its cells, but for the lines that part head and body."""
+def rows(page: pathlib.Path) -> Iterator[tuple[int, list[str]]]:
+    """The rows of a page's tables, each with its line's number and its cells; not the lines between head and body."""
     for number, line in enumerate(page.read_text().splitlines(), 1):
         if line.startswith("| ") and line.endswith(" |"):
             yield number, [cell.strip() for cell in line[1:-1].replace("\\|", "\0").split("|")]
 
 
-def forms(top, pages):
-    """What is said of the form of each page: no wide cell, no long line outside code and tables, no page that is too long."""
+def forms(top: pathlib.Path, pages: Iterable[pathlib.Path]) -> Iterator[Told]:
+    """What is said of the form of each page: no wide cell, no long line outside code and tables, no long page."""
     for page in pages:
         wide = [number for number, cells in rows(page) if any(len(cell) > CELL for cell in cells)]
         yield not wide, f"{page.name}: a cell of more than {CELL} characters in line {wide[:3]}"
@@ -40,13 +47,15 @@ def forms(top, pages):
         yield count <= most, f"{name} has {count} lines, and not {most} at most"
 
 
-def contracts(top):
-    """The names of the clauses of each function, by its name (an empty one is `=`); the laws of traits; the names of types."""
-    clauses, ghosts, types = {}, set(), set()
+def contracts(top: pathlib.Path) -> tuple[dict[str, set[str]], set[str], set[str]]:
+    """The clauses of each function by its name (an empty one is `=`), the laws of traits, and the names of types."""
+    clauses: dict[str, set[str]] = {}
+    ghosts: set[str] = set()
+    types: set[str] = set()
     for path in top.glob("crates/*/src/**/*.rt"):
         text = path.read_text()
         found = [*FUNCTION.finditer(text)]
-        for here, after in itertools.pairwise([*found, None]):
+        for here, after in zip(found, [*found[1:], None]):
             # a contract ends where the next function begins; what stands between has no `ensures`
             part = text[here.end() : after.start() if after else len(text)]
             clauses.setdefault(here[1], set()).update(name or "=" for name in CLAUSE.findall(part))
@@ -55,7 +64,7 @@ def contracts(top):
     return clauses, ghosts, types
 
 
-def calls(top):
+def calls(top: pathlib.Path) -> Iterator[Told]:
     """What is said of the calls of PROMISES.md: each is there, and each clause is one of a call before it."""
     clauses, ghosts, types = contracts(top)
     page = top / "docs/PROMISES.md"
@@ -72,13 +81,13 @@ def calls(top):
             yield not strange, f"{page.name}:{number}: {', '.join(last)}: no clause {', '.join(strange)}"
 
 
-def spread(name):
+def spread(name: str) -> list[str]:
     """The names that one with braces stands for: `a/{b,c}` for a/b and a/c."""
     found = re.fullmatch(r"(.*)\{(.*)\}(.*)", name)
     return [found[1] + part + found[3] for part in found[2].split(",")] if found else [name]
 
 
-def definitions(top):
+def definitions(top: pathlib.Path) -> Iterator[Told]:
     """What is said of the files of definitions that PROMISES.md, DEFINITIONS.md and WORDS.md name: each is there."""
     for page, column in ((top / "docs/PROMISES.md", 1), (top / "docs/DEFINITIONS.md", 2), (top / "docs/WORDS.md", 2)):
         for number, cells in rows(page):
@@ -93,7 +102,7 @@ def definitions(top):
                 yield there or f"(`{name}`)" in cells[column], f"{page.name}:{number}: no definitions in {name}"
 
 
-def anchors(top, pages):
+def anchors(top: pathlib.Path, pages: Iterable[pathlib.Path]) -> Iterator[Told]:
     """What is said of links to a heading: the page is there, and has it."""
     for page in pages:
         for target, anchor in re.findall(r"\]\(([^)#:]*)#([^)]+)\)", page.read_text()):
@@ -103,14 +112,14 @@ def anchors(top, pages):
             yield anchor in slugs, f"{page.name}: {target} has no heading {anchor}"
 
 
-def constants(top):
+def constants(top: pathlib.Path) -> dict[str, int]:
     """The numbers that the crates' sources give a name to."""
     named = re.compile(r"^pub const (MAX_\w+): \w+ = ([\d_]+);", re.M)
     texts = (path.read_text() for path in top.glob("crates/*/src/*.rt"))
     return {name: int(number) for text in texts for name, number in named.findall(text)}
 
 
-def lines_in(top, folder):
+def lines_in(top: pathlib.Path, folder: str) -> int:
     """How many lines stand in one kind of folder of all crates but those of tests."""
     paths = [path for path in top.glob(f"crates/*/{folder}/**/*") if path.suffix in (".rt", ".antt")]
     return sum(
@@ -118,13 +127,14 @@ def lines_in(top, folder):
     )
 
 
-def figures(top):
-    """What is said of names and figures: the kit, the crates, the limits, the refusals, and how many lines there are."""
+def figures(top: pathlib.Path) -> Iterator[Told]:
+    """What is said of names and figures: the kit, the crates, the limits, the refusals, and the numbers of lines."""
     readme, use, tree, costs = (
         (top / name).read_text() for name in ("README.md", "docs/USE.md", "docs/ARCHITECTURE.md", "docs/COSTS.md")
     )
-    kit = re.search(r"^kit (.+)$", (top / "release/MADE_FROM").read_text(), re.M)[1]
-    yield f"`{kit}`" in readme, f"README.md: the kit is {kit}"
+    kit = re.search(r"^kit (.+)$", (top / "release/MADE_FROM").read_text(), re.M)
+    assert kit is not None, "release/MADE_FROM names no kit"
+    yield f"`{kit[1]}`" in readme, f"README.md: the kit is {kit[1]}"
     named = re.findall(r"^(\w+)(?: staticlib)?:(.*)$", (top / "crates.txt").read_text(), re.M)
     ours = {name for name, _ in named}
     shown = set(re.findall(r"^ *(\w+)  ", tree.split("```")[1], re.M))
@@ -143,13 +153,14 @@ def figures(top):
     for name, text in re.findall(r'Refusal::(\w+) => "([\w-]+)"', refusal):
         yield f"`{numbers[name]} {text}`" in use, f"USE.md: the refusals do not name {numbers[name]} {text}"
     told = re.search(r"`src/` has ([\d,]+) .* \(`specs/`\) have ([\d,]+), proofs \(`proofs/`\) ([\d,]+)", tree)
+    assert told is not None, "ARCHITECTURE.md tells no numbers of lines"
     for folder, figure in zip(("src", "specs", "proofs"), told.groups()):
         count, said = lines_in(top, folder), int(figure.replace(",", ""))
         yield abs(count - said) * 20 < count, f"ARCHITECTURE.md: {folder}/ has {count:,} lines, and not some {said:,}"
 
 
-def help_lines(top):
-    """What is said of the help's texts: no line is wider than 80 columns, where clap's own words around them are counted."""
+def help_lines(top: pathlib.Path) -> Iterator[Told]:
+    """What is said of the help's texts: no line is wider than 80 columns, with clap's own words around them."""
     text = (top / "crates/command_words/src/help.rt").read_text()
     around = {"RULES": 29, "WORKERS": 13, "ROAM": 13, "TURNS": 16}
     for name, value in re.findall(r'const (\w+): &str =\s+"((?:[^"\\]|\\.)*)";', text):
@@ -163,8 +174,11 @@ def help_lines(top):
         yield widest <= 80, f"help.rt: {name} makes a line of {widest} columns"
 
 
-def quotes(top):
-    """What is said of the mistake that README.md and PROMISES.md quote: its lines stand in the file that is linked, its clause in the source."""
+def quotes(top: pathlib.Path) -> Iterator[Told]:
+    """What is said of the mistake that README.md and PROMISES.md quote.
+
+    Its lines stand in the file that is linked, its clause in the source.
+    """
     sources = [path.read_text() for path in top.glob("crates/locked_net/src/*.rt")]
     for page in (top / "README.md", top / "docs/PROMISES.md"):
         text = page.read_text()
@@ -181,7 +195,7 @@ def quotes(top):
             yield stands, f"{page.name}: this stands nowhere: {line[:60]}"
 
 
-def points(top):
+def points(top: pathlib.Path) -> Iterator[Told]:
     """What is said of DECISIONS.md: no point has more than three lines."""
     text = (top / "docs/DECISIONS.md").read_text()
     for point in re.findall(r"^- .*(?:\n  .*)*", text, re.M):

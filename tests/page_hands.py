@@ -14,6 +14,7 @@ import zlib
 from typing import Any
 
 from browser import Browser, PageFault
+from page_runs import Pages
 
 RING = b"""matching hh 5
 1 link 1 2 = ok
@@ -54,7 +55,7 @@ def waited(browser: Browser, wanted: Any, probe: str, *words: Any, seconds: floa
     return came
 
 
-def fills(pages: Any, browser: Browser) -> None:
+def fills(pages: Pages, browser: Browser) -> None:
     """A small network fills the drawing; one that is too large to draw leaves no empty box."""
     browser.open(pages.write(RING))
     wide, high = browser.ask("shares")
@@ -78,7 +79,7 @@ def fills(pages: Any, browser: Browser) -> None:
     pages.expect("complaints of a page without a drawing", browser.complaints, [])
 
 
-def titles(pages: Any, browser: Browser) -> None:
+def titles(pages: Pages, browser: Browser) -> None:
     """The title says what is played, and a base is told with its number."""
     for text, title, entry in [
         (RING, "hh: 5 nodes, 8 entries", ["step 1>2", "1:seduce>2", "6"]),
@@ -95,7 +96,7 @@ def titles(pages: Any, browser: Browser) -> None:
         pages.expect(f"where it opens: {title}", shown, entry)
 
 
-def long_one(pages: Any, browser: Browser) -> None:
+def long_one(pages: Pages, browser: Browser) -> None:
     """Of many entries the plots are lines of means with a band, and digits are grouped in one way."""
     script = "".join(f"link {v} {v % 60 + 1}\n" for v in range(1, 61)) + "".join(
         f"scramble {k} 7\ndrive {k} 900\n" for k in range(1, 1500)
@@ -117,7 +118,7 @@ def long_one(pages: Any, browser: Browser) -> None:
     pages.expect("the number of the last entry", browser.ask("text", "#number"), f"{entries:,}")
 
 
-def phone(pages: Any, browser: Browser) -> None:
+def phone(pages: Pages, browser: Browser) -> None:
     """On a phone the bar covers nothing of the entry and the figures, and all can be scrolled to."""
     path = pages.write(RING)
     for width, height in [(320, 568), (360, 640), (390, 844), (640, 360)]:
@@ -139,7 +140,7 @@ def phone(pages: Any, browser: Browser) -> None:
     browser.window(1280, 900)
 
 
-def addresses(pages: Any, browser: Browser) -> None:
+def addresses(pages: Pages, browser: Browser) -> None:
     """Each step is soon in the address, and leads back; a hundred at once are one."""
     path = pages.write(RING)
     browser.open(path)
@@ -164,7 +165,7 @@ def addresses(pages: Any, browser: Browser) -> None:
     pages.expect("an address that is typed", waited(browser, "2", "entry"), "2")
 
 
-def pinches(pages: Any, browser: Browser) -> None:
+def pinches(pages: Pages, browser: Browser) -> None:
     """Two fingers bring the drawing nearer where they are, and move it; one finger moves it then."""
     browser.window(390, 844)
     browser.fingers(True)
@@ -240,7 +241,7 @@ SUITED = {
 }
 
 
-def tells(pages: Any, browser: Browser) -> None:
+def tells(pages: Pages, browser: Browser) -> None:
     """A node and an edge under the mouse, picked by a click, by keys or by number, tell what they hold."""
     browser.open(pages.write(RING))
     browser.key("End", "End", 35)
@@ -317,7 +318,7 @@ def saved(folder: str, name: str, seconds: float = 20) -> bytes:
         return file.read()
 
 
-def saves(pages: Any, browser: Browser) -> None:
+def saves(pages: Pages, browser: Browser) -> None:
     """The picture is saved as an SVG file that needs no page, with all names, and as a PNG that is finer than the
     page."""
     browser.save_into(pages.folder)
@@ -362,18 +363,18 @@ YES = """#!/usr/bin/env bash
 cat > /dev/null
 printf 'accepted: 1 entries, 1 epochs, 0 moves\\n'
 """
+# Texts that would run as scripts, or ask for much, each with the line at which it is no transcript.
 HOSTILE = [
-    b"</script><script>document.title = 'ran'</script>\n",
-    b"matching hh 2\n1 show 1 = <img src=x onerror=\"document.title = 'ran'\">\n",
-    b"matching hh 2\n1 link 1 2 = ok\n<!--<script>\n",
-    b"matching hh 65535\n1 link 1 65535 = ok\n2 step 1 = 1:marry>65535\n",
-    b"matching2 hh 3\nbase 99999999 spent=0 nodes=3 edges=9999999999\nnode 1 - 0\n",
-    b"{{policy}}{{script}}\n",
+    (b"</script><script>document.title = 'ran'</script>\n", 1),
+    (b"matching hh 2\n1 show 1 = <img src=x onerror=\"document.title = 'ran'\">\n", 2),
+    (b"matching hh 2\n1 link 1 2 = ok\n<!--<script>\n", 3),
+    (b"matching hh 65535\n1 link 1 65535 = ok\n2 step 1 = 1:marry>65535\n", 3),
+    (b"matching2 hh 3\nbase 99999999 spent=0 nodes=3 edges=9999999999\nnode 1 - 0\n", 4),
+    (b"{{policy}}{{script}}\n", 1),
 ]
-WRONG_LINES = [1, 2, 3, 3, 4, 1]
 
 
-def judges(pages: Any, browser: Browser) -> None:
+def judges(pages: Pages, browser: Browser) -> None:
     """The foot of a page names its judge; text that a false judge lets in runs nothing, and is told to be no
     transcript."""
     named = os.path.join(pages.folder, "judge")
@@ -398,7 +399,7 @@ def judges(pages: Any, browser: Browser) -> None:
     with open(false, "w", encoding="ascii") as file:
         file.write(YES)
     os.chmod(false, stat.S_IRWXU)
-    for text, line in zip(HOSTILE, WRONG_LINES, strict=True):
+    for text, line in HOSTILE:
         browser.open(pages.write(text, false))
         said = [browser.ask("title"), browser.ask("text", "#title"), browser.ask("count", "img, script")]
         pages.expect(
@@ -427,7 +428,7 @@ def judges(pages: Any, browser: Browser) -> None:
         )
 
 
-def use(pages: Any, browser: Browser) -> None:
+def use(pages: Pages, browser: Browser) -> None:
     """All of it; where one part breaks off, the others go on."""
     for part in [fills, titles, long_one, phone, addresses, pinches, tells, saves, judges]:
         try:

@@ -10,6 +10,7 @@ from typing import Any, Sequence
 
 from browser import Browser, PageFault
 from page_hands import saved, waited
+from page_runs import Pages
 
 TOP = os.path.dirname(os.path.dirname(os.path.abspath(__file__)))
 PLAYGROUND = f"{TOP}/release/playground.html"
@@ -93,7 +94,7 @@ def transcript(browser: Browser) -> bytes:
     return text.encode()
 
 
-def agrees(pages: Any, browser: Browser, name: str, rules: str = "hh") -> None:
+def agrees(pages: Pages, browser: Browser, name: str, rules: str = "hh") -> None:
     """The transcript is accepted, the script makes it, and what is drawn is what the program says of it."""
     written = transcript(browser)
     verdict = pages.run([pages.program, "audit"], written)
@@ -112,7 +113,7 @@ def agrees(pages: Any, browser: Browser, name: str, rules: str = "hh") -> None:
     )
 
 
-def opens(pages: Any, browser: Browser) -> None:
+def opens(pages: Pages, browser: Browser) -> None:
     """Who opens the page sees a network that runs or has settled within a second, is told what to do, and sees it
     mend."""
     begin(browser)
@@ -135,7 +136,7 @@ def opens(pages: Any, browser: Browser) -> None:
     pages.expect("what the page complains of", browser.complaints, [])
 
 
-def acts(pages: Any, browser: Browser) -> None:
+def acts(pages: Pages, browser: Browser) -> None:
     """Each act by the mouse is a line of the script; all that comes of it is what the program says."""
     fresh(browser)
     before = browser.ask("attribute", "[data-node='2']", "transform")
@@ -162,9 +163,7 @@ def acts(pages: Any, browser: Browser) -> None:
     x, y, _ = browser.ask("emptyPlace")
     browser.click(x, y)
     pages.expect("a node joins", last_act(browser, "join 7"), "join 7")
-    pages.expect(
-        "where the click was", [abs(a - b) < 3 for a, b in zip(node(browser, 7), (x, y), strict=True)], [True, True]
-    )
+    pages.expect("where the click was", [abs(a - b) < 3 for a, b in zip(node(browser, 7), (x, y))], [True, True])
     browser.click(*node(browser, 4))
     pages.expect("a node leaves", last_act(browser, "leave 4"), "leave 4")
     browser.click(*place(browser, "#scramble"))
@@ -177,7 +176,7 @@ def acts(pages: Any, browser: Browser) -> None:
     pages.expect("complaints of acts", browser.complaints, [])
 
 
-def moves(pages: Any, browser: Browser) -> None:
+def moves(pages: Pages, browser: Browser) -> None:
     """Who moves is chosen by a hand, by a seeded daemon, or is all that may."""
     fresh(browser, rules="manne", nodes=8)
     tool(browser, "flag")
@@ -221,7 +220,7 @@ def moves(pages: Any, browser: Browser) -> None:
     pages.expect("complaints of moves", browser.complaints, [])
 
 
-def networks(pages: Any, browser: Browser) -> None:
+def networks(pages: Pages, browser: Browser) -> None:
     """Each network begins, settles and is what the program makes of its script; two rule sets stand side by side,
     disturbed alike."""
     for kind in ["ring", "path", "grid", "star", "disk", "random", "racks", "mesh"]:
@@ -266,7 +265,7 @@ def typed(browser: Browser, text: str) -> None:
     browser.call("Input.insertText", text=text)
 
 
-def texts(pages: Any, browser: Browser) -> None:
+def texts(pages: Pages, browser: Browser) -> None:
     """The script is edited and played, the transcript is edited and judged; both are saved, and what is saved is
     accepted."""
     browser.save_into(pages.folder)
@@ -337,7 +336,7 @@ HOSTILE = [
 ]
 
 
-def drops(pages: Any, browser: Browser) -> None:
+def drops(pages: Pages, browser: Browser) -> None:
     """A transcript that is dropped is judged and played; a refused one shows its first wrong line, and runs nothing."""
     fresh(browser)
     path = os.path.join(pages.folder, "dropped.transcript")
@@ -387,7 +386,7 @@ def drops(pages: Any, browser: Browser) -> None:
     pages.expect("complaints of dropping", browser.complaints, [])
 
 
-def addresses(pages: Any, browser: Browser) -> None:
+def addresses(pages: Pages, browser: Browser) -> None:
     """A script in the address is played; one that is hostile is told of, and runs nothing."""
     begin(browser, "#script=link+1+2;link+2+3;drive+7+100&rules=manne&nodes=4&present=3")
     waited(browser, "✓ stable, 1 pair", "text", ".state")
@@ -424,7 +423,7 @@ def addresses(pages: Any, browser: Browser) -> None:
     pages.expect("complaints of addresses", browser.complaints, [])
 
 
-def fingers(pages: Any, browser: Browser) -> None:
+def fingers(pages: Pages, browser: Browser) -> None:
     """On a phone, in the dark: a finger cuts, drags and draws, and nothing is wider than the window."""
     browser.window(390, 844, True)
     browser.fingers(True)
@@ -461,7 +460,7 @@ def fingers(pages: Any, browser: Browser) -> None:
     pages.expect("complaints of fingers", browser.complaints, [])
 
 
-def keys(pages: Any, browser: Browser) -> None:
+def keys(pages: Pages, browser: Browser) -> None:
     """All of it goes by keys alone."""
     fresh(browser, "ring", 6)
     browser.ask("focus", ".graph")
@@ -511,7 +510,7 @@ def keys(pages: Any, browser: Browser) -> None:
     pages.expect("complaints of keys", browser.complaints, [])
 
 
-def many(pages: Any, browser: Browser) -> None:
+def many(pages: Pages, browser: Browser) -> None:
     """500 nodes run at 30 pictures a second at least, in the best of three tries. If other programs keep the processors
     busy that is skipped, and above half of it too, since a slower machine draws fewer."""
     best, shown = 0, 0
@@ -536,7 +535,7 @@ def many(pages: Any, browser: Browser) -> None:
     pages.expect("complaints of 500 nodes", browser.complaints, [])
 
 
-def without(pages: Any, browser: Browser) -> None:
+def without(pages: Pages, browser: Browser) -> None:
     """A browser without 64-bit memory gets one sentence, and plays transcripts."""
     script = browser.before_pages("WebAssembly.validate = () => false;")
     browser.open(PLAYGROUND)
@@ -550,7 +549,7 @@ def without(pages: Any, browser: Browser) -> None:
     pages.expect("complaints without the engine", browser.complaints, [])
 
 
-def use(pages: Any, browser: Browser) -> None:
+def use(pages: Pages, browser: Browser) -> None:
     """All of it; where one part breaks off, the others go on."""
     for part in [opens, acts, moves, networks, texts, drops, addresses, fingers, keys, many, without]:
         try:

@@ -6,10 +6,10 @@ from __future__ import annotations
 import os
 import time
 import xml.etree.ElementTree as ElementTree
-from typing import Any
 
 from browser import Browser, PageFault
 from page_hands import SVG, colours_of, saved, waited
+from page_runs import Pages
 from page_lab import (
     PLAYGROUND,
     TITLE,
@@ -59,14 +59,14 @@ NO_GRAPHS = [
 ]
 
 
-def write(pages: Any, name: str, text: str) -> str:
+def write(pages: Pages, name: str, text: str) -> str:
     path = os.path.join(pages.folder, name)
     with open(path, "w", encoding="utf-8") as file:
         file.write(text)
     return path
 
 
-def addresses(pages: Any, browser: Browser) -> None:
+def addresses(pages: Pages, browser: Browser) -> None:
     """A link that names a node which is not there opens all the same, and sets the selectors; the page writes such
     links itself."""
     begin(browser, "#script=link+1+2;link+2+9;drive+3+9&nodes=4&rules=manne")
@@ -93,7 +93,7 @@ def addresses(pages: Any, browser: Browser) -> None:
     pages.expect("complaints of links", browser.complaints, [])
 
 
-def full(pages: Any, browser: Browser) -> None:
+def full(pages: Pages, browser: Browser) -> None:
     """A script that would fill the log is told of at once, by its line, where it was given; what was there stays."""
     lines = "".join(f"scramble {k} 1000000\n" for k in range(1, 18))
     fresh(browser, "path", 4)
@@ -116,7 +116,7 @@ def full(pages: Any, browser: Browser) -> None:
     pages.expect("complaints of full logs", browser.complaints, [])
 
 
-def keys(pages: Any, browser: Browser) -> None:
+def keys(pages: Pages, browser: Browser) -> None:
     """The key for links is no error after a node left, and where nothing was chosen."""
     fresh(browser, "ring", 6)
     browser.ask("focus", ".graph")
@@ -131,7 +131,7 @@ def keys(pages: Any, browser: Browser) -> None:
     pages.expect("complaints of the key", browser.complaints, [])
 
 
-def looks(pages: Any, browser: Browser) -> None:
+def looks(pages: Pages, browser: Browser) -> None:
     """Nothing is wider than a window of 200 pixels; all pictures have names; the page says its name and leads to the
     project."""
     browser.window(200, 500)
@@ -167,7 +167,7 @@ def looks(pages: Any, browser: Browser) -> None:
     pages.expect("complaints of looks", browser.complaints, [])
 
 
-def sizes(pages: Any, browser: Browser) -> None:
+def sizes(pages: Pages, browser: Browser) -> None:
     """More nodes than the page makes are told of, and a star of 500 can be seen."""
     begin(browser)
     browser.ask("choose", "#preset", "star")
@@ -182,7 +182,7 @@ def sizes(pages: Any, browser: Browser) -> None:
     pages.expect("complaints of sizes", browser.complaints, [])
 
 
-def calm(pages: Any, browser: Browser) -> None:
+def calm(pages: Pages, browser: Browser) -> None:
     """Who wants little motion sees none that was not asked for."""
     reduced = {"name": "prefers-reduced-motion", "value": "reduce"}
     browser.call("Emulation.setEmulatedMedia", features=[reduced])
@@ -197,7 +197,7 @@ def calm(pages: Any, browser: Browser) -> None:
     pages.expect("complaints of calm", browser.complaints, [])
 
 
-def opens(pages: Any, browser: Browser) -> None:
+def opens(pages: Pages, browser: Browser) -> None:
     """What the page saves it opens: a script comes back to the same transcript; graph files become networks; all
     others are refused."""
     browser.save_into(pages.folder)
@@ -249,7 +249,7 @@ def opens(pages: Any, browser: Browser) -> None:
     pages.expect("complaints of opening", browser.complaints, [])
 
 
-def reloads(pages: Any, browser: Browser) -> None:
+def reloads(pages: Pages, browser: Browser) -> None:
     """A reload brings back what stood there, a played transcript too; leaving more than a minute of unsaved work
     asks."""
     fresh(browser, "ring", 8, "both", 5)
@@ -274,9 +274,7 @@ def reloads(pages: Any, browser: Browser) -> None:
         browser.ask("lab", "graph-manne"),
         node(browser, 5),
     ]
-    pages.expect(
-        "a reload brings it back", [one == other for one, other in zip(before, after, strict=True)], [True] * 4
-    )
+    pages.expect("a reload brings it back", [one == other for one, other in zip(before, after)], [True] * 4)
     shown = [browser.ask("value", f"#{name}") for name in ("preset", "size", "seed", "rules")]
     pages.expect("and its selectors", shown, ["ring", "8", "5", "both"])
     browser.click(*edge(browser, 5, 6))
@@ -317,7 +315,7 @@ def reloads(pages: Any, browser: Browser) -> None:
     pages.expect("complaints of reloads", browser.complaints, [])
 
 
-def redoes(pages: Any, browser: Browser) -> None:
+def redoes(pages: Pages, browser: Browser) -> None:
     """What was taken back is done again, line for line, until another act comes between."""
     fresh(browser, "grid", 9)
     pages.expect("nothing to do again", browser.ask("isDisabled", "#redo"), True)
@@ -352,7 +350,7 @@ def redoes(pages: Any, browser: Browser) -> None:
     pages.expect("complaints of redo", browser.complaints, [])
 
 
-def wrongs(pages: Any, browser: Browser) -> None:
+def wrongs(pages: Pages, browser: Browser) -> None:
     """A script that is bad is told where it stands, with its line marked; on a phone too."""
     for width, height in [(1280, 900), (360, 740)]:
         browser.window(width, height)
@@ -374,7 +372,7 @@ def wrongs(pages: Any, browser: Browser) -> None:
     pages.expect("complaints of bad scripts", browser.complaints, [])
 
 
-def pictures(pages: Any, browser: Browser) -> None:
+def pictures(pages: Pages, browser: Browser) -> None:
     """The playground's picture is saved as SVG and PNG, with all names and the heads of arrows."""
     browser.save_into(pages.folder)
     fresh(browser, "path", 5)
@@ -390,7 +388,7 @@ def pictures(pages: Any, browser: Browser) -> None:
     pages.expect("complaints of pictures", browser.complaints, [])
 
 
-def use(pages: Any, browser: Browser) -> None:
+def use(pages: Pages, browser: Browser) -> None:
     """All of it; where one part breaks off, the others go on."""
     for part in [addresses, full, keys, looks, sizes, calm, opens, reloads, redoes, wrongs, pictures]:
         try:

@@ -41,7 +41,8 @@ class Fixed(Dict[Key, Value]):
     def refuse(self, *_: object, **__: object) -> NoReturn:
         raise TypeError("a reply does not change")
 
-    __setitem__ = __delitem__ = clear = pop = popitem = setdefault = update = __ior__ = refuse  # type: ignore[assignment]
+    __setitem__ = __delitem__ = __ior__ = refuse  # type: ignore[assignment]
+    clear = pop = popitem = setdefault = update = refuse  # type: ignore[assignment]
 
     def __reduce__(self) -> tuple[type[Fixed[Key, Value]], tuple[dict[Key, Value]]]:
         return type(self), (dict(self),)

@@ -109,7 +109,10 @@ def why_unknown(word: str) -> str:
     near = difflib.get_close_matches(word.lower(), COMMANDS, 1)
     meant = MEANT.get(word.lower()) or (near[0] if near else "")
     if NUMERAL.fullmatch(word):
-        return "the line begins with a number, as those of a transcript: a script has the text between the number and ` = `"
+        return (
+            "the line begins with a number, as those of a transcript: "
+            "a script has the text between the number and ` = `"
+        )
     return f"`{word[:40]}` is no command" + (
         f": `{meant}` may be meant" if meant else f": they are {', '.join(COMMANDS)}"
     )

@@ -1,5 +1,7 @@
 """What the tests of the client share: a limit of time, programs of their own, and commands and replies as texts."""
 
+from __future__ import annotations
+
 import concurrent.futures
 import contextlib
 import glob
@@ -12,27 +14,36 @@ import tempfile
 import threading
 import time
 import unittest
+from typing import Any, Callable, Container, TypeVar, Union
 from unittest import mock
 
-from rudekpi import Accepted, Base, Enabled, Fault, Matching, Moves, Refused, Shown, Status, Wish
+from rudekpi import Accepted, Base, Enabled, Fault, Matching, Moves, Network, Refused, Shown, Status, Wish
+from rudekpi.batch import Batch
+from rudekpi.direct import Direct
+from rudekpi.replies import Name
+from rudekpi.session import Session
+
+Reply = TypeVar("Reply")
 
 TOP = os.path.dirname(os.path.dirname(os.path.dirname(os.path.abspath(__file__))))
 
 
 class Timed(unittest.TestCase):
-    """A test that fails where it takes longer than its seconds, so that a deadlock is a failure. It goes by an engine: tests/client makes
-    of each class one by each of its engines."""
+    """A test that fails if it takes longer than its seconds, so that a deadlock is a failure.
+
+    It goes by an engine: tests/client makes of each class one by each of its engines.
+    """
 
     seconds = 60
-    engines = ("program", "library")
+    engines: tuple[str, ...] = ("program", "library")
     engine = "program"
 
-    def setUp(self):
+    def setUp(self) -> None:
         chosen = mock.patch.dict(os.environ, RUDEKPI_ENGINE=self.engine)
         chosen.start()
         self.addCleanup(chosen.stop)
 
-        def stop(*_):
+        def stop(*_: object) -> None:
             raise AssertionError(f"no end after {self.seconds} seconds")
 
         before = signal.signal(signal.SIGALRM, stop)
@@ -41,12 +52,12 @@ class Timed(unittest.TestCase):
         signal.setitimer(signal.ITIMER_REAL, self.seconds, 1)
         self.addCleanup(signal.setitimer, signal.ITIMER_REAL, 0)
 
-    def folder(self):
+    def folder(self) -> str:
         made = tempfile.TemporaryDirectory()
         self.addCleanup(made.cleanup)
         return made.name
 
-    def program(self, text, name="program"):
+    def program(self, text: str, name: str = "program") -> str:
         """A program of the test's own: a shell script, or one in Python where it begins so."""
         path = os.path.join(self.folder(), name)
         first = f"#!{sys.executable}\n" if text.startswith("import ") else "#!/bin/sh\n"
@@ -55,9 +66,11 @@ class Timed(unittest.TestCase):
         os.chmod(path, os.stat(path).st_mode | stat.S_IXUSR)
         return path
 
-    def expect_end_by_interrupt(self, script, marks, count):
-        """Runs a script in Python until it has made so many files of such names; Ctrl-C, as a terminal sends it to all its processes, then ends
-        them all. What it told on standard error."""
+    def expect_end_by_interrupt(self, script: str, marks: str, count: int) -> str:
+        """Runs a script in Python until it has made `count` files whose names fit `marks`, then ends it by Ctrl-C.
+
+        All its processes get that, as from a terminal, and end. Returns what it told on standard error.
+        """
         folder = self.folder()
         with open(os.path.join(folder, "script.py"), "w") as file:
             file.write(script)
@@ -65,6 +78,7 @@ class Timed(unittest.TestCase):
         run = subprocess.Popen(
             [sys.executable, file.name], env=paths, cwd=folder, stderr=subprocess.PIPE, start_new_session=True
         )
+        assert run.stderr is not None
         self.addCleanup(run.stderr.close)
         self.addCleanup(end_group, run.pid)
         while run.poll() is None and len(glob.glob(os.path.join(folder, marks))) < count:
@@ -78,13 +92,13 @@ class Timed(unittest.TestCase):
         return said
 
 
-def children():
+def children() -> list[int]:
     """The processes that this thread has started, ended ones that nobody has waited for among them."""
     with open(f"/proc/self/task/{threading.get_native_id()}/children") as file:
         return [int(word) for word in file.read().split()]
 
 
-def is_group(group):
+def is_group(group: int) -> bool:
     """Whether there is a process of this group."""
     try:
         os.killpg(group, 0)
@@ -93,22 +107,24 @@ def is_group(group):
     return True
 
 
-def end_group(group):
+def end_group(group: int) -> None:
     with contextlib.suppress(ProcessLookupError):
         os.killpg(group, signal.SIGKILL)
 
 
 class Losing(concurrent.futures.Executor):
-    """Does each task at once, and loses those results of which the numbers are among the ones that are said, as distributed does where a
-    worker dies while it hands a result over."""
+    """Does each task at once, and loses the results whose numbers, from 1, are in `lost`.
 
-    def __init__(self, lost=(1,)):
+    Distributed loses one like that if a worker dies while it hands a result over.
+    """
+
+    def __init__(self, lost: Container[int] = (1,)) -> None:
         self.asked, self.lost = 0, lost
 
-    def submit(self, task, *words):
-        future = concurrent.futures.Future()
+    def submit(self, task: Callable[..., Any], *words: Any) -> concurrent.futures.Future[Any]:  # type: ignore[override]
+        future: concurrent.futures.Future[Any] = concurrent.futures.Future()
 
-        def _cascade_future(result):
+        def _cascade_future(result: Any) -> None:
             try:
                 kind, error, trace = result
                 raise error.with_traceback(trace)
@@ -128,17 +144,21 @@ class Losing(concurrent.futures.Executor):
         return future
 
 
-def has_ended(net):
+def session_of(net: Network) -> Session:
+    """The session of a network that a program plays."""
+    assert isinstance(net._session, Session)
+    return net._session
+
+
+def has_ended(net: Network) -> bool:
     """Whether the run behind a network has ended well, and holds nothing any more."""
     session = net._session
-    return (
-        not session.slot.full
-        if net.engine == "library"
-        else session.talk.ended is not None and session.talk.run.has_status()
-    )
+    if isinstance(session, Direct):
+        return not session.slot.full
+    return session.talk.ended is not None and session.talk.run.has_status()
 
 
-def play(player, line, name=int):
+def play(player: Union[Network, Batch], line: str, name: Callable[[str], Name] = int) -> Any:
     """Gives a network, or a batch, the command of a script's line, with a function from a number's text to a name."""
     word, *rest = line.split(" ")
     if word in ("link", "unlink"):
@@ -163,7 +183,7 @@ def play(player, line, name=int):
     return calls[word]()
 
 
-def told(call):
+def told(call: Callable[[], Reply]) -> Union[Reply, Refused]:
     """What a call answers, or the refusal that it raises."""
     try:
         return call()
@@ -171,8 +191,8 @@ def told(call):
         return refused
 
 
-def spelled(reply, number=str):
-    """The text of a reply in a transcript, of a base that below its head, with a function from a name to its number's text."""
+def spelled(reply: object, number: Callable[[Name], str] = str) -> str:
+    """The text of a reply in a transcript, of a base its lines; `number` makes of a name its number's text."""
     if isinstance(reply, Accepted):
         return "ok"
     if isinstance(reply, Refused):
@@ -198,6 +218,6 @@ def spelled(reply, number=str):
         return "\n".join([*lines, *(f"edge {number(a)} {number(b)}" for a, b in reply.edges)])
     if isinstance(reply, Fault) and reply.register == "pointer":
         return f"point {number(reply.node)} {'-' if reply.value is None else number(reply.value)}"
-    if isinstance(reply, Fault):
+    if isinstance(reply, Fault) and reply.value is not None:
         return f"flag {number(reply.node)} {int(reply.value)}"
     raise AssertionError(f"{reply!r} is no reply")

@@ -24,6 +24,12 @@ from support import Timed, children
 TEXT = "matching hh 2\n1 link 1 2 = ok\n2 enabled = 1:seduce 2:seduce\n3 step 1 = 1:seduce>2\n"
 
 
+def fed(judge: Audit, text: memoryview) -> Summary:
+    """The verdict on a text that is fed as one piece."""
+    judge.feed(text)
+    return judge.finish()
+
+
 class Cut(BaseException):
     """What the interrupts of these tests raise."""
 
@@ -33,6 +39,7 @@ class Given(Timed):
 
     def test_what_is_no_choice(self) -> None:
         with Network("hh", 2) as net:
+            choice: Any
             for choice in (0, "1", b"1", Wish(1, 2), None):
                 with self.subTest(choice), self.assertRaisesRegex(TypeError, "a step is given a list of nodes, as"):
                     net.step(choice)
@@ -67,7 +74,8 @@ class Given(Timed):
         with Network("manne", numpy.array(["ann", "bob"])) as net:
             net.link("ann", "bob")
             self.assertEqual(repr(net.edges), "[('ann', 'bob')]")
-        with Network("manne", numpy.int64(3)) as net:
+        count: Any = numpy.int64(3)
+        with Network("manne", count) as net:
             net.link(numpy.int64(1), numpy.uint8(2))
             self.assertEqual([move.node for move in net.step(numpy.array([1]))], [1])
         with self.assertRaisesRegex(TypeError, r"a node's name is hashable, .* and not \[1, 2\]"):
@@ -104,7 +112,11 @@ class Given(Timed):
             said = []
             for engine in ("program", "library"):
                 with Audit(engine=engine) as judge:
-                    for call in (lambda: audit(view, engine=engine), lambda: [judge.feed(view), judge.finish()][1]):
+                    calls: list[Callable[[], Summary]] = [
+                        lambda: audit(view, engine=engine),
+                        lambda: fed(judge, view),
+                    ]
+                    for call in calls:
                         try:
                             said.append(str(call()))
                         except Exception as error:
@@ -203,11 +215,11 @@ class Children(Timed):
             os.waitpid(child, 0)
             os.close(come)
             with open(go) as file:
-                *said, shown, own = file.read().splitlines()
+                *said, shown, entry = file.read().splitlines()
             words = "the network belongs to another process, of which this one is a child: "
             words += "ask it there, or replay its transcript here"
             self.assertEqual(said, [f"{name}: {words}" for name in calls])
-            self.assertEqual((shown, own), (f"<Network manne, 3 nodes, 1 entry, {words}>", "1"))
+            self.assertEqual((shown, entry), (f"<Network manne, 3 nodes, 1 entry, {words}>", "1"))
             self.assertEqual(net.show(1).entry, 2)
             self.assertEqual(net.edges, [(1, 2)])
         self.assertEqual(net.transcript().count(" = "), 2)

@@ -1,4 +1,6 @@
-"""The cases of tests/*.cases through the client: what is answered, read into its types and spelled again, is what they say."""
+"""The cases of tests/*.cases through the client: each answer, read into its type and spelled again, is theirs."""
+
+from __future__ import annotations
 
 import dataclasses
 import importlib.machinery
@@ -6,48 +8,57 @@ import importlib.util
 import os
 import pathlib
 import re
+import types
 import unittest
+from typing import TYPE_CHECKING, Callable, Iterable, Optional, Sequence
 
 from rudekpi import Damaged, Network, Turns, audit, epochs
+from rudekpi.replies import Name
 from support import TOP, Timed, play, spelled, told
 
+if TYPE_CHECKING:
+    from lib.case_files import Case
 
-def case_files():
+
+def case_files() -> types.ModuleType:
     """tests/run, which reads case files."""
     loader = importlib.machinery.SourceFileLoader("case_files", os.path.join(TOP, "tests", "run"))
-    made = importlib.util.module_from_spec(importlib.util.spec_from_loader("case_files", loader))
+    found = importlib.util.spec_from_loader("case_files", loader)
+    assert found is not None
+    made = importlib.util.module_from_spec(found)
     loader.exec_module(made)
     return made
 
 
-def cases_of(name, word):
+def cases_of(name: str, word: str) -> list[Case]:
     """The cases of a file that give the program this word, of which the whole output is said."""
     found = case_files().read_cases(pathlib.Path(TOP, "tests", name))
     found = [case for case in found if not case.table and case.words[0] == word.encode()]
     return [case for case in found if not case.broken and case.out.is_exact()]
 
 
-def text_of(blocks):
+def text_of(blocks: Iterable[tuple[int, bytes]]) -> str:
     return b"".join(block * times for times, block in blocks).decode()
 
 
-def entries_of(transcript):
-    """The events and replies below the header of a transcript; a base answers `checkpoint`, by the lines below its head."""
-    entries = []
+def entries_of(transcript: str) -> list[tuple[str, str]]:
+    """The events and replies below the header of a transcript; a base's lines are the reply to `checkpoint`."""
+    entries: list[tuple[str, str]] = []
     for line in transcript.splitlines()[1:]:
         if line.startswith("base "):
             entries.append(("checkpoint", line))
         elif line.startswith(("node ", "edge ")):
             entries[-1] = ("checkpoint", entries[-1][1] + "\n" + line)
         elif not line.startswith("matching2 "):
-            entries.append(tuple(line.split(" ", 1)[1].split(" = ")))
+            event, said = line.split(" ", 1)[1].split(" = ")
+            entries.append((event, said))
     return entries
 
 
 class Rows(Timed):
     """The worked examples, and the turns of daemons and injectors."""
 
-    def setUp(self):
+    def setUp(self) -> None:
         super().setUp()
         worked, turns, joins = (cases_of(f"{name}.cases", "run") for name in ("worked_examples", "turns", "joins"))
         self.cases = [case for case in worked + turns + joins if case.status == 0]
@@ -56,12 +67,15 @@ class Rows(Timed):
         self.assertGreater(len(turns), 5)
         self.assertGreater(len([case for case in joins if case.status == 0]), 5)
 
-    def run_of(self, case):
+    def run_of(self, case: Case) -> tuple[str, int, Optional[int], list[str], str]:
+        assert case.words is not None
         _, _, rules, _, nodes, *rest = (word.decode() for word in case.words)
         present = int(rest[1]) if rest else None
         return rules, int(nodes), present, text_of(case.blocks).splitlines(), text_of(case.out.blocks)
 
-    def expect(self, lines, replies, wanted, number=str):
+    def expect(
+        self, lines: Sequence[str], replies: Iterable[object], wanted: str, number: Callable[[Name], str] = str
+    ) -> None:
         """The replies to a script's lines are those that the wanted transcript has."""
         left = entries_of(wanted)
         for line, reply in zip(lines, replies):
@@ -76,7 +90,7 @@ class Rows(Timed):
                 self.assertEqual((line, spelled(reply, number)), (event, said))
         self.assertEqual(left, [])
 
-    def test_one_by_one(self):
+    def test_one_by_one(self) -> None:
         for case in self.cases:
             rules, nodes, present, lines, wanted = self.run_of(case)
             with self.subTest(case.name), Network(rules, nodes, present=present) as net:
@@ -85,7 +99,7 @@ class Rows(Timed):
                 if not any(isinstance(reply, Turns) for reply in replies):
                     self.assertEqual(net.transcript(), wanted)
 
-    def test_in_a_batch(self):
+    def test_in_a_batch(self) -> None:
         for case in self.cases:
             rules, nodes, present, lines, wanted = self.run_of(case)
             with self.subTest(case.name), Network(rules, nodes, present=present) as net:
@@ -97,7 +111,7 @@ class Rows(Timed):
                     refused, [f"{event} = {said}" for event, said in entries_of(wanted) if said.startswith("refused ")]
                 )
 
-    def test_with_names_of_the_callers_own(self):
+    def test_with_names_of_the_callers_own(self) -> None:
         played = 0
         for case in self.cases:
             rules, nodes, present, lines, wanted = self.run_of(case)
@@ -110,7 +124,7 @@ class Rows(Timed):
                 self.expect(lines, replies, wanted, lambda name: str(name[1]))
         self.assertGreater(played, 20)
 
-    def test_the_verdicts_of_the_rows(self):
+    def test_the_verdicts_of_the_rows(self) -> None:
         for case in self.cases:
             if case.verdict:
                 with self.subTest(case.name):
@@ -137,7 +151,7 @@ def by_nodes(text: str, table: str) -> str:
 class Judged(Timed):
     """Transcripts, right and damaged."""
 
-    def test_verdicts(self):
+    def test_verdicts(self) -> None:
         kinds = set()
         for case in cases_of("verdicts.cases", "audit"):
             wanted = text_of(case.out.blocks)
@@ -151,7 +165,7 @@ class Judged(Timed):
                 self.assertEqual(said, wanted)
         self.assertEqual(kinds, {"accepted:", "line"})
 
-    def test_epochs(self):
+    def test_epochs(self) -> None:
         kinds = set()
         for case in cases_of("epochs.cases", "epochs"):
             text = text_of(case.blocks)

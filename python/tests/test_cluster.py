@@ -1,5 +1,7 @@
-"""Sweeps and audits on a cluster: a scheduler of Dask and two workers as processes of this machine, one of them killed in the
-middle. Skipped where distributed is not there."""
+"""Sweeps and audits on a cluster: a scheduler of Dask and two workers as processes of this machine, one of them killed
+in the middle. Skipped where distributed is not there."""
+
+from __future__ import annotations
 
 import importlib.util
 import logging
@@ -10,13 +12,15 @@ import subprocess
 import sys
 import time
 import unittest
+from typing import Any, Iterable
 
 from rudekpi import Damaged, Network, audit, graphs
 from rudekpi.parts import audit_parts
-from rudekpi.sweeps import sweep
+from rudekpi.sweeps import Row, sweep
 from support import TOP, Timed
 
-# nobody waits for a worker that is dead for as long as for one far away; set before distributed reads it, here and in the processes
+# so that nobody waits for a dead worker as long as for one far away; set before distributed reads it, here and in
+# the processes
 os.environ["DASK_DISTRIBUTED__COMM__TIMEOUTS__CONNECT"] = "5s"
 HAS_DISTRIBUTED = importlib.util.find_spec("distributed") is not None
 
@@ -25,7 +29,7 @@ HAS_DISTRIBUTED = importlib.util.find_spec("distributed") is not None
 class Cluster(Timed):
     seconds = 120
 
-    def start(self, module, *words):
+    def start(self, module: str, *words: str) -> subprocess.Popen[bytes]:
         folder = os.path.join(TOP, "python")
         run = subprocess.Popen(
             [sys.executable, "-m", module, *words],
@@ -38,7 +42,7 @@ class Cluster(Timed):
         self.addCleanup(run.kill)
         return run
 
-    def setUp(self):
+    def setUp(self) -> None:
         super().setUp()
         import distributed
 
@@ -61,14 +65,15 @@ class Cluster(Timed):
         last = time.monotonic() + 60
         while not os.path.exists(self.file) and time.monotonic() < last:
             time.sleep(0.05)
-        self.client = distributed.Client(scheduler_file=self.file, set_as_default=False, timeout=60)
+        client_of: Any = distributed.Client
+        self.client = client_of(scheduler_file=self.file, set_as_default=False, timeout=60)
         self.addCleanup(self.client.close)
         self.client.wait_for_workers(2, timeout=60)
 
-    def test_the_same_rows_where_a_worker_dies(self):
+    def test_the_same_rows_where_a_worker_dies(self) -> None:
         words = ([graphs.grid(6, 6)], ["hh", "manne"], ["seeded", "least"], range(20), [0, 30])
 
-        def named(rows):
+        def named(rows: Iterable[Row]) -> list[str]:
             return sorted(str(vars(row) | {"seconds": 0}) for row in rows)
 
         wanted, made = named(sweep(*words)), []
@@ -80,7 +85,7 @@ class Cluster(Timed):
         self.assertIsNotNone(self.workers[0].wait(20))
         self.assertIsNone(self.workers[1].poll())
 
-    def test_the_same_verdict_where_a_worker_dies(self):
+    def test_the_same_verdict_where_a_worker_dies(self) -> None:
         with Network("hh", 30) as net:
             with net.batch() as batch:
                 for node in range(1, 30):
@@ -99,7 +104,7 @@ class Cluster(Timed):
         os.kill(self.workers[1].pid, signal.SIGKILL)
         self.assertEqual(audit_parts(text, executor, size=500), audit(text))
 
-    def test_a_file_that_has_changed_is_judged_again(self):
+    def test_a_file_that_has_changed_is_judged_again(self) -> None:
         # distributed gives what is called with the same words the answer that it has, while somebody holds that
         path, executor = pathlib.Path(self.folder(), "transcript"), self.client.get_executor()
         path.write_text("matching hh 2\n1 link 1 2 = no\n")
@@ -111,7 +116,7 @@ class Cluster(Timed):
         self.assertEqual(audit_parts(path, executor, shared=True).entries, 1)
         self.assertEqual(held.line, 2)
 
-    def test_by_the_command_line(self):
+    def test_by_the_command_line(self) -> None:
         import json
 
         with open(self.file) as file:
@@ -124,8 +129,10 @@ class Cluster(Timed):
 
 
 class WithoutDistributed(Timed):
-    def test_it_is_told(self):
-        hides = "import sys; sys.modules['distributed'] = None; import rudekpi.__main__ as it; sys.exit(it.main(['sweep', '--graph', 'ring:5', '--dask', 'tcp://127.0.0.1:1']))"
+    def test_it_is_told(self) -> None:
+        words = ["sweep", "--graph", "ring:5", "--dask", "tcp://127.0.0.1:1"]
+        hides = "import sys; sys.modules['distributed'] = None; import rudekpi.__main__ as it; "
+        hides += f"sys.exit(it.main({words}))"
         done = subprocess.run(
             [sys.executable, "-c", hides],
             env=dict(os.environ, PYTHONPATH=os.path.join(TOP, "python")),

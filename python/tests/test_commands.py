@@ -1,4 +1,6 @@
-"""The command line of the package: the bench's commands, and the program's that are handed on; why lines are no commands."""
+"""The command line of the package: its own commands, the program's, which it hands on; why lines are no commands."""
+
+from __future__ import annotations
 
 import json
 import os
@@ -24,22 +26,21 @@ except ImportError:
 PAIR = "link 1 2\nenabled\nstep 1\nenabled\nstep 2\nmatching\nstatus\n"
 
 
-def environment(**more):
+def environment(**more: str) -> dict[str, str]:
     return dict(os.environ, PYTHONPATH=os.path.join(TOP, "python"), **more)
 
 
-def rudekpi(*words, given="", **more):
+def rudekpi(*words: str, given: str = "") -> subprocess.CompletedProcess[str]:
     return subprocess.run(
         [sys.executable, "-m", "rudekpi", *words],
         input=given,
         env=environment(),
         capture_output=True,
         text=True,
-        **more,
     )
 
 
-def said(*words, given=""):
+def said(*words: str, given: str = "") -> str:
     """What the command line writes to standard output, where it ends well."""
     done = rudekpi(*words, given=given)
     if done.returncode:
@@ -47,14 +48,14 @@ def said(*words, given=""):
     return done.stdout
 
 
-def rudekpi_version():
+def rudekpi_version() -> str:
     """The version of the release, which the program itself tells."""
     told = subprocess.run([os.environ["RUDEKPI_CONSOLE"], "--version"], capture_output=True, text=True, check=True)
     return told.stdout.split()[1]
 
 
 class HandedOn(Timed):
-    def test_what_the_program_does(self):
+    def test_what_the_program_does(self) -> None:
         text = pathlib.Path(TOP, "examples", "pair.transcript").read_text()
         self.assertEqual(
             said(
@@ -87,7 +88,7 @@ class HandedOn(Timed):
         self.assertEqual(said("help", "worst"), said("worst", "--help"))
         self.assertEqual(said("help", "run"), said("run", "--help"))
 
-    def test_without_words_and_without_a_program(self):
+    def test_without_words_and_without_a_program(self) -> None:
         done = rudekpi()
         self.assertEqual((done.returncode, done.stdout), (2, ""))
         self.assertIn("sweep, compare, worst, check, shell, json", done.stderr)
@@ -105,9 +106,9 @@ class HandedOn(Timed):
 
 
 class Streams(Timed):
-    """Standard streams and files that can't be read or written: one line on standard error that names what fails, as the program's."""
+    """Standard streams and files that can't be read or written: one line on standard error names what fails."""
 
-    def told(self, words, status=3):
+    def told(self, words: str, status: int = 3) -> str:
         """What is told where the shell gives these streams, nothing else, and with this status."""
         path = os.path.join(self.folder(), "script")
         pathlib.Path(path).write_text(PAIR)
@@ -119,7 +120,7 @@ class Streams(Timed):
         self.assertEqual(len(lines), 1, done.stderr)
         return lines[0]
 
-    def test_output_that_is_closed_or_full(self):
+    def test_output_that_is_closed_or_full(self) -> None:
         for words in ("worst --graph path:4", "check SCRIPT", "shell --nodes 3 < SCRIPT", "help", "--version"):
             with self.subTest(words):
                 self.assertEqual(self.told(f"{words} >&-"), "! write failed: Bad file descriptor")
@@ -129,26 +130,27 @@ class Streams(Timed):
             with self.subTest(words):
                 self.assertEqual(self.told(f"{words} >&-"), "! write failed: Bad file descriptor")
 
-    def test_files_that_can_not_be_written(self):
+    def test_files_that_can_not_be_written(self) -> None:
         for words in ("worst --graph path:4 --output", "sweep --graph path:4 --csv", "compare --graph path:4 --csv"):
             with self.subTest(words):
                 self.assertEqual(self.told(f"{words} /dev/full"), "! /dev/full: No space left on device")
                 self.assertEqual(self.told(f"{words} /none/file"), "! /none/file: No such file or directory")
 
-    def test_input_that_is_closed_or_no_file(self):
+    def test_input_that_is_closed_or_no_file(self) -> None:
         for words in ("check", "json", "shell --nodes 3"):
             with self.subTest(words):
                 self.assertEqual(self.told(f"{words} <&-"), "! read failed: Bad file descriptor")
         self.assertEqual(self.told("check /"), "! /: Is a directory")
         self.assertEqual(self.told("json /none"), "! /none: No such file or directory")
 
-    def test_a_reader_that_goes(self):
-        line = f"{sys.executable} -m rudekpi sweep --graph path:4 --seeds 300 --processes 1 | head -1; exit ${{PIPESTATUS[0]}}"
+    def test_a_reader_that_goes(self) -> None:
+        sweep = f"{sys.executable} -m rudekpi sweep --graph path:4 --seeds 300 --processes 1"
+        line = f"{sweep} | head -1; exit ${{PIPESTATUS[0]}}"
         done = subprocess.run(["bash", "-c", line], env=environment(), capture_output=True, text=True)
         self.assertEqual((done.returncode, done.stdout.count("\n")), (3, 1))
         self.assertEqual(done.stderr, "! write failed: Broken pipe\n")
 
-    def test_no_standard_error(self):
+    def test_no_standard_error(self) -> None:
         line = f"{sys.executable} -m rudekpi worst --graph path:4 2>&-"
         done = subprocess.run(["bash", "-c", line], env=environment(), capture_output=True, text=True)
         self.assertEqual(done.returncode, 0)
@@ -156,14 +158,14 @@ class Streams(Timed):
         line = f"{sys.executable} -m rudekpi check <&- 2>&-"
         self.assertEqual(subprocess.run(["bash", "-c", line], env=environment()).returncode, 3)
 
-    def test_what_is_nested_too_deeply(self):
+    def test_what_is_nested_too_deeply(self) -> None:
         path = os.path.join(self.folder(), "deep.transcript")
         pathlib.Path(path).write_text("[" * 100_000)
         self.assertIn("line 1: bad header", rudekpi("json", path).stderr)
         why = rudekpi("check", path)
         self.assertEqual((why.returncode, why.stderr), (1, ""))
 
-    def test_a_scheduler_that_is_not_there(self):
+    def test_a_scheduler_that_is_not_there(self) -> None:
         with socket.socket() as free:
             free.bind(("127.0.0.1", 0))
             address = f"tcp://127.0.0.1:{free.getsockname()[1]}"
@@ -177,7 +179,7 @@ class Streams(Timed):
 
 
 class Bench(Timed):
-    def test_sweep(self):
+    def test_sweep(self) -> None:
         folder = self.folder()
         edges, rows = os.path.join(folder, "edges.txt"), os.path.join(folder, "out.csv")
         pathlib.Path(edges).write_text("1 2\n2 3\n3 4\n4 1\n")
@@ -202,7 +204,7 @@ class Bench(Timed):
         self.assertEqual({row.graph for row in made}, {edges, "path:6"})
         self.assertEqual(len(said("sweep", "--graph", "ring:5", "--seeds", "2").splitlines()), 3)
 
-    def test_compare(self):
+    def test_compare(self) -> None:
         table = said("compare", "--graph", "ring:8", "--seeds", "5", "--daemon", "seeded").splitlines()
         self.assertEqual(table[0].split(), "graph disturbance daemon rules runs min mean median 95th max bound".split())
         for line, rules, bound in zip(table[1:], ("hh", "manne"), ("24", "40")):
@@ -211,7 +213,7 @@ class Bench(Timed):
             least, mean, median, most_of, most = map(float, words[5:10])
             self.assertTrue(0 < least <= median <= most_of <= most <= float(bound) and least <= mean <= most)
 
-    def test_worst(self):
+    def test_worst(self) -> None:
         done = rudekpi("worst", "--graph", "ring:4", "--rules", "manne")
         self.assertEqual(done.stderr, "ring:4, manne: 20 moves, the longest of all, in 1296 states; the bound is 20\n")
         played = said("run", "--rules", "manne", "--nodes", "4", given=done.stdout)
@@ -220,7 +222,7 @@ class Bench(Timed):
             "the longest found", rudekpi("worst", "--graph", "ring:40", "--rules", "hh", "--seconds", "0").stderr
         )
 
-    def test_what_is_left_out_is_told(self):
+    def test_what_is_left_out_is_told(self) -> None:
         done = rudekpi("sweep", "--graph", "ring:5", "--rules", "hh,manne", "--daemon", "synchronous", "--seeds", "2")
         self.assertEqual((done.returncode, done.stdout.count("\n")), (0, 3))
         self.assertEqual(
@@ -230,14 +232,14 @@ class Bench(Timed):
         self.assertEqual((done.returncode, done.stdout), (2, ""))
         self.assertIn("nothing to play", done.stderr)
 
-    def test_a_table_is_sorted_by_numbers(self):
+    def test_a_table_is_sorted_by_numbers(self) -> None:
         lines = said(
             "compare", "--graph", "ring:10", "--graph", "ring:9", "--seeds", "1", "--faults", "10,9"
         ).splitlines()
         found = [line.split()[:2] for line in lines[1::2]]
         self.assertEqual(found, [["ring:9", "9"], ["ring:9", "10"], ["ring:10", "9"], ["ring:10", "10"]])
 
-    def test_bad_words(self):
+    def test_bad_words(self) -> None:
         more = [
             "--seeds 0",
             "--seeds x",
@@ -266,7 +268,7 @@ class Bench(Timed):
             self.assertNotIn("Traceback", done.stderr)
 
     @unittest.skipUnless(matplotlib, "no matplotlib")
-    def test_plots(self):
+    def test_plots(self) -> None:
         folder = self.folder()
         for words in (["--graph", "ring:6", "--graph", "ring:9"], ["--graph", "ring:6", "--daemon", "seeded,least"]):
             paths = [os.path.join(folder, f"out{number}.svg") for number in range(2)]
@@ -284,7 +286,7 @@ class Bench(Timed):
         plots.of_run(script.read_text(), path)
         self.assertGreater(os.path.getsize(path), 5000)
 
-    def test_the_charge_over_a_run(self):
+    def test_the_charge_over_a_run(self) -> None:
         from rudekpi import plots
 
         text = said("run", "--rules", "hh", "--nodes", "2", given="link 1 2\nstatus\nstep 1\nstatus\nstep 2\nstatus\n")
@@ -293,7 +295,7 @@ class Bench(Timed):
             [line.split("charge=")[1].split(" ")[0] for line in text.splitlines() if "charge" in line], ["2", "1", "0"]
         )
 
-    def test_an_interrupt_leaves_the_rows_so_far(self):
+    def test_an_interrupt_leaves_the_rows_so_far(self) -> None:
         path = os.path.join(self.folder(), "out.csv")
         words = [
             sys.executable,
@@ -323,7 +325,7 @@ class Bench(Timed):
         self.assertTrue(2 < len(made) < 3000)
         self.assertIn(f"! cut short: {len(made)} of 3000 rows are there", told)
 
-    def test_progress_at_a_terminal(self):
+    def test_progress_at_a_terminal(self) -> None:
         pid, end = pty.fork()
         if pid == 0:
             words = [sys.executable, "-m", "rudekpi", "sweep", "--graph", "ring:5", "--seeds", "4", "--csv", os.devnull]
@@ -341,7 +343,7 @@ class Bench(Timed):
 
 
 class Lines(Timed):
-    def test_json(self):
+    def test_json(self) -> None:
         script = PAIR + "link 1 2\ncheckpoint\nshow 1\npoint 1 -\nstep 2>1 1\nscramble 3 1\n"
         text = said("run", "--rules", "hh", "--nodes", "3", "--present", "2", given=script)
         made = [json.loads(line) for line in said("json", given=text).splitlines()]
@@ -366,7 +368,7 @@ class Lines(Timed):
         done = rudekpi("json", given=text.replace("seduce", "marry", 1))
         self.assertEqual((done.returncode, done.stdout, done.stderr), (1, "", "line 3: not the machine's reply\n"))
 
-    def test_check(self):
+    def test_check(self) -> None:
         self.assertEqual(said("check", given=PAIR), "each of 7 lines is a command, or empty\n")
         for line, why in [
             ("link 1 2\r", "CRLF"),
@@ -399,7 +401,7 @@ class Lines(Timed):
                 self.assertEqual((done.returncode, done.stdout.count("\n")), (1, 1), done.stdout)
                 self.assertTrue(done.stdout.startswith("line 3: ") and why in done.stdout, done.stdout)
 
-    def test_what_is_no_command_is_none_to_the_program(self):
+    def test_what_is_no_command_is_none_to_the_program(self) -> None:
         drawn = random.Random(9)
         words = [
             *script_words.COMMANDS,
@@ -439,12 +441,14 @@ class Lines(Timed):
             seen.add(bool(why))
         self.assertEqual(seen, {True, False})
 
-    def test_a_session(self):
+    def test_a_session(self) -> None:
         page = os.path.join(self.folder(), "page.html")
-        given = f"link 1 2\nlnik 1 2\nlink 1 2\ndrive 7 9\n\ncheckpoint\npicture\naudit\nplay {page}\nplay\nhelp\nquit\nstatus\n"
+        given = "link 1 2\nlnik 1 2\nlink 1 2\ndrive 7 9\n\ncheckpoint\npicture\naudit\n"
+        given += f"play {page}\nplay\nhelp\nquit\nstatus\n"
         lines = said("shell", "--nodes", "2", "--rules", "hh", given=given)
         for text in (
-            "matching hh 2\n1 link 1 2 = ok\nnot sent: `lnik` is no command: `link` may be meant\n2 link 1 2 = refused 3 already-linked\n",
+            "matching hh 2\n1 link 1 2 = ok\nnot sent: `lnik` is no command: `link` may be meant\n"
+            "2 link 1 2 = refused 3 already-linked\n",
             "base 5 spent=2",
             "accepted: 5 entries",
             f"written: {page}",
@@ -456,7 +460,7 @@ class Lines(Timed):
         self.assertNotIn("6 status", lines)
         self.assertTrue(os.path.exists(page))
 
-    def test_a_session_at_a_terminal(self):
+    def test_a_session_at_a_terminal(self) -> None:
         pid, end = pty.fork()
         if pid == 0:
             words = [sys.executable, "-m", "rudekpi", "shell", "--nodes", "3"]
@@ -466,7 +470,7 @@ class Lines(Timed):
             wanted = time.monotonic() + 20
             while not shown.endswith(b"> ") and time.monotonic() < wanted and select.select([end], [], [], 20)[0]:
                 shown += os.read(end, 4096)
-            # readline waits for keys only a moment after it has shown its prompt, and a signal in between tells it nothing
+            # readline waits for keys only a moment after its prompt is shown; a signal in between tells it nothing
             time.sleep(0.3)
             os.write(end, typed)
             shown += b"|"

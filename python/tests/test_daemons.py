@@ -1,14 +1,20 @@
 """Daemons by name, and the rules that they look ahead by: what these foretell is what the program does."""
 
+from __future__ import annotations
+
 import pickle
 import random
 import unittest
+from typing import Optional, Sequence
 
-from rudekpi import Network, Settled, audit, daemons, graphs, rules
+from rudekpi import Enabled, Network, Settled, audit, daemons, graphs, rules
+from rudekpi.replies import Choice
+from rudekpi.simple_graph import Graph
+from rudekpi.sweeps import AnyDaemon
 from support import Timed
 
 
-def stirred(rule_set, graph, seed):
+def stirred(rule_set: str, graph: Graph, seed: int) -> Network:
     """A network of a graph, with registers by chance."""
     net = Network(rule_set, graph.nodes)
     with net.batch() as batch:
@@ -19,7 +25,7 @@ def stirred(rule_set, graph, seed):
 
 
 class Rules(Timed):
-    def test_they_foretell_what_the_program_says(self):
+    def test_they_foretell_what_the_program_says(self) -> None:
         for seed in range(10):
             drawn = random.Random(seed)
             for rule_set in ("hh", "manne"):
@@ -42,7 +48,7 @@ class Rules(Timed):
 
 
 class Daemons(Timed):
-    def test_each_settles_within_the_charge_and_again_so(self):
+    def test_each_settles_within_the_charge_and_again_so(self) -> None:
         for word in daemons.WORDS:
             for rule_set in ("hh", "manne"):
                 if (word, rule_set) == ("synchronous", "hh"):
@@ -58,7 +64,7 @@ class Daemons(Timed):
                 self.assertEqual(said, said[:1] * 3)
                 audit(said[0])
 
-    def steps_of(self, daemon, rule_set, graph):
+    def steps_of(self, daemon: AnyDaemon, rule_set: str, graph: Graph) -> list[tuple[list[int], list[int]]]:
         """The nodes that were enabled and those that moved, of each step."""
         with stirred(rule_set, graph, 3) as net:
             net.settle(daemon)
@@ -74,7 +80,7 @@ class Daemons(Timed):
         self.assertGreater(len(found), 3)
         return found
 
-    def test_who_moves(self):
+    def test_who_moves(self) -> None:
         ring = graphs.ring(15)
         self.assertTrue(all(moved == enabled for enabled, moved in self.steps_of(daemons.Synchronous(), "manne", ring)))
         for rule_set in ("hh", "manne"):
@@ -87,29 +93,30 @@ class Daemons(Timed):
                     for enabled, moved in self.steps_of(daemons.ByName(greatest=True), rule_set, ring)
                 )
             )
-            moves = {}
+            moves: dict[int, int] = {}
             for place, (enabled, [node]) in enumerate(self.steps_of(daemons.ByAge(), rule_set, ring)):
                 self.assertTrue(all((moves.get(node, -1), node) <= (moves.get(other, -1), other) for other in enabled))
                 moves[node] = place
 
-    def test_the_seeded_one_is_the_programs(self):
+    def test_the_seeded_one_is_the_programs(self) -> None:
         with stirred("hh", graphs.ring(9), 1) as net, stirred("hh", graphs.ring(9), 1) as other:
             settled, driven = net.settle(daemons.Seeded(77)), other.drive(77, 1000)
             self.assertEqual((settled.steps, settled.moves), (len(driven), sum(map(len, driven))))
             self.assertEqual(net.matching().pairs, other.matching().pairs)
 
-    def test_the_greedy_ones(self):
+    def test_the_greedy_ones(self) -> None:
         for most, choose in ((False, min), (True, max)):
             for rule_set in ("hh", "manne"):
                 with stirred(rule_set, graphs.gnp(8, 0.5, 2), 4) as net:
                     follower, greedy = net.follower(), daemons.Greedy(most).begin(net)
 
-                    def looked(enabled):
+                    def looked(enabled: Enabled) -> Choice:
                         # each move tried by itself, and the whole charge counted
                         state = follower.state()
                         before, falls = rules.charge(state), []
                         for node, rule in enabled.items():
-                            for target in rules.targets(state, node, rule) or [None]:
+                            targets: Sequence[Optional[int]] = rules.targets(state, node, rule)
+                            for target in targets or [None]:
                                 held, flags = dict(state.pointers), set(state.flags)
                                 state.move(node, rule, target)
                                 falls.append(before - rules.charge(state))
@@ -117,7 +124,8 @@ class Daemons(Timed):
                         wanted.append(choose(falls))
                         return greedy(enabled)
 
-                    wanted, charges = [], [net.status().charge]
+                    wanted: list[int] = []
+                    charges = [net.status().charge]
                     net.settle(looked)
                     # played again, the charges tell how far each move let it fall
                     with stirred(rule_set, graphs.gnp(8, 0.5, 2), 4) as again:
@@ -127,13 +135,13 @@ class Daemons(Timed):
                                 charges.append(again.status().charge)
                 self.assertEqual([one - other for one, other in zip(charges, charges[1:])], wanted)
 
-    def test_what_is_none(self):
+    def test_what_is_none(self) -> None:
         with Network("hh", 2) as net:
             net.link(1, 2)
             self.assertRaisesRegex(ValueError, "wants the rules 'manne'", net.settle, daemons.Synchronous())
         self.assertRaisesRegex(ValueError, "no daemon has the name 'fair'", daemons.named, "fair")
 
-    def test_names_of_the_callers_own(self):
+    def test_names_of_the_callers_own(self) -> None:
         for word in ("greedy", "age", "least", "greatest", "seeded", "synchronous"):
             with Network("manne", ["zoe", "bob", "ann"]) as net:
                 net.link("zoe", "bob")

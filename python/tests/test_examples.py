@@ -1,15 +1,18 @@
-"""The examples in Python: what they print is judged by what it says, with networks that the tests build for themselves."""
+"""The examples in Python: what they print is judged by what it says, with networks that the tests build."""
+
+from __future__ import annotations
 
 import os
 import re
 import subprocess
 import sys
 import unittest
+from typing import AbstractSet, Collection
 
 from support import TOP, Timed
 
 
-def printed(name, seed="1"):
+def printed(name: str, seed: str = "1") -> list[str]:
     """The lines that an example prints."""
     words = [sys.executable, os.path.join(TOP, "examples", name)]
     done = subprocess.run(words, env=dict(os.environ, PYTHONHASHSEED=seed), cwd="/", capture_output=True, text=True)
@@ -18,29 +21,31 @@ def printed(name, seed="1"):
     return done.stdout.splitlines()
 
 
-def link_of(text):
+def link_of(text: str) -> frozenset[str]:
     return frozenset(text.split("-"))
 
 
 class Examples(Timed):
-    def expect_maximal(self, pairs, links, at):
+    def expect_maximal(self, pairs: Collection[frozenset[str]], links: AbstractSet[frozenset[str]], at: str) -> None:
         """Pairs are links of which no two share a host, and each link shares one with a pair."""
         self.assertLessEqual(set(pairs), links, at)
         hosts = [host for pair in pairs for host in pair]
         self.assertEqual(len(hosts), len(set(hosts)), at)
         self.assertEqual([set(link) for link in links if not link & set(hosts)], [], at)
 
-    def expect_bounded(self, text, links, nodes):
+    def expect_bounded(self, text: str, links: AbstractSet[frozenset[str]], nodes: int) -> int:
         """The moves are within the charge, and that within 2m + 3n."""
-        moves, charge = map(int, re.search(r"(\d+) moves of (\d+) at most", text).groups())
+        found = re.search(r"(\d+) moves of (\d+) at most", text)
+        assert found is not None, text
+        moves, charge = map(int, found.groups())
         self.assertLessEqual(moves, charge, text)
         self.assertLessEqual(charge, 2 * len(links) + 3 * nodes, text)
         return moves
 
-    def test_each_link_has_its_slot_once(self):
+    def test_each_link_has_its_slot_once(self) -> None:
         lines = printed("link_schedule.py")
         across = [frozenset((row + str(column), row + str(column + 1))) for row in "abcd" for column in range(1, 5)]
-        down = [frozenset((a + str(column), b + str(column))) for a, b in ("ab", "bc", "cd") for column in range(1, 6)]
+        down = [frozenset((a + str(column), b + str(column))) for a, b in zip("abc", "bcd") for column in range(1, 6)]
         waiting = set(across + down)
         self.assertEqual(lines[0], "31 links wait")
         came, went, served, rounds, last_change = 31, 0, 0, 0, 0
@@ -67,14 +72,15 @@ class Examples(Timed):
         # in each round that a link waits, one next to it is served, of which there are 5 at an end at most
         self.assertLessEqual(rounds, last_change + 2 * 5 + 1)
 
-    def test_each_host_has_a_partner_or_no_free_neighbour(self):
+    def test_each_host_has_a_partner_or_no_free_neighbour(self) -> None:
         lines = printed("backup_partners.py")
         hosts = [f"h{number:02}" for number in range(1, 13)]
         links = {frozenset((hosts[at], hosts[at - 1])) for at in range(12)} | {
             frozenset(("h01", "h07")),
             frozenset(("h04", "h10")),
         }
-        failed, moves = set(), 0
+        failed: set[str] = set()
+        moves = 0
         for line in lines[:-1]:
             event, told = line.split(": ", 1)
             word, _, host = event.partition(" ")
@@ -88,13 +94,15 @@ class Examples(Timed):
         self.assertEqual([line.split(" ")[0] for line in lines[1:-1]].count("fails"), 4)
         self.assertEqual(lines[-1], f"{moves} moves in all")
 
-    def test_they_print_the_same_again(self):
+    def test_they_print_the_same_again(self) -> None:
         for name in ("link_schedule.py", "backup_partners.py"):
             self.assertEqual(printed(name), printed(name, seed="2"))
 
-    def test_the_page_prints_what_it_says(self):
+    def test_the_page_prints_what_it_says(self) -> None:
         with open(os.path.join(TOP, "docs", "PYTHON.md")) as file:
-            code, said = re.search(r"```python\n(.*?)```.*?```\n(.*?)```", file.read(), re.DOTALL).groups()
+            found = re.search(r"```python\n(.*?)```.*?```\n(.*?)```", file.read(), re.DOTALL)
+        assert found is not None
+        code, said = found.groups()
         words = [sys.executable, "-c", code]
         paths = dict(os.environ, PYTHONPATH=os.path.join(TOP, "python"))
         done = subprocess.run(words, env=paths, cwd="/", capture_output=True, text=True)

@@ -1,5 +1,7 @@
-"""What docs/EXPERIMENTS.md shows: its commands, its code and its table, and the scripts that make its picture and its table, on small
-sizes."""
+"""What docs/EXPERIMENTS.md shows: its commands, its code and its table, and the scripts that make its picture and its
+table, on small sizes."""
+
+from __future__ import annotations
 
 import os
 import pathlib
@@ -9,7 +11,7 @@ import sys
 import unittest
 
 from rudekpi import commands
-from rudekpi.schedules import connected_graphs, longest, renamed
+from rudekpi.schedules import Longest, connected_graphs, longest, renamed
 from support import TOP, Timed
 
 try:
@@ -20,7 +22,7 @@ except ImportError:
 PAGE = pathlib.Path(TOP, "docs", "EXPERIMENTS.md").read_text()
 
 
-def run(*words):
+def run(*words: str) -> subprocess.CompletedProcess[str]:
     return subprocess.run(
         [sys.executable, *words],
         env=dict(os.environ, PYTHONPATH=os.path.join(TOP, "python")),
@@ -30,7 +32,7 @@ def run(*words):
 
 
 class Page(Timed):
-    def test_its_commands_are_commands(self):
+    def test_its_commands_are_commands(self) -> None:
         lines = [line.split(" -m rudekpi ")[1] for line in PAGE.splitlines() if line.startswith("python3 -m rudekpi ")]
         self.assertEqual(len(lines), 2)
         for line in lines:
@@ -38,8 +40,10 @@ class Page(Timed):
             self.assertTrue(callable(given.run))
 
     @unittest.skipUnless(matplotlib, "no matplotlib")
-    def test_its_code(self):
-        code = re.search(r"```python\n(.*?)```", PAGE, re.DOTALL)[1]
+    def test_its_code(self) -> None:
+        page = re.search(r"```python\n(.*?)```", PAGE, re.DOTALL)
+        assert page is not None
+        code = page[1]
         path = os.path.join(self.folder(), "out.svg")
         code = (
             code.replace("ring(50)", "ring(5)")
@@ -51,14 +55,14 @@ class Page(Timed):
         self.assertEqual((done.returncode, done.stderr), (0, ""))
         self.assertTrue(os.path.exists(path))
 
-    def test_the_smaller_rows_of_its_table(self):
+    def test_the_smaller_rows_of_its_table(self) -> None:
         rows = [
             [word.strip("* ") for word in line.split("|")[1:-1]]
             for line in PAGE.splitlines()
             if re.match(r"\| [1-6] \| ", line)
         ]
         self.assertEqual(sum(int(row[2]) for row in rows), 143)
-        found = {}
+        found: dict[tuple[int, int], list[tuple[Longest, Longest]]] = {}
         for n in (1, 2, 3, 4):
             for graph in connected_graphs(n):
                 hh, manne = longest(graph, "hh"), max(
@@ -77,7 +81,7 @@ class Page(Timed):
 
 
 class Scripts(Timed):
-    def test_the_table_graph_by_graph(self):
+    def test_the_table_graph_by_graph(self) -> None:
         done = run(
             os.path.join(TOP, "bench", "longest"),
             "--nodes",
@@ -93,7 +97,7 @@ class Scripts(Timed):
         self.assertIn("| 3 nodes: 1-2 1-3 2-3 | 3 | 5 | 9 | 5 | 12 | 15 |", done.stdout)
 
     @unittest.skipUnless(matplotlib, "no matplotlib")
-    def test_the_picture(self):
+    def test_the_picture(self) -> None:
         folder = self.folder()
         paths = [os.path.join(folder, name) for name in ("one.svg", "two.svg", "rows.csv")]
         for path in paths[:2]:

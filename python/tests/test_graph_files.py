@@ -1,13 +1,17 @@
 """Graphs that are read from files: each format as it is written, and what is refused of it."""
 
+from __future__ import annotations
+
 import itertools
 import json
 import os
 import pathlib
 import unittest
 import unittest.mock
+from typing import Iterable, Sequence, Union
 
 from rudekpi import graph_builder, graphs
+from rudekpi.replies import Name
 from support import Timed
 
 try:
@@ -16,23 +20,25 @@ except ImportError:
     networkx = None
 
 
-def as_sets(edges):
+def as_sets(edges: Iterable[tuple[Name, Name]]) -> set[frozenset[Name]]:
     return {frozenset(edge) for edge in edges}
 
 
 class Read(Timed):
     engines = ("program",)
 
-    def path(self, name, text):
+    def path(self, name: str, text: Union[str, bytes]) -> str:
         path = os.path.join(self.folder(), name)
         pathlib.Path(path).write_bytes(text if isinstance(text, bytes) else text.encode())
         return path
 
-    def read(self, name, text, **how):
+    def read(
+        self, name: str, text: Union[str, bytes], **how: bool
+    ) -> tuple[Sequence[Name], Sequence[tuple[Name, Name]]]:
         graph = graphs.graph_of(self.path(name, text), **how)
         return graph.nodes, graph.edges
 
-    def expect_refused(self, name, text, why, **how):
+    def expect_refused(self, name: str, text: Union[str, bytes], why: str, **how: bool) -> None:
         """A file is refused with its path and, behind it, just this."""
         path = self.path(name, text)
         with self.subTest(name=name, text=text[:60]):
@@ -40,7 +46,7 @@ class Read(Timed):
                 graphs.graph_of(path, **how)
             self.assertTrue(str(caught.exception).startswith(f"{path}: {why}"), str(caught.exception))
 
-    def test_edge_lists(self):
+    def test_edge_lists(self) -> None:
         self.assertEqual(self.read("a.txt", "# two\n2 10\n10 1\n\n7\n1 10\n"), ((1, 2, 7, 10), ((2, 10), (1, 10))))
         self.assertEqual(
             self.read("a.edges", "ann bob\nbob\tcleo # late\r\n"),
@@ -55,15 +61,15 @@ class Read(Timed):
         self.assertEqual(self.read("a.csv", "1,2\n2 , 3\n"), ((1, 2, 3), ((1, 2), (2, 3))))
         self.assertEqual(self.read("a.csv", "a,b # c\n"), (("a", "b"), (("a", "b"),)))
 
-    def test_weights_are_left_out_and_told(self):
+    def test_weights_are_left_out_and_told(self) -> None:
         for name, text in [("a.txt", "1 2 0.5\n3 2 -1e-3\n"), ("a.csv", "1,2,0.5\n3,2,-1e-3\n")]:
             path = self.path(name, text)
             with self.assertWarnsRegex(UserWarning, f"{path}: its weights are left out"):
                 graph = graphs.read(path)
             self.assertEqual((graph.nodes, graph.edges), ((1, 2, 3), ((1, 2), (2, 3))))
 
-    def test_edge_lists_that_are_none(self):
-        for text, why in [
+    def test_edge_lists_that_are_none(self) -> None:
+        wrong: list[tuple[Union[str, bytes], str]] = [
             ("# one\n1,2\n2,3\n", "line 2: expected names, and no ',' as in '1,2'; a file with commas is named .csv"),
             ("1;2\n", "line 1: expected names, and no ';'"),
             ("1 2\n2 2\n", "line 2: '2' is linked with itself"),
@@ -94,7 +100,8 @@ class Read(Timed):
             (b"1 2\n\xff\xfe1 2\n", "line 2: no UTF-8: byte 0xff"),
             ("a" * 1_048_577, "line 1: it has more than 1048576 bytes"),
             ("".join(f"{name}\n" for name in range(65_536)), "line 65536: a network has at most 65535 nodes"),
-        ]:
+        ]
+        for text, why in wrong:
             self.expect_refused("a.txt", text, why)
         for text, why in [
             ("1 2\n", "line 1: expected names with one ',' between them, and not '1 2'"),
@@ -104,14 +111,14 @@ class Read(Timed):
         ]:
             self.expect_refused("a.csv", text, why)
 
-    def test_more_edges_than_a_network_has(self):
-        self.assertEqual(graph_builder.MOST_EDGES, 1_048_576)
+    def test_more_edges_than_a_network_has(self) -> None:
+        self.assertEqual(getattr(graph_builder, "MOST_EDGES"), 1_048_576)
         text = "".join(f"{a} {b}\n" for a, b in itertools.combinations(range(9), 2))
         with unittest.mock.patch.object(graph_builder, "MOST_EDGES", 35):
             self.expect_refused("a.txt", text, "line 36: a network has at most 35 edges")
             self.assertEqual(len(self.read("a.txt", text[:-4])[1]), 35)
 
-    def test_dimacs(self):
+    def test_dimacs(self) -> None:
         self.assertEqual(
             self.read("a.col", "c a comment\np edge 4 3\ne 1 2\ne 4 2\ne 2 1\n"), ((1, 2, 3, 4), ((1, 2), (2, 4)))
         )
@@ -142,7 +149,7 @@ class Read(Timed):
         ]:
             self.expect_refused("a.col", text, why)
 
-    def test_metis(self):
+    def test_metis(self) -> None:
         self.assertEqual(self.read("a.graph", "% a comment\n4 2\n2\n1 3\n2\n\n"), ((1, 2, 3, 4), ((1, 2), (2, 3))))
         self.assertEqual(self.read("a.graph", "2 1 000\n2\n%\n1\n\n"), ((1, 2), ((1, 2),)))
         for text, why in [
@@ -163,11 +170,11 @@ class Read(Timed):
         ]:
             self.expect_refused("a.metis", text, why)
 
-    def test_graphml(self):
+    def test_graphml(self) -> None:
         node, edge = '<node id="{}"/>', '<edge source="{}" target="{}"/>'
         some = "".join(map(node.format, "abc"))
 
-        def whole(inner, default="undirected"):
+        def whole(inner: str, default: str = "undirected") -> str:
             return f'<?xml version="1.0"?>\n<graphml>\n<graph edgedefault="{default}">\n{inner}</graph>\n</graphml>\n'
 
         wanted = (("a", "b", "c"), (("a", "b"), ("b", "c")))
@@ -178,7 +185,7 @@ class Read(Timed):
         self.assertEqual(self.read("a.graphml", arcs, undirected=True), wanted)
         arc = '<edge source="a" target="b" directed="true"/>'
         self.assertEqual(self.read("a.graphml", whole(some + arc), undirected=True), (wanted[0], (("a", "b"),)))
-        for text, why in [
+        wrong: list[tuple[Union[str, bytes], str]] = [
             (arcs, "line 3: a directed graph: --undirected"),
             (whole(some + "\n" + arc), "line 5: a directed graph: --undirected"),
             (whole(some + "\n" + edge.format("a", "a")), "line 5: 'a' is linked with itself"),
@@ -203,11 +210,12 @@ class Read(Timed):
             (b"<graphml>\xff</graphml>", "no XML: not well-formed"),
             ("<x", "no XML: unclosed token: line 1, column 0"),
             ('<!DOCTYPE a [<!ENTITY b "c">]><a/>', "line 1: expected no DOCTYPE"),
-        ]:
+        ]
+        for text, why in wrong:
             self.expect_refused("a.graphml", text, why)
 
-    def test_node_link(self):
-        def text(nodes, links, **more):
+    def test_node_link(self) -> None:
+        def text(nodes: Sequence[object], links: Sequence[tuple[object, object]], **more: object) -> str:
             return json.dumps({"nodes": nodes, "links": [dict(source=a, target=b) for a, b in links], **more})
 
         some, wanted = [{"id": 1}, {"id": "x", "directed": True}], ((1, "x"), ((1, "x"),))
@@ -216,7 +224,7 @@ class Read(Timed):
         self.assertEqual(self.read("a.json", text(some, [("x", 1), (1, "x")], directed=True), undirected=True), wanted)
         self.assertEqual(self.read("a.json", text([{}, {}], [(0, 1)])), ((0, 1), ((0, 1),)))
         self.assertEqual(self.read("a.json", text([{"id": [0, 1]}, {"id": [0, 2]}], [])), (((0, 1), (0, 2)), ()))
-        for data, why in [
+        wrong: list[tuple[Union[str, bytes], str]] = [
             (text(some, [], directed=True), "a directed graph: --undirected"),
             (text(some, [], multigraph=True), "a multigraph"),
             (text(some, [(1, "x"), (1, "x")]), "edge 2: the edge of 1 and 'x' is there already, by edge 1"),
@@ -238,11 +246,12 @@ class Read(Timed):
             ('{"nodes": [], "nodes": [], "links": []}', "no JSON of a graph: an object has 'nodes' twice"),
             ("[" * 100_000, "no JSON of a graph: it is nested too deeply"),
             (b"\xff", "no JSON of a graph: "),
-        ]:
+        ]
+        for data, why in wrong:
             self.expect_refused("a.json", data, why)
 
     @unittest.skipUnless(networkx, "no networkx")
-    def test_what_networkx_writes(self):
+    def test_what_networkx_writes(self) -> None:
         graph = networkx.gnp_random_graph(40, 0.1, seed=3)
         names = networkx.relabel_nodes(graph, {node: f"n{node}" for node in graph})
         path = os.path.join(self.folder(), "a")
@@ -258,7 +267,7 @@ class Read(Timed):
                 self.assertEqual((set(made.nodes), as_sets(made.edges)), (set(written), as_sets(written.edges)))
 
     @unittest.skipUnless(networkx, "no networkx")
-    def test_what_networkx_writes_of_graphs_that_are_not_simple(self):
+    def test_what_networkx_writes_of_graphs_that_are_not_simple(self) -> None:
         path = os.path.join(self.folder(), "a")
         for kind, why in [
             (networkx.DiGraph, "directed"),
@@ -275,7 +284,7 @@ class Read(Timed):
                         made = graphs.read(path + end, undirected=True)
                         self.assertEqual(made.edges, (("a", "b"), ("b", "c")))
 
-    def test_files_that_are_not_there(self):
+    def test_files_that_are_not_there(self) -> None:
         self.assertRaises(FileNotFoundError, graphs.graph_of, "/no/such/graph.txt")
         self.assertRaisesRegex(FileNotFoundError, "no file 'rng:5'.* ring:N", graphs.graph_of, "rng:5")
         self.assertRaises(IsADirectoryError, graphs.graph_of, self.folder())

@@ -3,10 +3,13 @@
 `python/tests/graph_fuzz.py --count 10000` does so at length.
 """
 
+from __future__ import annotations
+
 import pathlib
 import unittest
 import unittest.mock
 import warnings
+from typing import Optional
 
 import graph_fuzz
 from rudekpi import graphs
@@ -22,7 +25,7 @@ class Damaged(Timed):
     engines = ("program",)
 
     @unittest.skipUnless(networkx, "no networkx")
-    def test_damaged_files(self):
+    def test_damaged_files(self) -> None:
         for end in graph_fuzz.SAMPLES:
             with self.subTest(end):
                 counts, wrong = graph_fuzz.fuzz(end, 400, 11, self.folder())
@@ -31,7 +34,7 @@ class Damaged(Timed):
                 self.assertGreater(counts["read"], 20)
 
     @unittest.skipUnless(networkx, "no networkx")
-    def test_the_fuzz_sees_another_graph(self):
+    def test_the_fuzz_sees_another_graph(self) -> None:
         path = pathlib.Path(self.folder(), "a.txt")
         self.assertEqual(graph_fuzz.fault_of(path, b"1 2\n", False), ("read", ""))
         with unittest.mock.patch.object(graphs, "read", lambda *_, **__: graphs.path(3)):
@@ -39,7 +42,7 @@ class Damaged(Timed):
         with unittest.mock.patch.object(graphs, "read", side_effect=KeyError):
             self.assertIn("KeyError", graph_fuzz.fault_of(path, b"1 2\n", False)[1])
 
-    def test_files_named_as_another_format(self):
+    def test_files_named_as_another_format(self) -> None:
         """A file is refused, or read as its own graph, whatever the end of its name."""
         for own, samples in graph_fuzz.SAMPLES.items():
             for text in samples:
@@ -48,7 +51,7 @@ class Damaged(Timed):
                     with self.subTest(own=own, end=end, text=text[:40]):
                         self.assertIn(self.edges_of(end, text), (None, wanted))
 
-    def edges_of(self, end, text):
+    def edges_of(self, end: str, text: str) -> Optional[tuple[set[str], set[frozenset[str]]]]:
         """The nodes and edges that are read under a name with this end, by their texts; None if the file is refused."""
         path = pathlib.Path(self.folder(), f"a{end}")
         path.write_text(text)

@@ -1,5 +1,7 @@
 """Graphs on the command line: what is told, and with which status."""
 
+from __future__ import annotations
+
 import os
 import pathlib
 import unittest
@@ -13,12 +15,12 @@ DIRECTED = '{"directed": true, "nodes": [{"id": 1}, {"id": 2}], "links": [{"sour
 class Words(Timed):
     engines = ("program",)
 
-    def file(self, name, text):
+    def file(self, name: str, text: str) -> str:
         path = os.path.join(self.folder(), name)
         pathlib.Path(path).write_text(text)
         return path
 
-    def expect_refused(self, why, *words):
+    def expect_refused(self, why: str, *words: str) -> None:
         for command in ("sweep", "compare", "worst"):
             with self.subTest(command=command, words=words):
                 done = rudekpi(command, *words)
@@ -26,7 +28,7 @@ class Words(Timed):
                 self.assertEqual(done.stderr.splitlines()[-1], f"rudekpi {command}: error: argument --graph: {why}")
                 self.assertNotIn("Traceback", done.stderr)
 
-    def test_files_that_are_no_graphs(self):
+    def test_files_that_are_no_graphs(self) -> None:
         path = self.file("a.txt", "1 2\n1,2\n")
         self.expect_refused(
             f"{path}: line 2: expected names, and no ',' as in '1,2'; a file with commas is named .csv", "--graph", path
@@ -36,7 +38,7 @@ class Words(Timed):
         why = "'ring:99999999999' makes no graph: a network has at most 65535 nodes"
         self.expect_refused(why, "--graph", "ring:99999999999")
 
-    def test_directed_graphs(self):
+    def test_directed_graphs(self) -> None:
         path = self.file("a.json", DIRECTED)
         why = f"{path}: a directed graph: --undirected takes its edges without directions"
         self.expect_refused(why, "--graph", path)
@@ -46,17 +48,17 @@ class Words(Timed):
             self.assertEqual(done.stdout.splitlines()[1].split(",")[1:4], ["manne", "2", "1"])
         self.assertEqual(rudekpi("worst", *words, "--rules", "hh").returncode, 0)
 
-    def test_weights_are_told_once(self):
+    def test_weights_are_told_once(self) -> None:
         path = self.file("a.txt", "1 2 0.5\n2 3 1.5\n")
         done = rudekpi("compare", "--graph", path, "--graph", "ring:4", "--seeds", "2", "--processes", "1")
         self.assertEqual((done.returncode, done.stderr), (0, f"! {path}: its weights are left out\n"))
 
-    def test_names_of_files_with_other_digits(self):
+    def test_names_of_files_with_other_digits(self) -> None:
         path = self.file("a\u00b210.txt", "1 2\n")
         done = rudekpi("compare", "--graph", path, "--seeds", "1", "--processes", "1")
         self.assertEqual((done.returncode, done.stderr, done.stdout.count(path)), (0, "", 2))
 
-    def test_a_sweep_of_too_many_experiments(self):
+    def test_a_sweep_of_too_many_experiments(self) -> None:
         for seeds in ("99999999999", "9" * 40):
             done = rudekpi("sweep", "--graph", "ring:5", "--seeds", seeds)
             self.assertEqual((done.returncode, done.stdout), (2, ""))

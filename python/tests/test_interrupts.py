@@ -1,5 +1,7 @@
-"""Interrupts at any moment: each instruction of the client in turn, thousands of signals at random times, and Ctrl-C at a
-terminal; networks that nobody closes; children of this process."""
+"""Interrupts at any moment: each instruction of the client in turn, thousands of signals at random times, and Ctrl-C
+at a terminal; networks that nobody closes; children of this process."""
+
+from __future__ import annotations
 
 import gc
 import os
@@ -11,11 +13,13 @@ import subprocess
 import sys
 import threading
 import time
+import types
 import unittest
+from typing import Any, Callable, Optional
 
 import rudekpi
 from rudekpi import Ended, Network, audit
-from support import TOP, Timed, children, has_ended
+from support import TOP, Timed, children, has_ended, session_of
 
 PACKAGE = os.path.dirname(rudekpi.__file__)
 
@@ -27,10 +31,10 @@ class Cut(BaseException):
 class At:
     """Raises `Cut` in front of the instruction of the package that has a number, counted from the entry of a `with`."""
 
-    def __init__(self, number):
+    def __init__(self, number: int) -> None:
         self.left = number
 
-    def trace(self, frame, event, _):
+    def trace(self, frame: types.FrameType, event: str, _: object) -> Optional[Callable[..., Any]]:
         if not frame.f_code.co_filename.startswith(PACKAGE):
             return None
         frame.f_trace_opcodes, frame.f_trace_lines = True, False
@@ -41,12 +45,12 @@ class At:
                 raise Cut
         return self.trace
 
-    def __enter__(self):
+    def __enter__(self) -> At:
         self.before = sys.gettrace()
         sys.settrace(self.trace)
         return self
 
-    def __exit__(self, kind, *_):
+    def __exit__(self, kind: Optional[type[BaseException]], *_: object) -> bool:
         sys.settrace(self.before)
         return kind is Cut
 
@@ -54,8 +58,17 @@ class At:
 class EachInstruction(Timed):
     seconds = 120
 
-    def cut_everywhere(self, call, after, step=1, made=lambda: Network("manne", 4)):
-        """Cuts a call short in front of each of its instructions, until it comes to its end, and looks at what is left."""
+    def cut_everywhere(
+        self,
+        call: Callable[[Network], object],
+        after: Callable[[Network], object],
+        step: int = 1,
+        made: Callable[[], Network] = lambda: Network("manne", 4),
+    ) -> int:
+        """Cuts a call short in front of each `step`th instruction until it ends, and looks at what is left.
+
+        Returns the number of the instruction at which nothing was cut.
+        """
         for number in range(0, 1_000_000, step):
             net = made()
             with At(number) as at:
@@ -66,20 +79,19 @@ class EachInstruction(Timed):
                 return number
         raise AssertionError("no end")
 
-    def expect_usable(self, net):
+    def expect_usable(self, net: Network) -> None:
         net.unlink(1, 2) if (1, 2) in net.edges else None
         self.assertEqual(net.link(1, 2).entry, net.status().entry - 1)
         self.assertEqual(net.show(1).target, None)
         net.close()
         self.assertEqual(net.audit().entries, net.transcript().count(" = "))
 
-    def test_of_an_answer(self):
+    def test_of_an_answer(self) -> None:
         net = Network("hh", 3)
-        made = lambda: net
         cuts = self.cut_everywhere(
             lambda net: net.show(2),
             lambda net: self.assertEqual((net.show(1).node, net.status().edges), (1, 0)),
-            made=made,
+            made=lambda: net,
         )
         if not cuts and sys.version_info >= (3, 12):
             # its `sys.settrace` tells of no instruction of a frame that has no loop
@@ -89,11 +101,11 @@ class EachInstruction(Timed):
         self.assertGreater(shown, 50, "some were cut in front of what asks, and some behind it")
         audit(net.transcript())
 
-    def test_of_a_link(self):
+    def test_of_a_link(self) -> None:
         self.cut_everywhere(lambda net: net.link(1, 2), self.expect_usable, step=7)
 
-    def test_of_a_batch_with_all_kinds_of_answers(self):
-        def play(net):
+    def test_of_a_batch_with_all_kinds_of_answers(self) -> None:
+        def play(net: Network) -> None:
             with net.batch(raises=False) as batch:
                 batch.link(1, 2)
                 batch.link(1, 2)
@@ -102,36 +114,36 @@ class EachInstruction(Timed):
                 batch.scramble(7, 2)
                 batch.show(9)
 
-        def look(net):
+        def look(net: Network) -> None:
             said = net.transcript()
             self.assertEqual(audit(said).entries, net.status().entry - 1)
             net.close()
 
         self.cut_everywhere(play, look, step=37)
 
-    def test_of_a_close(self):
-        def look(net):
+    def test_of_a_close(self) -> None:
+        def look(net: Network) -> None:
             net.close()
             self.assertTrue(has_ended(net))
             self.assertEqual(net.transcript(), "matching manne 4\n")
 
         self.cut_everywhere(Network.close, look, step=3)
 
-    def test_of_what_is_kept_from_a_checkpoint_on(self):
-        def look(net):
+    def test_of_what_is_kept_from_a_checkpoint_on(self) -> None:
+        def look(net: Network) -> None:
             self.assertEqual(net.link(3, 4).entry, len(net.edges))
             self.assertIn((3, 4), net.edges)
             audit(net.transcript())
             net.close()
 
-        def play(net):
+        def play(net: Network) -> None:
             net.link(1, 2)
             net.checkpoint()
             net.link(2, 3)
 
         self.cut_everywhere(play, look, step=53, made=lambda: Network("manne", 4, keep=False))
 
-    def test_of_the_making_of_one(self):
+    def test_of_the_making_of_one(self) -> None:
         before = set(children())
         # what is cut in a finalizer is told there, and not raised
         self.addCleanup(setattr, sys, "unraisablehook", sys.unraisablehook)
@@ -149,19 +161,19 @@ class EachInstruction(Timed):
 class RandomTimes(Timed):
     seconds = 120
 
-    def cut_at_random(self, times, play):
-        """Lets another thread send this one signals, `times` of them, while it plays; answers how many came while it did."""
+    def cut_at_random(self, times: int, play: Callable[[], object]) -> int:
+        """Has another thread send this one `times` signals while it plays; returns how many came while it did."""
         main, drawn = threading.get_ident(), random.Random(7)
         is_armed, is_done, came, handled = [False], [False], [0], [0]
 
-        def handler(*_):
+        def handler(*_: object) -> None:
             handled[0] += 1
             if is_armed[0]:
                 is_armed[0] = False
                 came[0] += 1
                 raise Cut
 
-        def send():
+        def send() -> None:
             for number in range(times):
                 time.sleep(drawn.random() * 0.0006)
                 while not is_armed[0]:
@@ -187,11 +199,11 @@ class RandomTimes(Timed):
         sender.join()
         return came[0]
 
-    def test_three_thousand_in_a_loop_of_show(self):
+    def test_three_thousand_in_a_loop_of_show(self) -> None:
         with Network("hh", 3) as net:
             net.link(1, 2)
 
-            def play():
+            def play() -> None:
                 while True:
                     shown = net.show(2)
                     if (shown.node, shown.target) != (2, None):
@@ -202,10 +214,10 @@ class RandomTimes(Timed):
             self.assertEqual(net.status().edges, 1)
         audit(net.transcript())
 
-    def test_in_batches(self):
+    def test_in_batches(self) -> None:
         with Network("hh", 3000) as net:
 
-            def play():
+            def play() -> None:
                 with net.batch(raises=False) as batch:
                     for node in range(1, 3000):
                         batch.link(node, node + 1)
@@ -217,10 +229,10 @@ class RandomTimes(Timed):
             self.assertEqual(net.status().nodes, 3000)
         audit(net.transcript())
 
-    def test_by_a_timer(self):
+    def test_by_a_timer(self) -> None:
         drawn = random.Random(3)
 
-        def handler(*_):
+        def handler(*_: object) -> None:
             raise Cut
 
         self.addCleanup(signal.signal, signal.SIGVTALRM, signal.signal(signal.SIGVTALRM, handler))
@@ -236,11 +248,11 @@ class RandomTimes(Timed):
             self.assertEqual((cut, net.status().nodes), (300, 3))
 
 
-def wait_until(is_so, seconds=5):
+def wait_until(is_so: Callable[[], bool], seconds: float = 5) -> None:
     last = time.monotonic() + seconds
     while not is_so() and time.monotonic() < last:
         gc.collect()
-        subprocess._cleanup()
+        getattr(subprocess, "_cleanup")()
         time.sleep(0.01)
 
 
@@ -261,7 +273,7 @@ print("closed", net.audit().entries == net.transcript().count(" = "), flush=True
 class Sessions(Timed):
     engines = ("program",)
 
-    def test_an_interrupt_at_a_terminal_does_not_reach_the_program(self):
+    def test_an_interrupt_at_a_terminal_does_not_reach_the_program(self) -> None:
         pid, end = pty.fork()
         if pid == 0:
             os.execve(
@@ -286,12 +298,12 @@ class Sessions(Timed):
         self.assertIn(b"Accepted(entry=", said)
         self.assertIn(b"closed True", said)
 
-    def test_a_network_that_nobody_closes(self):
+    def test_a_network_that_nobody_closes(self) -> None:
         before = set(children())
         net = Network("hh", 2)
         batch = net.batch()
         batch.link(1, 2)
-        pid = net._session.talk.run.numbers[0]
+        pid = session_of(net).talk.run.numbers[0]
         self.assertIn(pid, children())
         del net
         self.assertIn(pid, children(), "the batch still refers to it")
@@ -299,7 +311,7 @@ class Sessions(Timed):
         gc.collect()
         self.assertEqual(set(children()), before)
 
-    def test_one_that_is_dropped_is_ended_at_once(self):
+    def test_one_that_is_dropped_is_ended_at_once(self) -> None:
         before = set(children())
         net = Network("hh", 2)
         net.link(1, 2)
@@ -309,7 +321,7 @@ class Sessions(Timed):
         del net
         self.assertEqual(set(children()), before)
 
-    def test_at_the_end_of_the_process(self):
+    def test_at_the_end_of_the_process(self) -> None:
         uses = "import rudekpi; net = rudekpi.Network('hh', 2); net.link(1, 2); print(net._session.talk.run.numbers[0])"
         words = [sys.executable, "-X", "dev", "-W", "error", "-c", uses]
         done = subprocess.run(
@@ -318,7 +330,7 @@ class Sessions(Timed):
         self.assertEqual((done.returncode, done.stderr), (0, ""))
         self.assertFalse(os.path.exists(f"/proc/{int(done.stdout)}"))
 
-    def test_a_child_of_this_process_holds_no_pipe(self):
+    def test_a_child_of_this_process_holds_no_pipe(self) -> None:
         with Network("hh", 2) as net:
             go, come = os.pipe()
             child = os.fork()
@@ -326,8 +338,8 @@ class Sessions(Timed):
                 try:
                     net.status()
                     told = b"answered"
-                except Ended as ended:
-                    told = ended.last_line.encode()
+                except Ended as inherited:
+                    told = inherited.last_line.encode()
                 os.write(come, told)
                 time.sleep(30)
                 os._exit(0)
@@ -335,7 +347,9 @@ class Sessions(Timed):
             self.addCleanup(os.kill, child, signal.SIGKILL)
             self.assertIn(b"belongs to another process", os.read(go, 200))
             self.assertEqual(net.link(1, 2).entry, 1)
-        self.assertEqual(net._session.talk.ended.status, 0, "it saw where its script ends, while the child is there")
+        ended = session_of(net).talk.ended
+        assert isinstance(ended, Ended)
+        self.assertEqual(ended.status, 0, "it saw where its script ends, while the child is there")
         os.close(go)
         os.close(come)
 

@@ -1,5 +1,7 @@
-"""The library as an engine: where it is found, that it says what the program says, threads, interrupts between them, children of this
-process, and networks that nobody closes."""
+"""The library as an engine: where it is found, that it says what the program says, threads, interrupts between them,
+children of this process, and networks that nobody closes."""
+
+from __future__ import annotations
 
 import gc
 import os
@@ -13,9 +15,12 @@ import threading
 import time
 import unittest
 import weakref
+from typing import Any, Callable, Iterable, Optional, Union
 from unittest import mock
 
 from rudekpi import Audit, Damaged, Ended, Network, NoSuchCommand, Refused, Summary, audit, library
+from rudekpi.audits import Text
+from rudekpi.replies import Name
 from rudekpi.state import State
 from support import TOP, Timed, play, told
 
@@ -27,7 +32,7 @@ class Cut(BaseException):
 class Chosen(Timed):
     """Which engine plays."""
 
-    def test_by_the_argument_and_the_environment(self):
+    def test_by_the_argument_and_the_environment(self) -> None:
         for engine in ("program", "library"):
             if engine == "library" and not library.found_library():
                 continue
@@ -40,12 +45,12 @@ class Chosen(Timed):
         with mock.patch.dict(os.environ, RUDEKPI_ENGINE=""), Network("hh", 2) as net:
             self.assertEqual(net.engine, "library" if library.found_library() else "program")
 
-    def test_that_is_none(self):
+    def test_that_is_none(self) -> None:
         self.assertRaisesRegex(ValueError, "an engine is", Network, "hh", 2, engine="pipe")
         self.assertRaisesRegex(ValueError, "runs no program", Network, "hh", 2, engine="library", program="console")
         self.assertRaisesRegex(ValueError, "an engine is", audit, "matching hh 2\n", engine="pipe")
 
-    def test_a_library_that_is_none(self):
+    def test_a_library_that_is_none(self) -> None:
         path = pathlib.Path(self.folder(), "librudekpi.so")
         with mock.patch.dict(os.environ, RUDEKPI_LIBRARY=str(path), RUDEKPI_ENGINE=""):
             self.assertRaisesRegex(FileNotFoundError, str(path), Network, "hh", 2, engine="library")
@@ -54,7 +59,7 @@ class Chosen(Timed):
             with Network("hh", 2) as net:
                 self.assertEqual(net.engine, "program")
 
-    def test_a_library_that_lacks_calls(self):
+    def test_a_library_that_lacks_calls(self) -> None:
         libc = next(
             (
                 line.split()[-1]
@@ -75,10 +80,10 @@ class Same(Timed):
     engines = ("library",)
     seconds = 120
 
-    def lines(self, drawn, nodes):
+    def lines(self, drawn: random.Random, nodes: int) -> list[str]:
         """The lines of a random script."""
-        node = lambda: drawn.randint(1, nodes + 1)
-        kinds = [
+        node: Callable[[], int] = lambda: drawn.randint(1, nodes + 1)
+        kinds: list[Callable[[], str]] = [
             lambda: f"link {node()} {node()}",
             lambda: f"link {node()} {node()}",
             lambda: f"unlink {node()} {node()}",
@@ -98,12 +103,16 @@ class Same(Timed):
         ]
         return [drawn.choice(kinds)() for _ in range(drawn.randint(1, 60))]
 
-    def test_random_scripts(self):
+    def test_random_scripts(self) -> None:
         for seed in range(60):
             drawn = random.Random(seed)
             nodes, rules, keep = drawn.randint(1, 8), drawn.choice(["hh", "manne"]), drawn.random() < 0.7
-            names = drawn.choice([nodes, [f"n{number}" for number in range(nodes)]])
-            name = int if names == nodes else (lambda text: f"n{int(text) - 1}")
+            kinds: list[Union[int, list[str]]] = [nodes, [f"n{number}" for number in range(nodes)]]
+            names = drawn.choice(kinds)
+
+            def name(text: str) -> Name:
+                return int(text) if names == nodes else f"n{int(text) - 1}"
+
             lines, found = self.lines(drawn, nodes), []
             if names != nodes:
                 # a name that is none is told by the client itself
@@ -131,7 +140,7 @@ class Same(Timed):
                 self.assertEqual(*found)
                 self.assertEqual(audit(found[0][-1]), audit(found[0][-1], engine="program"))
 
-    def test_in_batches(self):
+    def test_in_batches(self) -> None:
         for seed in range(20):
             drawn = random.Random(seed)
             lines, found = self.lines(drawn, 6), []
@@ -145,7 +154,7 @@ class Same(Timed):
             with self.subTest(seed=seed):
                 self.assertEqual(*found)
 
-    def test_verdicts_on_damaged_ones(self):
+    def test_verdicts_on_damaged_ones(self) -> None:
         drawn, whys = random.Random(2), set()
         with Network("manne", 9) as net:
             with net.batch() as batch:
@@ -157,7 +166,7 @@ class Same(Timed):
                     batch.checkpoint()
             whole = net.transcript().encode()
 
-        def verdict(text, engine):
+        def verdict(text: Text, engine: str) -> Union[Summary, tuple[int, str]]:
             try:
                 return audit(text, engine=engine)
             except Damaged as damaged:
@@ -170,14 +179,15 @@ class Same(Timed):
             with self.subTest(turn):
                 self.assertEqual(verdict(text, "library"), verdict(text, "program"))
         self.assertEqual(whys, {"not a transcript line", "out of order", "not the machine's reply", "bad base"})
-        for text in (
+        texts: list[Text] = [
             b"",
             b"x",
             "matching hh 2\n",
             bytearray(b"matching hh 2\n"),
             memoryview(b"matching hh 2\n1 show 1 = 2\n"),
-        ):
-            self.assertEqual(verdict(text, "library"), verdict(text, "program"))
+        ]
+        for given in texts:
+            self.assertEqual(verdict(given, "library"), verdict(given, "program"))
 
 
 class CostsTold(Timed):
@@ -186,7 +196,8 @@ class CostsTold(Timed):
     engines = ("library",)
     # ann and bob are a pair with two other edges each; cleo points at ann, who does not answer; gus is not there
     names = ("ann", "bob", "cleo", "dan", "eve", "fay", "gus")
-    rows = (
+    # a call, and what it costs under `hh` and `manne`, or why it is refused
+    rows: tuple[tuple[tuple[Any, ...], Union[int, str], Union[int, str]], ...] = (
         (("link", "cleo", "dan"), 2, 2),
         (("unlink", "ann", "bob"), 8, 12),
         (("unlink", "ann", "cleo"), 4, 0),
@@ -209,7 +220,7 @@ class CostsTold(Timed):
         (("point", "dan", "eve"), "not-neighbour", "not-neighbour"),
     )
 
-    def network(self, rules, engine=None):
+    def network(self, rules: str, engine: Optional[str] = None) -> Network:
         net = Network(rules, self.names, present=6, engine=engine)
         for a, b in (("ann", "bob"), ("ann", "cleo"), ("ann", "dan"), ("bob", "eve"), ("bob", "fay")):
             net.link(a, b)
@@ -217,7 +228,7 @@ class CostsTold(Timed):
             net.point(a, b)
         return net
 
-    def test_by_the_library(self):
+    def test_by_the_library(self) -> None:
         for at, rules in enumerate(("hh", "manne")):
             with self.network(rules, "library") as net:
                 before = net.transcript()
@@ -237,7 +248,7 @@ class CostsTold(Timed):
                 self.assertRaises(TypeError, net.cost_of, "link", "ann")
             self.assertRaisesRegex(ValueError, "closed", net.cost_of, "leave", "ann")
 
-    def test_that_are_none_are_those_of_what_is_refused(self):
+    def test_that_are_none_are_those_of_what_is_refused(self) -> None:
         drawn, refused = random.Random(4), set()
         for rules in ("hh", "manne"):
             with Network(rules, 6, present=5, engine="library") as net:
@@ -251,7 +262,8 @@ class CostsTold(Timed):
                         why = "" if net.cost_of(*event) >= 0 else "less than nothing"
                     except ValueError as error:
                         why = str(error)
-                    done = told(lambda: getattr(net, event[0])(*event[1:]))
+                    call: Callable[[], Any] = lambda: getattr(net, event[0])(*event[1:])
+                    done = told(call)
                     self.assertEqual(bool(why), isinstance(done, Refused), event)
                     if why:
                         self.assertIn(f"would be refused ({done.text})", why)
@@ -267,7 +279,7 @@ class CostsTold(Timed):
         }
         self.assertEqual(refused, kinds)
 
-    def test_by_the_program(self):
+    def test_by_the_program(self) -> None:
         with self.network("hh", "program") as net:
             self.assertRaisesRegex(
                 NoSuchCommand, "the program tells no cost of unlink beforehand", net.cost_of, "unlink", "ann", "bob"
@@ -277,9 +289,9 @@ class CostsTold(Timed):
 
 
 class Partners(Timed):
-    """With whom a node is paired, by the library, is what the library says, and not what the client makes of the transcript."""
+    """With whom a node is paired is, by the library, what the library says: the client makes it of no transcript."""
 
-    def test_the_proved_answer_counts(self):
+    def test_the_proved_answer_counts(self) -> None:
         with Network("hh", ["ann", "bob", "cleo", "dan"], present=3) as net:
             net.link("ann", "bob")
             net.link("bob", "cleo")
@@ -302,7 +314,7 @@ class Pieces(Timed):
 
     text = "matching hh 2\n1 link 1 2 = ok\n2 enabled = 1:seduce 2:seduce\n3 step 1 = 1:seduce>2\n"
 
-    def verdict(self, pieces):
+    def verdict(self, pieces: Iterable[Text]) -> Union[Summary, str]:
         with Audit() as judge:
             try:
                 for piece in pieces:
@@ -311,7 +323,7 @@ class Pieces(Timed):
             except Damaged as damaged:
                 return str(damaged)
 
-    def test_cut_anywhere(self):
+    def test_cut_anywhere(self) -> None:
         whole = self.text.encode()
         for text, wanted in (
             (whole, Summary(3, 2, 1)),
@@ -326,7 +338,7 @@ class Pieces(Timed):
             self.verdict([self.text[:20], bytearray(whole[20:40]), memoryview(whole)[40:]]), Summary(3, 2, 1)
         )
 
-    def test_what_is_said_once_is_said_again(self):
+    def test_what_is_said_once_is_said_again(self) -> None:
         with Audit() as judge:
             judge.feed(self.text)
             for _ in range(2):
@@ -334,19 +346,24 @@ class Pieces(Timed):
             self.assertRaisesRegex(ValueError, "the audit is over", judge.feed, "4 status")
         self.assertEqual(judge.finish(), Summary(3, 2, 1))
         judge = Audit()
-        self.assertRaises(Damaged, lambda: [judge.feed("no header\n" * 9999) for _ in range(99)])
+
+        def feed() -> None:
+            for _ in range(99):
+                judge.feed("no header\n" * 9999)
+
+        self.assertRaises(Damaged, feed)
         for ask in (judge.finish, lambda: judge.feed(self.text), judge.finish):
             self.assertRaisesRegex(Damaged, "line 1: bad header", ask)
         judge.close()
         judge.close()
 
-    def test_that_is_closed(self):
+    def test_that_is_closed(self) -> None:
         with Audit() as judge:
             judge.feed(self.text)
         for ask in (judge.finish, lambda: judge.feed("x")):
             self.assertRaisesRegex(ValueError, "the audit is closed", ask)
 
-    def test_that_nobody_closes(self):
+    def test_that_nobody_closes(self) -> None:
         before = resource.getrusage(resource.RUSAGE_SELF).ru_maxrss
         for _ in range(60 if Audit().engine == "library" else 3):
             judge = Audit()
@@ -361,11 +378,11 @@ class Pieces(Timed):
 class Threads(Timed):
     engines = ("library",)
 
-    def in_threads(self, call, count=4):
+    def in_threads(self, call: Callable[[int], object], count: int = 4) -> None:
         """Lets threads call, each with its number, and raises what one raises."""
-        raised = []
+        raised: list[BaseException] = []
 
-        def called(number):
+        def called(number: int) -> None:
             try:
                 call(number)
             except BaseException as error:
@@ -379,10 +396,10 @@ class Threads(Timed):
         if raised:
             raise raised[0]
 
-    def test_each_with_a_session(self):
+    def test_each_with_a_session(self) -> None:
         said = {}
 
-        def call(number):
+        def call(number: int) -> None:
             with Network("manne", 30) as net:
                 for turn in range(20):
                     told(lambda: net.link(1 + turn, 2 + turn))
@@ -396,10 +413,10 @@ class Threads(Timed):
             call(number)
         self.assertEqual(said, together)
 
-    def test_one_session_of_several(self):
+    def test_one_session_of_several(self) -> None:
         with Network("manne", 40) as net:
 
-            def call(number):
+            def call(number: int) -> None:
                 for turn in range(150):
                     a, b = random.Random(f"{number} {turn}").sample(range(1, 41), 2)
                     linked = told(lambda: net.link(a, b))
@@ -418,15 +435,15 @@ class Threads(Timed):
         entries = [int(line.split(" ")[0]) for line in net.transcript().splitlines() if line[0].isdigit()]
         self.assertEqual(entries, list(range(1, last + 1)))
 
-    def test_a_lock_is_not_lost_by_interrupts(self):
+    def test_a_lock_is_not_lost_by_interrupts(self) -> None:
         net, is_done, count = Network("hh", 3), [False], [0]
 
-        def ask():
+        def ask() -> None:
             while not is_done[0]:
                 net.show(2)
                 count[0] += 1
 
-        def handler(*_):
+        def handler(*_: object) -> None:
             raise Cut
 
         self.addCleanup(signal.signal, signal.SIGVTALRM, signal.signal(signal.SIGVTALRM, handler))
@@ -502,7 +519,7 @@ print(net.audit().entries == status.entry)
 class Memory(Timed):
     engines = ("library",)
 
-    def test_that_is_refused_for_a_reply_is_told_with_its_entry(self):
+    def test_that_is_refused_for_a_reply_is_told_with_its_entry(self) -> None:
         environment = dict(os.environ, PYTHONPATH=os.path.join(TOP, "python"))
         done = subprocess.run([sys.executable, "-c", SHORT_OF_MEMORY], env=environment, capture_output=True, text=True)
         self.assertEqual((done.returncode, done.stderr), (0, ""), done.stdout)
@@ -513,20 +530,20 @@ class Memory(Timed):
         self.assertGreater(sum("'no reply'" in line for line in told), 1, told)
         self.assertEqual(whole, "True")
 
-    def test_networks_that_nobody_closes(self):
+    def test_networks_that_nobody_closes(self) -> None:
         before = resource.getrusage(resource.RUSAGE_SELF).ru_maxrss
         for _ in range(150):
             net = Network("manne", 65_535)
             session = weakref.ref(net._session)
             # half of them in a cycle
-            net.me = net if _ % 2 else None
+            setattr(net, "me", net if _ % 2 else None)
             del net
             gc.collect() if _ % 2 else None
             self.assertIsNone(session())
         # a network of so many names takes some 3 MB
         self.assertLess(resource.getrusage(resource.RUSAGE_SELF).ru_maxrss - before, 100_000)
 
-    def test_a_session_of_weeks(self):
+    def test_a_session_of_weeks(self) -> None:
         with Network("hh", 3, keep=False) as net:
             net.link(1, 2)
             before = resource.getrusage(resource.RUSAGE_SELF).ru_maxrss
@@ -539,7 +556,7 @@ class Memory(Timed):
             self.assertEqual(net.status().entry, 4_000_042)
             self.assertEqual(net.audit().entries, 1)
 
-    def test_at_the_end_of_the_process(self):
+    def test_at_the_end_of_the_process(self) -> None:
         uses = "import rudekpi; net = rudekpi.Network('hh', 2); net.link(1, 2); net.me = net; print(net.engine)"
         environment = dict(os.environ, PYTHONPATH=os.path.join(TOP, "python"))
         done = subprocess.run(
@@ -547,20 +564,21 @@ class Memory(Timed):
         )
         self.assertEqual((done.returncode, done.stdout, done.stderr), (0, "library\n", ""))
 
-    def test_a_child_of_this_process_asks_nothing(self):
+    def test_a_child_of_this_process_asks_nothing(self) -> None:
         with Network("hh", 2) as net:
             batch = net.batch()
             go, come = os.pipe()
             child = os.fork()
             if child == 0:
                 said = []
-                for call in (
+                calls: list[Callable[[], object]] = [
                     net.status,
                     lambda: net.link(1, 2),
                     lambda: batch.show(1),
                     net.checkpoint,
                     lambda: net.drive(1, 1),
-                ):
+                ]
+                for call in calls:
                     try:
                         call()
                         said.append("answered")

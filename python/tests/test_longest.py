@@ -1,22 +1,38 @@
 """The longest schedules: of small networks looked at by another search beside, and played."""
 
+from __future__ import annotations
+
 import itertools
 import random
 import time
 import unittest
 import unittest.mock
+from typing import Optional
 
 from rudekpi import audit, epochs, graphs, schedules
 from rudekpi import rules as rule_sets
+from rudekpi.replies import Name
 from rudekpi.schedules import connected_graphs, longest, renamed
+from rudekpi.simple_graph import Graph
 from support import Timed
 
 
-def allowed(rules, near, pointers, flags, node):
+# A node's pointer and its flag, and those of all nodes.
+Held = tuple[Optional[Name], bool]
+Helds = tuple[Held, ...]
+
+
+def allowed(
+    rules: str,
+    near: dict[Name, list[Name]],
+    pointers: dict[Name, Optional[Name]],
+    flags: dict[Name, bool],
+    node: Name,
+) -> list[Held]:
     """The moves of a node, written from the tables of the rules: what its pointer and flag become."""
 
-    def suits(other):
-        return pointers[other] == node
+    def suits(other: Name) -> bool:
+        return bool(pointers[other] == node)
 
     married = pointers[node] is not None and pointers[pointers[node]] == node
     if rules == "manne" and flags[node] != married:
@@ -37,12 +53,12 @@ def allowed(rules, near, pointers, flags, node):
     return [(None, flags[node])] if leaves else []
 
 
-def longest_by_recursion(graph, rules):
+def longest_by_recursion(graph: Graph, rules: str) -> int:
     """The most moves from any state, each choice tried, one after another and without the package."""
     near = {node: sorted(b if a == node else a for a, b in graph.edges if node in (a, b)) for node in graph.nodes}
-    known = {}
+    known: dict[Helds, int] = {}
 
-    def most(state):
+    def most(state: Helds) -> int:
         if state not in known:
             pointers = {node: held[0] for node, held in zip(graph.nodes, state)}
             flags = {node: held[1] for node, held in zip(graph.nodes, state)}
@@ -65,10 +81,11 @@ def longest_by_recursion(graph, rules):
     return max(map(most, itertools.product(*places)))
 
 
-def greedy_anew(search, code, drawn):
+def greedy_anew(search: schedules.Search, code: int, drawn: random.Random) -> list[tuple[int, str, int]]:
     """A greedy schedule for which all nodes are looked at in front of each move."""
     search.set_to(code)
-    state, steps = search.state, []
+    state = search.state
+    steps: list[tuple[int, str, int]] = []
     while True:
         moves = [
             (node, rule, target)
@@ -85,7 +102,7 @@ def greedy_anew(search, code, drawn):
 class Longest(Timed):
     seconds = 120
 
-    def test_as_another_search_finds_them(self):
+    def test_as_another_search_finds_them(self) -> None:
         for n in (1, 2, 3, 4):
             for graph in connected_graphs(n):
                 with self.subTest(graph.title):
@@ -94,7 +111,7 @@ class Longest(Timed):
             with self.subTest(graph.title):
                 self.assertEqual(longest(graph, "manne").moves, longest_by_recursion(graph, "manne"))
 
-    def test_they_are_played_and_accepted(self):
+    def test_they_are_played_and_accepted(self) -> None:
         for graph in [
             graphs.path(1),
             graphs.path(4),
@@ -114,19 +131,19 @@ class Longest(Timed):
                     self.assertTrue(found.is_proved)
                     self.assertEqual(sum(map(len, found.steps)), found.moves)
 
-    def test_a_ring_of_four_reaches_its_bound(self):
+    def test_a_ring_of_four_reaches_its_bound(self) -> None:
         found = max((longest(graph, "manne") for graph in renamed(graphs.ring(4))), key=lambda it: it.moves)
         self.assertEqual((found.moves, found.bound), (2 * 4 + 3 * 4, 20))
         self.assertEqual(epochs(found.play())[-1].moves, 20)
 
-    def test_how_many_graphs_there_are(self):
+    def test_how_many_graphs_there_are(self) -> None:
         # the numbers of connected graphs of n nodes, and of such with numbered nodes: A001349 and A001187 of the OEIS
         self.assertEqual([len(list(connected_graphs(n))) for n in range(1, 6)], [1, 1, 2, 6, 21])
         self.assertEqual(
             [sum(len(list(renamed(graph))) for graph in connected_graphs(n)) for n in range(1, 6)], [1, 1, 4, 38, 728]
         )
 
-    def test_the_best_that_is_found(self):
+    def test_the_best_that_is_found(self) -> None:
         graph = graphs.ring(30)
         found = longest(graph, "hh", seconds=0.5, seed=3)
         self.assertFalse(found.is_proved)
@@ -137,7 +154,7 @@ class Longest(Timed):
         self.assertEqual(epochs(again.play())[-1].moves, again.moves)
         self.assertRaises(ValueError, longest, graph, "x")
 
-    def test_greedy_schedules_as_if_all_was_looked_at_again(self):
+    def test_greedy_schedules_as_if_all_was_looked_at_again(self) -> None:
         for seed in range(12):
             graph = graphs.gnp(14, 0.1 + seed / 40, seed)
             for rules in ("hh", "manne"):
@@ -147,7 +164,7 @@ class Longest(Timed):
                 with self.subTest(seed=seed, rules=rules):
                     self.assertEqual(steps, greedy_anew(search, start, random.Random(seed)))
 
-    def test_a_search_ends_in_its_time(self):
+    def test_a_search_ends_in_its_time(self) -> None:
         begun = time.monotonic()
         found = longest(graphs.ring(400), "manne", seconds=1)
         self.assertTrue(400 < found.moves <= found.bound)
@@ -158,7 +175,7 @@ class Longest(Timed):
             self.assertLess(time.monotonic() - begun, 40)
         self.assertFalse(found.is_proved)
 
-    def test_by_the_callers_names(self):
+    def test_by_the_callers_names(self) -> None:
         found = longest(graphs.Graph("mine", ("bob", "ann", "cleo"), (("cleo", "ann"), ("bob", "ann"))), "hh")
         self.assertEqual(found.moves, 4)
         self.assertEqual(epochs(found.play())[-1].moves, 4)

@@ -1,15 +1,34 @@
 """Networks through the client: names, wrong arguments, refusals, batches, daemons, and transcripts that go on."""
 
+from __future__ import annotations
+
 import contextlib
 import io
 import os
 import random
 import subprocess
 import unittest
+from typing import Any, Callable, Mapping
 
 import rudekpi
-from rudekpi import Damaged, Move, Network, PastBound, Refused, Settled, Wish, WrongChoice, audit, epochs, replay
+from rudekpi import (
+    Damaged,
+    Enabled,
+    Move,
+    Network,
+    PastBound,
+    Refused,
+    Settled,
+    Wish,
+    WrongChoice,
+    audit,
+    epochs,
+    replay,
+)
+from rudekpi.replies import Choice
 from support import Timed, has_ended
+
+JUDGES: tuple[Callable[..., object], ...] = (audit, epochs, replay)
 
 PAIR = "matching hh 2\n1 link 1 2 = ok\n2 step 1 = 1:seduce>2\n3 step 2 = 2:marry>1\n4 matching = 1-2\n"
 # node 2 took the greater of the two targets that it may take
@@ -17,7 +36,7 @@ OTHER_TARGET = "matching hh 3\n1 link 1 2 = ok\n2 link 2 3 = ok\n3 step 2 = 2:se
 
 
 class Names(Timed):
-    def test_both_ways(self):
+    def test_both_ways(self) -> None:
         with Network("hh", ["ann", ("bob", 2), 3.5]) as net:
             self.assertEqual(net.nodes, ["ann", ("bob", 2), 3.5])
             self.assertEqual([net.number_of(name) for name in net.nodes], [1, 2, 3])
@@ -36,13 +55,13 @@ class Names(Timed):
             self.assertEqual(pairs | {1}, {1, ("ann", ("bob", 2))})
             self.assertIn("\n2 enabled = 1:seduce 2:seduce\n3 step 1>2 = 1:seduce>2\n", net.transcript())
 
-    def test_numbers(self):
+    def test_numbers(self) -> None:
         with Network("hh", 3) as net:
             self.assertEqual((net.nodes, net.number_of(3), net.name_of(3)), ([1, 2, 3], 3, 3))
             for number in (0, 4):
                 self.assertRaises(ValueError, net.name_of, number)
 
-    def test_a_refusal_has_them(self):
+    def test_a_refusal_has_them(self) -> None:
         with Network("manne", ["ann", "bob"]) as net:
             net.link("ann", "bob")
             with self.assertRaises(Refused) as caught:
@@ -57,8 +76,8 @@ class Names(Timed):
 
 
 class WrongArguments(Timed):
-    def test_a_network(self):
-        for words in [
+    def test_a_network(self) -> None:
+        wrong_words: list[tuple[str, Any]] = [
             ("foo", 1),
             ("hh", -1),
             ("hh", 65536),
@@ -66,18 +85,20 @@ class WrongArguments(Timed):
             ("hh", [1, 1]),
             ("hh", [1, None]),
             ("HH", 1),
-        ]:
+        ]
+        for words in wrong_words:
             with self.subTest(words), self.assertRaises(ValueError):
                 Network(*words)
+        nodes: Any
         for nodes in (2.5, None, [[]]):
             with self.subTest(nodes), self.assertRaises(TypeError):
                 Network("hh", nodes)
         with self.assertRaisesRegex(ValueError, "two nodes have the name 'bob'"):
             Network("hh", ["ann", "bob", "bob"])
 
-    def test_nothing_is_asked(self):
+    def test_nothing_is_asked(self) -> None:
         with Network("manne", 2) as net:
-            for call, *words in [
+            calls: list[tuple[Any, ...]] = [
                 (net.link, 0, 1),
                 (net.link, 1, 65536),
                 (net.unlink, -1, 1),
@@ -91,29 +112,31 @@ class WrongArguments(Timed):
                 (net.drive, 1, 1000001),
                 (net.scramble, 1, -1),
                 (net.step, [Wish(1, 0)]),
-            ]:
+            ]
+            for call, *words in calls:
                 with self.subTest(call.__name__, words=str(words)[:50]), self.assertRaises(ValueError):
                     call(*words)
-            for call, *words in [
+            calls = [
                 (net.link, "1", 2),
                 (net.step, 1),
                 (net.show, None),
                 (net.drive, 1.5, 1),
                 (net.link, 1, 2.0),
-            ]:
+            ]
+            for call, *words in calls:
                 with self.subTest(call.__name__, words=words), self.assertRaises(TypeError):
                     call(*words)
             self.assertEqual(net.transcript(), "matching manne 2\n")
             self.assertEqual(net.link(1, 2).entry, 1)
 
-    def test_no_such_name(self):
+    def test_no_such_name(self) -> None:
         with Network("manne", ["ann"]) as net:
             for name in ("bob", 1, "", None):
                 with self.assertRaisesRegex(ValueError, "no node has the name"):
                     net.show(name)
             self.assertEqual(net.transcript(), "matching manne 1\n")
 
-    def test_a_network_that_is_closed(self):
+    def test_a_network_that_is_closed(self) -> None:
         with Network("hh", 2) as net:
             net.link(1, 2)
         net.close()
@@ -125,7 +148,7 @@ class WrongArguments(Timed):
             self.assertRaises(ValueError, batch.link, 1, 2)
         self.assertEqual(net.transcript(), "matching hh 2\n1 link 1 2 = ok\n")
 
-    def test_an_error_of_the_callers_own_ends_the_run(self):
+    def test_an_error_of_the_callers_own_ends_the_run(self) -> None:
         with self.assertRaises(KeyError), Network("hh", 2) as net:
             with net.batch() as batch:
                 batch.link(1, 2)
@@ -134,7 +157,7 @@ class WrongArguments(Timed):
 
 
 class Batches(Timed):
-    def test_what_is_refused(self):
+    def test_what_is_refused(self) -> None:
         with Network("hh", 3) as net:
             with self.assertRaises(Refused) as caught, net.batch() as batch:
                 first, wrong = batch.link(1, 2), batch.link(2, 1)
@@ -148,7 +171,7 @@ class Batches(Timed):
             self.assertEqual(status.result().edges, 2)
             self.assertRaises(Refused, wrong.result)
 
-    def test_none_is_raised_where_that_is_asked(self):
+    def test_none_is_raised_where_that_is_asked(self) -> None:
         with Network("hh", 2) as net:
             with net.batch(raises=False) as batch:
                 batch.show(3)
@@ -156,14 +179,14 @@ class Batches(Timed):
             self.assertEqual([it.text for it in batch.refusals], ["unknown-node"])
             self.assertEqual(net.status().edges, 1)
 
-    def test_a_wrong_argument_in_it(self):
+    def test_a_wrong_argument_in_it(self) -> None:
         with Network("hh", 2) as net:
             with net.batch() as batch:
                 self.assertRaises(ValueError, batch.link, 0, 1)
                 pending = batch.link(1, 2)
             self.assertEqual(pending.result().entry, 1)
 
-    def test_a_result_within_it(self):
+    def test_a_result_within_it(self) -> None:
         with Network("manne", 4) as net:
             with net.batch() as batch:
                 batch.link(1, 2)
@@ -174,14 +197,14 @@ class Batches(Timed):
             self.assertEqual((sum(map(len, driven.result())), driven.result().status.enabled), (4, 0))
             self.assertEqual(net.status().edges, 2)
 
-    def test_an_empty_one(self):
+    def test_an_empty_one(self) -> None:
         with Network("hh", 0) as net:
             with net.batch():
                 pass
             self.assertEqual((len(net.drive(1, 5)), len(net.scramble(1, 5))), (0, 0))
             self.assertEqual((net.enabled(), net.matching(), net.nodes), ({}, set(), []))
 
-    def test_as_the_program_writes_it(self):
+    def test_as_the_program_writes_it(self) -> None:
         drawn = random.Random(5)
         links = [(drawn.randint(1, 300), drawn.randint(1, 300)) for _ in range(1000)]
         with Network("manne", 300) as net:
@@ -200,7 +223,7 @@ class Batches(Timed):
 
 
 class Documents(Timed):
-    def test_the_example_of_the_module(self):
+    def test_the_example_of_the_module(self) -> None:
         lines = [line[4:] for line in rudekpi.__doc__.split("\n") if line.startswith("    ")]
         said = io.StringIO()
         with contextlib.redirect_stdout(said):
@@ -209,16 +232,21 @@ class Documents(Timed):
 
 
 class Daemons(Timed):
-    def test_a_pair(self):
+    def test_a_pair(self) -> None:
         with Network("manne", 2) as net:
             net.link(1, 2)
-            seen = []
-            settled = net.settle(lambda enabled: seen.append(dict(enabled)) or list(enabled))
+            seen: list[dict[int, str]] = []
+
+            def daemon(enabled: Enabled) -> list[int]:
+                seen.append(dict(enabled))
+                return list(enabled)
+
+            settled = net.settle(daemon)
             self.assertEqual(settled, Settled(steps=3, moves=4, charge=4))
             self.assertEqual(seen, [{1: "seduce"}, {2: "marry"}, {1: "update", 2: "update"}])
             self.assertEqual(net.settle(lambda enabled: self.fail("nobody is enabled")), Settled(0, 0, 0))
 
-    def test_a_ring_of_three(self):
+    def test_a_ring_of_three(self) -> None:
         with Network("hh", 3) as net:
             for a, b in [(1, 2), (2, 3), (1, 3)]:
                 net.link(a, b)
@@ -227,7 +255,7 @@ class Daemons(Timed):
             self.assertEqual(net.settle(lambda enabled: [min(enabled)]).charge, 9)
             self.assertEqual(net.status().enabled, 0)
 
-    def test_wishes_and_sets(self):
+    def test_wishes_and_sets(self) -> None:
         with Network("hh", 3) as net:
             net.link(1, 2)
             net.link(2, 3)
@@ -240,7 +268,8 @@ class Daemons(Timed):
             every = " ".join(map(str, range(1, 21)))
             self.assertIn(f" step {every} = ", net.transcript())
 
-    def test_wrong_choices(self):
+    def test_wrong_choices(self) -> None:
+        choice: Any
         for choice, text in [
             ([], "chose nobody while 2"),
             (set(), "chose nobody"),
@@ -255,24 +284,31 @@ class Daemons(Timed):
         ]:
             with self.subTest(choice=str(choice)), Network("hh", 3) as net:
                 net.link(1, 2)
+                daemon: Callable[[Enabled], Any] = lambda enabled: choice
                 with self.assertRaisesRegex(WrongChoice, text):
-                    net.settle(lambda enabled: choice)
+                    net.settle(daemon)
                 self.assertEqual(net.status().spent, 0)
 
-    def test_choices_that_the_network_refuses(self):
-        for rules, choice, number in [("hh", [1, 2], 9), ("manne", [1, 1], 10), ("hh", [Wish(1, 1)], 12)]:
+    def test_choices_that_the_network_refuses(self) -> None:
+        refused: list[tuple[str, Choice, int]] = [
+            ("hh", [1, 2], 9),
+            ("manne", [1, 1], 10),
+            ("hh", [Wish(1, 1)], 12),
+        ]
+        for rules, choice, number in refused:
             with self.subTest(choice=str(choice)), Network(rules, 2) as net:
                 net.link(1, 2)
                 with self.assertRaises(Refused) as caught:
                     net.settle(lambda enabled: choice)
                 self.assertEqual(caught.exception.number, number)
 
-    def test_one_that_disturbs(self):
+    def test_one_that_disturbs(self) -> None:
         with Network("hh", 2) as net:
             net.link(1, 2)
+            last: Mapping[int, str] = {2: "marry"}
 
-            def daemon(enabled):
-                if enabled == {2: "marry"}:
+            def daemon(enabled: Enabled) -> list[int]:
+                if enabled == last:
                     net.point(1, None)
                 return [max(enabled)] if 2 in enabled and "marry" in enabled.values() else [min(enabled)]
 
@@ -281,7 +317,7 @@ class Daemons(Timed):
 
 
 class Transcripts(Timed):
-    def test_a_replay_goes_on(self):
+    def test_a_replay_goes_on(self) -> None:
         net = replay(PAIR, names=["ann", "bob"])
         with net:
             self.assertEqual(net.transcript(), PAIR)
@@ -289,7 +325,7 @@ class Transcripts(Timed):
             self.assertEqual(net.transcript(), PAIR + "5 unlink 2 1 = ok\n")
         self.assertEqual(audit(net.transcript()).epochs, 3)
 
-    def test_a_replay_of_turns(self):
+    def test_a_replay_of_turns(self) -> None:
         with Network("manne", 9) as net:
             for node in range(1, 9):
                 net.link(node, node + 1)
@@ -299,12 +335,12 @@ class Transcripts(Timed):
         with replay(net.transcript()) as again:
             self.assertEqual(again.transcript(), net.transcript())
 
-    def test_a_replay_of_other_targets(self):
+    def test_a_replay_of_other_targets(self) -> None:
         with replay(OTHER_TARGET) as net:
             self.assertEqual(net.matching(), {(2, 3)})
             self.assertIn("3 step 2>3 = 2:seduce>3\n4 step 3>2 = 3:marry>2\n", net.transcript())
 
-    def test_what_is_no_transcript(self):
+    def test_what_is_no_transcript(self) -> None:
         for text, line in [
             ("", 1),
             (PAIR[:-1], 5),
@@ -312,17 +348,17 @@ class Transcripts(Timed):
             (PAIR.replace("seduce", "marry"), 3),
             ("\u00fc\n", 1),
         ]:
-            for judge in (audit, epochs, replay):
+            for judge in JUDGES:
                 with self.subTest(judge.__name__, text=text), self.assertRaises(Damaged) as caught:
                     judge(text)
                 self.assertEqual(caught.exception.line, line)
         self.assertRaises(ValueError, replay, PAIR, names=["ann"])
 
-    def test_the_epochs_of_a_pair(self):
+    def test_the_epochs_of_a_pair(self) -> None:
         found = [(it.start, it.moves, it.edges, it.nodes, it.bound, it.cost) for it in epochs(PAIR)]
         self.assertEqual(found, [(0, 0, 0, 2, 2, None), (1, 2, 1, 2, 2, 2)], "two nodes make two moves at most")
 
-    def test_turns_end_with_a_status(self):
+    def test_turns_end_with_a_status(self) -> None:
         with Network("hh", 2) as net:
             net.link(1, 2)
             driven = net.drive(7, 0)

@@ -1,9 +1,13 @@
 """Networks from and to networkx, and their matchings judged by it. Skipped where it is not there."""
 
+from __future__ import annotations
+
 import random
 import unittest
+from typing import Any
 
 from rudekpi import Network
+from rudekpi.choices import Daemon
 from support import Timed
 
 try:
@@ -12,24 +16,24 @@ except ImportError:
     networkx = None
 
 
-def one(drawn):
+def one(drawn: random.Random) -> Daemon:
     """A daemon of chance that lets one node move."""
     return lambda enabled: [drawn.choice(list(enabled))]
 
 
-def some(drawn):
+def some(drawn: random.Random) -> Daemon:
     """A daemon of chance that lets any nodes move, and one at least."""
     return lambda enabled: [node for node in enabled if drawn.random() < 0.5] or [drawn.choice(list(enabled))]
 
 
-def bare(graph):
+def bare(graph: Any) -> Any:
     """The nodes and edges of a graph, without what they carry."""
     return networkx.from_dict_of_lists(networkx.to_dict_of_lists(graph))
 
 
 @unittest.skipUnless(networkx, "no networkx")
 class Graphs(Timed):
-    def test_random_networks_settle_in_maximal_matchings(self):
+    def test_random_networks_settle_in_maximal_matchings(self) -> None:
         for seed in range(12):
             drawn = random.Random(seed)
             graph = networkx.gnp_random_graph(drawn.randint(1, 60), drawn.random() ** 2, seed=seed)
@@ -48,7 +52,7 @@ class Graphs(Timed):
                 self.assertTrue(networkx.is_maximal_matching(graph, set(net.matching())))
                 self.assertTrue(networkx.utils.graphs_equal(bare(net.to_networkx()), graph))
 
-    def test_names_that_are_tuples(self):
+    def test_names_that_are_tuples(self) -> None:
         graph = networkx.grid_2d_graph(5, 6)
         with Network.from_networkx(graph) as net:
             self.assertEqual(net.nodes, list(graph.nodes))
@@ -56,7 +60,7 @@ class Graphs(Timed):
             self.assertTrue(networkx.is_maximal_matching(graph, set(net.matching())))
             self.assertEqual(net.status().edges, 5 * 5 + 6 * 4)
 
-    def test_to_a_graph_of_numbers(self):
+    def test_to_a_graph_of_numbers(self) -> None:
         with Network("hh", 4) as net:
             net.link(4, 2)
             net.link(1, 2)
@@ -64,7 +68,7 @@ class Graphs(Timed):
             graph = net.to_networkx()
         self.assertEqual((sorted(graph.nodes), list(graph.edges)), ([1, 2, 3, 4], [(1, 2)]))
 
-    def test_who_is_present_is_in_the_graph(self):
+    def test_who_is_present_is_in_the_graph(self) -> None:
         with Network("hh", 4, present=3) as net:
             net.link(1, 2)
             net.link(2, 3)
@@ -75,7 +79,7 @@ class Graphs(Timed):
             graph = net.to_networkx()
         self.assertEqual((sorted(graph.nodes), list(graph.edges)), ([1, 3, 4], [(1, 4)]))
 
-    def test_pairs_and_registers_are_carried(self):
+    def test_pairs_and_registers_are_carried(self) -> None:
         with Network("manne", ["ann", "bob", "cleo"]) as net:
             net.link("ann", "bob")
             net.link("bob", "cleo")
@@ -88,7 +92,7 @@ class Graphs(Timed):
             {(a, b): it["pair"] for a, b, it in graph.edges(data=True)}, {("ann", "bob"): False, ("bob", "cleo"): True}
         )
 
-    def test_graphs_that_are_none(self):
+    def test_graphs_that_are_none(self) -> None:
         loop = networkx.Graph([(1, 2), (2, 2)])
         for graph, text in [
             (networkx.DiGraph([(1, 2)]), "undirected"),

@@ -1,5 +1,7 @@
 """Transcripts that are audited in parts: the verdicts are those of the whole, of right and of damaged ones."""
 
+from __future__ import annotations
+
 import concurrent.futures
 import os
 import pathlib
@@ -9,6 +11,7 @@ import signal
 import threading
 import unittest
 import unittest.mock
+from typing import Any, Callable, Union
 
 from rudekpi import Damaged, Network, Summary, audit, parts
 from rudekpi.audits import Slice
@@ -17,7 +20,7 @@ from rudekpi.parts import Held, LostPart, audit_parts
 from support import Losing, Timed
 
 
-def transcript(seed, turns=12, nodes=12):
+def transcript(seed: int, turns: int = 12, nodes: int = 12) -> str:
     """A run with a base behind each of some turns."""
     drawn = random.Random(seed)
     with Network(drawn.choice(["hh", "manne"]), nodes, present=nodes - 2) as net:
@@ -32,21 +35,21 @@ def transcript(seed, turns=12, nodes=12):
         return net.transcript()
 
 
-def verdict(judge, *words, **more):
+def verdict(judge: Callable[..., Summary], *words: Any, **more: Any) -> Union[Summary, tuple[int, str]]:
     try:
         return judge(*words, **more)
     except Damaged as damaged:
         return damaged.line, damaged.why
 
 
-def dies(transcript, **words):
+def dies(transcript: object, **words: object) -> None:
     os.kill(os.getpid(), signal.SIGKILL)
 
 
 class Parts(Timed):
     seconds = 120
 
-    def test_they_meet_at_bases(self):
+    def test_they_meet_at_bases(self) -> None:
         text = transcript(1).encode()
         found = list(parts.parts_of(Held(text), 300))
         self.assertGreater(len(found), 5)
@@ -58,7 +61,7 @@ class Parts(Timed):
             numbers = dict(word.split("=") for word in shared[1].split(" ")[2:])
             self.assertEqual(len(shared), 2 + int(numbers["nodes"]) + int(numbers["edges"]))
 
-    def test_bases_are_found_wherever_they_stand(self):
+    def test_bases_are_found_wherever_they_stand(self) -> None:
         text = transcript(4).encode()
         bases = [at for at in range(1, len(text)) if text.startswith(b"\nmatching2 ", at - 1)]
         self.assertEqual(len(bases), 12)
@@ -73,7 +76,7 @@ class Parts(Timed):
                         self.assertEqual([start for start, _ in found], [0, *bases])
                         self.assertEqual(held.lines_before(bases[5]), text[: bases[5]].count(b"\n"))
 
-    def test_the_last_parts_are_the_smaller_ones(self):
+    def test_the_last_parts_are_the_smaller_ones(self) -> None:
         text = transcript(6, turns=60).encode()
         found = list(parts.parts_of(Held(text), 100, 8))
         self.assertLess(len(found), 40)
@@ -82,7 +85,7 @@ class Parts(Timed):
         self.assertLess(found[-1][1] - found[-1][0], len(text) / 20)
         self.assertEqual(audit_parts(text, size=100), audit(text))
 
-    def test_right_ones(self):
+    def test_right_ones(self) -> None:
         for seed in range(5):
             text = transcript(seed)
             bases = [at for at in range(len(text)) if text.startswith("matching2 ", at)]
@@ -92,7 +95,7 @@ class Parts(Timed):
         for whole in ("matching hh 3\n", "matching hh 0\nmatching2 hh 0\nbase 0 spent=0 nodes=0 edges=0\n"):
             self.assertEqual(audit_parts(whole, size=0), audit(whole))
 
-    def test_damaged_ones(self):
+    def test_damaged_ones(self) -> None:
         drawn, whys = random.Random(5), set()
         text = transcript(3)
         lines = text.splitlines(keepends=True)
@@ -117,7 +120,7 @@ class Parts(Timed):
                 self.assertEqual(verdict(audit_parts, damaged, size=100), wanted)
         self.assertGreaterEqual(whys, {"bad base", "not a transcript line", "out of order", "not the machine's reply"})
 
-    def test_of_files_and_in_processes(self):
+    def test_of_files_and_in_processes(self) -> None:
         text = transcript(2)
         path = pathlib.Path(self.folder(), "transcript")
         path.write_text(text)
@@ -136,7 +139,7 @@ class Parts(Timed):
             self.assertEqual(verdict(audit_parts, wrong), verdict(audit, wrong))
         self.assertRaises(FileNotFoundError, audit_parts, pathlib.Path("/no/such/transcript"))
 
-    def test_of_a_pipe(self):
+    def test_of_a_pipe(self) -> None:
         text, path = transcript(2), pathlib.Path(self.folder(), "pipe")
         os.mkfifo(path)
         writer = threading.Thread(target=path.write_text, args=(text,))
@@ -194,20 +197,21 @@ class Deaths(Timed):
 
     seconds = 120
 
-    def in_parts(self, count):
+    def in_parts(self, count: int) -> tuple[bytes, list[tuple[int, int]]]:
         """A transcript, and where its parts begin and end."""
         text = transcript(7, turns=count - 1).encode()
         found = list(parts.parts_of(Held(text), 1))
         self.assertEqual(len(found), count)
         return text, found
 
-    def test_verdicts_that_a_cluster_loses(self):
+    def test_verdicts_that_a_cluster_loses(self) -> None:
         for count in (3, 64):
             text, _ = self.in_parts(count)
             path = pathlib.Path(self.folder(), "transcript")
             path.write_bytes(text)
             for lost in ((1,), (count,), (1, 2, count), range(1, count + 1)):
-                for given in (text, path):
+                forms: list[Union[bytes, pathlib.Path]] = [text, path]
+                for given in forms:
                     with self.subTest(count=count, lost=lost, given=type(given)):
                         executor = Losing(lost)
                         self.assertEqual(audit_parts(given, executor, size=1), audit(text))
@@ -215,7 +219,7 @@ class Deaths(Timed):
             damaged = text[:-2] + b"?\n"
             self.assertEqual(verdict(audit_parts, damaged, Losing((1, 2)), size=1), verdict(audit, damaged))
 
-    def test_a_verdict_that_is_lost_twice(self):
+    def test_a_verdict_that_is_lost_twice(self) -> None:
         for count, at in ((3, 0), (3, 1), (64, 40)):
             text, found = self.in_parts(count)
             # at first all of them are handed out, in their order
@@ -227,7 +231,7 @@ class Deaths(Timed):
             again = pickle.loads(pickle.dumps(lost))
             self.assertEqual((type(again), vars(again), str(again)), (LostPart, vars(lost), str(lost)))
 
-    def test_the_first_that_is_wrong_is_told(self):
+    def test_the_first_that_is_wrong_is_told(self) -> None:
         text, found = self.in_parts(64)
         # another last figure in the last line of a part, in front of the next one's base
         damaged = {at: text[: found[at + 1][0] - 2] + b"?" + text[found[at + 1][0] - 1 :] for at in (10, 30)}
@@ -237,24 +241,25 @@ class Deaths(Timed):
             audit_parts(damaged[30], Losing(twice), size=1)
         self.assertEqual(caught.exception.start, found[20][0])
 
-    def test_a_pool_that_breaks_is_the_callers(self):
+    def test_a_pool_that_breaks_is_the_callers(self) -> None:
         text, _ = self.in_parts(3)
         with unittest.mock.patch.object(parts, "audit", dies), concurrent.futures.ProcessPoolExecutor(2) as pool:
             self.assertRaises(concurrent.futures.BrokenExecutor, audit_parts, text, pool, size=1)
 
-    def test_an_error_of_an_audit_is_no_death(self):
+    def test_an_error_of_an_audit_is_no_death(self) -> None:
         text, _ = self.in_parts(3)
         executor = Losing(())
         with unittest.mock.patch.object(parts, "audit", side_effect=MemoryError("of the audit")):
             self.assertRaisesRegex(MemoryError, "of the audit", audit_parts, text, executor, size=1)
         self.assertEqual(executor.asked, 3)
 
-    def test_what_is_under_way_is_bounded(self):
+    def test_what_is_under_way_is_bounded(self) -> None:
         text, _ = self.in_parts(64)
-        made, most = [], [0]
+        made: list[concurrent.futures.Future[Any]] = []
+        most = [0]
 
         class Counting(concurrent.futures.ThreadPoolExecutor):
-            def submit(self, *words):
+            def submit(self, *words: Any) -> concurrent.futures.Future[Any]:  # type: ignore[override]
                 made.append(super().submit(*words))
                 most[0] = max(most[0], sum(not future.done() for future in made))
                 return made[-1]

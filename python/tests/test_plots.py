@@ -1,9 +1,12 @@
 """What plots of sweeps show: each run where it belongs, and each bound where it holds."""
 
+from __future__ import annotations
+
 import itertools
 import os
 import pathlib
 import unittest
+from typing import Any
 
 from rudekpi import plots
 from rudekpi.sweeps import Row
@@ -15,31 +18,40 @@ except ImportError:
     matplotlib = None
 
 
-def row(graph="ring:9", rules="hh", daemon="seeded", seed=0, hit="5 faults", n=9, moves=4, bound=27):
+def row(
+    graph: str = "ring:9",
+    rules: str = "hh",
+    daemon: str = "seeded",
+    seed: int = 0,
+    hit: str = "5 faults",
+    n: int = 9,
+    moves: int = 4,
+    bound: int = 27,
+) -> Row:
     return Row(graph, rules, n, 9, daemon, seed, hit, 1, moves, 9, bound, 4, 0.1)
 
 
-def named(figure):
+def named(figure: Any) -> dict[str, Any]:
     """The panels of a figure by their titles."""
     return {axes.get_title(): axes for axes in figure.get_axes() if axes.get_title()}
 
 
-def runs_of(axes):
+def runs_of(axes: Any) -> list[tuple[float, ...]]:
     """Each run that is drawn, as its place on the axis and its moves."""
     return [tuple(map(float, point)) for dots in axes.collections[:] if is_dots(dots) for point in dots.get_offsets()]
 
 
-def is_dots(drawn):
+def is_dots(drawn: object) -> bool:
     return type(drawn).__name__ == "PathCollection"
 
 
-def bounds_of(axes):
+def bounds_of(axes: Any) -> list[tuple[float, ...]]:
     """Each line of a bound: from where to where, and how high."""
     lines = [line for line in axes.get_lines() if line.get_color() == plots.BOUND]
     return sorted((*map(float, line.get_xdata()), float(line.get_ydata()[0])) for line in lines)
 
 
-def notes_of(axes):
+def notes_of(axes: Any) -> list[str]:
     return [it.get_text() for it in axes.texts if it.get_text().startswith("bound")]
 
 
@@ -47,7 +59,7 @@ def notes_of(axes):
 class Panels(Timed):
     engines = ("program",)
 
-    def test_a_panel_for_each_graph_and_disturbance(self):
+    def test_a_panel_for_each_graph_and_disturbance(self) -> None:
         words = itertools.product(("ring:9", "gnp:9,0.5,1"), ("5 faults", "10 faults"), ("hh", "manne"))
         rows = [row(graph, rules, hit=hit) for graph, hit, rules in words]
         figure = plots.panels_figure(rows)
@@ -60,7 +72,7 @@ class Panels(Timed):
         for axes in named(figure).values():
             self.assertEqual(len(runs_of(axes)), 2)
 
-    def test_each_run_stands_by_its_daemon_and_rules(self):
+    def test_each_run_stands_by_its_daemon_and_rules(self) -> None:
         rows = [
             row(rules=rules, daemon=daemon, seed=seed, moves=10 * place + seed % 3)
             for place, (daemon, rules) in enumerate([("age", "hh"), ("age", "manne"), ("seeded", "hh")])
@@ -76,7 +88,7 @@ class Panels(Timed):
         # no two hide each other
         self.assertEqual(len(set(runs)), len(rows))
 
-    def test_bounds_are_drawn_where_they_hold(self):
+    def test_bounds_are_drawn_where_they_hold(self) -> None:
         rows = [row("ring:9", moves=8, bound=27), row("ring:9", "manne", moves=9, bound=45)]
         rows += [row("ring:8", n=8, moves=7, bound=24), row("ring:8", "manne", n=8, moves=9, bound=40, seed=1)]
         rows += [row("ring:8", "manne", n=8, moves=9, bound=36, seed=2)]
@@ -92,7 +104,7 @@ class Panels(Timed):
         self.assertEqual(bounds_of(panels["ring:8\n5 faults"]), [(*wide[0], 24.0), (*wide[1], 36.0), (*wide[1], 40.0)])
         self.assertEqual([notes_of(axes) for axes in panels.values()], [[], []])
 
-    def test_the_axis_reaches_as_far_as_what_is_drawn(self):
+    def test_the_axis_reaches_as_far_as_what_is_drawn(self) -> None:
         for moves, bound, least, most in [
             (0, 0, 1, 2),
             (3, 5000, 3, 4),
@@ -105,7 +117,7 @@ class Panels(Timed):
                 self.assertLess(low, 0)
                 self.assertTrue(least < high < most, high)
 
-    def test_panels_of_one_disturbance_have_one_axis_if_they_are_near(self):
+    def test_panels_of_one_disturbance_have_one_axis_if_they_are_near(self) -> None:
         rows = [row("ring:9", moves=20, bound=900), row("ring:8", moves=30, bound=900)]
         rows += [
             row("ring:9", moves=200, bound=900, hit="90 faults"),
@@ -122,7 +134,7 @@ class Panels(Timed):
             },
         )
 
-    def test_what_makes_no_plot(self):
+    def test_what_makes_no_plot(self) -> None:
         path = os.path.join(self.folder(), "a.svg")
         for plot in (plots.of_rows, plots.over_graphs):
             self.assertRaisesRegex(ValueError, "no rows", plot, [], path)
@@ -135,7 +147,7 @@ class Panels(Timed):
         plots.of_rows(many[:6], path)
         self.assertIn("<svg", pathlib.Path(path).read_text())
 
-    def test_titles_are_shown_as_they_are(self):
+    def test_titles_are_shown_as_they_are(self) -> None:
         long = "/a/folder/with/$x^{$/and/a/long/name/of/its/own/net.txt"
         panels = named(plots.panels_figure([row(long), row("ring:9")]))
         self.assertIn("..a/long/name/of/its/own/net.txt\n5 faults", panels)
@@ -151,7 +163,7 @@ class Panels(Timed):
 class Growth(Timed):
     engines = ("program",)
 
-    def test_graphs_near_in_size_do_not_mingle(self):
+    def test_graphs_near_in_size_do_not_mingle(self) -> None:
         words = itertools.product((49, 50), ("age", "seeded"), ("hh", "manne"))
         rows = [
             row(f"ring:{n}", rules, daemon, n=n, moves=n, bound=n * (3 if rules == "hh" else 5))
@@ -168,7 +180,7 @@ class Growth(Timed):
             self.assertIn(bound / (49 + round(begin + 0.01)), (3, 5))
         self.assertEqual(len(bounds_of(axes)), 8)
 
-    def test_runs_without_moves_are_seen(self):
+    def test_runs_without_moves_are_seen(self) -> None:
         [axes] = plots.growth_figure([row(moves=0), row("ring:90", n=90, moves=100, bound=270)]).get_axes()
         self.assertEqual((axes.get_yscale(), axes.get_ylim()[0]), ("symlog", 0))
         [axes] = plots.growth_figure([row(moves=30), row("ring:90", n=90, moves=100, bound=270)]).get_axes()

@@ -1,5 +1,7 @@
-"""The talk with the program: replies of any size, commands by the ten thousands, programs that end early or answer amiss, and
-which program it is."""
+"""The talk with the program: replies of any size, commands by the ten thousands, programs that end early or answer
+amiss, and which program it is."""
+
+from __future__ import annotations
 
 import os
 import pathlib
@@ -8,11 +10,14 @@ import shutil
 import subprocess
 import sys
 import unittest
+from typing import Callable, Mapping, Optional
 from unittest import mock
 
 import rudekpi
 from rudekpi import Ended, Garbled, Network, Refused, audit, epochs
 from support import TOP, Timed
+
+JUDGES: tuple[Callable[..., object], ...] = (audit, epochs)
 
 HEADER = "echo 'matching hh 3'\n"
 # answers the first line, and ends at the second
@@ -30,7 +35,7 @@ for number, line in enumerate(sys.stdin, 1):
 class Sizes(Timed):
     seconds = 60
 
-    def test_huge_replies_in_flight(self):
+    def test_huge_replies_in_flight(self) -> None:
         with Network("hh", 3, program=self.program(LARGE)) as net:
             with net.batch() as batch:
                 asked = [batch.matching() for _ in range(60)]
@@ -41,7 +46,7 @@ class Sizes(Timed):
                 len(net.transcript()), 14 + sum(len(f"{k} matching = \n") for k in range(1, 61)) + 60 * 599_999 + 17
             )
 
-    def test_replies_that_nobody_asks_for_till_the_end(self):
+    def test_replies_that_nobody_asks_for_till_the_end(self) -> None:
         net = Network("hh", 3, program=self.program(LARGE))
         batch = net.batch()
         for _ in range(40):
@@ -49,7 +54,7 @@ class Sizes(Timed):
         net.close()
         self.assertEqual(net.transcript().count("\n"), 41)
 
-    def test_every_node_is_enabled(self):
+    def test_every_node_is_enabled(self) -> None:
         nodes = 500
         with Network("manne", nodes) as net:
             with net.batch() as batch:
@@ -57,17 +62,17 @@ class Sizes(Timed):
                     batch.flag(node, True)
                 asked = [batch.enabled() for _ in range(400)]
                 stepped = batch.step(range(1, nodes + 1))
-            every = {node: "update" for node in range(1, nodes + 1)}
+            every: Mapping[int, str] = {node: "update" for node in range(1, nodes + 1)}
             self.assertTrue(all(it.result() == every for it in asked))
             self.assertEqual({(move.rule, move.target) for move in stepped.result()}, {("update", None)})
             self.assertEqual([move.node for move in stepped.result()], list(every))
 
-    def test_a_line_that_no_pipe_holds(self):
+    def test_a_line_that_no_pipe_holds(self) -> None:
         with Network("manne", 1) as net, self.assertRaises(Refused) as caught:
             net.step(range(1, 65536))
         self.assertEqual((caught.exception.number, len(caught.exception.event)), (11, 4 + 65_535 + 316_569))
 
-    def test_ten_thousands_in_flight(self):
+    def test_ten_thousands_in_flight(self) -> None:
         with Network("hh", 10_000) as net:
             with net.batch(raises=False) as batch:
                 for node in range(1, 10_001):
@@ -82,7 +87,7 @@ class Ends(Timed):
     engines = ("program",)
     seconds = 60
 
-    def test_while_an_answer_is_awaited(self):
+    def test_while_an_answer_is_awaited(self) -> None:
         with self.assertRaises(Ended), Network("hh", 3, program=self.program(STOPS)) as net:
             self.assertEqual(net.link(1, 2).entry, 1)
             for _ in range(3):
@@ -92,7 +97,7 @@ class Ends(Timed):
             self.assertEqual(net.transcript(), "matching hh 3\n1 link 1 2 = ok\n")
             raise caught.exception
 
-    def test_in_a_batch(self):
+    def test_in_a_batch(self) -> None:
         net = Network("hh", 3, program=self.program(STOPS))
         with self.assertRaisesRegex(Ended, "out of memory"), net.batch() as batch:
             first, *others = [batch.link(1, 2) for _ in range(50_000)]
@@ -102,7 +107,7 @@ class Ends(Timed):
         self.assertEqual(net.transcript(), "matching hh 3\n1 link 1 2 = ok\n")
         net.close()
 
-    def test_what_was_answered_stays(self):
+    def test_what_was_answered_stays(self) -> None:
         net = Network("hh", 3, program=self.program(STOPS))
         batch = net.batch()
         first, second = batch.link(1, 2), batch.link(2, 3)
@@ -110,7 +115,7 @@ class Ends(Timed):
             second.result()
         self.assertEqual(first.result().entry, 1)
 
-    def test_at_the_close(self):
+    def test_at_the_close(self) -> None:
         net = Network("hh", 3, program=self.program(HEADER + "cat > /dev/null; echo '! write failed' >&2; exit 3"))
         net.batch().link(1, 2)
         with self.assertRaisesRegex(Ended, "status 3: ! write failed"):
@@ -121,7 +126,7 @@ class Ends(Timed):
             net.link(1, 2)
         self.assertEqual(net.transcript(), "matching hh 3\n1 link 1 2 = ok\n")
 
-    def test_with_status_0_and_no_answer(self):
+    def test_with_status_0_and_no_answer(self) -> None:
         net = Network("hh", 3, program=self.program(HEADER + "read -r line; exit 0"))
         with self.assertRaisesRegex(Ended, r"status 0: \(it said nothing\)"):
             net.link(1, 2)
@@ -130,26 +135,26 @@ class Ends(Timed):
         net.batch().link(1, 2)
         self.assertRaises(Ended, net.close)
 
-    def test_by_a_signal_and_in_a_line(self):
+    def test_by_a_signal_and_in_a_line(self) -> None:
         net = Network("hh", 3, program=self.program(HEADER + "read -r line; printf '1 link 1 '; kill -9 $$"))
         with self.assertRaises(Ended) as caught:
             net.link(1, 2)
         self.assertEqual((caught.exception.status, net.transcript()), (-9, "matching hh 3\n"))
 
-    def test_before_its_header(self):
+    def test_before_its_header(self) -> None:
         with self.assertRaisesRegex(Ended, "status 2: bad words"):
             Network("hh", 3, program=self.program("echo usage >&2; echo 'bad words' >&2; exit 2"))
 
-    def test_of_a_judge(self):
-        for judge in (audit, epochs):
+    def test_of_a_judge(self) -> None:
+        for judge in JUDGES:
             with self.assertRaisesRegex(Ended, "status 4: ! out of memory"):
                 judge("matching hh 3\n", program=self.program("cat > /dev/null; echo '! out of memory' >&2; exit 4"))
 
-    def test_of_one_that_reads_nothing(self):
+    def test_of_one_that_reads_nothing(self) -> None:
         with self.assertRaisesRegex(Ended, "status 4"):
             audit("matching hh 3\n" * 100_000, program=self.program("exit 4"))
 
-    def test_nothing_is_left_open(self):
+    def test_nothing_is_left_open(self) -> None:
         uses = """
 import rudekpi
 programs = %r
@@ -184,7 +189,7 @@ class Answers(Timed):
     engines = ("program",)
     seconds = 60
 
-    def test_garbled(self):
+    def test_garbled(self) -> None:
         for text, asks in [
             ("echo 'matching hh 4'", None),
             ("echo 'matching manne 3'", None),
@@ -212,14 +217,14 @@ class Answers(Timed):
             with self.subTest(text), self.assertRaises(Garbled), Network("hh", 3, program=self.program(text)) as net:
                 calls[asks](net)
 
-    def test_a_garbled_verdict(self):
+    def test_a_garbled_verdict(self) -> None:
         for text in (
             "echo accepted",
             "true",
             "echo 'line 1: bad header'",
             "echo start,moves,edges,nodes,bound,cost; echo 1,2",
         ):
-            for judge in (audit, epochs):
+            for judge in JUDGES:
                 with self.subTest(text), self.assertRaises(Garbled):
                     judge("", program=self.program("cat > /dev/null; " + text))
 
@@ -229,7 +234,7 @@ class Found(Timed):
 
     engines = ("program",)
 
-    def test_by_the_argument_and_the_environment(self):
+    def test_by_the_argument_and_the_environment(self) -> None:
         told = self.program("echo environment >&2; exit 7")
         with mock.patch.dict(os.environ, RUDEKPI_CONSOLE=told):
             with self.assertRaisesRegex(Ended, "status 7: environment"):
@@ -237,14 +242,18 @@ class Found(Timed):
             with Network("hh", 3, program=pathlib.Path(self.program(HEADER + "cat"))) as net:
                 self.assertEqual(net.nodes, [1, 2, 3])
 
-    def test_that_is_not_there(self):
+    def test_that_is_not_there(self) -> None:
         for program in ("/no/such/program", os.path.join(TOP, "README.md"), TOP):
-            for call in (lambda: Network("hh", 1, program=program), lambda: audit("", program=program)):
+            calls: list[Callable[[], object]] = [
+                lambda: Network("hh", 1, program=program),
+                lambda: audit("", program=program),
+            ]
+            for call in calls:
                 with self.subTest(program), self.assertRaises(OSError) as caught:
                     call()
                 self.assertIn(program, str(caught.exception))
 
-    def of_a_repository(self, console):
+    def of_a_repository(self, console: Optional[str]) -> subprocess.CompletedProcess[str]:
         """What a program says that uses the client in a repository with this console, and its standard error."""
         folder = self.folder()
         shutil.copytree(os.path.dirname(rudekpi.__file__), os.path.join(folder, "python", "rudekpi"))
@@ -255,7 +264,7 @@ class Found(Timed):
         environment["PYTHONPATH"] = os.path.join(folder, "python")
         return subprocess.run([sys.executable, "-c", uses], env=environment, cwd="/", capture_output=True, text=True)
 
-    def test_in_the_repository_of_the_module(self):
+    def test_in_the_repository_of_the_module(self) -> None:
         builds = 'if [ "$1" = --version ]; then echo building 1 of 1: console >&2; exit 0; fi\n'
         done = self.of_a_repository(builds + HEADER + "cat")
         self.assertEqual((done.stdout, done.stderr), ("[1, 2, 3]\n" * 2, "building 1 of 1: console\n"))

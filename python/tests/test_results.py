@@ -1,5 +1,7 @@
-"""What a network answers beside its commands: results that leave a process, questions that cost no entry, drawings, pages, what is
-kept, and storms."""
+"""What a network answers beside its commands: results that leave a process, questions that cost no entry, drawings,
+pages, what is kept, and storms."""
+
+from __future__ import annotations
 
 import copy
 import dataclasses
@@ -11,6 +13,7 @@ import pickle
 import random
 import subprocess
 import unittest
+from typing import Any, Callable
 
 from rudekpi import (
     Audit,
@@ -26,12 +29,12 @@ from rudekpi import (
     replay,
     storm,
 )
-from support import Timed, told
+from support import Timed, session_of, told
 
 PAIR = "matching hh 2\n1 link 1 2 = ok\n2 step 1 = 1:seduce>2\n3 step 2 = 2:marry>1\n4 matching = 1-2\n"
 
 
-def every_result():
+def every_result() -> list[object]:
     """A result of every kind, errors among them."""
     with Network("manne", ["ann", ("bob", 2), 3.5]) as net:
         made = [
@@ -60,7 +63,7 @@ def every_result():
 
 
 class Results(Timed):
-    def test_each_can_be_pickled_and_copied(self):
+    def test_each_can_be_pickled_and_copied(self) -> None:
         made = every_result()
         self.assertGreater(len({type(it) for it in made}), 13)
         for result in made:
@@ -71,14 +74,14 @@ class Results(Timed):
                         self.assertEqual(again, result)
                         self.assertEqual(type(dataclasses.asdict(result)), dict)
 
-    def test_they_leave_a_process_pool(self):
+    def test_they_leave_a_process_pool(self) -> None:
         with multiprocessing.get_context("spawn").Pool(1) as pool:
             self.assertEqual(list(map(str, pool.apply(every_result))), list(map(str, every_result())))
 
-    def test_they_do_not_change(self):
+    def test_they_do_not_change(self) -> None:
         with Network("hh", 2) as net:
             net.link(1, 2)
-            rules = net.enabled().rules
+            rules: Any = net.enabled().rules
         self.assertEqual(rules, {1: "seduce", 2: "seduce"})
         for change in (
             lambda: rules.update({1: "x"}),
@@ -89,7 +92,7 @@ class Results(Timed):
             self.assertRaises(TypeError, change)
         self.assertEqual(rules, {1: "seduce", 2: "seduce"})
 
-    def test_of_bytes(self):
+    def test_of_bytes(self) -> None:
         for text in (PAIR.encode(), bytearray(PAIR.encode())):
             self.assertEqual((audit(text), epochs(text)), (audit(PAIR), epochs(PAIR)))
             with replay(text) as net:
@@ -100,11 +103,13 @@ class Results(Timed):
 
 
 class WrongWords(Timed):
-    def test_what_is_no_transcript(self):
+    def test_what_is_no_transcript(self) -> None:
+        wrong: Any
         for wrong in (3, None, [109], pathlib.Path(os.devnull)):
             with self.subTest(wrong):
-                for judge in (audit, epochs, replay):
-                    self.assertRaisesRegex(TypeError, "a transcript is text or bytes", judge, wrong)
+                calls: list[Callable[..., object]] = [audit, epochs, replay]
+                for call in calls:
+                    self.assertRaisesRegex(TypeError, "a transcript is text or bytes", call, wrong)
                 with Audit() as judge:
                     self.assertRaisesRegex(TypeError, "a transcript is text or bytes", judge.feed, wrong)
         for wrong in (3, None, [109]):
@@ -112,26 +117,27 @@ class WrongWords(Timed):
         for kind in (bytes, bytearray, memoryview):
             self.assertEqual(audit(kind(b"matching hh 2\n")), audit("matching hh 2\n"))
 
-    def test_what_is_no_daemon(self):
+    def test_what_is_no_daemon(self) -> None:
         with Network("hh", 2) as net:
             for wrong in (None, 3, daemons.ByName, daemons.Seeded):
                 with self.subTest(wrong):
                     self.assertRaisesRegex(TypeError, "is no daemon", net.settle, wrong)
             self.assertEqual(net.status().entry, 1, "nothing was asked")
 
-    def test_a_network_is_not_copied(self):
+    def test_a_network_is_not_copied(self) -> None:
         with Network("hh", 2) as net, Audit() as judge:
-            for take in (pickle.dumps, copy.copy, copy.deepcopy):
+            takes: list[Callable[..., object]] = [pickle.dumps, copy.copy, copy.deepcopy]
+            for take in takes:
                 self.assertRaisesRegex(TypeError, "belongs to one process", take, net)
                 self.assertRaisesRegex(TypeError, "belongs to one process", take, judge)
             self.assertEqual(net.status().nodes, 2)
 
-    def test_a_storm_of_one_text(self):
+    def test_a_storm_of_one_text(self) -> None:
         self.assertRaisesRegex(TypeError, "a list of scripts", storm, "link 1 2\n", nodes=2)
 
 
 class Questions(Timed):
-    def test_of_where_a_network_stands(self):
+    def test_of_where_a_network_stands(self) -> None:
         with Network("manne", ["ann", "bob", "cleo", "dan"], present=3) as net:
             net.link("cleo", "bob")
             net.link("ann", "bob")
@@ -155,7 +161,7 @@ class Questions(Timed):
                 self.assertRaisesRegex(ValueError, "no node has the name", ask, "eve")
         self.assertEqual((net.present, net.edges), (["ann", "cleo", "dan"], []), "a network that is closed answers too")
 
-    def test_they_agree_with_the_base_and_the_matching(self):
+    def test_they_agree_with_the_base_and_the_matching(self) -> None:
         for seed in range(6):
             drawn = random.Random(seed)
             with self.subTest(seed=seed), Network(drawn.choice(["hh", "manne"]), 12, present=9) as net:
@@ -176,7 +182,7 @@ class Questions(Timed):
                         {node: net.partner(node) for node in net.present if net.partner(node)}, dict(pairs.partners)
                     )
 
-    def test_a_network_tells_what_it_is(self):
+    def test_a_network_tells_what_it_is(self) -> None:
         with Network("hh", 2) as net:
             self.assertEqual(repr(net), "<Network hh, 2 nodes, 0 entries>")
             net.link(1, 2)
@@ -184,7 +190,7 @@ class Questions(Timed):
             self.assertEqual(net.audit().entries, 1)
         self.assertEqual(repr(net), "<Network hh, 2 nodes, 1 entry, closed>")
 
-    def test_drawings(self):
+    def test_drawings(self) -> None:
         with Network("manne", ["a<b", "bob", "cleo"]) as net:
             net.link("a<b", "bob")
             net.settle(list)
@@ -195,7 +201,7 @@ class Questions(Timed):
         with Network("hh", 1000) as net:
             self.assertNotIn("<svg", net._repr_html_())
 
-    def test_pictures(self):
+    def test_pictures(self) -> None:
         with Network("hh", 2) as net:
             net.link(1, 2)
             net.settle(lambda enabled: [min(enabled)])
@@ -209,7 +215,7 @@ class Questions(Timed):
                 net.picture(99)
             self.assertRaises(ValueError, net.picture, -1)
 
-    def test_a_page(self):
+    def test_a_page(self) -> None:
         path = pathlib.Path(self.folder(), "page.html")
         with Network("hh", 2) as net:
             net.link(1, 2)
@@ -219,13 +225,14 @@ class Questions(Timed):
 
 
 class Keeping(Timed):
-    def test_from_the_last_checkpoint_on(self):
+    def test_from_the_last_checkpoint_on(self) -> None:
         with Network("manne", 4, keep=False) as net:
             net.link(1, 2)
             self.assertEqual(net.transcript(), "matching manne 4\n1 link 1 2 = ok\n")
             net.checkpoint()
             net.link(2, 3)
-            base = "matching2 manne 4\nbase 1 spent=0 nodes=4 edges=1\nnode 1 - 0\nnode 2 - 0\nnode 3 - 0\nnode 4 - 0\nedge 1 2\n"
+            base = "matching2 manne 4\nbase 1 spent=0 nodes=4 edges=1\n"
+            base += "node 1 - 0\nnode 2 - 0\nnode 3 - 0\nnode 4 - 0\nedge 1 2\n"
             self.assertEqual(net.transcript(), base + "2 link 2 3 = ok\n")
             self.assertEqual((net.edges, net.audit().entries), ([(1, 2), (2, 3)], 1))
             with net.batch() as batch:
@@ -237,7 +244,7 @@ class Keeping(Timed):
             self.assertTrue(net.transcript().endswith("edge 2 3\n%d link 3 4 = ok\n" % (second.result().number + 1)))
             self.assertEqual(net.edges, [(1, 2), (2, 3), (3, 4)])
 
-    def test_as_one_that_keeps_all(self):
+    def test_as_one_that_keeps_all(self) -> None:
         for seed in range(4):
             kept = []
             for keep in (True, False):
@@ -254,7 +261,7 @@ class Keeping(Timed):
             self.assertEqual(others, same)
             self.assertEqual(part, whole[whole.rindex("matching2 ") :])
 
-    def test_memory(self):
+    def test_memory(self) -> None:
         with Network("hh", 3, keep=False) as net:
             for _ in range(30):
                 with net.batch() as batch:
@@ -264,11 +271,11 @@ class Keeping(Timed):
             self.assertLess(len(net.transcript()), 1000)
             self.assertEqual(net.status().entry, 90_001)
             if net.engine == "program":
-                self.assertLess(len(net._session.asked), 10)
+                self.assertLess(len(session_of(net).asked), 10)
 
 
 class Storms(Timed):
-    def test_scripts_of_all_kinds(self):
+    def test_scripts_of_all_kinds(self) -> None:
         path = pathlib.Path(self.folder(), "script")
         path.write_text("link 3 4\n")
         said = storm(
@@ -281,12 +288,12 @@ class Storms(Timed):
             self.assertEqual(net.edges, [(1, 2), (2, 3), (3, 4)])
         self.assertTrue(storm(["join 2\n"], "hh", 3, present=1).startswith("matching hh 3 1\n"))
 
-    def test_what_is_wrong(self):
+    def test_what_is_wrong(self) -> None:
         with self.assertRaisesRegex(Ended, "status 2: ! script 2 line 1: not a command"):
             storm(["link 1 2\n", "lnik 1 2\n"], "hh", 2)
         with self.assertRaisesRegex(Ended, "status 3"):
             storm([pathlib.Path("/no/such/script")], "hh", 2)
-        for words in [
+        wrong_words: list[dict[str, Any]] = [
             dict(rules="x"),
             dict(nodes=-1),
             dict(nodes=2, present=3),
@@ -294,7 +301,8 @@ class Storms(Timed):
             dict(workers=65),
             dict(roam=65),
             dict(turns=10**6 + 1),
-        ]:
+        ]
+        for words in wrong_words:
             with self.subTest(words), self.assertRaises(ValueError):
                 storm(["\n"], **words)
         for scripts in ([], ["\n"] * 65):

@@ -49,7 +49,8 @@ class Recorded:
         self.answers: list[tuple[int, str]] = []
 
     def ask(self, line: str) -> None:
-        reply = told(lambda: play(self.net, line))
+        call: Callable[[], Any] = lambda: play(self.net, line)
+        reply = told(call)
         if isinstance(reply, Turns):
             self.answers += [(it.entry, spelled(it)) for it in reply]
             self.answers.append((reply.status.entry, spelled(reply.status)))
@@ -62,7 +63,7 @@ class Recorded:
 class AskAt:
     """Asks in front of the instruction of the package that has a number, counted from the entry of a `with`."""
 
-    def __init__(self, number: int, ask: Callable[[], None]) -> None:
+    def __init__(self, number: int, ask: Callable[[], object]) -> None:
         self.left, self.ask = number, ask
 
     def trace(self, frame: FrameType, event: str, _: object) -> Any:
@@ -149,7 +150,8 @@ class EachInstruction(Asking):
                 with AskAt(number, lambda: recorded.ask("enabled")) as at:
                     with net.batch(raises=False) as batch:
                         asked = [play(batch, line) for line in ("link 1 3", "link 1 3", "unlink 1 3", "show 2")]
-                for reply in map(told, [it.result for it in asked]):
+                for pending in asked:
+                    reply: Any = told(pending.result)
                     recorded.answers.append((reply.entry, spelled(reply)))
                 self.assertEqual(len(batch.refusals), 1)
                 if at.left >= 0:
@@ -159,8 +161,14 @@ class EachInstruction(Asking):
     def test_of_a_look_at_the_state(self) -> None:
         with self.network() as net:
             recorded, first = Recorded(net), net.status().entry + 1
+
+            def ask() -> object:
+                recorded.ask("leave 12")
+                recorded.ask("join 12")
+                return net.edges
+
             for number in range(0, 1_000_000, 23):
-                with AskAt(number, lambda: [recorded.ask("leave 12"), recorded.ask("join 12"), net.edges][2]) as at:
+                with AskAt(number, ask) as at:
                     self.assertNotIn((11, 12), [] if number == 0 else net.edges)
                     self.assertIn(12, net.present if number % 2 else [12])
                     self.assertEqual(net.neighbours(1), [2])

@@ -1,5 +1,7 @@
 """Sweeps: rows that transcripts stand behind, in any executor; workers that die, interrupts, tables."""
 
+from __future__ import annotations
+
 import collections
 import concurrent.futures
 import io
@@ -10,9 +12,11 @@ import signal
 import time
 import unittest
 import unittest.mock
+from typing import Any, Generator, Iterable, Union
 
-from rudekpi import Lost, Network, WrongChoice, audits, daemons, graphs, sweeps, workers
-from rudekpi.sweeps import Disturbance, sweep
+from rudekpi import Enabled, Network, WrongChoice, audits, daemons, graphs, sweeps, workers
+from rudekpi.replies import Name
+from rudekpi.sweeps import AnyDaemon, Disturbance, Row, sweep
 from support import Losing, Timed
 
 try:
@@ -23,30 +27,31 @@ except ImportError:
 RING = graphs.ring(12)
 
 
-def without_time(rows):
+def without_time(rows: Iterable[Row]) -> list[str]:
     return sorted(str(vars(row) | {"seconds": 0}) for row in rows)
 
 
-def greatest(enabled):
+def greatest(enabled: Enabled) -> list[Name]:
     """A daemon of the caller's own."""
     return [max(enabled)]
 
 
-def wrong(enabled):
+def wrong(enabled: Enabled) -> list[Name]:
     return []
 
 
-def dies_once(enabled):
+def dies_once(enabled: Enabled) -> list[Name]:
     """Kills its process the first time that it is asked, as the file that it leaves tells."""
     try:
         os.close(os.open(os.environ["RUDEKPI_TEST_DEATH"], os.O_CREAT | os.O_EXCL))
     except FileExistsError:
         return [min(enabled)]
-    os.kill(os.getpid(), signal.SIGKILL)
+    return dies(enabled)
 
 
-def dies(enabled):
+def dies(enabled: Enabled) -> list[Name]:
     os.kill(os.getpid(), signal.SIGKILL)
+    return []
 
 
 ENDLESS = """
@@ -65,8 +70,13 @@ if __name__ == "__main__":
 
 
 class Rows(Timed):
-    def test_of_all_that_is_asked(self):
-        hits = [0, Disturbance(20), Disturbance(9, "pointer"), Disturbance(9, "flag", joins=2, leaves=3)]
+    def test_of_all_that_is_asked(self) -> None:
+        hits: list[Union[int, Disturbance]] = [
+            0,
+            Disturbance(20),
+            Disturbance(9, "pointer"),
+            Disturbance(9, "flag", joins=2, leaves=3),
+        ]
         made = list(sweep([RING, graphs.grid(3, 3)], ["manne"], ["seeded", "synchronous", "greedy"], range(2), hits))
         self.assertEqual(len(made), 2 * 3 * 2 * 4)
         self.assertEqual(len({(row.graph, row.daemon, row.seed, row.disturbance) for row in made}), 48)
@@ -84,16 +94,16 @@ class Rows(Timed):
             {"start", "20 faults", "9 faults of pointers", "9 faults of flags, 2 joins, 3 leaves"},
         )
 
-    def test_no_fault_of_any_registers_is_the_start(self):
+    def test_no_fault_of_any_registers_is_the_start(self) -> None:
         for registers in sweeps.REGISTERS:
             [made] = sweep([RING], ["manne"], ["least"], [3], [Disturbance(0, registers)])
             self.assertEqual((made.disturbance, made.moves >= 12), ("start", True))
 
-    def test_the_natural_order_of_words(self):
+    def test_the_natural_order_of_words(self) -> None:
         words = ["ring:9", "ring:10,2", "ring:10,10", "ring:100", "ring\u00b2"]
         self.assertEqual(sorted(reversed(words), key=sweeps.natural), words)
 
-    def test_a_disturbance_in_words(self):
+    def test_a_disturbance_in_words(self) -> None:
         for hit, words in [
             (Disturbance(1), "1 fault"),
             (Disturbance(1, "flag", 1, 1), "1 fault of flags, 1 join, 1 leave"),
@@ -101,7 +111,7 @@ class Rows(Timed):
         ]:
             self.assertEqual(str(hit), words)
 
-    def test_as_a_network_of_ones_own(self):
+    def test_as_a_network_of_ones_own(self) -> None:
         [row] = sweep([RING], ["hh"], ["least"], [3])
         with Network("hh", 12) as net:
             with net.batch() as batch:
@@ -114,34 +124,30 @@ class Rows(Timed):
             )
             self.assertEqual(row.bound, audits.epochs(net.transcript())[-1].bound)
 
-    def test_the_same_in_every_executor(self):
-        words = (
-            [RING, graphs.star(5)],
-            ["hh", "manne"],
-            ["seeded", "least", "synchronous", greatest],
-            range(4),
-            [0, 7],
-        )
+    def test_the_same_in_every_executor(self) -> None:
+        chosen: list[AnyDaemon] = ["seeded", "least", "synchronous", greatest]
+        words = [RING, graphs.star(5)], ["hh", "manne"], chosen, range(4), [0, 7]
         wanted = without_time(sweep(*words))
         self.assertEqual(len(wanted), 2 * 4 * 2 * (3 + 4), "no synchronous daemon under hh")
-        with concurrent.futures.ThreadPoolExecutor(3) as executor:
-            self.assertEqual(without_time(sweep(*words, executor=executor)), wanted)
-        with concurrent.futures.ProcessPoolExecutor(2) as executor:
-            self.assertEqual(without_time(sweep(*words, executor=executor)), wanted)
+        with concurrent.futures.ThreadPoolExecutor(3) as threads:
+            self.assertEqual(without_time(sweep(*words, executor=threads)), wanted)
+        with concurrent.futures.ProcessPoolExecutor(2) as processes:
+            self.assertEqual(without_time(sweep(*words, executor=processes)), wanted)
 
-    def test_of_nothing(self):
+    def test_of_nothing(self) -> None:
         self.assertEqual(list(sweep([])), [])
         [row] = sweep([graphs.path(0)], faults=[5])
         self.assertEqual((row.n, row.m, row.moves, row.bound), (0, 0, 0, 0))
-        for words in [dict(faults=-1), dict(registers="x"), dict(joins=-1)]:
+        wrong_words: list[dict[str, Any]] = [dict(faults=-1), dict(registers="x"), dict(joins=-1)]
+        for words in wrong_words:
             self.assertRaises(ValueError, Disturbance, **words)
 
-    def test_errors_of_an_experiment_are_raised(self):
+    def test_errors_of_an_experiment_are_raised(self) -> None:
         self.assertRaises(WrongChoice, list, sweep([RING], ["hh"], [wrong]))
         self.assertRaises(FileNotFoundError, list, sweep([RING], program="/no/such/program"))
 
-    def test_experiments_that_are_none_are_raised_at_once(self):
-        for words in [
+    def test_experiments_that_are_none_are_raised_at_once(self) -> None:
+        wrong_values: list[dict[str, Any]] = [
             dict(daemons=["fair"]),
             dict(rules=["x"]),
             dict(seeds=[-1]),
@@ -153,15 +159,17 @@ class Rows(Timed):
             dict(seeds=itertools.count()),
             dict(seeds=range(1001), faults=range(1000)),
             dict(graphs=[RING, graphs.Graph("ring:12", (1, 2), ())]),
-        ]:
+        ]
+        for words in wrong_values:
             with self.subTest(words):
                 self.assertRaises(ValueError, sweep, **{"graphs": [RING], **words})
-        for words in [
+        wrong_types: list[dict[str, Any]] = [
             dict(graphs=["ring:5"]),
             dict(graphs="ring:5"),
             dict(graphs=[RING], daemons=[daemons.ByName]),
             dict(graphs=[RING], daemons=[None]),
-        ]:
+        ]
+        for words in wrong_types:
             with self.subTest(words):
                 self.assertRaises(TypeError, sweep, **words)
         left = sweeps.experiments_of(
@@ -178,7 +186,7 @@ class Rows(Timed):
             ],
         )
 
-    def test_csv(self):
+    def test_csv(self) -> None:
         made = list(sweep([RING], ["hh", "manne"], ["seeded"], range(3)))
         file = io.StringIO()
         self.assertEqual(list(sweeps.write_csv(made, file)), made)
@@ -191,7 +199,7 @@ class Rows(Timed):
         self.assertRaises(ValueError, sweeps.read_csv, io.StringIO("a,b\n1,2\n"))
 
     @unittest.skipUnless(pandas, "no pandas")
-    def test_frames(self):
+    def test_frames(self) -> None:
         made = list(sweep([RING], ["hh"], ["seeded"], range(3)))
         frame = sweeps.frame_of(made)
         self.assertEqual(list(frame.columns), list(sweeps.COLUMNS))
@@ -199,8 +207,8 @@ class Rows(Timed):
 
 
 class Failing(concurrent.futures.Executor):
-    def submit(self, task, *words):
-        future = concurrent.futures.Future()
+    def submit(self, task: object, *words: object) -> concurrent.futures.Future[Any]:  # type: ignore[override]
+        future: concurrent.futures.Future[Any] = concurrent.futures.Future()
         try:
             raise ValueError("of the task")
         except ValueError as error:
@@ -209,30 +217,30 @@ class Failing(concurrent.futures.Executor):
 
 
 class Workers(Timed):
-    def test_a_result_that_a_cluster_loses_is_made_again(self):
+    def test_a_result_that_a_cluster_loses_is_made_again(self) -> None:
         executor = Losing()
         made = list(sweep([RING], ["hh"], ["seeded"], range(2), executor=executor))
         self.assertEqual(sorted(row.seed for row in made), [0, 1])
         self.assertEqual(executor.asked, 3)
 
-    def test_results_that_are_lost_again_and_again(self):
-        with self.assertRaisesRegex(Lost, "2 experiments are lost") as caught:
+    def test_results_that_are_lost_again_and_again(self) -> None:
+        with self.assertRaisesRegex(sweeps.LostExperiments, "2 experiments are lost") as caught:
             list(sweep([RING], ["hh"], ["seeded"], range(2), executor=Losing(range(99))))
         self.assertEqual(sorted(it.seed for it in caught.exception.experiments), [0, 1])
 
-    def test_an_error_of_the_task_is_no_death(self):
+    def test_an_error_of_the_task_is_no_death(self) -> None:
         self.assertRaisesRegex(
             ValueError, "of the task", list, sweep([RING], ["hh"], ["seeded"], range(2), executor=Failing())
         )
 
-    def test_one_that_dies_costs_its_task_which_is_tried_again(self):
+    def test_one_that_dies_costs_its_task_which_is_tried_again(self) -> None:
         os.environ["RUDEKPI_TEST_DEATH"] = os.path.join(self.folder(), "died")
         self.addCleanup(os.environ.pop, "RUDEKPI_TEST_DEATH")
         made = list(sweep([RING], ["hh"], ["seeded", dies_once], range(12)))
         self.assertTrue(os.path.exists(os.environ["RUDEKPI_TEST_DEATH"]))
         self.assertEqual(collections.Counter(row.daemon for row in made), {"seeded": 12, "dies_once": 12})
 
-    def test_a_pool_of_the_callers_own_that_breaks_is_not_replaced(self):
+    def test_a_pool_of_the_callers_own_that_breaks_is_not_replaced(self) -> None:
         with concurrent.futures.ProcessPoolExecutor(2) as executor:
             self.assertRaises(
                 concurrent.futures.BrokenExecutor,
@@ -240,7 +248,7 @@ class Workers(Timed):
                 sweep([RING], ["hh"], ["seeded", dies], range(12), executor=executor),
             )
 
-    def test_a_task_of_which_the_workers_die_twice_is_lost_alone(self):
+    def test_a_task_of_which_the_workers_die_twice_is_lost_alone(self) -> None:
         made = []
         with self.assertRaisesRegex(sweeps.LostExperiments, "1 experiment is lost.*dies seed 0") as caught:
             for row in sweep([RING], ["hh"], [dies, "seeded", "least"], range(1)):
@@ -248,7 +256,7 @@ class Workers(Timed):
         self.assertEqual(sorted(row.daemon for row in made), ["least", "seeded"])
         self.assertEqual(len(caught.exception.experiments), 1)
 
-    def test_an_interrupt_leaves_the_rows_so_far(self):
+    def test_an_interrupt_leaves_the_rows_so_far(self) -> None:
         made = []
         with self.assertRaises(KeyboardInterrupt):
             for row in sweep([graphs.grid(10, 10)], ["manne"], ["least"], range(500)):
@@ -258,15 +266,16 @@ class Workers(Timed):
         self.assertGreaterEqual(len(made), 5)
         self.assertLess(len(made), 500)
 
-    def test_an_interrupt_ends_experiments_that_take_long(self):
-        for processes, count in ((None, min(os.cpu_count(), 9)), (2, 2)):
+    def test_an_interrupt_ends_experiments_that_take_long(self) -> None:
+        for processes, count in ((None, min(os.cpu_count() or 1, 9)), (2, 2)):
             with self.subTest(processes=processes):
                 # where all of them play, none is still beginning, which Ctrl-C would end with words of its own
                 said = self.expect_end_by_interrupt(ENDLESS.replace("PROCESSES", str(processes)), "plays-*", count)
                 self.assertEqual((said.splitlines()[-1], said.count("Traceback")), ("KeyboardInterrupt", 1), said)
 
-    def test_a_caller_who_stops_leaves_no_process(self):
+    def test_a_caller_who_stops_leaves_no_process(self) -> None:
         rows = sweep([RING], ["hh"], ["least"], range(500))
+        assert isinstance(rows, Generator)
         self.assertEqual(next(rows).graph, "ring:12")
         self.assertNotEqual(multiprocessing.active_children(), [])
         rows.close()
@@ -274,18 +283,21 @@ class Workers(Timed):
         self.assertRaises(WrongChoice, list, sweep([RING], ["hh"], ["least", wrong], range(50)))
         self.expect_no_process()
 
-    def expect_no_process(self):
+    def expect_no_process(self) -> None:
         # from Python 3.14 on nobody waits for what is killed; where it does not end, this test ends by its time
         while multiprocessing.active_children():
             time.sleep(0.01)
 
-    def test_no_more_processes_than_experiments(self):
-        with unittest.mock.patch.object(workers, "ProcessPoolExecutor", wraps=workers.ProcessPoolExecutor) as made:
+    def test_no_more_processes_than_experiments(self) -> None:
+        with unittest.mock.patch.object(
+            workers, "ProcessPoolExecutor", wraps=concurrent.futures.ProcessPoolExecutor
+        ) as made:
             self.assertEqual(len(list(sweep([RING], ["hh"], ["least"], range(2), processes=1000))), 2)
         self.assertEqual(made.call_args.args, (2,))
 
-    def test_tasks_take_about_a_second(self):
-        tasks = sweeps.Tasks(range(1000), 4)
+    def test_tasks_take_about_a_second(self) -> None:
+        numbers: Any = range(1000)
+        tasks = sweeps.Tasks(numbers, 4)
         self.assertEqual(tasks.size(), 1)
         tasks.count, tasks.seconds = 100, 2.0
         self.assertEqual(tasks.size(), 50)

@@ -1,5 +1,7 @@
 """Tasks that are handed out: workers that die, a stop in the middle, and pools of the caller's own."""
 
+from __future__ import annotations
+
 import concurrent.futures
 import multiprocessing
 import os
@@ -10,6 +12,7 @@ import types
 import unittest
 import unittest.mock
 from concurrent.futures.process import BrokenProcessPool
+from typing import Any, Optional
 
 from rudekpi import workers
 from rudekpi.workers import Handing
@@ -19,31 +22,33 @@ from support import Timed
 MUCH = bytes(1 << 20)
 
 
-def given_back(number, much):
+def given_back(number: int, much: bytes) -> int:
     return number
 
 
-def dies_once(number, much, mark):
+def dies_once(number: int, much: bytes, mark: str) -> Optional[int]:
     """Kills its process where it makes the file."""
     try:
         os.close(os.open(mark, os.O_CREAT | os.O_EXCL))
     except FileExistsError:
         return number
     os.kill(os.getpid(), signal.SIGKILL)
+    return None
 
 
-def dies(number, much):
+def dies(number: int, much: bytes) -> None:
     os.kill(os.getpid(), signal.SIGKILL)
 
 
-def never_ends(number, much):
+def never_ends(number: int, much: bytes) -> None:
     while True:
         time.sleep(60)
 
 
-def ended(handing):
+def ended(handing: Handing[int]) -> tuple[dict[int, Any], list[int]]:
     """The tasks of which there is a result, with it, and those that are lost."""
-    results, lost = {}, []
+    results: dict[int, Any] = {}
+    lost: list[int] = []
     for task, future in handing.done():
         if future:
             results[task] = future.result()
@@ -55,15 +60,15 @@ def ended(handing):
 class OnlyPublic:
     """A pool of a later Python, of which nothing but what is public is known."""
 
-    def __init__(self):
-        self.asked = []
+    def __init__(self) -> None:
+        self.asked: list[object] = []
 
-    def shutdown(self, wait=True, *, cancel_futures=False):
+    def shutdown(self, wait: bool = True, *, cancel_futures: bool = False) -> None:
         self.asked.append(("shutdown", wait, cancel_futures))
 
 
 class KillsWorkers(OnlyPublic):
-    def kill_workers(self):
+    def kill_workers(self) -> None:
         self.asked.append("kill_workers")
 
 
@@ -73,16 +78,16 @@ class Pools(Timed):
     seconds = 120
     engines = ("program",)
 
-    def setUp(self):
+    def setUp(self) -> None:
         super().setUp()
         self.threads = threading.active_count()
 
-    def expect_nothing_left(self):
+    def expect_nothing_left(self) -> None:
         # from Python 3.14 on nobody waits for what is killed; where it does not end, this test ends by its time
         while multiprocessing.active_children() or threading.active_count() > self.threads:
             time.sleep(0.01)
 
-    def test_a_task_whose_worker_dies_is_tried_again(self):
+    def test_a_task_whose_worker_dies_is_tried_again(self) -> None:
         for count in (1, 3):
             with self.subTest(count=count):
                 mark = os.path.join(self.folder(), "died")
@@ -95,7 +100,7 @@ class Pools(Timed):
                 self.assertTrue(os.path.exists(mark))
                 self.expect_nothing_left()
 
-    def test_a_task_whose_workers_die_twice_is_lost_alone(self):
+    def test_a_task_whose_workers_die_twice_is_lost_alone(self) -> None:
         for lost in ([0], [8], [2, 5]):
             with self.subTest(lost=lost):
                 handing = Handing(iter(range(9)), lambda task: (dies if task in lost else given_back, task, MUCH), 2)
@@ -105,7 +110,7 @@ class Pools(Timed):
                 )
                 self.expect_nothing_left()
 
-    def test_a_stop_in_the_middle_ends_all_at_once(self):
+    def test_a_stop_in_the_middle_ends_all_at_once(self) -> None:
         for count in (1, 3):
             with self.subTest(count=count):
                 handing = Handing(iter(range(99)), lambda task: (never_ends if task else given_back, task, MUCH), count)
@@ -114,9 +119,10 @@ class Pools(Timed):
                 done.close()
                 self.expect_nothing_left()
 
-    def test_of_a_later_python_only_what_is_public_is_asked(self):
+    def test_of_a_later_python_only_what_is_public_is_asked(self) -> None:
         with unittest.mock.patch.object(workers, "sys", types.SimpleNamespace(version_info=(3, 15, 0))):
-            for pool, first in ((KillsWorkers(), ["kill_workers"]), (OnlyPublic(), [])):
+            pools: list[tuple[OnlyPublic, list[str]]] = [(KillsWorkers(), ["kill_workers"]), (OnlyPublic(), [])]
+            for pool, first in pools:
                 workers.end_at_once(pool)
                 self.assertEqual(pool.asked, [*first, ("shutdown", True, True)])
 
@@ -126,17 +132,17 @@ class Given(Timed):
 
     engines = ("program",)
 
-    def test_a_pool_that_breaks_is_not_replaced(self):
+    def test_a_pool_that_breaks_is_not_replaced(self) -> None:
         with concurrent.futures.ProcessPoolExecutor(2) as pool:
             handing = Handing(iter(range(9)), lambda task: (dies if task == 3 else given_back, task, b""), pool)
             self.assertRaises(BrokenProcessPool, ended, handing)
             self.assertIs(handing.executor, pool)
 
-    def test_what_is_under_way_is_taken_back_and_no_more(self):
+    def test_what_is_under_way_is_taken_back_and_no_more(self) -> None:
         begun, may_end = threading.Event(), threading.Event()
         self.addCleanup(may_end.set)
 
-        def waits():
+        def waits() -> str:
             begun.set()
             may_end.wait()
             return "ended"

@@ -10,10 +10,12 @@ PACKAGES = {
     "black": "black",
     "cc": "gcc",
     "chromium": "chromium",
+    "clang": "clang",
     "clang-format": "clang-format",
     "distributed": "python3-distributed",
     "dot": "graphviz",
     "firefox": "firefox-esr",
+    "firefox-esr": "firefox-esr",
     "flake8": "flake8",
     "gcc": "gcc",
     "man": "man-db",
@@ -32,8 +34,8 @@ PACKAGES = {
 }
 # The programs that `.ci/tools` installs for the gate; the libraries are those that `tests/client --lacks` prints.
 OF_THE_GATE = (
-    *("chromium", "dot", "gcc", "man", "mandoc", "node"),
-    *("black", "clang-format", "flake8", "mypy", "shellcheck", "tsc"),
+    *("chromium", "dot", "firefox-esr", "gcc", "man", "mandoc", "node"),
+    *("black", "clang", "clang-format", "flake8", "mypy", "shellcheck", "tsc"),
 )
 
 
