@@ -4,41 +4,30 @@ use Rattle.std.proofs.lemmas.Bool.{true≢false, and_parts, and_from, and_cases,
 use Rattle.std.proofs.lemmas.Option.{none-some, same_Some}
 use Rattle.rule_machine.specs.declared.event.Event.{Event}
 use Rattle.rule_machine.specs.declared.event.Event.TheVariants.{Unlink, Leave}
-use Rattle.rule_machine.specs.declared.refusal.Refusal.{Refusal}
-use Rattle.rule_machine.specs.declared.reply.Reply.TheVariants.{Accepted}
 use Rattle.rule_machine.specs.Charge.{hsu_huang_charge}
 use Rattle.rule_machine.specs.Disturbance.{after_leave, after_unlink}
 use Rattle.rule_machine.specs.HsuHuang.{hsu_huang}
 use Rattle.rule_machine.specs.Network.{edge, edge_list, linked, names, present}
 use Rattle.rule_machine.specs.State.{State, IsState, pointer, married, is_mutual}
 use Rattle.rule_machine.specs.Stable.{IsStable}
-use Rattle.rule_machine.specs.Refuse.{refusal_of}
-use Rattle.rule_machine.specs.Answer.{Answers, AnswersBy}
-use Rattle.rule_machine.specs.Run.{Entry, Moment, Run}
 use Rattle.machine_laws.specs.Keeps.{leave_keeps, unlink_keeps}
 use Rattle.machine_laws.specs.Neighbours.{linked_back, linked_pair, linked_present}
 use Rattle.machine_laws.specs.Pointers.{married_from, married_some}
-use Rattle.machine_laws.specs.Runs.{answers_keep}
-use Rattle.charge_laws.specs.Charged.{IsUndisturbed, moves_in}
-use Rattle.charge_laws.specs.CostsOfRuns.{hsu_huang_one, leave_has}
 use Rattle.charge_laws.specs.Counting.{IsIn, count_into, sum_add, sum_le}
 use Rattle.charge_laws.specs.Degrees.{none_count}
 use Rattle.charge_laws.specs.EdgesByNodes.{edges_without_repeats}
 use Rattle.charge_laws.specs.EdgesChanged.{taken_out}
 use Rattle.charge_laws.specs.HsuHuangEdits.{leave_waits, leave_within, unlink_waits, unlink_within}
 use Rattle.charge_laws.specs.HsuHuangTurns.{IsClosed, high_paired, low_paired}
-use Rattle.charge_laws.specs.Laws.{hsu_huang_charged, moves_are_paid}
 use Rattle.charge_laws.specs.Members.{edges_contain, in_names}
 use Rattle.charge_laws.specs.StableCharge.{an_end_paired, hsu_huang_stable_is_zero}
 use Rattle.charge_laws.specs.Stances.{is_paired, paired_from, paired_is, stance}
-use Rattle.charge_laws.specs.Tables.{hsu_huang_table}
 use Rattle.charge_laws.specs.Touched.{IsWithin, WaitsOnly, hsu_huang_grows}
-use Rattle.containment_laws.specs.Contained.{answered_mild, mild_weds}
+use Rattle.containment_laws.specs.Contained.{mild_weds}
 use Rattle.containment_laws.specs.Edits.{IsMild, mutual_is}
 use Rattle.containment_laws.specs.Partings.{none_parted}
 use Rattle.containment_laws.specs.Reach.{is_parted}
 use Rattle.silence_laws.specs.Costs.{silent_cost, single_neighbours, single_neighbours_at}
-use Rattle.silence_laws.specs.Laws.{SilentCostPays}
 
 -- an edge of a node whose other end passes a test
 abbrev pub is_edge_to : (ℕ → Bool) → ℕ → ℕ × ℕ → Bool
@@ -151,7 +140,7 @@ or_le true true q h = omega arith
 or_le true false true h = omega arith
 or_le true false false h = absurd (⊎_elim (λ e. true≢false (sym e)) (λ e. true≢false (sym e)) (h refl))
 
-one_le : (t p : Bool) → (t ≡ true → p ≡ true) → ◌≤◌ (cond t 1 0) (cond p 1 0)
+pub one_le : (t p : Bool) → (t ≡ true → p ≡ true) → ◌≤◌ (cond t 1 0) (cond p 1 0)
 one_le false p h = omega arith
 one_le true true h = omega arith
 one_le true false h = absurd (true≢false (sym (h refl)))
@@ -224,7 +213,7 @@ unlink_apart s a b good' x y there p q = by (unlink_who s a b x p) (unlink_who s
     by (inl e) (inr f) = true≢false (sym (subst (λ v. IsTrue (linked (after_unlink s a b).network a v)) f (subst (λ v. IsTrue (linked (after_unlink s a b).network v y)) e near)) ∙ gone)
     by (inr e) (inl f) = true≢false (sym (linked_back (after_unlink s a b).network a b ∙ subst (λ v. IsTrue (linked (after_unlink s a b).network b v)) f (subst (λ v. IsTrue (linked (after_unlink s a b).network v y)) e near)) ∙ gone)
 
-unlink_few : (s : State) (a b : ℕ) → IsState s → IsStable false s → IsMild hsu_huang s (Unlink a b) (after_unlink s a b) → hsu_huang_charge (after_unlink s a b) ≤ silent_cost s (Unlink a b)
+pub unlink_few : (s : State) (a b : ℕ) → IsState s → IsStable false s → IsMild hsu_huang s (Unlink a b) (after_unlink s a b) → hsu_huang_charge (after_unlink s a b) ≤ silent_cost s (Unlink a b)
 unlink_few s a b good stable mild =
     let s' = after_unlink s a b in
     let good' = unlink_keeps s a b good in
@@ -251,7 +240,7 @@ leave_apart s a good' x y there p q =
     let same = same_Some x y (sym (mutual_is s a x p).0 ∙ (mutual_is s a y q).0) in
     omega (arith, ordered, same)
 
-leave_few : (s : State) (a : ℕ) → IsState s → IsStable false s → IsTrue (present s.network a) → IsMild hsu_huang s (Leave a) (after_leave s a) → hsu_huang_charge (after_leave s a) ≤ silent_cost s (Leave a)
+pub leave_few : (s : State) (a : ℕ) → IsState s → IsStable false s → IsTrue (present s.network a) → IsMild hsu_huang s (Leave a) (after_leave s a) → hsu_huang_charge (after_leave s a) ≤ silent_cost s (Leave a)
 leave_few s a good stable has mild = by (pointer s a) refl
   where
     s' : State
@@ -281,30 +270,3 @@ leave_few s a good stable has mild = by (pointer s a) refl
         let first = single_few s (after_leave s a) good (leave_keeps s a good) (leave_within s a good has) p in
         let is = ap (single_neighbours_at s) at in
         omega (arith, grows, few, first, is)
-
--- ---- any of them
-
-charge_few : (s : State) → IsState s → IsStable false s → (spent : ℕ) (event : Event) (after : State) → Answers hsu_huang s spent event Accepted after → (log : List Entry) (end : Moment) → Run hsu_huang (record { state = after; spent = 0 }) log end → IsUndisturbed log → hsu_huang_charge after ≤ silent_cost s event → moves_in log ≤ silent_cost s event
-charge_few s good stable spent event after answers log end run calm few =
-    let good' = answers_keep hsu_huang hsu_huang_table s good spent event Accepted after answers in
-    let paid = moves_are_paid hsu_huang 1 hsu_huang_table hsu_huang_charged (record { state = after; spent = 0 }) good' log end run calm in
-    omega (arith, paid, few)
-
-pub silent_cost_pays : SilentCostPays
-silent_cost_pays s good stable spent (Unlink a b) after answers log end run calm =
-    charge_few s good stable spent (Unlink a b) after answers log end run calm (by (refusal_of hsu_huang s (Unlink a b)) refl answers)
-  where
-    by : (r : Option Refusal) → refusal_of hsu_huang s (Unlink a b) ≡ r → AnswersBy hsu_huang s spent (Unlink a b) r Accepted after → hsu_huang_charge after ≤ silent_cost s (Unlink a b)
-    by None e does =
-        subst (λ (u : State). hsu_huang_charge u ≤ silent_cost s (Unlink a b)) (sym does)
-        (unlink_few s a b good stable (subst (IsMild hsu_huang s (Unlink a b)) does (answered_mild hsu_huang s spent (Unlink a b) after good answers)))
-    by (Some refusal) e does = absurd cc
-silent_cost_pays s good stable spent (Leave a) after answers log end run calm =
-    charge_few s good stable spent (Leave a) after answers log end run calm (by (refusal_of hsu_huang s (Leave a)) refl answers)
-  where
-    by : (r : Option Refusal) → refusal_of hsu_huang s (Leave a) ≡ r → AnswersBy hsu_huang s spent (Leave a) r Accepted after → hsu_huang_charge after ≤ silent_cost s (Leave a)
-    by None e does =
-        subst (λ (u : State). hsu_huang_charge u ≤ silent_cost s (Leave a)) (sym does)
-        (leave_few s a good stable (leave_has hsu_huang s a e) (subst (IsMild hsu_huang s (Leave a)) does (answered_mild hsu_huang s spent (Leave a) after good answers)))
-    by (Some refusal) e does = absurd cc
-silent_cost_pays s good stable spent event after answers log end run calm = hsu_huang_one s good stable spent event after answers log end run calm
