@@ -131,7 +131,7 @@ edges_few s s' good good' within p v =
     found : (e : ℕ × ℕ) → IsIn e (edge_list s'.network) → is_edge_to p v e ≡ true → IsTrue (linked s.network v (other_end v e)) × (p (other_end v e) ≡ true)
     found e there h = by e (near e there) (edge_ends p v e (ordered e there) h)
 
-single_few : (s s' : State) → IsState s → IsState s' → IsWithin s.network s'.network → (v : ℕ) → count_by (is_single_edge s v) (edge_list s'.network) ≤ single_neighbours s v
+pub single_few : (s s' : State) → IsState s → IsState s' → IsWithin s.network s'.network → (v : ℕ) → count_by (is_single_edge s v) (edge_list s'.network) ≤ single_neighbours s v
 single_few s s' good good' within v = edges_few s s' good good' within (λ w. not (married s w)) v
 
 pub or_le : (t p q : Bool) → (t ≡ true → (p ≡ true) ⊎ (q ≡ true)) → ◌≤◌ (cond t 1 0) (cond p 1 0 + cond q 1 0)
@@ -146,7 +146,7 @@ one_le true true h = omega arith
 one_le true false h = absurd (true≢false (sym (h refl)))
 
 -- an edge that is touched is one of a node that alone is parted
-touched_single : (s : State) (event : Event) (v : ℕ) (e : ℕ × ℕ) → ((x : ℕ) → is_parted s event x ≡ true → x ≡ v) → is_touched s event e ≡ true → is_single_edge s v e ≡ true
+pub touched_single : (s : State) (event : Event) (v : ℕ) (e : ℕ × ℕ) → ((x : ℕ) → is_parted s event x ≡ true → x ≡ v) → is_touched s event e ≡ true → is_single_edge s v e ≡ true
 touched_single s event v e who h =
     ⊎_elim
     (λ first.
@@ -158,7 +158,7 @@ touched_single s event v e who h =
     (or_cases (is_parted s event e.0 && not (married s e.1)) (is_parted s event e.1 && not (married s e.0)) h)
 
 -- an edge that is touched is one of two nodes
-touched_few : (s : State) (event : Event) (a b : ℕ) (es : List (ℕ × ℕ)) → ((x : ℕ) → is_parted s event x ≡ true → (x ≡ a) ⊎ (x ≡ b)) → count_by (is_touched s event) es ≤ count_by (is_single_edge s a) es + count_by (is_single_edge s b) es
+pub touched_few : (s : State) (event : Event) (a b : ℕ) (es : List (ℕ × ℕ)) → ((x : ℕ) → is_parted s event x ≡ true → (x ≡ a) ⊎ (x ≡ b)) → count_by (is_touched s event) es ≤ count_by (is_single_edge s a) es + count_by (is_single_edge s b) es
 touched_few s event a b es who =
     let le = sum_le (λ e. cond (is_touched s event e) 1 0) (λ e. cond (is_single_edge s a e) 1 0 + cond (is_single_edge s b e) 1 0) es (λ e there. or_le (is_touched s event e) (is_single_edge s a e) (is_single_edge s b e) (one e)) in
     let both = sum_add (λ e. cond (is_single_edge s a e) 1 0) (λ e. cond (is_single_edge s b e) 1 0) es in
@@ -181,7 +181,7 @@ touched_few s event a b es who =
         ⊎_elim (λ at. inl (high a e at both.1)) (λ at. inr (high b e at both.1)) (who e.1 both.0))
         (or_cases (is_parted s event e.0 && not (married s e.1)) (is_parted s event e.1 && not (married s e.0)) h)
 
-touched_none : (s : State) (event : Event) (es : List (ℕ × ℕ)) → ((x : ℕ) → is_parted s event x ≡ false) → count_by (is_touched s event) es ≡ 0
+pub touched_none : (s : State) (event : Event) (es : List (ℕ × ℕ)) → ((x : ℕ) → is_parted s event x ≡ false) → count_by (is_touched s event) es ≡ 0
 touched_none s event es none =
     none_count (is_touched s event) es (λ e there. false_from_ne_true (is_touched s event e) (λ h.
     ⊎_elim
@@ -191,11 +191,11 @@ touched_none s event es none =
 
 -- ---- an edge goes
 
-unlink_who : (s : State) (a b x : ℕ) → is_parted s (Unlink a b) x ≡ true → (x ≡ a) ⊎ (x ≡ b)
+pub unlink_who : (s : State) (a b x : ℕ) → is_parted s (Unlink a b) x ≡ true → (x ≡ a) ⊎ (x ≡ b)
 unlink_who s a b x h =
     ⊎_elim (λ low. inl (eqb-true x a low)) (λ high. inr (eqb-true x b high)) (or_cases (nat_eq x a) (nat_eq x b) (and_parts (is_mutual s a b) (nat_eq x a || nat_eq x b) h).1)
 
-unlink_apart : (s : State) (a b : ℕ) → IsState (after_unlink s a b) → (x y : ℕ) → IsIn (x, y) (edge_list (after_unlink s a b).network) → is_parted s (Unlink a b) x ≡ true → is_parted s (Unlink a b) y ≡ true → ⊥
+pub unlink_apart : (s : State) (a b : ℕ) → IsState (after_unlink s a b) → (x y : ℕ) → IsIn (x, y) (edge_list (after_unlink s a b).network) → is_parted s (Unlink a b) x ≡ true → is_parted s (Unlink a b) y ≡ true → ⊥
 unlink_apart s a b good' x y there p q = by (unlink_who s a b x p) (unlink_who s a b y q)
   where
     ordered : x < y
@@ -234,7 +234,7 @@ unlink_few s a b good stable mild =
 
 -- ---- a node goes
 
-leave_apart : (s : State) (a : ℕ) → IsState (after_leave s a) → (x y : ℕ) → IsIn (x, y) (edge_list (after_leave s a).network) → is_parted s (Leave a) x ≡ true → is_parted s (Leave a) y ≡ true → ⊥
+pub leave_apart : (s : State) (a : ℕ) → IsState (after_leave s a) → (x y : ℕ) → IsIn (x, y) (edge_list (after_leave s a).network) → is_parted s (Leave a) x ≡ true → is_parted s (Leave a) y ≡ true → ⊥
 leave_apart s a good' x y there p q =
     let ordered = good'.is_network.low_first x y (edges_contain (after_leave s a).network (x, y) there) in
     let same = same_Some x y (sym (mutual_is s a x p).0 ∙ (mutual_is s a y q).0) in

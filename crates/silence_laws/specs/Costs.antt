@@ -1,7 +1,7 @@
 -- What an edit or a fault costs a silent network by the rules of Hsu and Huang: no neighbour counts that is married.
 use Rattle.std.specs.Prelude.{ℕ, ◌+◌, ◌*◌, Bool, cond, not, ◌&&◌, count_by, Option, None, Some, nat_eq}
 use Rattle.rule_machine.specs.declared.event.Event.{Event}
-use Rattle.rule_machine.specs.declared.event.Event.TheVariants.{Link, Unlink, Point, Leave}
+use Rattle.rule_machine.specs.declared.event.Event.TheVariants.{Link, Unlink, Point, Flag, Leave}
 use Rattle.rule_machine.specs.Network.{linked, names}
 use Rattle.rule_machine.specs.State.{State, is_at, pointer, married, is_mutual}
 
@@ -39,3 +39,20 @@ silent_cost s (Unlink a b) = cond (is_mutual s a b) (2 * (single_neighbours s a 
 silent_cost s (Point v target) = silent_point_cost s v (pointer s v) target
 silent_cost s (Leave a) = 2 * single_neighbours_at s (pointer s a)
 silent_cost s event = 0
+
+-- By the rules of Manne and others, whose flags are written too: a pair that is parted counts the unmarried neighbours as above, and what
+-- the two need, and one pair more that may come.
+abbrev pub manne_silent_point_cost : State → ℕ → Option ℕ → Option ℕ → ℕ
+manne_silent_point_cost s v None None = 0
+manne_silent_point_cost s v None (Some w) = 1
+manne_silent_point_cost s v (Some u) None = 2 * (single_neighbours s v + single_neighbours s u) + 9
+manne_silent_point_cost s v (Some u) (Some w) =
+    cond (nat_eq u w) 0 (2 * (single_neighbours s v + single_neighbours s u) + 10)
+
+abbrev pub manne_silent_cost : State → Event → ℕ
+manne_silent_cost s (Link a b) = cond (not (married s a) && not (married s b)) 4 0
+manne_silent_cost s (Unlink a b) = cond (is_mutual s a b) (2 * (single_neighbours s a + single_neighbours s b) + 6) 0
+manne_silent_cost s (Point v target) = manne_silent_point_cost s v (pointer s v) target
+manne_silent_cost s (Flag v value) = cond (cond (married s v) (not value) value) 1 0
+manne_silent_cost s (Leave v) = cond (married s v) (2 * single_neighbours_at s (pointer s v) + 3) 0
+manne_silent_cost s event = 0

@@ -13,7 +13,7 @@ use Rattle.rule_machine.specs.Run.{Entry, Moment, Run}
 use Rattle.charge_laws.specs.Charged.{IsUndisturbed, moves_in}
 use Rattle.charge_laws.specs.Costs.{hsu_huang_cost, manne_cost}
 use Rattle.silence_laws.specs.Changes.{most_gained, most_lost, nodes_gone}
-use Rattle.silence_laws.specs.Costs.{silent_cost}
+use Rattle.silence_laws.specs.Costs.{manne_silent_cost, silent_cost}
 
 -- After one disturbance of a stable network, whatever the daemon chooses: no more pairs come than that.
 abbrev pub FewAreGained : RuleTable → Type 0
@@ -43,7 +43,14 @@ SilentCostPays =
     → (log : List Entry) (end : Moment) → Run hsu_huang (record { state = after; spent = 0 }) log end → IsUndisturbed log
     → moves_in log ≤ silent_cost s event
 
--- And that cost is no more than the table of costs says.
+-- By the rules of Manne and others they are no more than a cost of that kind.
+abbrev pub ManneSilentCostPays : Type 0
+ManneSilentCostPays =
+    (s : State) → IsState s → IsStable manne.flags s → (spent : ℕ) (event : Event) (after : State) → Answers manne s spent event Accepted after
+    → (log : List Entry) (end : Moment) → Run manne (record { state = after; spent = 0 }) log end → IsUndisturbed log
+    → moves_in log ≤ manne_silent_cost s event
+
+-- And that of Hsu and Huang's is no more than the table of costs says.
 abbrev pub SilentCostIsLess : Type 0
 SilentCostIsLess =
     (s : State) → IsState s → IsStable false s → (event : Event) → silent_cost s event ≤ hsu_huang_cost s event

@@ -8,3 +8,4 @@ pub mod Cheaper
 pub mod Less
 pub mod Turned
 pub mod Pays
+pub mod MannePays

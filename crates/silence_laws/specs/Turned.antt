@@ -23,7 +23,7 @@ use Rattle.silence_laws.specs.Costs.{is_single_but, single_neighbours, single_ne
 use Rattle.silence_laws.specs.Unreached.{answer_at}
 
 module _ (s : State) (v u : ℕ) (target : Option ℕ) (good : IsState s) (stable : IsStable false s) (at : pointer s v ≡ Some u) (back : pointer s u ≡ Some v) (turned : target ≡ Some u → ⊥) (near : (w : ℕ) → target ≡ Some w → IsTrue (linked s.network v w)) (good' : IsState (after_point s v target)) where
-  abbrev s' : State
+  abbrev pub s' : State
   s' = after_point s v target
 
   near_u : IsTrue (linked s.network v u)
@@ -59,19 +59,19 @@ module _ (s : State) (v u : ℕ) (target : Option ℕ) (good : IsState s) (stabl
   single x = not (married s x)
 
   -- the edge of the two themselves, which stays closed if v points nowhere now: its partner awaits it
-  abbrev own : ℕ × ℕ → Bool
+  abbrev pub own : ℕ × ℕ → Bool
   own e = is_some target && is_edge_to (nat_eq u) v e
 
   abbrev touched : ℕ × ℕ → Bool
   touched e = is_edge_to far v e || (is_edge_to single u e || own e)
 
-  abbrev marked : ℕ → Bool
+  abbrev pub marked : ℕ → Bool
   marked x = (is_some target && nat_eq v x) || nat_eq u x
 
   target_some : (x : ℕ) → target ≡ Some x → is_some target ≡ true
   target_some x e = ap is_some e
 
-  waits : WaitsOnly (pointer s) (pointer s') marked
+  pub waits : WaitsOnly (pointer s) (pointer s') marked
   waits x y to alone =
       ⊎_elim
       (λ is_v. inr (or_left (is_some target && nat_eq v x) (nat_eq u x) (and_from (is_some target) (nat_eq v x) (target_some y (sym here ∙ ap (pointer s') (sym is_v) ∙ to)) (eq-eqb v x (sym is_v)))))
@@ -189,7 +189,7 @@ module _ (s : State) (v u : ℕ) (target : Option ℕ) (good : IsState s) (stabl
       (λ h. let pair = paired_is (pointer s) y h in closed_swap (pointer s') y x (one_side y x (married_from s y pair.0 good pair.1 pair.2) (linked_back s.network y x ∙ joins) (free_high x y free)))
 
   -- the edge of the two is one, and none is touched if v points nowhere now
-  own_few : count_by own (edge_list s'.network) ≤ cond (is_some target) 1 0
+  pub own_few : count_by own (edge_list s'.network) ≤ cond (is_some target) 1 0
   own_few =
       let es = edge_list s.network in
       let xs = names s.network in
@@ -206,7 +206,7 @@ module _ (s : State) (v u : ℕ) (target : Option ℕ) (good : IsState s) (stabl
       omega (arith, zero))
       (cases_Bool (is_some target))
 
-  marked_few : count_by marked (names s'.network) ≤ cond (is_some target) 1 0 + 1
+  pub marked_few : count_by marked (names s'.network) ≤ cond (is_some target) 1 0 + 1
   marked_few =
       let xs = names s.network in
       let two = sum_le (λ x. cond (marked x) 1 0) (λ x. cond (is_some target && nat_eq v x) 1 0 + cond (nat_eq u x) 1 0) xs (λ x there. or_le (marked x) (is_some target && nat_eq v x) (nat_eq u x) (or_cases (is_some target && nat_eq v x) (nat_eq u x))) in

@@ -16,6 +16,6 @@
 mod law;
 
 pub use law::{
-    few_are_gained, few_are_lost, manne_moves_are_paid, nobody_waits, rewriting_changes_nothing,
+    few_are_gained, few_are_lost, manne_moves_are_paid, manne_silent_cost_pays, nobody_waits, rewriting_changes_nothing,
     silent_cost_pays, turned_costs_less,
 };
