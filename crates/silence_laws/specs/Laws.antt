@@ -50,6 +50,11 @@ ManneSilentCostPays =
     → (log : List Entry) (end : Moment) → Run manne (record { state = after; spent = 0 }) log end → IsUndisturbed log
     → moves_in log ≤ manne_silent_cost s event
 
+-- And that is no more than the table of costs says, with two for a pair that may come, and one for a node that goes.
+abbrev pub ManneSilentCostIsLess : Type 0
+ManneSilentCostIsLess =
+    (s : State) → IsState s → IsStable manne.flags s → (event : Event) → manne_silent_cost s event ≤ manne_cost s event + 2 * most_gained s event + nodes_gone event
+
 -- And that of Hsu and Huang's is no more than the table of costs says.
 abbrev pub SilentCostIsLess : Type 0
 SilentCostIsLess =

@@ -1,5 +1,5 @@
 -- What an edit or a fault costs a silent network by the rules of Manne and others, where unmarried neighbours alone count.
-use Rattle.std.proofs.Common.{◌≡◌, ℕ, ◌+◌, ◌*◌, ◌<◌, ◌≤◌, Bool, true, false, cond, not, ◌&&◌, ◌||◌, [], List, count_by, Option, None, Some, is_some, nat_eq, IsTrue, refl, sym, ap, ◌∙◌, subst, inl, inr, ◌⊎◌, ⊎_elim, arith}
+use Rattle.std.proofs.Common.{◌≡◌, ℕ, ◌+◌, ◌-◌, ◌*◌, ◌<◌, ◌≤◌, Bool, true, false, cond, not, ◌&&◌, ◌||◌, [], List, count_by, Option, None, Some, is_some, nat_eq, IsTrue, refl, sym, ap, ◌∙◌, subst, inl, inr, ◌⊎◌, ⊎_elim, arith}
 use Rattle.std.proofs.lemmas.Bool.{true≢false, and_parts, and_from, and_cases, or_cases, or_left, or_right, or_parts, cond-true, cond-false, cases_Bool, eq-eqb, eqb-true, not_from_false, not-true, false_from_ne_true}
 use Rattle.std.proofs.lemmas.Option.{none-some, same_Some}
 use Rattle.rule_machine.specs.declared.event.Event.{Event}
@@ -10,7 +10,7 @@ use Rattle.rule_machine.specs.Charge.{manne_charge, manne_closed}
 use Rattle.rule_machine.specs.Disturbance.{after_leave, after_point, after_unlink}
 use Rattle.rule_machine.specs.Manne.{manne}
 use Rattle.rule_machine.specs.Network.{edge_list, linked, names, node_count, present}
-use Rattle.rule_machine.specs.State.{State, IsState, flag, has_suitor, is_unanswered, married, is_mutual, pointer, points}
+use Rattle.rule_machine.specs.State.{State, IsState, flag, has_suitor, is_at, is_unanswered, married, is_mutual, pointer, points}
 use Rattle.rule_machine.specs.Stable.{IsStable}
 use Rattle.rule_machine.specs.Refuse.{refusal_of}
 use Rattle.rule_machine.specs.Answer.{Answers, AnswersBy}
@@ -19,7 +19,7 @@ use Rattle.machine_laws.specs.Keeps.{leave_keeps, unlink_keeps}
 use Rattle.machine_laws.specs.Pointers.{married_from, married_some, null_unmarried, points_from}
 use Rattle.machine_laws.specs.Runs.{answers_keep, runs_end_in_states}
 use Rattle.charge_laws.specs.Charged.{IsUndisturbed, moves_in}
-use Rattle.charge_laws.specs.Costs.{manne_cost, manne_point_cost}
+use Rattle.charge_laws.specs.Costs.{manne_cost, manne_leave_cost, manne_point_cost}
 use Rattle.charge_laws.specs.CostsOfRuns.{leave_has, manne_disturbed, point_parts}
 use Rattle.charge_laws.specs.Counting.{IsIn, sum_add, sum_le}
 use Rattle.charge_laws.specs.Degrees.{degree, none_count, once}
@@ -42,11 +42,11 @@ use Rattle.silence_laws.specs.Changes.{most_gained, most_lost, nodes_gone}
 use Rattle.silence_laws.specs.Cheaper.{edges_few, is_edge_to, is_single_edge, is_touched, leave_apart, one_le, or_le, single_few, touched_few, touched_none, touched_single, unlink_apart, unlink_who}
 use Rattle.silence_laws.specs.Costs.{manne_silent_cost, manne_silent_point_cost, single_neighbours, single_neighbours_at}
 use Rattle.silence_laws.specs.Gained.{few_are_gained}
-use Rattle.silence_laws.specs.Laws.{ManneSilentCostPays}
+use Rattle.silence_laws.specs.Laws.{ManneSilentCostIsLess, ManneSilentCostPays}
 use Rattle.silence_laws.specs.Left.{few_are_lost, nodes_left}
-use Rattle.silence_laws.specs.Less.{rewriting_changes_nothing}
+use Rattle.silence_laws.specs.Less.{partner_less, rewriting_changes_nothing}
 use Rattle.silence_laws.specs.Turned.{marked_few, waits}
-use Rattle.silence_laws.specs.Unreached.{answer_at, none_courted, unreached_from}
+use Rattle.silence_laws.specs.Unreached.{answer_at, none_courted, none_waits, unreached_from}
 
 -- both ends are parted
 abbrev pub is_inner : State → Event → ℕ × ℕ → Bool
@@ -410,3 +410,83 @@ pays s spent Status after log end is = free_pays s spent Status after log end is
 pub manne_silent_cost_pays : ManneSilentCostPays
 manne_silent_cost_pays s good stable spent event after answers log end run calm =
     pays s spent event after log end (record { good = good; stable = stable; answers = answers; run = run; calm = calm })
+
+-- ---- and what the table of costs says
+
+point_less : (s : State) → IsState s → IsStable true s → (v : ℕ) (o target : Option ℕ) → pointer s v ≡ o → manne_silent_point_cost s v o target ≤ manne_cost s (Point v target) + 2 * most_gained s (Point v target)
+point_less s good stable v None None at = omega arith
+point_less s good stable v None (Some w) at = let cost = ap (manne_point_cost s.network v (is_unanswered s v)) at in omega (arith, cost)
+point_less s good stable v (Some u) target at = by target
+  where
+    back : pointer s u ≡ Some v
+    back = answer_at true s stable v u at
+
+    cost : manne_point_cost s.network v (is_unanswered s v) (pointer s v) ≡ 2 * (degree s.network v + degree s.network u) + 4
+    cost = ap (λ b. manne_point_cost s.network v b (pointer s v)) (none_waits true s stable v) ∙ ap (manne_point_cost s.network v false) at
+
+    by : (target : Option ℕ) → manne_silent_point_cost s v (Some u) target ≤ manne_cost s (Point v target) + 2 * most_gained s (Point v target)
+    by None =
+        let first = partner_less s good v u at back in
+        let second = partner_less s good u v back at in
+        let all = cost in
+        let one = cond-true {A = ℕ} (married s v) 1 0 (married_from s v u good at back) in
+        omega (arith, first, second, all, one)
+    by (Some w) =
+        let most = 2 * (single_neighbours s v + single_neighbours s u) + 10 in
+        ⊎_elim
+        (λ same. let is = cond-true {A = ℕ} (nat_eq u w) 0 most same in omega (arith, is))
+        (λ apart.
+        let first = partner_less s good v u at back in
+        let second = partner_less s good u v back at in
+        let all = cost in
+        let is = cond-false {A = ℕ} (nat_eq u w) 0 most apart in
+        let away : points s.registers v w ≡ false = ap (λ o. is_at o w) at ∙ apart in
+        let one = cond-true {A = ℕ} (not (points s.registers v w) && married s v) 1 0 (and_from (not (points s.registers v w)) (married s v) (ap not away) (married_from s v u good at back)) in
+        omega (arith, first, second, all, is, one))
+        (cases_Bool (nat_eq u w))
+
+pub manne_silent_cost_is_less : ManneSilentCostIsLess
+manne_silent_cost_is_less s good stable (Link a b) = two (not (married s a) && not (married s b))
+  where
+    two : (c : Bool) → ◌≤◌ (cond c 4 0) (2 + 2 * cond c 1 0 + 0)
+    two true = omega arith
+    two false = omega arith
+manne_silent_cost_is_less s good stable (Unlink a b) =
+    ⊎_elim
+    (λ pair.
+    let at = mutual_is s a b pair in
+    let first = partner_less s good a b at.0 at.1 in
+    let second = partner_less s good b a at.1 at.0 in
+    let own = cond-true {A = ℕ} (is_mutual s a b) (2 * (single_neighbours s a + single_neighbours s b) + 6) 0 pair in
+    let all = cond-true {A = ℕ} (is_mutual s a b) (2 * ((degree s.network a - 1) + (degree s.network b - 1)) + 4) 0 pair in
+    let one = cond-true {A = ℕ} (is_mutual s a b) 1 0 pair in
+    omega (arith, first, second, own, all, one))
+    (λ none.
+    let own = cond-false {A = ℕ} (is_mutual s a b) (2 * (single_neighbours s a + single_neighbours s b) + 6) 0 none in
+    omega (arith, own))
+    (cases_Bool (is_mutual s a b))
+manne_silent_cost_is_less s good stable (Point v target) = let less = point_less s good stable v (pointer s v) target refl in omega (arith, less)
+manne_silent_cost_is_less s good stable (Flag v value) = one (cond (married s v) (not value) value)
+  where
+    one : (c : Bool) → ◌≤◌ (cond c 1 0) (manne_cost s (Flag v value) + 2 * 0 + 0)
+    one true = omega arith
+    one false = omega arith
+manne_silent_cost_is_less s good stable (Leave a) =
+    ⊎_elim
+    (λ wed.
+    let pair = married_some s a wed in
+    let less = partner_less s good pair.0 a pair.2 pair.1 in
+    let own = cond-true {A = ℕ} (married s a) (2 * single_neighbours_at s (pointer s a) + 3) 0 wed in
+    let at = ap (single_neighbours_at s) pair.1 in
+    let all : manne_cost s (Leave a) ≡ 2 * (degree s.network pair.0 - 1) + 2 = ap (λ b. manne_leave_cost s.network b (pointer s a)) (none_waits true s stable a) ∙ ap (manne_leave_cost s.network false) pair.1 in
+    omega (arith, less, own, at, all))
+    (λ alone.
+    let own = cond-false {A = ℕ} (married s a) (2 * single_neighbours_at s (pointer s a) + 3) 0 alone in
+    omega (arith, own))
+    (cases_Bool (married s a))
+manne_silent_cost_is_less s good stable (Join a) = omega arith
+manne_silent_cost_is_less s good stable (Step items) = omega arith
+manne_silent_cost_is_less s good stable (Show x) = omega arith
+manne_silent_cost_is_less s good stable Enabled = omega arith
+manne_silent_cost_is_less s good stable Matching = omega arith
+manne_silent_cost_is_less s good stable Status = omega arith

@@ -2,7 +2,7 @@
 
 ghost use Rattle.rule_machine.specs.HsuHuang.{hsu_huang};
 ghost use Rattle.rule_machine.specs.Manne.{manne};
-ghost use Rattle.silence_laws.specs.Laws.{FewAreGained, FewAreLost, ManneMovesArePaid, ManneSilentCostPays, NobodyWaits, RewritingChangesNothing, SilentCostIsLess, SilentCostPays, TurnedCostsLess};
+ghost use Rattle.silence_laws.specs.Laws.{FewAreGained, FewAreLost, ManneMovesArePaid, ManneSilentCostIsLess, ManneSilentCostPays, NobodyWaits, RewritingChangesNothing, SilentCostIsLess, SilentCostPays, TurnedCostsLess};
 
 /// After one disturbance of a stable network there is at most one pair more: only if an edge comes between two unmarried nodes, the edge of
 /// a pair goes, or the pointer of a paired node is written anew.
@@ -22,9 +22,11 @@ pub fn manne_moves_are_paid()
     ensures { ManneMovesArePaid }
 {}
 
-/// By the rules of Manne and others the moves after it are no more than its silent cost, for which unmarried neighbours alone count.
+/// By the rules of Manne and others the moves after it are no more than its silent cost, for which unmarried neighbours alone count, and
+/// which is no more than its cost, two if a pair may come, and one for a node that goes.
 pub fn manne_silent_cost_pays()
-    ensures { ManneSilentCostPays }
+    ensures pays { ManneSilentCostPays }
+    ensures less { ManneSilentCostIsLess }
 {}
 
 /// By the rules of Hsu and Huang the moves after it are no more than its silent cost, for which unmarried neighbours alone count, and
