@@ -1,4 +1,4 @@
--- What an edit or a fault costs a silent network by the rules of Hsu and Huang: no neighbour counts that is married.
+-- What an edit or a fault costs a silent network: no neighbour counts that is married.
 use Rattle.std.specs.Prelude.{ℕ, ◌+◌, ◌*◌, Bool, cond, not, ◌&&◌, count_by, Option, None, Some, nat_eq}
 use Rattle.rule_machine.specs.declared.event.Event.{Event}
 use Rattle.rule_machine.specs.declared.event.Event.TheVariants.{Link, Unlink, Point, Flag, Leave}
