@@ -1,6 +1,6 @@
 -- What an edit or a fault costs a silent network by the rules of Manne and others, where unmarried neighbours alone count.
 use Rattle.std.proofs.Common.{◌≡◌, ℕ, ◌+◌, ◌-◌, ◌*◌, ◌<◌, ◌≤◌, Bool, true, false, cond, not, ◌&&◌, ◌||◌, [], List, count_by, Option, None, Some, is_some, nat_eq, IsTrue, refl, sym, ap, ◌∙◌, subst, inl, inr, ◌⊎◌, ⊎_elim, arith}
-use Rattle.std.proofs.lemmas.Bool.{true≢false, and_parts, and_from, and_cases, or_cases, or_left, or_right, or_parts, cond-true, cond-false, cases_Bool, eq-eqb, eqb-true, not_from_false, not-true, false_from_ne_true}
+use Rattle.std.proofs.lemmas.Bool.{true≢false, and_parts, and_from, or_cases, or_left, or_right, or_parts, cond-true, cond-false, cases_Bool, eq-eqb, eqb-true, not-true, false_from_ne_true}
 use Rattle.std.proofs.lemmas.Option.{none-some, same_Some}
 use Rattle.rule_machine.specs.declared.event.Event.{Event}
 use Rattle.rule_machine.specs.declared.event.Event.TheVariants.{Link, Unlink, Point, Flag, Step, Show, Enabled, Matching, Status, Join, Leave}
@@ -10,7 +10,7 @@ use Rattle.rule_machine.specs.Charge.{manne_charge, manne_closed}
 use Rattle.rule_machine.specs.Disturbance.{after_leave, after_point, after_unlink}
 use Rattle.rule_machine.specs.Manne.{manne}
 use Rattle.rule_machine.specs.Network.{edge_list, linked, names, node_count, present}
-use Rattle.rule_machine.specs.State.{State, IsState, flag, has_suitor, is_at, is_unanswered, married, is_mutual, pointer, points}
+use Rattle.rule_machine.specs.State.{State, IsState, has_suitor, is_at, is_unanswered, married, is_mutual, pointer, points}
 use Rattle.rule_machine.specs.Stable.{IsStable}
 use Rattle.rule_machine.specs.Refuse.{refusal_of}
 use Rattle.rule_machine.specs.Answer.{Answers, AnswersBy}
@@ -39,7 +39,7 @@ use Rattle.containment_laws.specs.Partings.{none_parted}
 use Rattle.containment_laws.specs.Proved.{manne_contains}
 use Rattle.containment_laws.specs.Reach.{is_hit, is_parted, parts_a_pair}
 use Rattle.silence_laws.specs.Changes.{most_gained, most_lost, nodes_gone}
-use Rattle.silence_laws.specs.Cheaper.{edges_few, is_edge_to, is_single_edge, is_touched, leave_apart, one_le, or_le, single_few, touched_few, touched_none, touched_single, unlink_apart, unlink_who}
+use Rattle.silence_laws.specs.Cheaper.{edges_few, is_edge_to, is_single_edge, is_touched, leave_apart, one_le, or_le, single_few, touched_few, touched_single, unlink_apart, unlink_who}
 use Rattle.silence_laws.specs.Costs.{manne_silent_cost, manne_silent_point_cost, single_neighbours, single_neighbours_at}
 use Rattle.silence_laws.specs.Gained.{few_are_gained}
 use Rattle.silence_laws.specs.Laws.{ManneSilentCostIsLess, ManneSilentCostPays}
