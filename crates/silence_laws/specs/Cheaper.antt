@@ -4,41 +4,30 @@ use Rattle.std.proofs.lemmas.Bool.{true≢false, and_parts, and_from, and_cases,
 use Rattle.std.proofs.lemmas.Option.{none-some, same_Some}
 use Rattle.rule_machine.specs.declared.event.Event.{Event}
 use Rattle.rule_machine.specs.declared.event.Event.TheVariants.{Unlink, Leave}
-use Rattle.rule_machine.specs.declared.refusal.Refusal.{Refusal}
-use Rattle.rule_machine.specs.declared.reply.Reply.TheVariants.{Accepted}
 use Rattle.rule_machine.specs.Charge.{hsu_huang_charge}
 use Rattle.rule_machine.specs.Disturbance.{after_leave, after_unlink}
 use Rattle.rule_machine.specs.HsuHuang.{hsu_huang}
 use Rattle.rule_machine.specs.Network.{edge, edge_list, linked, names, present}
 use Rattle.rule_machine.specs.State.{State, IsState, pointer, married, is_mutual}
 use Rattle.rule_machine.specs.Stable.{IsStable}
-use Rattle.rule_machine.specs.Refuse.{refusal_of}
-use Rattle.rule_machine.specs.Answer.{Answers, AnswersBy}
-use Rattle.rule_machine.specs.Run.{Entry, Moment, Run}
 use Rattle.machine_laws.specs.Keeps.{leave_keeps, unlink_keeps}
 use Rattle.machine_laws.specs.Neighbours.{linked_back, linked_pair, linked_present}
 use Rattle.machine_laws.specs.Pointers.{married_from, married_some}
-use Rattle.machine_laws.specs.Runs.{answers_keep}
-use Rattle.charge_laws.specs.Charged.{IsUndisturbed, moves_in}
-use Rattle.charge_laws.specs.CostsOfRuns.{hsu_huang_one, leave_has}
 use Rattle.charge_laws.specs.Counting.{IsIn, count_into, sum_add, sum_le}
 use Rattle.charge_laws.specs.Degrees.{none_count}
 use Rattle.charge_laws.specs.EdgesByNodes.{edges_without_repeats}
 use Rattle.charge_laws.specs.EdgesChanged.{taken_out}
 use Rattle.charge_laws.specs.HsuHuangEdits.{leave_waits, leave_within, unlink_waits, unlink_within}
 use Rattle.charge_laws.specs.HsuHuangTurns.{IsClosed, high_paired, low_paired}
-use Rattle.charge_laws.specs.Laws.{hsu_huang_charged, moves_are_paid}
 use Rattle.charge_laws.specs.Members.{edges_contain, in_names}
 use Rattle.charge_laws.specs.StableCharge.{an_end_paired, hsu_huang_stable_is_zero}
 use Rattle.charge_laws.specs.Stances.{is_paired, paired_from, paired_is, stance}
-use Rattle.charge_laws.specs.Tables.{hsu_huang_table}
 use Rattle.charge_laws.specs.Touched.{IsWithin, WaitsOnly, hsu_huang_grows}
-use Rattle.containment_laws.specs.Contained.{answered_mild, mild_weds}
+use Rattle.containment_laws.specs.Contained.{mild_weds}
 use Rattle.containment_laws.specs.Edits.{IsMild, mutual_is}
 use Rattle.containment_laws.specs.Partings.{none_parted}
 use Rattle.containment_laws.specs.Reach.{is_parted}
 use Rattle.silence_laws.specs.Costs.{silent_cost, single_neighbours, single_neighbours_at}
-use Rattle.silence_laws.specs.Laws.{SilentCostPays}
 
 -- an edge of a node whose other end passes a test
 abbrev pub is_edge_to : (ℕ → Bool) → ℕ → ℕ × ℕ → Bool
@@ -142,7 +131,7 @@ edges_few s s' good good' within p v =
     found : (e : ℕ × ℕ) → IsIn e (edge_list s'.network) → is_edge_to p v e ≡ true → IsTrue (linked s.network v (other_end v e)) × (p (other_end v e) ≡ true)
     found e there h = by e (near e there) (edge_ends p v e (ordered e there) h)
 
-single_few : (s s' : State) → IsState s → IsState s' → IsWithin s.network s'.network → (v : ℕ) → count_by (is_single_edge s v) (edge_list s'.network) ≤ single_neighbours s v
+pub single_few : (s s' : State) → IsState s → IsState s' → IsWithin s.network s'.network → (v : ℕ) → count_by (is_single_edge s v) (edge_list s'.network) ≤ single_neighbours s v
 single_few s s' good good' within v = edges_few s s' good good' within (λ w. not (married s w)) v
 
 pub or_le : (t p q : Bool) → (t ≡ true → (p ≡ true) ⊎ (q ≡ true)) → ◌≤◌ (cond t 1 0) (cond p 1 0 + cond q 1 0)
@@ -151,13 +140,13 @@ or_le true true q h = omega arith
 or_le true false true h = omega arith
 or_le true false false h = absurd (⊎_elim (λ e. true≢false (sym e)) (λ e. true≢false (sym e)) (h refl))
 
-one_le : (t p : Bool) → (t ≡ true → p ≡ true) → ◌≤◌ (cond t 1 0) (cond p 1 0)
+pub one_le : (t p : Bool) → (t ≡ true → p ≡ true) → ◌≤◌ (cond t 1 0) (cond p 1 0)
 one_le false p h = omega arith
 one_le true true h = omega arith
 one_le true false h = absurd (true≢false (sym (h refl)))
 
 -- an edge that is touched is one of a node that alone is parted
-touched_single : (s : State) (event : Event) (v : ℕ) (e : ℕ × ℕ) → ((x : ℕ) → is_parted s event x ≡ true → x ≡ v) → is_touched s event e ≡ true → is_single_edge s v e ≡ true
+pub touched_single : (s : State) (event : Event) (v : ℕ) (e : ℕ × ℕ) → ((x : ℕ) → is_parted s event x ≡ true → x ≡ v) → is_touched s event e ≡ true → is_single_edge s v e ≡ true
 touched_single s event v e who h =
     ⊎_elim
     (λ first.
@@ -169,7 +158,7 @@ touched_single s event v e who h =
     (or_cases (is_parted s event e.0 && not (married s e.1)) (is_parted s event e.1 && not (married s e.0)) h)
 
 -- an edge that is touched is one of two nodes
-touched_few : (s : State) (event : Event) (a b : ℕ) (es : List (ℕ × ℕ)) → ((x : ℕ) → is_parted s event x ≡ true → (x ≡ a) ⊎ (x ≡ b)) → count_by (is_touched s event) es ≤ count_by (is_single_edge s a) es + count_by (is_single_edge s b) es
+pub touched_few : (s : State) (event : Event) (a b : ℕ) (es : List (ℕ × ℕ)) → ((x : ℕ) → is_parted s event x ≡ true → (x ≡ a) ⊎ (x ≡ b)) → count_by (is_touched s event) es ≤ count_by (is_single_edge s a) es + count_by (is_single_edge s b) es
 touched_few s event a b es who =
     let le = sum_le (λ e. cond (is_touched s event e) 1 0) (λ e. cond (is_single_edge s a e) 1 0 + cond (is_single_edge s b e) 1 0) es (λ e there. or_le (is_touched s event e) (is_single_edge s a e) (is_single_edge s b e) (one e)) in
     let both = sum_add (λ e. cond (is_single_edge s a e) 1 0) (λ e. cond (is_single_edge s b e) 1 0) es in
@@ -192,7 +181,7 @@ touched_few s event a b es who =
         ⊎_elim (λ at. inl (high a e at both.1)) (λ at. inr (high b e at both.1)) (who e.1 both.0))
         (or_cases (is_parted s event e.0 && not (married s e.1)) (is_parted s event e.1 && not (married s e.0)) h)
 
-touched_none : (s : State) (event : Event) (es : List (ℕ × ℕ)) → ((x : ℕ) → is_parted s event x ≡ false) → count_by (is_touched s event) es ≡ 0
+pub touched_none : (s : State) (event : Event) (es : List (ℕ × ℕ)) → ((x : ℕ) → is_parted s event x ≡ false) → count_by (is_touched s event) es ≡ 0
 touched_none s event es none =
     none_count (is_touched s event) es (λ e there. false_from_ne_true (is_touched s event e) (λ h.
     ⊎_elim
@@ -202,11 +191,11 @@ touched_none s event es none =
 
 -- ---- an edge goes
 
-unlink_who : (s : State) (a b x : ℕ) → is_parted s (Unlink a b) x ≡ true → (x ≡ a) ⊎ (x ≡ b)
+pub unlink_who : (s : State) (a b x : ℕ) → is_parted s (Unlink a b) x ≡ true → (x ≡ a) ⊎ (x ≡ b)
 unlink_who s a b x h =
     ⊎_elim (λ low. inl (eqb-true x a low)) (λ high. inr (eqb-true x b high)) (or_cases (nat_eq x a) (nat_eq x b) (and_parts (is_mutual s a b) (nat_eq x a || nat_eq x b) h).1)
 
-unlink_apart : (s : State) (a b : ℕ) → IsState (after_unlink s a b) → (x y : ℕ) → IsIn (x, y) (edge_list (after_unlink s a b).network) → is_parted s (Unlink a b) x ≡ true → is_parted s (Unlink a b) y ≡ true → ⊥
+pub unlink_apart : (s : State) (a b : ℕ) → IsState (after_unlink s a b) → (x y : ℕ) → IsIn (x, y) (edge_list (after_unlink s a b).network) → is_parted s (Unlink a b) x ≡ true → is_parted s (Unlink a b) y ≡ true → ⊥
 unlink_apart s a b good' x y there p q = by (unlink_who s a b x p) (unlink_who s a b y q)
   where
     ordered : x < y
@@ -224,7 +213,7 @@ unlink_apart s a b good' x y there p q = by (unlink_who s a b x p) (unlink_who s
     by (inl e) (inr f) = true≢false (sym (subst (λ v. IsTrue (linked (after_unlink s a b).network a v)) f (subst (λ v. IsTrue (linked (after_unlink s a b).network v y)) e near)) ∙ gone)
     by (inr e) (inl f) = true≢false (sym (linked_back (after_unlink s a b).network a b ∙ subst (λ v. IsTrue (linked (after_unlink s a b).network b v)) f (subst (λ v. IsTrue (linked (after_unlink s a b).network v y)) e near)) ∙ gone)
 
-unlink_few : (s : State) (a b : ℕ) → IsState s → IsStable false s → IsMild hsu_huang s (Unlink a b) (after_unlink s a b) → hsu_huang_charge (after_unlink s a b) ≤ silent_cost s (Unlink a b)
+pub unlink_few : (s : State) (a b : ℕ) → IsState s → IsStable false s → IsMild hsu_huang s (Unlink a b) (after_unlink s a b) → hsu_huang_charge (after_unlink s a b) ≤ silent_cost s (Unlink a b)
 unlink_few s a b good stable mild =
     let s' = after_unlink s a b in
     let good' = unlink_keeps s a b good in
@@ -245,13 +234,13 @@ unlink_few s a b good stable mild =
 
 -- ---- a node goes
 
-leave_apart : (s : State) (a : ℕ) → IsState (after_leave s a) → (x y : ℕ) → IsIn (x, y) (edge_list (after_leave s a).network) → is_parted s (Leave a) x ≡ true → is_parted s (Leave a) y ≡ true → ⊥
+pub leave_apart : (s : State) (a : ℕ) → IsState (after_leave s a) → (x y : ℕ) → IsIn (x, y) (edge_list (after_leave s a).network) → is_parted s (Leave a) x ≡ true → is_parted s (Leave a) y ≡ true → ⊥
 leave_apart s a good' x y there p q =
     let ordered = good'.is_network.low_first x y (edges_contain (after_leave s a).network (x, y) there) in
     let same = same_Some x y (sym (mutual_is s a x p).0 ∙ (mutual_is s a y q).0) in
     omega (arith, ordered, same)
 
-leave_few : (s : State) (a : ℕ) → IsState s → IsStable false s → IsTrue (present s.network a) → IsMild hsu_huang s (Leave a) (after_leave s a) → hsu_huang_charge (after_leave s a) ≤ silent_cost s (Leave a)
+pub leave_few : (s : State) (a : ℕ) → IsState s → IsStable false s → IsTrue (present s.network a) → IsMild hsu_huang s (Leave a) (after_leave s a) → hsu_huang_charge (after_leave s a) ≤ silent_cost s (Leave a)
 leave_few s a good stable has mild = by (pointer s a) refl
   where
     s' : State
@@ -281,30 +270,3 @@ leave_few s a good stable has mild = by (pointer s a) refl
         let first = single_few s (after_leave s a) good (leave_keeps s a good) (leave_within s a good has) p in
         let is = ap (single_neighbours_at s) at in
         omega (arith, grows, few, first, is)
-
--- ---- any of them
-
-charge_few : (s : State) → IsState s → IsStable false s → (spent : ℕ) (event : Event) (after : State) → Answers hsu_huang s spent event Accepted after → (log : List Entry) (end : Moment) → Run hsu_huang (record { state = after; spent = 0 }) log end → IsUndisturbed log → hsu_huang_charge after ≤ silent_cost s event → moves_in log ≤ silent_cost s event
-charge_few s good stable spent event after answers log end run calm few =
-    let good' = answers_keep hsu_huang hsu_huang_table s good spent event Accepted after answers in
-    let paid = moves_are_paid hsu_huang 1 hsu_huang_table hsu_huang_charged (record { state = after; spent = 0 }) good' log end run calm in
-    omega (arith, paid, few)
-
-pub silent_cost_pays : SilentCostPays
-silent_cost_pays s good stable spent (Unlink a b) after answers log end run calm =
-    charge_few s good stable spent (Unlink a b) after answers log end run calm (by (refusal_of hsu_huang s (Unlink a b)) refl answers)
-  where
-    by : (r : Option Refusal) → refusal_of hsu_huang s (Unlink a b) ≡ r → AnswersBy hsu_huang s spent (Unlink a b) r Accepted after → hsu_huang_charge after ≤ silent_cost s (Unlink a b)
-    by None e does =
-        subst (λ (u : State). hsu_huang_charge u ≤ silent_cost s (Unlink a b)) (sym does)
-        (unlink_few s a b good stable (subst (IsMild hsu_huang s (Unlink a b)) does (answered_mild hsu_huang s spent (Unlink a b) after good answers)))
-    by (Some refusal) e does = absurd cc
-silent_cost_pays s good stable spent (Leave a) after answers log end run calm =
-    charge_few s good stable spent (Leave a) after answers log end run calm (by (refusal_of hsu_huang s (Leave a)) refl answers)
-  where
-    by : (r : Option Refusal) → refusal_of hsu_huang s (Leave a) ≡ r → AnswersBy hsu_huang s spent (Leave a) r Accepted after → hsu_huang_charge after ≤ silent_cost s (Leave a)
-    by None e does =
-        subst (λ (u : State). hsu_huang_charge u ≤ silent_cost s (Leave a)) (sym does)
-        (leave_few s a good stable (leave_has hsu_huang s a e) (subst (IsMild hsu_huang s (Leave a)) does (answered_mild hsu_huang s spent (Leave a) after good answers)))
-    by (Some refusal) e does = absurd cc
-silent_cost_pays s good stable spent event after answers log end run calm = hsu_huang_one s good stable spent event after answers log end run calm

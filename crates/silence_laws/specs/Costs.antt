@@ -1,10 +1,9 @@
--- What an edit costs a silent network by the rules of Hsu and Huang, where fewer neighbours count than the table of costs says.
-use Rattle.std.specs.Prelude.{ℕ, ◌+◌, ◌*◌, cond, not, ◌&&◌, count_by, Option, None, Some}
+-- What an edit or a fault costs a silent network: no neighbour counts that is married.
+use Rattle.std.specs.Prelude.{ℕ, ◌+◌, ◌*◌, Bool, cond, not, ◌&&◌, count_by, Option, None, Some, nat_eq}
 use Rattle.rule_machine.specs.declared.event.Event.{Event}
-use Rattle.rule_machine.specs.declared.event.Event.TheVariants.{Unlink, Leave}
+use Rattle.rule_machine.specs.declared.event.Event.TheVariants.{Link, Unlink, Point, Flag, Leave}
 use Rattle.rule_machine.specs.Network.{linked, names}
-use Rattle.rule_machine.specs.State.{State, pointer, married, is_mutual}
-use Rattle.charge_laws.specs.Costs.{hsu_huang_cost}
+use Rattle.rule_machine.specs.State.{State, is_at, pointer, married, is_mutual}
 
 -- how many neighbours of a node are unmarried
 abbrev pub single_neighbours : State → ℕ → ℕ
@@ -15,9 +14,45 @@ abbrev pub single_neighbours_at : State → Option ℕ → ℕ
 single_neighbours_at s None = 0
 single_neighbours_at s (Some v) = single_neighbours s v
 
--- 2 for each unmarried neighbour of a node that is parted: of both if the edge of a pair goes, of the partner if a node goes; else what the
--- table of costs says
+-- whether a node is unmarried, and a pointer is not at it
+abbrev pub is_single_but : State → Option ℕ → ℕ → Bool
+is_single_but s target w = not (married s w) && not (is_at target w)
+
+-- how many neighbours of a node are
+abbrev pub single_neighbours_but : State → ℕ → Option ℕ → ℕ
+single_neighbours_but s v target = count_by (λ w. linked s.network v w && is_single_but s target w) (names s.network)
+
+-- Where a pointer is written, by where it was: a null one is set to a neighbour, which is married, and is taken back; one of a pair counts
+-- the unmarried neighbours of both nodes but the new target, and what the two need to point at each other again.
+abbrev pub silent_point_cost : State → ℕ → Option ℕ → Option ℕ → ℕ
+silent_point_cost s v None None = 0
+silent_point_cost s v None (Some w) = 1
+silent_point_cost s v (Some u) None = 2 * (single_neighbours_but s v None + single_neighbours s u) + 1
+silent_point_cost s v (Some u) (Some w) =
+    cond (nat_eq u w) 0 (2 * (single_neighbours_but s v (Some w) + single_neighbours s u) + 4)
+
+-- 2 for a new edge between unmarried nodes; 2 for each unmarried neighbour of a node that is parted: of both if the edge of a pair goes, of
+-- the partner if a node goes; where a pointer is written, as above
 abbrev pub silent_cost : State → Event → ℕ
+silent_cost s (Link a b) = cond (not (married s a) && not (married s b)) 2 0
 silent_cost s (Unlink a b) = cond (is_mutual s a b) (2 * (single_neighbours s a + single_neighbours s b)) 0
+silent_cost s (Point v target) = silent_point_cost s v (pointer s v) target
 silent_cost s (Leave a) = 2 * single_neighbours_at s (pointer s a)
-silent_cost s event = hsu_huang_cost s event
+silent_cost s event = 0
+
+-- By the rules of Manne and others, whose flags are written too: a pair that is parted counts the unmarried neighbours as above, and what
+-- the two need, and one pair more that may come.
+abbrev pub manne_silent_point_cost : State → ℕ → Option ℕ → Option ℕ → ℕ
+manne_silent_point_cost s v None None = 0
+manne_silent_point_cost s v None (Some w) = 1
+manne_silent_point_cost s v (Some u) None = 2 * (single_neighbours s v + single_neighbours s u) + 9
+manne_silent_point_cost s v (Some u) (Some w) =
+    cond (nat_eq u w) 0 (2 * (single_neighbours s v + single_neighbours s u) + 10)
+
+abbrev pub manne_silent_cost : State → Event → ℕ
+manne_silent_cost s (Link a b) = cond (not (married s a) && not (married s b)) 4 0
+manne_silent_cost s (Unlink a b) = cond (is_mutual s a b) (2 * (single_neighbours s a + single_neighbours s b) + 6) 0
+manne_silent_cost s (Point v target) = manne_silent_point_cost s v (pointer s v) target
+manne_silent_cost s (Flag v value) = cond (cond (married s v) (not value) value) 1 0
+manne_silent_cost s (Leave v) = cond (married s v) (2 * single_neighbours_at s (pointer s v) + 3) 0
+manne_silent_cost s event = 0

@@ -1,9 +1,9 @@
 -- What is claimed of one disturbance of a silent network, for a table of rules. The functions of src/law.rt have these as their contracts.
-use Rattle.std.specs.Prelude.{◌≡◌, ℕ, ◌+◌, ◌*◌, ◌≤◌, List, length, false, true, Some}
+use Rattle.std.specs.Prelude.{◌≡◌, ℕ, ◌+◌, ◌*◌, ◌≤◌, Bool, List, length, cond, false, true, Option, None, is_none}
 use Rattle.rule_machine.specs.declared.event.Event.{Event}
 use Rattle.rule_machine.specs.declared.event.Event.TheVariants.{Point}
 use Rattle.rule_machine.specs.declared.reply.Reply.TheVariants.{Accepted}
-use Rattle.rule_machine.specs.State.{State, IsState, married, pointer}
+use Rattle.rule_machine.specs.State.{State, IsState, has_suitor, is_unanswered, married, pointer, points}
 use Rattle.rule_machine.specs.RuleTable.{RuleTable}
 use Rattle.rule_machine.specs.HsuHuang.{hsu_huang}
 use Rattle.rule_machine.specs.Manne.{manne}
@@ -13,7 +13,7 @@ use Rattle.rule_machine.specs.Run.{Entry, Moment, Run}
 use Rattle.charge_laws.specs.Charged.{IsUndisturbed, moves_in}
 use Rattle.charge_laws.specs.Costs.{hsu_huang_cost, manne_cost}
 use Rattle.silence_laws.specs.Changes.{most_gained, most_lost, nodes_gone}
-use Rattle.silence_laws.specs.Costs.{silent_cost}
+use Rattle.silence_laws.specs.Costs.{manne_silent_cost, silent_cost}
 
 -- After one disturbance of a stable network, whatever the daemon chooses: no more pairs come than that.
 abbrev pub FewAreGained : RuleTable → Type 0
@@ -36,14 +36,26 @@ ManneMovesArePaid =
     → (log : List Entry) (end : Moment) → Run manne (record { state = after; spent = 0 }) log end → IsUndisturbed log
     → moves_in log ≤ manne_cost s event + 2 * most_gained s event + nodes_gone event
 
--- By the rules of Hsu and Huang the moves after it are no more than this cost, by the unmarried neighbours of who is parted.
+-- By the rules of Hsu and Huang the moves after it are no more than this cost, for which unmarried neighbours alone count.
 abbrev pub SilentCostPays : Type 0
 SilentCostPays =
     (s : State) → IsState s → IsStable false s → (spent : ℕ) (event : Event) (after : State) → Answers hsu_huang s spent event Accepted after
     → (log : List Entry) (end : Moment) → Run hsu_huang (record { state = after; spent = 0 }) log end → IsUndisturbed log
     → moves_in log ≤ silent_cost s event
 
--- And that cost is no more than the table of costs says.
+-- By the rules of Manne and others they are no more than a cost of that kind.
+abbrev pub ManneSilentCostPays : Type 0
+ManneSilentCostPays =
+    (s : State) → IsState s → IsStable manne.flags s → (spent : ℕ) (event : Event) (after : State) → Answers manne s spent event Accepted after
+    → (log : List Entry) (end : Moment) → Run manne (record { state = after; spent = 0 }) log end → IsUndisturbed log
+    → moves_in log ≤ manne_silent_cost s event
+
+-- And that is no more than the table of costs says, with two for a pair that may come, and one for a node that goes.
+abbrev pub ManneSilentCostIsLess : Type 0
+ManneSilentCostIsLess =
+    (s : State) → IsState s → IsStable manne.flags s → (event : Event) → manne_silent_cost s event ≤ manne_cost s event + 2 * most_gained s event + nodes_gone event
+
+-- And that of Hsu and Huang's is no more than the table of costs says.
 abbrev pub SilentCostIsLess : Type 0
 SilentCostIsLess =
     (s : State) → IsState s → IsStable false s → (event : Event) → silent_cost s event ≤ hsu_huang_cost s event
@@ -53,9 +65,17 @@ abbrev pub RewritingChangesNothing : Type 0
 RewritingChangesNothing =
     (t : RuleTable) (s : State) (spent : ℕ) (v : ℕ) (after : State) → Answers t s spent (Point v (pointer s v)) Accepted after → after ≡ s
 
--- A pointer of a paired node that is turned to another neighbour costs 2 less than the table of costs says, by the rules of Hsu and Huang.
+-- A pointer of a paired node that is written anew costs 2 less than the table of costs says, or 3 if it points nowhere then, by the rules
+-- of Hsu and Huang.
 abbrev pub TurnedCostsLess : Type 0
 TurnedCostsLess =
-    (s : State) → IsState s → IsStable false s → (spent : ℕ) (v w : ℕ) (after : State) → Answers hsu_huang s spent (Point v (Some w)) Accepted after
-    → married s v ≡ true → (pointer s v ≡ Some w → ⊥) → (log : List Entry) (end : Moment) → Run hsu_huang (record { state = after; spent = 0 }) log end → IsUndisturbed log
-    → moves_in log + 2 ≤ hsu_huang_cost s (Point v (Some w))
+    (s : State) → IsState s → IsStable false s → (spent : ℕ) (v : ℕ) (target : Option ℕ) (after : State) → Answers hsu_huang s spent (Point v target) Accepted after
+    → married s v ≡ true → (pointer s v ≡ target → ⊥) → (log : List Entry) (end : Moment) → Run hsu_huang (record { state = after; spent = 0 }) log end → IsUndisturbed log
+    → moves_in log + cond (is_none target) 3 2 ≤ hsu_huang_cost s (Point v target)
+
+-- In a stable network no pointer is unanswered, nobody who points nowhere has a suitor, and a pointer that crosses an edge is crossed by
+-- one: what the table of costs has for such nodes and edges never applies.
+abbrev pub NobodyWaits : Type 0
+NobodyWaits =
+    (uses_flags : Bool) (s : State) → IsStable uses_flags s
+    → ((v : ℕ) → is_unanswered s v ≡ false) × ((v : ℕ) → pointer s v ≡ None → has_suitor s v ≡ false) × ((a b : ℕ) → points s.registers a b ≡ points s.registers b a)

@@ -210,7 +210,7 @@ nodes_by t s good spent Enabled after does = absurd does
 nodes_by t s good spent Matching after does = absurd does
 nodes_by t s good spent Status after does = absurd does
 
-nodes_left : (t : RuleTable) (s : State) → IsState s → (spent : ℕ) (event : Event) (after : State) (r : Option Refusal) → AnswersBy t s spent event r Accepted after → node_count s.network ≤ node_count after.network + nodes_gone event
+pub nodes_left : (t : RuleTable) (s : State) → IsState s → (spent : ℕ) (event : Event) (after : State) (r : Option Refusal) → AnswersBy t s spent event r Accepted after → node_count s.network ≤ node_count after.network + nodes_gone event
 nodes_left t s good spent event after None does = nodes_by t s good spent event after does
 nodes_left t s good spent event after (Some refusal) does = let same = ap (λ (u : State). node_count u.network) does.1 in omega (arith, same)
 

@@ -3,6 +3,9 @@ pub mod Costs
 pub mod Laws
 pub mod Gained
 pub mod Left
+pub mod Unreached
 pub mod Cheaper
 pub mod Less
 pub mod Turned
+pub mod Pays
+pub mod MannePays

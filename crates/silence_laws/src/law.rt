@@ -2,7 +2,7 @@
 
 ghost use Rattle.rule_machine.specs.HsuHuang.{hsu_huang};
 ghost use Rattle.rule_machine.specs.Manne.{manne};
-ghost use Rattle.silence_laws.specs.Laws.{FewAreGained, FewAreLost, ManneMovesArePaid, RewritingChangesNothing, SilentCostIsLess, SilentCostPays, TurnedCostsLess};
+ghost use Rattle.silence_laws.specs.Laws.{FewAreGained, FewAreLost, ManneMovesArePaid, ManneSilentCostIsLess, ManneSilentCostPays, NobodyWaits, RewritingChangesNothing, SilentCostIsLess, SilentCostPays, TurnedCostsLess};
 
 /// After one disturbance of a stable network there is at most one pair more: only if an edge comes between two unmarried nodes, the edge of
 /// a pair goes, or the pointer of a paired node is written anew.
@@ -22,8 +22,15 @@ pub fn manne_moves_are_paid()
     ensures { ManneMovesArePaid }
 {}
 
-/// By the rules of Hsu and Huang the moves after it are no more than 2 for each unmarried neighbour of a node that is parted from its
-/// partner, if an edge or a node goes; else no more than its cost.
+/// By the rules of Manne and others the moves after it are no more than its silent cost, for which unmarried neighbours alone count, and
+/// which is no more than its cost, two if a pair may come, and one for a node that goes.
+pub fn manne_silent_cost_pays()
+    ensures pays { ManneSilentCostPays }
+    ensures less { ManneSilentCostIsLess }
+{}
+
+/// By the rules of Hsu and Huang the moves after it are no more than its silent cost, for which unmarried neighbours alone count, and
+/// which is no more than its cost.
 pub fn silent_cost_pays()
     ensures pays { SilentCostPays }
     ensures less { SilentCostIsLess }
@@ -35,7 +42,12 @@ pub fn rewriting_changes_nothing()
 {}
 
 /// By the rules of Hsu and Huang, to turn the pointer of a paired node of a stable network to another neighbour costs 2 less than
-/// its cost says.
+/// its cost says, and to nowhere 3 less.
 pub fn turned_costs_less()
     ensures { TurnedCostsLess }
+{}
+
+/// In a stable network no pointer is unanswered and no null node courted: rows of the table of costs that no silent network reaches.
+pub fn nobody_waits()
+    ensures { NobodyWaits }
 {}

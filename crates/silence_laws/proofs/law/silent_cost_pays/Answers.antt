@@ -1,4 +1,4 @@
-use Rattle.silence_laws.specs.Cheaper.{silent_cost_pays}
+use Rattle.silence_laws.specs.Pays.{silent_cost_pays}
 use Rattle.silence_laws.specs.Less.{silent_cost_is_less}
 use Rattle.silence_laws.proofs.law.silent_cost_pays.Goals as goal
 

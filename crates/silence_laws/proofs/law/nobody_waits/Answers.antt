@@ -1,0 +1,5 @@
+use Rattle.silence_laws.specs.Unreached as unreached
+use Rattle.silence_laws.proofs.law.nobody_waits.Goals as goal
+
+pub returns : goal.returns
+returns c = unreached.nobody_waits

@@ -1,0 +1,492 @@
+-- What an edit or a fault costs a silent network by the rules of Manne and others, where unmarried neighbours alone count.
+use Rattle.std.proofs.Common.{◌≡◌, ℕ, ◌+◌, ◌-◌, ◌*◌, ◌<◌, ◌≤◌, Bool, true, false, cond, not, ◌&&◌, ◌||◌, [], List, count_by, Option, None, Some, is_some, nat_eq, IsTrue, refl, sym, ap, ◌∙◌, subst, inl, inr, ◌⊎◌, ⊎_elim, arith}
+use Rattle.std.proofs.lemmas.Bool.{true≢false, and_parts, and_from, or_cases, or_left, or_right, or_parts, cond-true, cond-false, cases_Bool, eq-eqb, eqb-true, not-true, false_from_ne_true}
+use Rattle.std.proofs.lemmas.Option.{none-some, same_Some}
+use Rattle.rule_machine.specs.declared.event.Event.{Event}
+use Rattle.rule_machine.specs.declared.event.Event.TheVariants.{Link, Unlink, Point, Flag, Step, Show, Enabled, Matching, Status, Join, Leave}
+use Rattle.rule_machine.specs.declared.refusal.Refusal.{Refusal}
+use Rattle.rule_machine.specs.declared.reply.Reply.TheVariants.{Accepted}
+use Rattle.rule_machine.specs.Charge.{manne_charge, manne_closed}
+use Rattle.rule_machine.specs.Disturbance.{after_leave, after_point, after_unlink}
+use Rattle.rule_machine.specs.Manne.{manne}
+use Rattle.rule_machine.specs.Network.{edge_list, linked, names, node_count, present}
+use Rattle.rule_machine.specs.State.{State, IsState, has_suitor, is_at, is_unanswered, married, is_mutual, pointer, points}
+use Rattle.rule_machine.specs.Stable.{IsStable}
+use Rattle.rule_machine.specs.Refuse.{refusal_of}
+use Rattle.rule_machine.specs.Answer.{Answers, AnswersBy}
+use Rattle.rule_machine.specs.Run.{Entry, Moment, Run}
+use Rattle.machine_laws.specs.Keeps.{leave_keeps, unlink_keeps}
+use Rattle.machine_laws.specs.Pointers.{married_from, married_some, null_unmarried, points_from}
+use Rattle.machine_laws.specs.Runs.{answers_keep, runs_end_in_states}
+use Rattle.charge_laws.specs.Charged.{IsUndisturbed, moves_in}
+use Rattle.charge_laws.specs.Costs.{manne_cost, manne_leave_cost, manne_point_cost}
+use Rattle.charge_laws.specs.CostsOfRuns.{leave_has, manne_disturbed, point_parts}
+use Rattle.charge_laws.specs.Counting.{IsIn, sum_add, sum_le}
+use Rattle.charge_laws.specs.Degrees.{degree, none_count, once}
+use Rattle.charge_laws.specs.HsuHuangEdits.{leave_waits, leave_within, unlink_waits, unlink_within}
+use Rattle.charge_laws.specs.Laws.{manne_charged, moves_are_paid}
+use Rattle.charge_laws.specs.ManneCosts.{manne_grows}
+use Rattle.charge_laws.specs.ManneStableCharge.{manne_stable_charge, married_are_pairs, unmarried_charge}
+use Rattle.charge_laws.specs.Members.{edges_contain, names_present, names_without_repeats}
+use Rattle.charge_laws.specs.StableCharge.{an_end_paired}
+use Rattle.charge_laws.specs.Stances.{is_paired, paired_is, stance}
+use Rattle.charge_laws.specs.Tables.{manne_table}
+use Rattle.charge_laws.specs.Touched.{IsWithin, WaitsOnly}
+use Rattle.containment_laws.specs.AtRest.{all_rest, rest_is_stable}
+use Rattle.containment_laws.specs.Contained.{answered_mild, disturbed_rests, mild_weds, run_keeps_network}
+use Rattle.containment_laws.specs.Edits.{IsMild, mutual_is}
+use Rattle.containment_laws.specs.Partings.{none_parted}
+use Rattle.containment_laws.specs.Proved.{manne_contains}
+use Rattle.containment_laws.specs.Reach.{is_hit, is_parted, parts_a_pair}
+use Rattle.silence_laws.specs.Changes.{most_gained, most_lost, nodes_gone}
+use Rattle.silence_laws.specs.Cheaper.{edges_few, is_edge_to, is_single_edge, is_touched, leave_apart, one_le, or_le, single_few, touched_few, touched_single, unlink_apart, unlink_who}
+use Rattle.silence_laws.specs.Costs.{manne_silent_cost, manne_silent_point_cost, single_neighbours, single_neighbours_at}
+use Rattle.silence_laws.specs.Gained.{few_are_gained}
+use Rattle.silence_laws.specs.Laws.{ManneSilentCostIsLess, ManneSilentCostPays}
+use Rattle.silence_laws.specs.Left.{few_are_lost, nodes_left}
+use Rattle.silence_laws.specs.Less.{partner_less, rewriting_changes_nothing}
+use Rattle.silence_laws.specs.Turned.{marked_few, waits}
+use Rattle.silence_laws.specs.Unreached.{answer_at, none_courted, none_waits, unreached_from}
+
+-- both ends are parted
+abbrev pub is_inner : State → Event → ℕ × ℕ → Bool
+is_inner s event e = is_parted s event e.0 && is_parted s event e.1
+
+module _ (s : State) (event : Event) (s' : State) (good : IsState s) (good' : IsState s') (stable : IsStable true s) (mild : IsMild manne s event s') where
+  weds : (v : ℕ) → married s v ≡ true → is_parted s event v ≡ false → IsTrue (present s'.network v) → married s' v ≡ true
+  weds v wed kept has = mild_weds manne s event s' good' mild v wed kept has
+
+  yes : (b : Bool) → not b ≡ false → b ≡ true
+  yes true h = refl
+  yes false h = absurd (true≢false h)
+
+  second : (a b : Bool) → a ≡ true → (a && b) ≡ false → b ≡ false
+  second true b e h = h
+  second false b e h = absurd (true≢false (sym e))
+
+  -- one end of two keeps a partner
+  one_weds : (x y : ℕ) → married s x ≡ true → IsTrue (present s'.network x) → IsTrue (present s'.network y) → (is_parted s event x && not (married s y)) ≡ false → (is_parted s event x && is_parted s event y) ≡ false → (married s' x ≡ true) ⊎ (married s' y ≡ true)
+  one_weds x y wed has_x has_y free inner =
+      ⊎_elim
+      (λ parted. inr (weds y (yes (married s y) (second (is_parted s event x) (not (married s y)) parted free)) (second (is_parted s event x) (is_parted s event y) parted inner) has_y))
+      (λ kept. inl (weds x wed kept has_x))
+      (cases_Bool (is_parted s event x))
+
+  closes : (x y : ℕ) → (married s' x ≡ true) ⊎ (married s' y ≡ true) → IsTrue (manne_closed s' (x, y))
+  closes x y (inl h) = or_left (married s' x || married s' y) _ (or_left (married s' x) (married s' y) h)
+  closes x y (inr h) = or_left (married s' x || married s' y) _ (or_right (married s' x) (married s' y) h)
+
+  swap : (a b : Bool) → (a && b) ≡ false → (b && a) ≡ false
+  swap true true h = h
+  swap true false h = refl
+  swap false true h = refl
+  swap false false h = refl
+
+  pub manne_silent_grows : IsWithin s.network s'.network → (marked : ℕ → Bool) → WaitsOnly (pointer s) (pointer s') marked → ((x : ℕ) → is_hit s event x ≡ false) → manne_charge s' ≤ manne_charge s + 2 * (count_by (is_touched s event) (edge_list s'.network) + count_by (is_inner s event) (edge_list s'.network)) + count_by marked (names s'.network) + 2 * count_by (is_parted s event) (names s'.network)
+  manne_silent_grows within marked waits unhit =
+      let es = edge_list s'.network in
+      let grows = manne_grows s s' within (λ e. is_touched s event e || is_inner s event e) marked (is_parted s event)
+      (λ x y there free was.
+      let ends = edges_contain s'.network (x, y) there in
+      let has_x = good'.is_network.low_present x y ends in
+      let has_y = good'.is_network.high_present x y ends in
+      let both = or_parts (is_touched s event (x, y)) (is_inner s event (x, y)) free in
+      let sides = or_parts (is_parted s event x && not (married s y)) (is_parted s event y && not (married s x)) both.0 in
+      an_end_paired true s good stable (x, y) (within.edges (x, y) there) (IsTrue (manne_closed s' (x, y)))
+      (λ h. closes x y (one_weds x y (wed x h) has_x has_y sides.0 both.1))
+      (λ h. closes x y (⊎_elim (λ k. inr k) (λ k. inl k) (one_weds y x (wed y h) has_y has_x sides.1 (swap (is_parted s event x) (is_parted s event y) both.1)))))
+      waits
+      (λ x there kept.
+      let has = names_present s'.network x there in
+      let had = names_present s.network x (within.nodes x there) in
+      ((λ is. weds x is kept has), mild.flags x has (λ uses. stable.flagged uses x had) (unhit x))) in
+      let le = sum_le (λ e. cond (is_touched s event e || is_inner s event e) 1 0) (λ e. cond (is_touched s event e) 1 0 + cond (is_inner s event e) 1 0) es (λ e there. or_le (is_touched s event e || is_inner s event e) (is_touched s event e) (is_inner s event e) (or_cases (is_touched s event e) (is_inner s event e))) in
+      let both = sum_add (λ e. cond (is_touched s event e) 1 0) (λ e. cond (is_inner s event e) 1 0) es in
+      omega (arith, grows, le, both)
+    where
+      wed : (x : ℕ) → IsTrue (is_paired (stance (pointer s) x)) → married s x ≡ true
+      wed x h = let pair = paired_is (pointer s) x h in married_from s x pair.0 good pair.1 pair.2
+
+-- ---- how many are parted
+
+-- two nodes at most
+parted_few : (s : State) (event : Event) (a b : ℕ) (xs : List ℕ) → count_by (nat_eq a) xs ≤ 1 → count_by (nat_eq b) xs ≤ 1 → ((x : ℕ) → is_parted s event x ≡ true → (x ≡ a) ⊎ (x ≡ b)) → count_by (is_parted s event) xs ≤ 2
+parted_few s event a b xs first next who =
+    let le = sum_le (λ x. cond (is_parted s event x) 1 0) (λ x. cond (nat_eq a x) 1 0 + cond (nat_eq b x) 1 0) xs (λ x there. or_le (is_parted s event x) (nat_eq a x) (nat_eq b x) (λ h. ⊎_elim (λ e. inl (eq-eqb a x (sym e))) (λ e. inr (eq-eqb b x (sym e))) (who x h))) in
+    let sum = sum_add (λ x. cond (nat_eq a x) 1 0) (λ x. cond (nat_eq b x) 1 0) xs in
+    omega (arith, le, sum, first, next)
+
+-- or one
+one_parted : (s : State) (event : Event) (a : ℕ) (xs : List ℕ) → count_by (nat_eq a) xs ≤ 1 → ((x : ℕ) → is_parted s event x ≡ true → x ≡ a) → count_by (is_parted s event) xs ≤ 1
+one_parted s event a xs first who =
+    let le = sum_le (λ x. cond (is_parted s event x) 1 0) (λ x. cond (nat_eq a x) 1 0) xs (λ x there. one_le (is_parted s event x) (nat_eq a x) (λ h. eq-eqb a x (sym (who x h)))) in
+    omega (arith, le, first)
+
+none_inner : (s : State) (event : Event) (es : List (ℕ × ℕ)) → ((x y : ℕ) → IsIn (x, y) es → is_parted s event x ≡ true → is_parted s event y ≡ true → ⊥) → count_by (is_inner s event) es ≡ 0
+none_inner s event es apart =
+    none_count (is_inner s event) es (λ e there. false_from_ne_true (is_inner s event e) (λ h.
+    let both = and_parts (is_parted s event e.0) (is_parted s event e.1) h in
+    apart e.0 e.1 there both.0 both.1))
+
+-- ---- an edge goes
+
+unlink_few : (s : State) (a b : ℕ) → IsState s → IsStable true s → IsMild manne s (Unlink a b) (after_unlink s a b) → is_mutual s a b ≡ true → manne_charge (after_unlink s a b) ≤ manne_charge s + (2 * (single_neighbours s a + single_neighbours s b) + 4)
+unlink_few s a b good stable mild pair =
+    let s' = after_unlink s a b in
+    let good' = unlink_keeps s a b good in
+    let es = edge_list s'.network in
+    let xs = names s'.network in
+    let grows = manne_silent_grows s (Unlink a b) s' good good' stable mild (unlink_within s a b) (λ x. false) (unlink_waits s a b) (λ x. refl) in
+    let few = touched_few s (Unlink a b) a b es (unlink_who s a b) in
+    let first = single_few s s' good good' (unlink_within s a b) a in
+    let next = single_few s s' good good' (unlink_within s a b) b in
+    let inner = none_inner s (Unlink a b) es (unlink_apart s a b good') in
+    let marks = none_count (λ (x : ℕ). false) xs (λ x there. refl) in
+    let parted = parted_few s (Unlink a b) a b xs (once a xs (names_without_repeats s'.network)) (once b xs (names_without_repeats s'.network)) (unlink_who s a b) in
+    omega (arith, grows, few, first, next, inner, marks, parted)
+
+-- ---- a node goes
+
+leave_few : (s : State) (a p : ℕ) → IsState s → IsStable true s → IsTrue (present s.network a) → IsMild manne s (Leave a) (after_leave s a) → pointer s a ≡ Some p → manne_charge (after_leave s a) ≤ manne_charge s + (2 * single_neighbours s p + 2)
+leave_few s a p good stable has mild at =
+    let s' = after_leave s a in
+    let good' = leave_keeps s a good in
+    let es = edge_list s'.network in
+    let xs = names s'.network in
+    let within = leave_within s a good has in
+    let grows = manne_silent_grows s (Leave a) s' good good' stable mild within (λ x. false) (leave_waits s a) (λ x. refl) in
+    let le = sum_le (λ e. cond (is_touched s (Leave a) e) 1 0) (λ e. cond (is_single_edge s p e) 1 0) es (λ e there. one_le (is_touched s (Leave a) e) (is_single_edge s p e) (touched_single s (Leave a) p e who)) in
+    let first = single_few s s' good good' within p in
+    let inner = none_inner s (Leave a) es (leave_apart s a good') in
+    let marks = none_count (λ (x : ℕ). false) xs (λ x there. refl) in
+    let parted = one_parted s (Leave a) p xs (once p xs (names_without_repeats s'.network)) who in
+    omega (arith, grows, le, first, inner, marks, parted)
+  where
+    who : (x : ℕ) → is_parted s (Leave a) x ≡ true → x ≡ p
+    who x h = sym (same_Some p x (sym at ∙ (mutual_is s a x h).0))
+
+-- ---- a pointer of a pair is written
+
+turned_few : (s : State) (v u : ℕ) (target : Option ℕ) (good : IsState s) → IsStable true s → (at : pointer s v ≡ Some u) (back : pointer s u ≡ Some v) → (target ≡ Some u → ⊥) → ((w : ℕ) → target ≡ Some w → IsTrue (linked s.network v w)) → IsState (after_point s v target) → IsMild manne s (Point v target) (after_point s v target) → manne_charge (after_point s v target) ≤ manne_charge s + (2 * (single_neighbours s v + single_neighbours s u) + 7 + cond (is_some target) 1 0)
+turned_few s v u target good stable at back away near good' mild =
+    let es = edge_list s.network in
+    let xs = names s.network in
+    let calm : IsStable false s = record { answered = stable.answered; covered = stable.covered; flagged = λ uses. absurd (true≢false (sym uses)) } in
+    let within : IsWithin s.network (after_point s v target).network = record { edges = λ e h. h; nodes = λ x h. h } in
+    let grows = manne_silent_grows s (Point v target) (after_point s v target) good good' stable mild within (λ x. (is_some target && nat_eq v x) || nat_eq u x) (waits s v u target good calm at back away near good') (unhit target) in
+    let marks = marked_few s v u target good calm at back away near good' in
+    let few = touched_few s (Point v target) v u es (who target) in
+    let first = single_few s (after_point s v target) good good' within v in
+    let next = single_few s (after_point s v target) good good' within u in
+    let parted = parted_few s (Point v target) v u xs (once v xs (names_without_repeats s.network)) (once u xs (names_without_repeats s.network)) (who target) in
+    let own = edges_few s (after_point s v target) good good' within (nat_eq u) v in
+    let one = once u xs (names_without_repeats s.network) in
+    let le = sum_le (λ x. cond (linked s.network v x && nat_eq u x) 1 0) (λ x. cond (nat_eq u x) 1 0) xs (λ x there. one_le (linked s.network v x && nat_eq u x) (nat_eq u x) (λ h. (and_parts (linked s.network v x) (nat_eq u x) h).1)) in
+    let inner = sum_le (λ e. cond (is_inner s (Point v target) e) 1 0) (λ e. cond (is_edge_to (nat_eq u) v e) 1 0) es (λ e there. one_le (is_inner s (Point v target) e) (is_edge_to (nat_eq u) v e) (λ h. let both = and_parts (is_parted s (Point v target) e.0) (is_parted s (Point v target) e.1) h in between e (good.is_network.low_first e.0 e.1 (edges_contain s.network e there)) (who target e.0 both.0) (who target e.1 both.1))) in
+    omega (arith, grows, marks, few, first, next, parted, own, one, le, inner)
+  where
+    wed : married s v ≡ true
+    wed = married_from s v u good at back
+
+    by_pair : (x : ℕ) → (is_mutual s v x || (nat_eq x v && married s v)) ≡ true → (x ≡ v) ⊎ (x ≡ u)
+    by_pair x h =
+        ⊎_elim
+        (λ pair. inr (sym (same_Some u x (sym at ∙ (mutual_is s v x pair).0))))
+        (λ here. inl (eqb-true x v (and_parts (nat_eq x v) (married s v) here).0))
+        (or_cases (is_mutual s v x) (nat_eq x v && married s v) h)
+
+    who : (o : Option ℕ) (x : ℕ) → is_parted s (Point v o) x ≡ true → (x ≡ v) ⊎ (x ≡ u)
+    who None x h = by_pair x h
+    who (Some w) x h = by_pair x (and_parts (not (points s.registers v w)) (is_mutual s v x || (nat_eq x v && married s v)) h).1
+
+    unhit : (o : Option ℕ) (x : ℕ) → is_hit s (Point v o) x ≡ false
+    unhit None x = refl
+    unhit (Some w) x =
+        false_from_ne_true (is_hit s (Point v (Some w)) x) (λ h.
+        let alone = (and_parts (nat_eq x v) (not (married s v)) (and_parts (nat_eq x v && not (married s v)) (not (points s.registers v w)) h).0).1 in
+        true≢false (sym wed ∙ not-true (married s v) alone))
+
+    between : (e : ℕ × ℕ) → e.0 < e.1 → (e.0 ≡ v) ⊎ (e.0 ≡ u) → (e.1 ≡ v) ⊎ (e.1 ≡ u) → is_edge_to (nat_eq u) v e ≡ true
+    between e up (inl a) (inr b) = or_left (nat_eq e.0 v && nat_eq u e.1) (nat_eq e.1 v && nat_eq u e.0) (and_from (nat_eq e.0 v) (nat_eq u e.1) (eq-eqb e.0 v a) (eq-eqb u e.1 (sym b)))
+    between e up (inr a) (inl b) = or_right (nat_eq e.0 v && nat_eq u e.1) (nat_eq e.1 v && nat_eq u e.0) (and_from (nat_eq e.1 v) (nat_eq u e.0) (eq-eqb e.1 v b) (eq-eqb u e.0 (sym a)))
+    between e up (inl a) (inl b) = absurd (omega (arith, up, a, b))
+    between e up (inr a) (inr b) = absurd (omega (arith, up, a, b))
+
+-- ---- a run from there
+
+record IsRun (s : State) (spent : ℕ) (event : Event) (after : State) (log : List Entry) (end : Moment) : Type 0 where
+  pub good : IsState s
+  pub stable : IsStable true s
+  pub answers : Answers manne s spent event Accepted after
+  pub run : Run manne (record { state = after; spent = 0 }) log end
+  pub calm : IsUndisturbed log
+
+module _ (s : State) (spent : ℕ) (event : Event) (after : State) (log : List Entry) (end : Moment) (is : IsRun s spent event after log end) where
+  good_after : IsState after
+  good_after = answers_keep manne manne_table s is.good spent event Accepted after is.answers
+
+  -- what the charge grew by, the pairs that came and the nodes that went pay for all moves
+  manne_few : (cost : ℕ) → manne_charge after ≤ manne_charge s + cost → moves_in log ≤ cost + 2 * most_gained s event + nodes_gone event
+  manne_few cost more =
+      let start : Moment = record { state = after; spent = 0 } in
+      let paid = moves_are_paid manne 3 manne_table manne_charged start good_after log end is.run is.calm in
+      let before = manne_stable_charge s is.good is.stable in
+      let left = unmarried_charge end.state in
+      let pairs = married_are_pairs end.state (runs_end_in_states manne manne_table start good_after log end is.run) in
+      let gained = few_are_gained manne manne_contains s is.good is.stable spent event after is.answers log end is.run is.calm in
+      let nodes = nodes_left manne s is.good spent event after (refusal_of manne s event) is.answers in
+      let same = ap node_count (run_keeps_network manne manne_contains.inside start log end is.run is.calm) in
+      omega (arith, more, paid, before, left, pairs, gained, nodes, same)
+
+  -- a network that is stable still makes none
+  manne_still : IsStable true after → most_gained s event ≡ 0 → most_lost s event ≡ 0 → moves_in log ≡ 0
+  manne_still still none_more none_less =
+      let start : Moment = record { state = after; spent = 0 } in
+      let paid = moves_are_paid manne 3 manne_table manne_charged start good_after log end is.run is.calm in
+      let before = manne_stable_charge after good_after still in
+      let left = unmarried_charge end.state in
+      let pairs = married_are_pairs end.state (runs_end_in_states manne manne_table start good_after log end is.run) in
+      let gained = few_are_gained manne manne_contains s is.good is.stable spent event after is.answers log end is.run is.calm in
+      let lost = few_are_lost manne manne_contains s is.good is.stable spent event after is.answers [] start refl (λ k d low. absurd (omega (arith, low))) still in
+      let same = ap node_count (run_keeps_network manne manne_contains.inside start log end is.run is.calm) in
+      omega (arith, paid, before, left, pairs, gained, lost, none_more, none_less, same)
+
+  manne_unreached : ((v : ℕ) → is_hit s event v ≡ false) → ((v : ℕ) → is_parted s event v ≡ false) → most_gained s event ≡ 0 → most_lost s event ≡ 0 → moves_in log ≡ 0
+  manne_unreached unhit kept none_more none_less =
+      manne_still
+      (rest_is_stable true after good_after (λ v has. (disturbed_rests manne manne_table s is.good spent event after is.answers v (all_rest true s is.good is.stable v) (unreached_from s event unhit kept v)).0))
+      none_more none_less
+
+-- ---- each kind
+
+link_pays : (s : State) (spent a b : ℕ) (after : State) (log : List Entry) (end : Moment) → IsRun s spent (Link a b) after log end → moves_in log ≤ manne_silent_cost s (Link a b)
+link_pays s spent a b after log end is =
+    ⊎_elim
+    (λ both.
+    let few = manne_few s spent (Link a b) after log end is 2 (manne_disturbed s is.good spent (Link a b) after is.answers) in
+    let own = cond-true {A = ℕ} (not (married s a) && not (married s b)) 4 0 both in
+    let more = cond-true {A = ℕ} (not (married s a) && not (married s b)) 1 0 both in
+    omega (arith, few, own, more))
+    (λ one.
+    let none = manne_unreached s spent (Link a b) after log end is (λ v. ap (λ c. c && (nat_eq v a || nat_eq v b)) one) (λ v. refl) (cond-false {A = ℕ} (not (married s a) && not (married s b)) 1 0 one) refl in
+    omega (arith, none))
+    (cases_Bool (not (married s a) && not (married s b)))
+
+unlink_pays : (s : State) (spent a b : ℕ) (after : State) (log : List Entry) (end : Moment) → IsRun s spent (Unlink a b) after log end → moves_in log ≤ manne_silent_cost s (Unlink a b)
+unlink_pays s spent a b after log end is =
+    ⊎_elim
+    (λ pair.
+    let few = manne_few s spent (Unlink a b) after log end is (2 * (single_neighbours s a + single_neighbours s b) + 4) (by (refusal_of manne s (Unlink a b)) refl is.answers pair) in
+    let own = cond-true {A = ℕ} (is_mutual s a b) (2 * (single_neighbours s a + single_neighbours s b) + 6) 0 pair in
+    let more = cond-true {A = ℕ} (is_mutual s a b) 1 0 pair in
+    omega (arith, few, own, more))
+    (λ none.
+    let still = manne_unreached s spent (Unlink a b) after log end is (λ v. refl) (λ v. none_parted s (Unlink a b) v is.good none) (cond-false {A = ℕ} (is_mutual s a b) 1 0 none) (cond-false {A = ℕ} (is_mutual s a b) 1 0 none) in
+    omega (arith, still))
+    (cases_Bool (is_mutual s a b))
+  where
+    by : (r : Option Refusal) → refusal_of manne s (Unlink a b) ≡ r → AnswersBy manne s spent (Unlink a b) r Accepted after → is_mutual s a b ≡ true → manne_charge after ≤ manne_charge s + (2 * (single_neighbours s a + single_neighbours s b) + 4)
+    by None e does pair =
+        subst (λ (u : State). manne_charge u ≤ manne_charge s + (2 * (single_neighbours s a + single_neighbours s b) + 4)) (sym does)
+        (unlink_few s a b is.good is.stable (subst (IsMild manne s (Unlink a b)) does (answered_mild manne s spent (Unlink a b) after is.good is.answers)) pair)
+    by (Some refusal) e does pair = absurd cc
+
+leave_pays : (s : State) (spent a : ℕ) (after : State) (log : List Entry) (end : Moment) → IsRun s spent (Leave a) after log end → moves_in log ≤ manne_silent_cost s (Leave a)
+leave_pays s spent a after log end is =
+    ⊎_elim
+    (λ wed.
+    let pair = married_some s a wed in
+    let few = manne_few s spent (Leave a) after log end is (2 * single_neighbours s pair.0 + 2) (by pair.0 pair.1 (refusal_of manne s (Leave a)) refl is.answers) in
+    let own = cond-true {A = ℕ} (married s a) (2 * single_neighbours_at s (pointer s a) + 3) 0 wed in
+    let at = ap (single_neighbours_at s) pair.1 in
+    omega (arith, few, own, at))
+    (λ alone.
+    let still = manne_unreached s spent (Leave a) after log end is (λ v. refl) (λ v. false_from_ne_true (is_mutual s a v) (λ h. let at = mutual_is s a v h in true≢false (sym (married_from s a v is.good at.0 at.1) ∙ alone))) refl (cond-false {A = ℕ} (married s a) 1 0 alone) in
+    omega (arith, still))
+    (cases_Bool (married s a))
+  where
+    by : (p : ℕ) → pointer s a ≡ Some p → (r : Option Refusal) → refusal_of manne s (Leave a) ≡ r → AnswersBy manne s spent (Leave a) r Accepted after → manne_charge after ≤ manne_charge s + (2 * single_neighbours s p + 2)
+    by p at None e does =
+        subst (λ (u : State). manne_charge u ≤ manne_charge s + (2 * single_neighbours s p + 2)) (sym does)
+        (leave_few s a p is.good is.stable (leave_has manne s a e) (subst (IsMild manne s (Leave a)) does (answered_mild manne s spent (Leave a) after is.good is.answers)) at)
+    by p at (Some refusal) e does = absurd cc
+
+flag_pays : (s : State) (spent a : ℕ) (value : Bool) (after : State) (log : List Entry) (end : Moment) → IsRun s spent (Flag a value) after log end → moves_in log ≤ manne_silent_cost s (Flag a value)
+flag_pays s spent a value after log end is =
+    ⊎_elim
+    (λ wrong.
+    let more = manne_disturbed s is.good spent (Flag a value) after is.answers in
+    let nobody = uncourted value wrong in
+    let few = manne_few s spent (Flag a value) after log end is 1 (omega (arith, more, nobody)) in
+    let own = cond-true {A = ℕ} (cond (married s a) (not value) value) 1 0 wrong in
+    omega (arith, few, own))
+    (λ right.
+    let still = manne_unreached s spent (Flag a value) after log end is (λ v. false_from_ne_true (is_hit s (Flag a value) v) (λ h. true≢false (sym (and_parts (nat_eq v a) (cond (married s a) (not value) value) h).1 ∙ right))) (λ v. refl) refl refl in
+    omega (arith, still))
+    (cases_Bool (cond (married s a) (not value) value))
+  where
+    null_is : (o : Option ℕ) → pointer s a ≡ o → married s a ≡ false → pointer s a ≡ None
+    null_is None at alone = at
+    null_is (Some w) at alone = absurd (true≢false (sym (married_from s a w is.good at (answer_at true s is.stable a w at)) ∙ alone))
+
+    alone_is : (m : Bool) → cond m false true ≡ true → m ≡ false
+    alone_is true h = absurd (true≢false (sym h))
+    alone_is false h = refl
+
+    uncourted : (b : Bool) → cond (married s a) (not b) b ≡ true → cond (b && has_suitor s a) (2 * degree s.network a) 0 ≡ 0
+    uncourted false h = refl
+    uncourted true h = ap (λ c. cond c (2 * degree s.network a) 0) (none_courted true s is.stable a (null_is (pointer s a) refl (alone_is (married s a) h)))
+
+point_pays : (s : State) (spent v : ℕ) (o target : Option ℕ) (after : State) (log : List Entry) (end : Moment) → IsRun s spent (Point v target) after log end → pointer s v ≡ o → moves_in log ≤ manne_silent_point_cost s v o target
+point_pays s spent v o target after log end is at = by o target at is
+  where
+    -- as it was
+    same : (target : Option ℕ) → IsRun s spent (Point v target) after log end → pointer s v ≡ target → most_gained s (Point v target) ≡ 0 → moves_in log ≡ 0
+    same target is at none =
+        let again = rewriting_changes_nothing manne s spent v after (subst (λ p. Answers manne s spent (Point v p) Accepted after) (sym at) is.answers) in
+        manne_still s spent (Point v target) after log end is (subst (IsStable true) (sym again) is.stable) none refl
+
+    at_most : (c : Bool) → ◌≤◌ (cond c 1 0) 1
+    at_most true = omega arith
+    at_most false = omega arith
+
+    turned : (u : ℕ) (target : Option ℕ) → IsRun s spent (Point v target) after log end → pointer s v ≡ Some u → (target ≡ Some u → ⊥) → moves_in log ≤ 2 * (single_neighbours s v + single_neighbours s u) + 9 + cond (is_some target) 1 0
+    turned u target is at away = go (refusal_of manne s (Point v target)) refl is.answers
+      where
+        go : (r : Option Refusal) → refusal_of manne s (Point v target) ≡ r → AnswersBy manne s spent (Point v target) r Accepted after → moves_in log ≤ 2 * (single_neighbours s v + single_neighbours s u) + 9 + cond (is_some target) 1 0
+        go None e does =
+            let back = answer_at true s is.stable v u at in
+            let mild = subst (IsMild manne s (Point v target)) does (answered_mild manne s spent (Point v target) after is.good is.answers) in
+            let good' = subst IsState does (answers_keep manne manne_table s is.good spent (Point v target) Accepted after is.answers) in
+            let few = turned_few s v u target is.good is.stable at back away (point_parts manne s v target e).1 good' mild in
+            let grown = ap manne_charge does in
+            let paid = manne_few s spent (Point v target) after log end is (2 * (single_neighbours s v + single_neighbours s u) + 7 + cond (is_some target) 1 0) (omega (arith, few, grown)) in
+            let one = at_most (parts_a_pair s (Point v target)) in
+            omega (arith, paid, one)
+        go (Some refusal) e does = absurd cc
+
+    by : (o target : Option ℕ) → pointer s v ≡ o → IsRun s spent (Point v target) after log end → moves_in log ≤ manne_silent_point_cost s v o target
+    by None None at is = let none = same None is at (cond-false {A = ℕ} (married s v) 1 0 (null_unmarried s v at)) in omega (arith, none)
+    by None (Some w) at is =
+        let more = manne_disturbed s is.good spent (Point v (Some w)) after is.answers in
+        let cost = ap (manne_point_cost s.network v (is_unanswered s v)) at in
+        let few = manne_few s spent (Point v (Some w)) after log end is 1 (omega (arith, more, cost)) in
+        let none = cond-false {A = ℕ} (not (points s.registers v w) && married s v) 1 0 (false_from_ne_true (not (points s.registers v w) && married s v) (λ h. true≢false (sym (and_parts (not (points s.registers v w)) (married s v) h).1 ∙ null_unmarried s v at))) in
+        omega (arith, few, none)
+    by (Some u) None at is = let few = turned u None is at (λ e. none-some u e) in omega (arith, few)
+    by (Some u) (Some w) at is =
+        let most = 2 * (single_neighbours s v + single_neighbours s u) + 10 in
+        ⊎_elim
+        (λ equal.
+        let aims = at ∙ ap Some (eqb-true u w equal) in
+        let none = same (Some w) is aims (ap (λ c. cond (not c && married s v) 1 0) (points_from s v w aims)) in
+        omega (arith, none))
+        (λ apart.
+        let few = turned u (Some w) is at (λ e. true≢false (sym (eq-eqb u w (sym (same_Some w u e))) ∙ apart)) in
+        let own = cond-false {A = ℕ} (nat_eq u w) 0 most apart in
+        omega (arith, few, own))
+        (cases_Bool (nat_eq u w))
+
+-- what is no disturbance
+free_pays : (s : State) (spent : ℕ) (event : Event) (after : State) (log : List Entry) (end : Moment) → IsRun s spent event after log end → manne_cost s event ≡ 0 → most_gained s event ≡ 0 → nodes_gone event ≡ 0 → moves_in log ≤ 0
+free_pays s spent event after log end is free none stay =
+    let more = manne_disturbed s is.good spent event after is.answers in
+    let few = manne_few s spent event after log end is 0 (omega (arith, more, free)) in
+    omega (arith, few, none, stay)
+
+pays : (s : State) (spent : ℕ) (event : Event) (after : State) (log : List Entry) (end : Moment) → IsRun s spent event after log end → moves_in log ≤ manne_silent_cost s event
+pays s spent (Link a b) after log end is = link_pays s spent a b after log end is
+pays s spent (Unlink a b) after log end is = unlink_pays s spent a b after log end is
+pays s spent (Leave a) after log end is = leave_pays s spent a after log end is
+pays s spent (Point v target) after log end is = point_pays s spent v (pointer s v) target after log end is refl
+pays s spent (Flag a value) after log end is = flag_pays s spent a value after log end is
+pays s spent (Join a) after log end is = let none = manne_unreached s spent (Join a) after log end is (λ v. refl) (λ v. refl) refl refl in omega (arith, none)
+pays s spent (Step items) after log end is = free_pays s spent (Step items) after log end is refl refl refl
+pays s spent (Show x) after log end is = free_pays s spent (Show x) after log end is refl refl refl
+pays s spent Enabled after log end is = free_pays s spent Enabled after log end is refl refl refl
+pays s spent Matching after log end is = free_pays s spent Matching after log end is refl refl refl
+pays s spent Status after log end is = free_pays s spent Status after log end is refl refl refl
+
+pub manne_silent_cost_pays : ManneSilentCostPays
+manne_silent_cost_pays s good stable spent event after answers log end run calm =
+    pays s spent event after log end (record { good = good; stable = stable; answers = answers; run = run; calm = calm })
+
+-- ---- and what the table of costs says
+
+point_less : (s : State) → IsState s → IsStable true s → (v : ℕ) (o target : Option ℕ) → pointer s v ≡ o → manne_silent_point_cost s v o target ≤ manne_cost s (Point v target) + 2 * most_gained s (Point v target)
+point_less s good stable v None None at = omega arith
+point_less s good stable v None (Some w) at = let cost = ap (manne_point_cost s.network v (is_unanswered s v)) at in omega (arith, cost)
+point_less s good stable v (Some u) target at = by target
+  where
+    back : pointer s u ≡ Some v
+    back = answer_at true s stable v u at
+
+    cost : manne_point_cost s.network v (is_unanswered s v) (pointer s v) ≡ 2 * (degree s.network v + degree s.network u) + 4
+    cost = ap (λ b. manne_point_cost s.network v b (pointer s v)) (none_waits true s stable v) ∙ ap (manne_point_cost s.network v false) at
+
+    by : (target : Option ℕ) → manne_silent_point_cost s v (Some u) target ≤ manne_cost s (Point v target) + 2 * most_gained s (Point v target)
+    by None =
+        let first = partner_less s good v u at back in
+        let second = partner_less s good u v back at in
+        let all = cost in
+        let one = cond-true {A = ℕ} (married s v) 1 0 (married_from s v u good at back) in
+        omega (arith, first, second, all, one)
+    by (Some w) =
+        let most = 2 * (single_neighbours s v + single_neighbours s u) + 10 in
+        ⊎_elim
+        (λ same. let is = cond-true {A = ℕ} (nat_eq u w) 0 most same in omega (arith, is))
+        (λ apart.
+        let first = partner_less s good v u at back in
+        let second = partner_less s good u v back at in
+        let all = cost in
+        let is = cond-false {A = ℕ} (nat_eq u w) 0 most apart in
+        let away : points s.registers v w ≡ false = ap (λ o. is_at o w) at ∙ apart in
+        let one = cond-true {A = ℕ} (not (points s.registers v w) && married s v) 1 0 (and_from (not (points s.registers v w)) (married s v) (ap not away) (married_from s v u good at back)) in
+        omega (arith, first, second, all, is, one))
+        (cases_Bool (nat_eq u w))
+
+pub manne_silent_cost_is_less : ManneSilentCostIsLess
+manne_silent_cost_is_less s good stable (Link a b) = two (not (married s a) && not (married s b))
+  where
+    two : (c : Bool) → ◌≤◌ (cond c 4 0) (2 + 2 * cond c 1 0 + 0)
+    two true = omega arith
+    two false = omega arith
+manne_silent_cost_is_less s good stable (Unlink a b) =
+    ⊎_elim
+    (λ pair.
+    let at = mutual_is s a b pair in
+    let first = partner_less s good a b at.0 at.1 in
+    let second = partner_less s good b a at.1 at.0 in
+    let own = cond-true {A = ℕ} (is_mutual s a b) (2 * (single_neighbours s a + single_neighbours s b) + 6) 0 pair in
+    let all = cond-true {A = ℕ} (is_mutual s a b) (2 * ((degree s.network a - 1) + (degree s.network b - 1)) + 4) 0 pair in
+    let one = cond-true {A = ℕ} (is_mutual s a b) 1 0 pair in
+    omega (arith, first, second, own, all, one))
+    (λ none.
+    let own = cond-false {A = ℕ} (is_mutual s a b) (2 * (single_neighbours s a + single_neighbours s b) + 6) 0 none in
+    omega (arith, own))
+    (cases_Bool (is_mutual s a b))
+manne_silent_cost_is_less s good stable (Point v target) = let less = point_less s good stable v (pointer s v) target refl in omega (arith, less)
+manne_silent_cost_is_less s good stable (Flag v value) = one (cond (married s v) (not value) value)
+  where
+    one : (c : Bool) → ◌≤◌ (cond c 1 0) (manne_cost s (Flag v value) + 2 * 0 + 0)
+    one true = omega arith
+    one false = omega arith
+manne_silent_cost_is_less s good stable (Leave a) =
+    ⊎_elim
+    (λ wed.
+    let pair = married_some s a wed in
+    let less = partner_less s good pair.0 a pair.2 pair.1 in
+    let own = cond-true {A = ℕ} (married s a) (2 * single_neighbours_at s (pointer s a) + 3) 0 wed in
+    let at = ap (single_neighbours_at s) pair.1 in
+    let all : manne_cost s (Leave a) ≡ 2 * (degree s.network pair.0 - 1) + 2 = ap (λ b. manne_leave_cost s.network b (pointer s a)) (none_waits true s stable a) ∙ ap (manne_leave_cost s.network false) pair.1 in
+    omega (arith, less, own, at, all))
+    (λ alone.
+    let own = cond-false {A = ℕ} (married s a) (2 * single_neighbours_at s (pointer s a) + 3) 0 alone in
+    omega (arith, own))
+    (cases_Bool (married s a))
+manne_silent_cost_is_less s good stable (Join a) = omega arith
+manne_silent_cost_is_less s good stable (Step items) = omega arith
+manne_silent_cost_is_less s good stable (Show x) = omega arith
+manne_silent_cost_is_less s good stable Enabled = omega arith
+manne_silent_cost_is_less s good stable Matching = omega arith
+manne_silent_cost_is_less s good stable Status = omega arith
