@@ -1,13 +1,18 @@
-"""Checkpoints through the client: bases by the caller's names, alone and in batches, in pieces, garbled, and in transcripts
-that go on."""
+"""Checkpoints through the client: bases by the caller's names, alone and in batches, in pieces, garbled, and in
+transcripts that go on."""
+
+from __future__ import annotations
 
 import os
 import random
 import subprocess
 import unittest
+from typing import Callable
 
 from rudekpi import Base, Damaged, Ended, Epoch, Garbled, Network, Registers, Summary, audit, epochs, replay
 from support import Timed, play, spelled
+
+JUDGES: tuple[Callable[..., object], ...] = (audit, epochs, replay)
 
 HEADER = "matching hh 2\n"
 BEFORE = "1 link 1 2 = ok\n2 step 1 = 1:seduce>2\n"
@@ -30,7 +35,7 @@ edge 2 3
 NOWHERE = Registers(None, False)
 
 
-def stirred(net, seed):
+def stirred(net: Network, seed: int) -> None:
     """Edits, faults, moves and checkpoints by chance."""
     drawn = random.Random(seed)
     nodes = net.nodes
@@ -50,14 +55,14 @@ def stirred(net, seed):
             getattr(batch, call)(*words.get(call, () if call == "checkpoint" else (a,)))
 
 
-def from_bases(transcript):
+def from_bases(transcript: str) -> list[str]:
     """The transcripts that begin with the bases of this one."""
     lines = transcript.splitlines(keepends=True)
     return ["".join(lines[at:]) for at, line in enumerate(lines) if line.startswith("matching2 ")]
 
 
 class Bases(Timed):
-    def test_a_pair(self):
+    def test_a_pair(self) -> None:
         with Network("hh", 2) as net:
             net.link(1, 2)
             net.step([1])
@@ -69,7 +74,7 @@ class Bases(Timed):
         with self.assertRaisesRegex(ValueError, "closed"):
             net.checkpoint()
 
-    def test_in_front_of_all_entries(self):
+    def test_in_front_of_all_entries(self) -> None:
         with Network("manne", 0) as net:
             self.assertEqual(net.checkpoint(), Base(0, 0, {}, ()))
         with Network("manne", 3, present=1) as net:
@@ -78,7 +83,7 @@ class Bases(Timed):
         base = "matching2 manne 3\nbase 0 spent=0 nodes=1 edges=0\nnode 1 - 0\n"
         self.assertEqual(net.transcript(), "matching manne 3 1\n" + base * 2 + "1 join 3 = ok\n")
 
-    def test_by_the_callers_names(self):
+    def test_by_the_callers_names(self) -> None:
         bob = ("bob", 2)
         with Network("manne", ["ann", bob, 3.5], present=2) as net:
             self.assertEqual(net.checkpoint().nodes, {"ann": NOWHERE, bob: NOWHERE})
@@ -91,7 +96,7 @@ class Bases(Timed):
             self.assertEqual((base.number, base.spent, base.edges), (5, 0, (("ann", 3.5),)))
             self.assertEqual(list(base.nodes.items()), [("ann", Registers(None, True)), (3.5, Registers("ann", False))])
 
-    def test_in_a_batch(self):
+    def test_in_a_batch(self) -> None:
         with Network("manne", 4) as net:
             with net.batch(raises=False) as batch:
                 first = batch.checkpoint()
@@ -101,16 +106,16 @@ class Bases(Timed):
                 third, fourth = batch.checkpoint(), batch.checkpoint()
                 broken, last = batch.scramble(3, 2), batch.checkpoint()
             # 1 seduces, 2 marries, and both update
-            driven = driven.result()
-            self.assertEqual((sum(map(len, driven)), driven.status.spent), (4, 4))
+            turns = driven.result()
+            self.assertEqual((sum(map(len, turns)), turns.status.spent), (4, 4))
             pair = {1: Registers(2, True), 2: Registers(1, True), 3: NOWHERE, 4: NOWHERE}
             self.assertEqual(first.result(), Base(0, 0, dict.fromkeys(net.nodes, NOWHERE), ()))
-            self.assertEqual(second.result(), Base(driven.status.entry, 4, pair, ((1, 2),)))
-            self.assertEqual([third.result(), fourth.result()], [Base(driven.status.entry + 1, 4, pair, ((1, 2),))] * 2)
+            self.assertEqual(second.result(), Base(turns.status.entry, 4, pair, ((1, 2),)))
+            self.assertEqual([third.result(), fourth.result()], [Base(turns.status.entry + 1, 4, pair, ((1, 2),))] * 2)
             self.assertEqual([it.text for it in batch.refusals], ["already-linked"])
             self.assertEqual((last.result().number, last.result().spent), (broken.result().status.entry, 0))
 
-    def test_as_the_program_writes_it(self):
+    def test_as_the_program_writes_it(self) -> None:
         script = [
             "link 1 2",
             "checkpoint",
@@ -132,7 +137,7 @@ class Bases(Timed):
         written = "".join(f"{base}\n" for base in bases)
         self.assertEqual("".join(line for line in said.splitlines(keepends=True) if line[0] in "bne"), written)
 
-    def test_large_ones(self):
+    def test_large_ones(self) -> None:
         nodes = 5_000
         with Network("hh", nodes) as net:
             with net.batch() as batch:
@@ -151,7 +156,7 @@ class Bases(Timed):
 class Pieces(Timed):
     """Programs of the test's own."""
 
-    def writes(self, *texts):
+    def writes(self, *texts: str) -> str:
         """A program that writes its header, and one of these texts a line that it reads, byte by byte."""
         return self.program(
             f"""import sys
@@ -167,7 +172,7 @@ sys.stdin.read()
 """
         )
 
-    def test_byte_by_byte(self):
+    def test_byte_by_byte(self) -> None:
         lines = AT_BASE.splitlines(keepends=True)
         with Network(
             "hh", 2, program=self.writes(*BEFORE.splitlines(keepends=True), "".join(lines[:5]), lines[5])
@@ -179,14 +184,14 @@ sys.stdin.read()
             self.assertEqual((base.result().spent, step.result().entry), (1, 3))
             self.assertEqual(net.transcript(), PAIR)
 
-    def test_the_program_ends_in_one(self):
+    def test_the_program_ends_in_one(self) -> None:
         text = "matching2 hh 2\nbase 0 spent=0 nodes=2 edges=0\nnode 1 - 0\n"
         net = Network("hh", 2, program=self.program(f"printf '{HEADER}'; read -r line; printf '{text}node 2'"))
         with self.assertRaisesRegex(Ended, "status 0"):
             net.checkpoint()
         self.assertEqual(net.transcript(), HEADER + text)
 
-    def test_garbled(self):
+    def test_garbled(self) -> None:
         right = ["matching2 hh 2", "base 0 spent=1 nodes=2 edges=1", "node 1 2 0", "node 2 - 0", "edge 1 2"]
         wrong = {
             0: [
@@ -221,7 +226,7 @@ sys.stdin.read()
         with Network("hh", 2, program=self.writes("\n".join([*right, ""]))) as net:
             self.assertEqual(net.checkpoint(), Base(0, 1, {1: Registers(2, False), 2: NOWHERE}, ((1, 2),)))
 
-    def test_where_none_was_asked(self):
+    def test_where_none_was_asked(self) -> None:
         text = "matching2 hh 2\nbase 0 spent=0 nodes=0 edges=0\n"
         wanted = "line 2 is 'matching2 hh 2'; asked was 'status'"
         with self.assertRaisesRegex(Garbled, wanted), Network("hh", 2, program=self.writes(text)) as net:
@@ -236,7 +241,7 @@ sys.stdin.read()
 
 
 class Transcripts(Timed):
-    def test_verdicts(self):
+    def test_verdicts(self) -> None:
         self.assertEqual(audit(PAIR), Summary(3, 2, 2))
         self.assertEqual(audit(AT_BASE), Summary(1, 1, 1))
         self.assertEqual(audit(AT_BASE.replace("spent=1", "spent=3")), Summary(1, 1, 1))
@@ -246,7 +251,7 @@ class Transcripts(Timed):
             (AT_BASE.replace("spent=1", "spent=4"), 2),
             (few, 5),
         ]:
-            for judge in (audit, epochs, replay):
+            for judge in JUDGES:
                 with self.subTest(judge.__name__, text=text), self.assertRaises(Damaged) as caught:
                     judge(text)
                 self.assertEqual((caught.exception.line, caught.exception.why), (line, "bad base"))
@@ -258,19 +263,19 @@ class Transcripts(Timed):
             epochs(AT_BASE + "4 unlink 1 2 = ok\n"), [Epoch(None, 2, 1, 2, 4, None), Epoch(4, 0, 0, 2, 2, 0)]
         )
 
-    def test_a_replay_goes_on(self):
+    def test_a_replay_goes_on(self) -> None:
         with replay(PAIR, names=["ann", "bob"]) as net:
             self.assertEqual(net.transcript(), PAIR)
             self.assertEqual(net.checkpoint().nodes, {"ann": Registers("bob", False), "bob": Registers("ann", False)})
             net.unlink("bob", "ann")
         self.assertEqual(audit(net.transcript()), Summary(4, 3, 2))
 
-    def test_a_replay_of_other_targets(self):
+    def test_a_replay_of_other_targets(self) -> None:
         with replay(OTHER_TARGET) as net:
             self.assertEqual(net.matching(), {(2, 3)})
             self.assertIn("3 step 2>3 = 2:seduce>3\nmatching2 hh 3\nbase 3 spent=1 ", net.transcript())
 
-    def test_a_replay_from_a_base(self):
+    def test_a_replay_from_a_base(self) -> None:
         with replay(AT_BASE, names=["ann", "bob"]) as net:
             self.assertEqual(net.matching(), {("ann", "bob")})
             self.assertEqual(net.status().enabled, 0)
@@ -287,7 +292,7 @@ class Transcripts(Timed):
             )
         self.assertEqual(net.transcript().splitlines()[:2], ["matching manne 4 1", "1 join 3 = ok"])
 
-    def test_a_replay_from_each_base_of_a_run(self):
+    def test_a_replay_from_each_base_of_a_run(self) -> None:
         for rules in ("hh", "manne"):
             with Network(rules, 9, present=6) as net:
                 stirred(net, 5)
