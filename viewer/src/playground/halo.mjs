@@ -1,5 +1,5 @@
-// Whom a hand would reach: the nodes that alone can move if it does what it is about to do. The engine answers that
-// for each edit and fault; here stand the lines of the script that it is asked about.
+// Whom a hand would reach: if it does what it is about to do, only these nodes can move, beside those that are not at
+// rest now. The engine answers that for each edit and fault; here stand the lines that it is asked about.
 
 /** @typedef {import("./seen.mjs").Seen} Seen */
 /** @typedef {import("./tools.mjs").Tools} Tools */
@@ -60,7 +60,7 @@ export function linesBetween(name, node, thing) {
 }
 
 /**
- * The nodes that can move in a network if one of the lines is carried out, ascending: no other can.
+ * The nodes that one of the lines would reach, ascending: all others that are at rest stay at rest.
  * @param {import("./engine.mjs").Session} session
  * @param {string[]} lines
  */

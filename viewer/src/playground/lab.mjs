@@ -108,7 +108,7 @@ export class Lab {
   }
 
   /**
-   * The nodes that can move if one of some edits and faults is carried out, ascending.
+   * The nodes that one of some edits and faults would reach, ascending.
    * @param {string[]} lines
    */
   reachOf(lines) {

@@ -15,6 +15,8 @@ export class LiveDrawing extends Drawing {
     // by which each node's edges are known again
     this.seen = new Float64Array(names + 1).fill(NaN);
     this.band = add(this.layers.picks, "line", { class: "band" });
+    // which nodes have the ring of one that may still move
+    this.ringed = new Uint8Array(names + 1);
     /**
      * The nodes in a halo.
      * @type {Set<number>}
@@ -74,10 +76,14 @@ export class LiveDrawing extends Drawing {
   showNode(machine, v, isLit) {
     const marked = machine.rule[v] !== null || machine.flag[v] === 1;
     const turned = marked && this.turns(machine, v);
+    const shape = this.shapes[v];
+    const { classes } = shape;
     super.showNode(machine, v, isLit);
-    const { classList } = this.shapes[v].group;
-    classList.toggle("reached", this.reached.has(v));
-    classList.toggle("restless", machine.restless[v] === 1);
+    if (shape.classes !== classes || this.ringed[v] !== machine.restless[v]) {
+      this.ringed[v] = machine.restless[v];
+      shape.group.classList.toggle("restless", machine.restless[v] === 1);
+      shape.group.classList.toggle("reached", this.reached.has(v));
+    }
     if (turned) {
       const { mark, flag } = this.shapes[v];
       [mark, flag].forEach((sign, which) => sign?.setAttribute("transform", this.beside(v, which)));

@@ -156,7 +156,7 @@ export class Pane {
   }
 
   /**
-   * Draws a halo round the nodes that alone can move if one of the lines is carried out.
+   * Draws a halo round the nodes that one of the lines would reach.
    * @param {string[]} lines
    */
   surround(lines) {

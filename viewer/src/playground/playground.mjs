@@ -381,8 +381,8 @@ export class Playground {
   }
 
   /**
-   * Draws a halo round the nodes that alone can move if a hand does what it is about to do, from now on until it is
-   * about to do something else.
+   * Draws a halo round the nodes that a hand reaches if it does what it is about to do, from now on until it is about
+   * to do something else.
    * @param {() => string[]} intended the lines of that
    */
   surround(intended) {
