@@ -6,10 +6,10 @@ What is wanted is worked out here from the pairs and edges that are drawn, by th
 from __future__ import annotations
 
 import re
-from typing import Any
+from typing import Any, Sequence
 
 from browser import Browser, PageFault
-from page_lab import agrees, begin, drag, edge, fresh, node, place, settles, tool, transcript
+from page_lab import agrees, begin, edge, fresh, node, place, settles, tool, transcript
 from page_hands import waited
 
 SCHEDULES = 40
@@ -55,6 +55,13 @@ def haloed(browser: Browser, wanted: list[int], which: str = GRAPH) -> Any:
 
 def away(browser: Browser) -> None:
     browser.move(*place(browser, "#title"))
+
+
+def mouse(browser: Browser, what: str, at: Sequence[float]) -> None:
+    """A mouse whose button is held, or let go."""
+    browser.call(
+        "Input.dispatchMouseEvent", type=f"mouse{what}", x=at[0], y=at[1], button="left", buttons=1, clickCount=1
+    )
 
 
 def movers(text: str) -> set[int]:
@@ -140,10 +147,16 @@ def tools(pages: Any, browser: Browser) -> None:
     away(browser)
     pages.expect("no halo beside the buttons", haloed(browser, [], which), [])
     tool(browser, "point")
-    drag(browser, node(browser, single), node(browser, other))
-    pages.expect(
-        "a drawn pointer is written", waited(browser, f"point {single} {other}", "lastAct"), f"point {single} {other}"
-    )
+    start, end = node(browser, single), node(browser, other)
+    browser.move(*start)
+    mouse(browser, "Pressed", start)
+    for share in (0.3, 0.6, 1):
+        mouse(browser, "Moved", [one + share * (two - one) for one, two in zip(start, end)])
+    pages.expect("the halo of a pointer that is drawn", haloed(browser, [single], which), [single])
+    pages.expect("which is not written yet", browser.ask("lastAct"), None)
+    mouse(browser, "Released", end)
+    line = f"point {single} {other}"
+    pages.expect("and is then", waited(browser, line, "lastAct"), line)
     pages.expect("who may still move then", waited(browser, [single], "ringed", "rest", which, seconds=3), [single])
     pages.expect("complaints of tools", browser.complaints, [])
 
