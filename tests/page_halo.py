@@ -150,9 +150,10 @@ def tools(pages: Any, browser: Browser) -> None:
     start, end = node(browser, single), node(browser, other)
     browser.move(*start)
     mouse(browser, "Pressed", start)
-    for share in (0.3, 0.6, 1):
+    on_the_way: list[tuple[float, list[int]]] = [(0.3, []), (0.5, []), (1, [single])]
+    for share, wanted in on_the_way:
         mouse(browser, "Moved", [one + share * (two - one) for one, two in zip(start, end)])
-    pages.expect("the halo of a pointer that is drawn", haloed(browser, [single], which), [single])
+        pages.expect(f"the halo of a pointer that is drawn, at {share}", haloed(browser, wanted, which), wanted)
     pages.expect("which is not written yet", browser.ask("lastAct"), None)
     mouse(browser, "Released", end)
     line = f"point {single} {other}"
