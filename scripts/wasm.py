@@ -37,7 +37,9 @@ LINK = [
     "--strip-all",
     "--threads=1",
 ]
-CALLS = ["session_new", "session_feed", "session_length", "session_read", "session_free", "audit", "room", "give_back"]
+SESSION = ["session_new", "session_feed", "session_length", "session_read", "session_free"]
+REACH = [f"reach_of_{kind}" for kind in ("link", "unlink", "join", "leave", "point", "flag")]
+CALLS = [*SESSION, "is_at_rest", "moves_left", *REACH, "audit", "room", "give_back"]
 # keeps the LLVM module that it compiles
 COMPILER = """#!/bin/sh
 last=

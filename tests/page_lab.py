@@ -15,6 +15,8 @@ from page_runs import Pages
 TOP = os.path.dirname(os.path.dirname(os.path.abspath(__file__)))
 PLAYGROUND = f"{TOP}/release/playground.html"
 TITLE = "Break a network by hand – Rudekpi"
+# what a node adds to the bound by the edges
+WEIGHTS = {"hh": 1, "manne": 3}
 
 
 def begin(browser: Browser, address: str = "") -> None:
@@ -94,6 +96,14 @@ def transcript(browser: Browser) -> bytes:
     return text.encode()
 
 
+def budget_of(told: dict[str, str], rules: str) -> tuple[int, int]:
+    """How many moves can come, and the bound of the epoch: under hh at most n²/2 + n - 2, the half rounded down."""
+    nodes, charge = int(told["nodes"]), int(told["charge"])
+    by_edges = 2 * int(told["edges"]) + WEIGHTS[rules] * nodes
+    by_nodes = max(0, nodes * nodes // 2 + nodes - 2) if rules == "hh" else by_edges
+    return min(charge, by_nodes), min(by_edges, by_nodes)
+
+
 def agrees(pages: Pages, browser: Browser, name: str, rules: str = "hh") -> None:
     """The transcript is accepted, the script makes it, and what is drawn is what the program says of it."""
     written = transcript(browser)
@@ -105,9 +115,7 @@ def agrees(pages: Pages, browser: Browser, name: str, rules: str = "hh") -> None
     status = pages.run([pages.program, *words], script + b"status\n")[1].decode().splitlines()[-1]
     told = dict(word.split("=") for word in status.split(" = ")[1].split(" "))
     seen = browser.ask("lab", f"graph-{rules}")
-    weight = {"hh": 1, "manne": 3}[rules]
-    numbers = [int(told["spent"]), int(told["charge"]), 2 * int(told["edges"]) + weight * int(told["nodes"])]
-    pages.expect(f"{name}: the numbers", seen["numbers"], numbers)
+    pages.expect(f"{name}: the numbers", seen["numbers"], [int(told["spent"]), *budget_of(told, rules)])
     pages.expect(
         f"{name}: the picture", {key: seen[key] for key in ("nodes", "edges", "arrows")}, pages.drawing(written)
     )

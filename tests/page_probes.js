@@ -191,7 +191,7 @@ const probes = (() => {
         kind: text("kind"),
         change: lines(".changes > text").map((sign) => sign.textContent).join(""),
         said: text("undrawn"),
-        sum: digits(text("sum")),
+        left: digits(text("left")),
         bound: digits(text("bound")),
       };
     },
@@ -251,6 +251,18 @@ const probes = (() => {
         arrows: arrows.sort((a, b) => a[0] - b[0]),
         numbers
       };
+    },
+
+    /** The nodes of a picture round which a part is seen: a halo, or the ring of those that may still move. */
+    ringed: (part, which) => all(".nodes > g", document.getElementById(which))
+                               .filter((group) => isShown(group) && isShown(group.querySelector(`.${part}`)))
+                               .map((group) => Number(group.querySelector(".name").textContent)),
+
+    /** Which shares of the bar are filled, and how wide it is. */
+    bar: () => {
+      const [bar, ...parts] = [".meter .bar", ".meter .bar .spent", ".meter .bar .left"].map(
+        (selector) => one(selector).getBoundingClientRect().width);
+      return [bar, ...parts];
     },
 
     /** A place of the picture where nothing is, as far from all as can be. */

@@ -151,7 +151,8 @@ def looks(pages: Pages, browser: Browser) -> None:
     browser.ask("choose", "#rules", "manne")
     legend = browser.ask("text", "#signs")
     signs = ["a pair", "a pointer", "may move", "just moved", "chosen", "link was cut", "link came", "its flag is 1"]
-    lines = ["spent", "charge", "spent + charge", "bound"]
+    signs += ["may still move", "only these may move"]
+    lines = ["spent", "to come, at most", "bound"]
     pages.expect("what the legend lacks", [sign for sign in [*signs, *lines] if sign not in legend], [])
     pages.expect(
         "axes",

@@ -9,6 +9,19 @@ export const RULE_SETS = {
 
 const NOBODY = 0;
 
+/**
+ * The most moves that come between two disturbances among so many present nodes, whatever the edges: n²/2 + n - 2 under
+ * hh, the half rounded down, and 0 if there are fewer than two. No such bound is known under manne: `Infinity`.
+ * @param {RuleName} rules
+ * @param {number} present
+ */
+export function mostAmong(rules, present) {
+  if (rules !== "hh") {
+    return Infinity;
+  }
+  return present < 2 ? 0 : Math.floor((present * present) / 2) + present - 2;
+}
+
 export class Machine {
   /**
    * A network without edges of the names 1 to `nodes`, the first of which are present, so many.
@@ -182,8 +195,19 @@ export class Machine {
     return 2 * this.openEdges + this.nodeCharges;
   }
 
+  /** What the moves spent and the charge never exceed together: 2m + n under hh, 2m + 3n under manne. */
   get bound() {
     return 2 * this.edgeCount + RULE_SETS[this.rules].weight * this.present;
+  }
+
+  /** The most moves of an epoch: the smaller of the bound and that by the nodes alone. */
+  get epochBound() {
+    return Math.min(this.bound, mostAmong(this.rules, this.present));
+  }
+
+  /** How many moves can come before the next disturbance, at most. */
+  get movesLeft() {
+    return Math.min(this.charge, mostAmong(this.rules, this.present));
   }
 
   /**

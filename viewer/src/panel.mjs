@@ -89,16 +89,28 @@ export class Panel {
       enabled: machine.enabledCount,
       charge: machine.charge,
       spent,
-      sum: spent + machine.charge,
-      bound: machine.bound,
+      left: this.replay.movesLeft(number),
+      bound: this.replay.bound(number),
       epoch: epoch.start === null ? `≤ ${grouped(this.replay.transcript.first)}` : epoch.start,
     };
     for (const [name, value] of Object.entries(figures)) {
       const place = byId(name);
       place.textContent = typeof value === "number" ? grouped(value) : value;
     }
+    byId("bound-by").textContent = this.boundBy(number);
     byId("quiet").textContent = machine.enabledCount === 0 ? "stable" : "not stable";
     byId("quiet").classList.toggle("stable", machine.enabledCount === 0);
+  }
+
+  /**
+   * The formula of the bound.
+   * @param {number} number
+   */
+  boundBy(number) {
+    if (this.replay.isBoundByNodes(number)) {
+      return this.replay.valueAt("nodes", number) < 2 ? "n < 2" : "⌊n²/2⌋+n−2";
+    }
+    return this.replay.transcript.rules === "hh" ? "2m+n" : "2m+3n";
   }
 
   /**

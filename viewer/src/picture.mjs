@@ -2,7 +2,8 @@
 import {byId} from "./svg.mjs";
 
 const TEXT_STYLES = ["fill", "font-size", "font-weight", "font-family", "text-anchor"];
-const SHAPE_STYLES = ["fill", "stroke", "stroke-width", "stroke-dasharray", "stroke-linecap", "opacity"];
+const SHAPE_STYLES =
+  ["fill", "stroke", "stroke-width", "stroke-dasharray", "stroke-linecap", "opacity", "fill-opacity"];
 // what an element has where nothing is said
 /** @type {Record<string, string>} */
 const PLAIN = {
@@ -10,7 +11,8 @@ const PLAIN = {
   "stroke-width": "1px",
   "stroke-dasharray": "none",
   "stroke-linecap": "butt",
-  opacity: "1"
+  opacity: "1",
+  "fill-opacity": "1"
 };
 const DROPPED = /^(class|tabindex|role|aria-.*|data-.*)$/;
 // a PNG is twice as fine as what is seen, and at least so many pixels wide or high

@@ -176,7 +176,6 @@ function show(text, judge, signal) {
   const replay = new Replay(new Transcript(text));
   const { rules } = replay.transcript;
   document.body.classList.add(rules);
-  byId("weight").textContent = rules === "hh" ? "2m+n" : "2m+3n";
   showTitle(replay.transcript);
   showJudge(judge, replay.verdict);
   play(replay, signal);

@@ -158,10 +158,9 @@ export class Plot {
 export function plotsOf(replay, goTo) {
   /** @param {string} name */
   const series = (name) => (/** @type {number} */ number) => replay.valueAt(name, number);
-  const [charge, spent] = [series("charge"), series("spent")];
   const budget = [
-    { name: "charge", valueAt: charge },
-    { name: "sum", valueAt: (/** @type {number} */ number) => spent(number) + charge(number) },
+    { name: "spent", valueAt: series("spent") },
+    { name: "left", valueAt: (/** @type {number} */ number) => replay.movesLeft(number) },
     { name: "bound", valueAt: (/** @type {number} */ number) => replay.bound(number) },
   ];
   const counts = ["pairs", "enabled"].map((name) => ({ name, valueAt: series(name) }));

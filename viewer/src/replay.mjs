@@ -1,5 +1,5 @@
 // Replays a transcript once, keeps what the plots show of every entry, and a snapshot here and there to go back to.
-import {Machine, RULE_SETS} from "./machine.mjs";
+import {Machine, mostAmong, RULE_SETS} from "./machine.mjs";
 import {carryOut, changes, isPossible} from "./entries.mjs";
 import {movesOf, wordsOf} from "./transcript.mjs";
 
@@ -147,9 +147,40 @@ export class Replay {
     return `accepted: ${this.transcript.length} entries, ${this.disturbances.length + 1} epochs, ${this.moves} moves`;
   }
 
-  /** @param {number} number */
-  bound(number) {
+  /**
+   * How many moves can come after so many entries before the next disturbance, at most.
+   * @param {number} number
+   */
+  movesLeft(number) {
+    return Math.min(this.valueAt("charge", number), mostAmong(this.transcript.rules, this.valueAt("nodes", number)));
+  }
+
+  /**
+   * Whether the bound of an entry's epoch is that by the nodes alone, which is then the smaller one. An epoch that an
+   * opening base cuts has the other: what such a base says was spent may be more.
+   * @param {number} number
+   */
+  isBoundByNodes(number) {
+    const { rules, state } = this.transcript;
+    const isCut = state !== null && this.epochAt(number).place === 1;
+    return !isCut && mostAmong(rules, this.valueAt("nodes", number)) < this.boundByEdges(number);
+  }
+
+  /**
+   * 2m + n under hh, 2m + 3n under manne.
+   * @param {number} number
+   */
+  boundByEdges(number) {
     return 2 * this.valueAt("edges", number) + this.weight * this.valueAt("nodes", number);
+  }
+
+  /**
+   * The most moves of the epoch of an entry.
+   * @param {number} number
+   */
+  bound(number) {
+    return this.isBoundByNodes(number) ? mostAmong(this.transcript.rules, this.valueAt("nodes", number)) :
+                                         this.boundByEdges(number);
   }
 
   /**

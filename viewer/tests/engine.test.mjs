@@ -135,7 +135,8 @@ function shown(machine, spent) {
     edges,
     suitors,
     status: machine.status(spent),
-    bound: machine.bound
+    bound: machine.epochBound,
+    left: machine.movesLeft
   };
 }
 

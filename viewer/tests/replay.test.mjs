@@ -5,7 +5,7 @@ import test from "node:test";
 import {readFileSync} from "node:fs";
 import {picturesOfCases, transcriptsOfCases, transcriptsOfExamples} from "./cases.mjs";
 import {baseAt, enabledOf, pairsOf} from "./states.mjs";
-import {Machine} from "../src/machine.mjs";
+import {Machine, mostAmong} from "../src/machine.mjs";
 import {carryOut} from "../src/entries.mjs";
 import {Replay} from "../src/replay.mjs";
 import {readEntry, Transcript} from "../src/transcript.mjs";
@@ -55,7 +55,10 @@ for (const { name, text, audited, replay } of replays) {
     const { charge, spent } = replay.series;
     let moves = 0;
     charge.forEach((value, place) => {
-      assert.ok(value + spent[place] <= replay.bound(replay.transcript.first + place), `place ${place}`);
+      const number = replay.transcript.first + place;
+      assert.ok(value + spent[place] <= replay.boundByEdges(number), `place ${place}`);
+      assert.ok(spent[place] <= replay.bound(number), `place ${place}: the moves of the epoch`);
+      assert.ok(replay.movesLeft(number) <= Math.min(value, replay.bound(number)), `place ${place}: moves to come`);
       moves += place > 0 && spent[place] > spent[place - 1] ? spent[place] - spent[place - 1] : 0;
     });
     assert.equal(replay.moves, moves);
@@ -120,15 +123,21 @@ test("there are pictures to compare with", () => {
   assert.ok([...picturesOfCases()].length > 8);
 });
 
-test("the budget of the ring of three of docs/USE.md: from its bound 9 to silence in 3 moves", () => {
+test("the budget of the ring of three of docs/USE.md: from its charge 9 to silence in 3 moves", () => {
   const events = ["link 1 2", "link 2 3", "link 1 3", "point 1 2", "point 2 3", "point 3 1"].map(
     (event, at) => `${at + 1} ${event} = ok`);
   const text =
     ["matching hh 3", ...events, "7 step 1 = 1:abandon", "8 step 2 = 2:abandon", "9 step 1 = 1:marry>3", ""].join("\n");
-  const { series, disturbances } = new Replay(new Transcript(text));
+  const replay = new Replay(new Transcript(text));
+  const { series, disturbances } = replay;
   assert.deepEqual([...series.charge], [0, 2, 4, 6, 5, 6, 9, 6, 5, 0]);
   assert.deepEqual([...series.spent], [0, 0, 0, 0, 0, 0, 0, 1, 2, 3]);
   assert.deepEqual([...series.pairs], [0, 0, 0, 0, 0, 0, 0, 0, 0, 1]);
+  // three nodes have at most 9/2 + 3 - 2 moves, the half rounded down, which is less than 2m + n from two edges on
+  const numbers = [...series.charge.keys()];
+  assert.deepEqual(numbers.map((number) => replay.bound(number)), [3, 5, 5, 5, 5, 5, 5, 5, 5, 5]);
+  assert.deepEqual(numbers.map((number) => replay.movesLeft(number)), [0, 2, 4, 5, 5, 5, 5, 5, 5, 0]);
+  assert.deepEqual(numbers.filter((number) => replay.isBoundByNodes(number)), [2, 3, 4, 5, 6, 7, 8, 9]);
   assert.deepEqual(disturbances, [1, 2, 3, 4, 5, 6]);
 });
 
@@ -273,6 +282,33 @@ test("a transcript that begins with a base: its state, charge and spent, and the
   assert.deepEqual(replay.edgesEver, [[1, 2]]);
   assert.equal(replay.goTo(2).status(1), "nodes=2 edges=1 pairs=0 enabled=1 charge=1 spent=1");
   assert.equal(pairsOf(replay.goTo(3)), "1-2");
+});
+
+test("the bound by the nodes alone: n²/2 + n - 2, the half rounded down, under hh alone", () => {
+  const bounds = [0, 1, 2, 3, 4, 5, 6, 7, 65535].map((nodes) => mostAmong("hh", nodes));
+  assert.deepEqual(bounds, [0, 0, 2, 5, 10, 15, 22, 29, 2147483645]);
+  assert.equal(mostAmong("manne", 6), Infinity);
+});
+
+test("an epoch that an opening base cuts has the bound by its edges, and each later one the smaller bound", () => {
+  const ends = [[1, 2], [1, 3], [1, 4], [2, 3], [2, 4], [3, 4]];
+  const links = ends.map((edge) => `edge ${edge.join(" ")}`);
+  const nodes = [1, 2, 3, 4].map((v) => `node ${v} - 0`);
+  // four nodes, all linked: 2m + n is 16, and 16/2 + 4 - 2 is 10; the base tells of 4 moves before it
+  for (const number of [0, 7]) {
+    const lines = ["matching2 hh 4", `base ${number} spent=4 nodes=4 edges=6`, ...nodes, ...links];
+    const cut = `${number + 1} unlink 1 2 = ok`;
+    const replay = new Replay(new Transcript([...lines, cut, ""].join("\n")));
+    assert.deepEqual([number, number + 1].map((at) => replay.bound(at)), [16, 10]);
+    assert.deepEqual([number, number + 1].map((at) => replay.isBoundByNodes(at)), [false, true]);
+    assert.deepEqual([number, number + 1].map((at) => replay.movesLeft(at)), [10, 10]);
+  }
+  const made = ends.map((edge, at) => `${at + 1} link ${edge.join(" ")} = ok`);
+  const whole = (rules) => new Replay(new Transcript([`matching ${rules} 4`, ...made, ""].join("\n")));
+  // two edges: 8 and 10; three: 10 and 10; four: 12 and 10
+  assert.deepEqual([2, 3, 4, 6].map((at) => whole("hh").bound(at)), [8, 10, 10, 10]);
+  assert.deepEqual([2, 3, 4, 6].map((at) => whole("hh").isBoundByNodes(at)), [false, false, true, true]);
+  assert.deepEqual([2, 3, 4, 6].map((at) => whole("manne").bound(at)), [16, 18, 20, 24]);
 });
 
 test("a base with an absent name and a flag: 1 updates, 3 abandons", () => {

@@ -12,11 +12,25 @@ export class Card {
     this.thing = null;
     byId("let-go").addEventListener("click", () => acts.choose(null));
     byId("do-move").addEventListener("click", () => acts.move(this.lab, `step ${this.thing.node}`));
-    byId("do-free").addEventListener("click", () => acts.disturb(`point ${this.thing.node} -`));
-    byId("do-flag").addEventListener(
-      "click", () => acts.disturb(`flag ${this.thing.node} ${1 - this.lab.seen.flag[this.thing.node]}`));
-    byId("do-leave").addEventListener("click", () => acts.disturb(`leave ${this.thing.node}`));
-    byId("do-cut").addEventListener("click", () => acts.disturb(`unlink ${this.thing.low} ${this.thing.high}`));
+    this.disturbs("do-free", ({ node }) => `point ${node} -`);
+    this.disturbs("do-flag", ({ node }) => `flag ${node} ${1 - this.lab.seen.flag[node]}`);
+    this.disturbs("do-leave", ({ node }) => `leave ${node}`);
+    this.disturbs("do-cut", ({ low, high }) => `unlink ${low} ${high}`);
+  }
+
+  /**
+   * A button that carries out a line for what was chosen; while a hand or the focus is on it, the halo is that of the
+   * line.
+   * @param {string} id
+   * @param {(thing: Thing) => string} lineOf
+   */
+  disturbs(id, lineOf) {
+    const button = byId(id);
+    button.addEventListener("click", () => this.acts.disturb(lineOf(this.thing)));
+    ["pointerenter", "focus"].forEach(
+      (kind) => button.addEventListener(
+        kind, () => this.acts.intend(() => (this.thing && !button.hidden ? [lineOf(this.thing)] : []))));
+    ["pointerleave", "blur"].forEach((kind) => button.addEventListener(kind, () => this.acts.intend(() => [])));
   }
 
   /**

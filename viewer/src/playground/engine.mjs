@@ -1,6 +1,10 @@
 // The engine inside the page: the proved code as a module for a 64-bit WebAssembly memory, called as C calls the
 // library. Where the words of include/rudekpi.h say more, they hold here too.
 
+/** @typedef {(slot: bigint, node: number, out: bigint, room: bigint, count: bigint) => number} ReachOfOne */
+/**
+ * @typedef {(slot: bigint, one: number, other: number, out: bigint, room: bigint, count: bigint) => number} ReachOfTwo
+ */
 /**
  * The calls of the module: places in its memory are of 64 bits.
  * @typedef {object} Calls
@@ -13,6 +17,14 @@
  * @property {(slot: bigint) => bigint} rudekpi_session_length
  * @property {(slot: bigint, to: bigint, size: bigint) => void} rudekpi_session_read
  * @property {(slot: bigint) => void} rudekpi_session_free
+ * @property {(slot: bigint, node: number, rests: bigint) => number} rudekpi_is_at_rest
+ * @property {(slot: bigint, moves: bigint) => number} rudekpi_moves_left
+ * @property {ReachOfTwo} rudekpi_reach_of_link
+ * @property {ReachOfTwo} rudekpi_reach_of_unlink
+ * @property {ReachOfOne} rudekpi_reach_of_join
+ * @property {ReachOfOne} rudekpi_reach_of_leave
+ * @property {ReachOfTwo} rudekpi_reach_of_point
+ * @property {ReachOfTwo} rudekpi_reach_of_flag
  */
 
 const RULES = {
@@ -21,6 +33,10 @@ const RULES = {
 };
 const SLOT_BYTES = 16;
 const VERDICT_BYTES = 32;
+const COUNT_BYTES = 8;
+const NAME_BYTES = 4;
+// so many names have room at first
+const FEW = 64;
 const STATUSES =
   ["done", "not a command", "the log is full", "memory was refused", "there is no session", "out of range"];
 const VERDICTS =
@@ -177,6 +193,44 @@ export class Session {
     const at = this.engine.taken.of(size + 1);
     this.calls.rudekpi_session_read(this.slot.at, at, BigInt(size));
     return new TextDecoder().decode(this.engine.taken.bytes(size));
+  }
+
+  /**
+   * Whether a node is at rest: it does not move until an edit or a fault reaches it.
+   * @param {number} node
+   */
+  isAtRest(node) {
+    const rests = this.engine.taken.of(1);
+    this.hear(this.calls.rudekpi_is_at_rest(this.slot.at, node, rests));
+    return this.engine.taken.bytes(1)[0] === 1;
+  }
+
+  /** How many moves can come before the next edit or fault, at most. */
+  movesLeft() {
+    const moves = this.engine.taken.of(NAME_BYTES);
+    this.hear(this.calls.rudekpi_moves_left(this.slot.at, moves));
+    return new DataView(this.calls.memory.buffer, Number(moves), NAME_BYTES).getUint32(0, true);
+  }
+
+  /**
+   * The nodes that an edit or a fault would reach, ascending; nothing is done. Nobody if it would be refused.
+   * @param {string} line of a script
+   */
+  reachOf(line) {
+    const [kind, ...words] = line.split(" ");
+    const numbers = words.map((word) => (word === "-" ? 0 : Number(word)));
+    const ask = /** @type {(...words: (bigint | number)[]) => number} */ (
+      this.calls[/** @type {"rudekpi_reach_of_link"} */ (`rudekpi_reach_of_${kind}`)]);
+    for (let room = FEW;;) {
+      const at = this.engine.taken.of(COUNT_BYTES + NAME_BYTES * room);
+      this.hear(ask(this.slot.at, ...numbers, at + BigInt(COUNT_BYTES), BigInt(room), at));
+      const told = new DataView(this.calls.memory.buffer, Number(at), COUNT_BYTES + NAME_BYTES * room);
+      const count = Number(told.getBigUint64(0, true));
+      if (count <= room) {
+        return Array.from({ length: count }, (_, place) => told.getUint32(COUNT_BYTES + NAME_BYTES * place, true));
+      }
+      room = count;
+    }
   }
 
   /** Gives its memory back; it can't be used any more. */

@@ -2,6 +2,7 @@
 // goes along, so that the questions that the page asks for its picture stand in no transcript.
 import {grouped} from "../numbers.mjs";
 import {EngineFault} from "./engine.mjs";
+import {reachOf} from "./halo.mjs";
 import {Seen} from "./seen.mjs";
 
 /** @typedef {import("./engine.mjs").Engine} Engine */
@@ -104,6 +105,14 @@ export class Lab {
    */
   bad(line, why) {
     return new BadLine(this.lines.length + 1, line, why);
+  }
+
+  /**
+   * The nodes that one of some edits and faults would reach, ascending.
+   * @param {string[]} lines
+   */
+  reachOf(lines) {
+    return reachOf(this.asked, lines);
   }
 
   /** Has the engine tell its state. */

@@ -1,5 +1,5 @@
 // The drawing of a network whose nodes are moved by hand and whose edges come and go.
-import {Drawing} from "../drawing.mjs";
+import {Drawing, RADIUS} from "../drawing.mjs";
 import {add} from "../svg.mjs";
 
 export class LiveDrawing extends Drawing {
@@ -15,10 +15,39 @@ export class LiveDrawing extends Drawing {
     // by which each node's edges are known again
     this.seen = new Float64Array(names + 1).fill(NaN);
     this.band = add(this.layers.picks, "line", { class: "band" });
+    // which nodes have the ring of one that may still move
+    this.ringed = new Uint8Array(names + 1);
+    /**
+     * The nodes in a halo.
+     * @type {Set<number>}
+     */
+    this.reached = new Set();
   }
 
   /**
-   * @param {import("../machine.mjs").Machine} machine
+   * A node with room for a halo and for the ring of one that may still move.
+   * @param {number} v
+   */
+  makeNode(v) {
+    const shape = super.makeNode(v);
+    shape.group.prepend(
+      add(shape.group, "circle", { class: "reach", r: RADIUS + 9 }),
+      add(shape.group, "circle", { class: "rest", r: RADIUS + 5 }));
+    return shape;
+  }
+
+  /**
+   * Draws a halo round some nodes, and round no other.
+   * @param {number[]} nodes
+   */
+  surround(nodes) {
+    const reached = new Set(nodes);
+    [...this.reached, ...reached].forEach((v) => this.shapes[v].group.classList.toggle("reached", reached.has(v)));
+    this.reached = reached;
+  }
+
+  /**
+   * @param {import("./seen.mjs").Seen} machine
    * @param {Entry} entry
    * @param {number[]} lit
    */
@@ -40,14 +69,21 @@ export class LiveDrawing extends Drawing {
 
   /**
    * Marks stand where the edges of now leave room.
-   * @param {import("../machine.mjs").Machine} machine
+   * @param {import("./seen.mjs").Seen} machine
    * @param {number} v
    * @param {boolean} isLit
    */
   showNode(machine, v, isLit) {
     const marked = machine.rule[v] !== null || machine.flag[v] === 1;
     const turned = marked && this.turns(machine, v);
+    const shape = this.shapes[v];
+    const { classes } = shape;
     super.showNode(machine, v, isLit);
+    if (shape.classes !== classes || this.ringed[v] !== machine.restless[v]) {
+      this.ringed[v] = machine.restless[v];
+      shape.group.classList.toggle("restless", machine.restless[v] === 1);
+      shape.group.classList.toggle("reached", this.reached.has(v));
+    }
     if (turned) {
       const { mark, flag } = this.shapes[v];
       [mark, flag].forEach((sign, which) => sign?.setAttribute("transform", this.beside(v, which)));
@@ -56,7 +92,7 @@ export class LiveDrawing extends Drawing {
 
   /**
    * Whether the edges of a node lie otherwise than when its marks were placed.
-   * @param {import("../machine.mjs").Machine} machine
+   * @param {import("./seen.mjs").Seen} machine
    * @param {number} v
    */
   turns(machine, v) {

@@ -1,4 +1,4 @@
-// One network of the page: its picture with the hands on it, and its charge under its bound.
+// One network of the page: its picture with the hands on it, and its moves under their bound.
 import {RADIUS} from "../drawing.mjs";
 import {Gestures} from "../gestures.mjs";
 import {thingAt} from "../hit.mjs";
@@ -20,11 +20,25 @@ const RULE_SET_NAMES = {
 };
 
 /**
- * What hands do in a picture. `draws` says whether a drag draws a line from a node, and does not move it.
+ * Which shares of a bar as long as an epoch's bound are moves that were spent, and moves that can come. Both together
+ * are at most the whole: no epoch has more moves than its bound.
+ * @param {number} spent
+ * @param {number} movesLeft
+ * @param {number} bound
+ */
+export function sharesOf(spent, movesLeft, bound) {
+  const whole = bound || 1;
+  return { spent: spent / whole, left: Math.min(movesLeft, bound - spent) / whole };
+}
+
+/**
+ * What hands do in a picture. `draws` says whether a drag draws a line from a node, and does not move it; `stretch` is
+ * called while it draws one.
  * @typedef {object} Hands
  * @property {(thing: Thing | null, place: Place) => void} tap
  * @property {(node: number, thing: Thing | null) => void} pair
- * @property {(thing: Thing | null) => void} point
+ * @property {(lab: import("./lab.mjs").Lab, thing: Thing | null) => void} point
+ * @property {(node: number, thing: Thing | null) => void} stretch
  * @property {() => boolean} draws
  * @property {(node: number, x: number, y: number) => void} moved
  */
@@ -63,8 +77,8 @@ export class Pane {
     this.zoom = new Zoom(this.svg, layout.width, layout.height, (pixels) => this.drawing.growFor(pixels), LEAST_NAME);
     this.trace = new Trace(part("history"));
     new Gestures(this.svg, {
-      hover: (place) => hands.point(this.under(place)),
-      leave: () => hands.point(null),
+      hover: (place) => hands.point(lab, this.under(place)),
+      leave: () => hands.point(lab, null),
       press: (place) => (this.grip = place && (this.under(place)?.node ?? null)),
       tap: (place) => hands.tap(this.under(place), this.zoom.placeAt(place)),
       drag: (from, to) => this.drag(from, to),
@@ -93,6 +107,7 @@ export class Pane {
       this.zoom.drag(from, to);
     } else if (this.hands.draws()) {
       this.drawing.stretch(this.grip, this.zoom.placeAt(to));
+      this.hands.stretch(this.grip, this.under(to));
     } else {
       const { x, y } = this.zoom.placeAt(to);
       this.hands.moved(this.grip, x, y);
@@ -124,18 +139,28 @@ export class Pane {
     this.parts.state.classList.toggle("stable", quiet);
   }
 
-  /** The bar of the moves that were spent and that can come, of the bound. */
+  /** The bar is as long as the bound: the moves that were spent, and those that can come. */
   meter() {
-    const { charge, bound, spent } = this.lab.seen;
-    this.parts.spent.style.width = `${(100 * spent) / (bound || 1)}%`;
-    this.parts.left.style.width = `${(100 * charge) / (bound || 1)}%`;
-    this.parts.numbers.textContent = `spent ${grouped(spent)} + charge ${grouped(charge)} ≤ bound ${grouped(bound)}`;
+    const { movesLeft, epochBound, spent } = this.lab.seen;
+    const shares = sharesOf(spent, movesLeft, epochBound);
+    this.parts.spent.style.width = `${100 * shares.spent}%`;
+    this.parts.left.style.width = `${100 * shares.left}%`;
+    this.parts.numbers.textContent =
+      `spent ${grouped(spent)}, at most ${grouped(movesLeft)} to come; bound ${grouped(epochBound)}`;
   }
 
   /** Adds the state to the lines below the picture. */
   note() {
-    const { charge, spent, bound } = this.lab.seen;
-    this.trace.note(charge, spent + charge, bound);
+    const { spent, movesLeft, epochBound } = this.lab.seen;
+    this.trace.note(spent, movesLeft, epochBound);
+  }
+
+  /**
+   * Draws a halo round the nodes that one of the lines would reach.
+   * @param {string[]} lines
+   */
+  surround(lines) {
+    this.drawing.surround(this.lab.reachOf(lines));
   }
 
   close() {

@@ -5,6 +5,7 @@ import {nodesOf, readEntry} from "../transcript.mjs";
 import {Card} from "./card.mjs";
 import {Chooser} from "./chooser.mjs";
 import {Daemon} from "./daemon.mjs";
+import {linesAt, linesBetween} from "./halo.mjs";
 import {BadLine, Lab} from "./lab.mjs";
 import {Pane} from "./pane.mjs";
 import {Past} from "./past.mjs";
@@ -55,6 +56,11 @@ export class Playground {
      */
     this.changed = null;
     /**
+     * The edits and faults that a hand is about to make, in the network of now.
+     * @type {() => string[]}
+     */
+    this.intended = () => [];
+    /**
      * Is called after each change.
      * @type {() => void}
      */
@@ -81,6 +87,8 @@ export class Playground {
        * @param {Place | null} place
        */
       settle: (node, place) => this.settle(node, place),
+      /** @param {() => string[]} lines */
+      intend: (lines) => this.surround(lines)
     };
     this.chooser = new Chooser((thing) => this.showChosen(thing));
     this.story = new Story(byId("story"));
@@ -125,6 +133,7 @@ export class Playground {
     this.at = 0;
     this.daemon.stretch = false;
     this.changed = null;
+    this.intended = () => [];
     this.layout = plan.layout ?? placesOf({...plan, links: plan.links ?? labs[0].linksEver }, names);
     // names that were given no place
     this.placeless =
@@ -166,8 +175,12 @@ export class Playground {
         this.turnTo(at);
         this.tools.tap(lab, thing, place);
       },
-      pair: (node, thing) => this.tools.pair(node, thing),
-      point: (thing) => this.aim(thing),
+      pair: (node, thing) => {
+        this.surround(() => []);
+        this.tools.pair(node, thing);
+      },
+      point: (from, thing) => this.aim(from, thing),
+      stretch: (node, thing) => this.surround(() => linesBetween(this.tools.name, node, thing)),
       draws: () => this.tools.draws,
       moved: (node, x, y) => this.settle(node, { x, y }),
     });
@@ -250,7 +263,7 @@ export class Playground {
       this.draw();
       return;
     }
-    this.story.breaks(line, labs.reduce((most, lab) => Math.max(most, lab.seen.charge), 0));
+    this.story.breaks(line, labs.reduce((most, lab) => Math.max(most, lab.seen.movesLeft), 0));
     this.mark(lastEntry(texts[0]));
     this.placeNewcomers();
     this.show(0);
@@ -363,15 +376,28 @@ export class Playground {
     this.panes.forEach((pane) => pane.drawing.pick(thing));
     if (this.labs.length > 0) {
       this.card.show(this.lab, thing);
+      this.surround(() => linesAt(this.tools, this.lab.seen, thing));
     }
   }
 
   /**
-   * Marks what a click would hit.
+   * Draws a halo round the nodes that a hand reaches if it does what it is about to do, from now on until it is about
+   * to do something else.
+   * @param {() => string[]} intended the lines of that
+   */
+  surround(intended) {
+    this.intended = intended;
+    this.panes.forEach((pane) => pane.surround(intended()));
+  }
+
+  /**
+   * Marks what a click would hit, and whom it would reach.
+   * @param {Lab} lab
    * @param {Thing | null} thing
    */
-  aim(thing) {
+  aim(lab, thing) {
     const aimed = this.tools.aims(thing);
+    this.surround(() => linesAt(this.tools, lab.seen, aimed));
     this.panes.forEach((pane) => {
       const cuts = this.tools.name === "cut" && aimed?.low;
       pane.svg.classList.toggle("aimed", aimed !== null);
@@ -440,6 +466,7 @@ export class Playground {
       pane.show(this.changed, pane.lab.lit);
       pane.lab.lit = [];
     });
+    this.surround(this.intended);
     if (this.chooser.thing !== null) {
       this.card.show(this.lab, this.chooser.thing);
     }

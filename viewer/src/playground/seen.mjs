@@ -1,6 +1,6 @@
-// A network as the engine tells it: registers and edges from the base that it writes, who is enabled, and the numbers
-// of its status. Nothing is played here; only what follows from the registers, such as who points at whom, is looked up
-// for the words.
+// A network as the engine tells it: registers and edges from the base that it writes, who is enabled, who is at rest,
+// and the numbers of its status. Nothing is played here; only what follows from the registers, such as who points at
+// whom, is looked up for the words.
 import {Machine} from "../machine.mjs";
 import {readBase} from "../transcript.mjs";
 
@@ -18,6 +18,9 @@ export class Seen extends Machine {
      * @type {number[]}
      */
     this.enabledNodes = [];
+    /** Whether each node may still move before the next edit or fault: it is not at rest. */
+    this.restless = new Uint8Array(names + 1);
+    this.left = 0;
   }
 
   /**
@@ -27,6 +30,8 @@ export class Seen extends Machine {
   ask(session) {
     ASKED.forEach((line) => session.feed(line));
     this.hear(session.read());
+    this.left = session.movesLeft();
+    this.restless = this.here.map((present, v) => (present && !session.isAtRest(v) ? 1 : 0));
   }
 
   /**
@@ -68,5 +73,9 @@ export class Seen extends Machine {
 
   get spent() {
     return this.told.spent;
+  }
+
+  get movesLeft() {
+    return this.left;
   }
 }

@@ -42,7 +42,7 @@ export class Story {
   }
 
   /**
-   * Somebody broke something; the charge after it is the most moves that can come.
+   * Somebody broke something, after which at most so many moves can come.
    * @param {string} line
    * @param {number} most
    */

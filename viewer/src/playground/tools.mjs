@@ -1,6 +1,7 @@
 // What a click, a tap or Enter on a node, an edge or an empty place does, by the tool that is in hand. Each act is a
 // line of a script.
 import {explainNode} from "../explain.mjs";
+import {linesBetween} from "./halo.mjs";
 
 /** @typedef {import("./lab.mjs").Lab} Lab */
 /** @typedef {import("./seen.mjs").Seen} Seen */
@@ -14,6 +15,7 @@ import {explainNode} from "../explain.mjs";
  * @property {(thing: Thing | null) => void} choose
  * @property {(text: string, wrong?: boolean) => void} say
  * @property {(node: number, place: Place | null) => void} settle
+ * @property {(lines: () => string[]) => void} intend
  */
 
 /**
@@ -91,11 +93,7 @@ export class Tools {
    */
   pair(node, thing) {
     this.from = null;
-    if (this.name === "point") {
-      this.acts.disturb(thing?.node && thing.node !== node ? `point ${node} ${thing.node}` : `point ${node} -`);
-    } else if (thing?.node && thing.node !== node) {
-      this.acts.disturb(`link ${node} ${thing.node}`);
-    }
+    linesBetween(this.name, node, thing).forEach((line) => this.acts.disturb(line));
   }
 
   /**

@@ -1,4 +1,4 @@
-// How the charge went, under the bound, over the last changes that were shown.
+// The moves that were spent and those that could come, under the bound, over the last changes that were shown.
 import {counted, grouped} from "../numbers.mjs";
 import {add} from "../svg.mjs";
 
@@ -9,22 +9,22 @@ export class Trace {
   /** @param {Element} root holds the picture, and the words at its axes */
   constructor(root) {
     /** @type {Record<string, number[]>} */
-    this.values = { charge: [], sum: [], bound: [] };
+    this.values = { spent: [], left: [], bound: [] };
     const svg = root.querySelector("svg");
     this.top = root.querySelector(".top");
     this.along = root.querySelector(".along");
     svg.setAttribute("viewBox", `0 -4 ${LENGTH} ${HEIGHT + 8}`);
     this.paths =
-      Object.fromEntries(["bound", "sum", "charge"].map((name) => [name, add(svg, "path", { class: `line ${name}` })]));
+      Object.fromEntries(["bound", "left", "spent"].map((name) => [name, add(svg, "path", { class: `line ${name}` })]));
   }
 
   /**
-   * @param {number} charge
-   * @param {number} sum
+   * @param {number} spent
+   * @param {number} left
    * @param {number} bound
    */
-  note(charge, sum, bound) {
-    for (const [name, value] of Object.entries({ charge, sum, bound })) {
+  note(spent, left, bound) {
+    for (const [name, value] of Object.entries({ spent, left, bound })) {
       const values = this.values[name];
       values.push(value);
       if (values.length > LENGTH) {
