@@ -2,7 +2,8 @@
 //!
 //! `is_at_rest` tells of a node that it has nothing to do, and that nothing that other nodes do gives it something to do. `is_in_reach`
 //! tells of an event whether it may end that, were it carried out. Both look at the node, at its neighbours and at the nodes that the
-//! event names, whatever the size of the network, take no memory and change nothing. The laws of `containment_laws` say what follows:
+//! event names, whatever the size of the network, take no memory and change nothing. `list_reach` lists all who are in reach, by one look
+//! through the neighbours of at most two nodes. The laws of `containment_laws` say what follows:
 //! whoever is at rest, and in the reach of no disturbance that comes, never moves.
 //!
 //! ```rust

@@ -121,7 +121,7 @@ fn only<'a>(net: &NetState, v: Node, one: &'a [Node]) -> &'a [Node]
     &[]
 }
 
-/// Whom an event reaches that parts a pair: neighbours of one node or two, up to those that are married.
+/// The reach of an event that parts a pair: who is parted, and their neighbours that are not married.
 fn list_beside(alloc: Global, net: &NetState, event: &Event) -> Result<Vec<Node>, Want>
     requires { IsTrue (of.parts_a_pair net.now.state event.now) }
     ensures { IfOk result (λ list. list.items ≡ filter (of.is_in_reach net.now.state event.now) (names net.now.state.network)) }
