@@ -159,8 +159,8 @@ enum { RUDEKPI_UPDATE = 1, RUDEKPI_MARRY = 2, RUDEKPI_SEDUCE = 3, RUDEKPI_ABANDO
 size_t rudekpi_rows(struct rudekpi_slot *slot, struct rudekpi_row *out, size_t room);
 
 /* `drive seed count`, `scramble seed count`: up to so many steps of a seeded daemon, until nobody is enabled; so many seeded faults of
- * registers. Each turn adds an entry. DONE; LOG_FULL and NO_MEMORY, where the turns before stay; NO_SESSION; BAD_ARGUMENT above 1,000,000
- * turns. */
+ * registers. Each turn adds an entry. After a drive that is DONE, of at least as many steps as the charge was, nobody is enabled. DONE;
+ * LOG_FULL and NO_MEMORY, where the turns before stay; NO_SESSION; BAD_ARGUMENT above 1,000,000 turns. */
 uint32_t rudekpi_drive(struct rudekpi_slot *slot, uint64_t seed, uint32_t count, struct rudekpi_told *told);
 uint32_t rudekpi_scramble(struct rudekpi_slot *slot, uint64_t seed, uint32_t count, struct rudekpi_told *told);
 
@@ -189,6 +189,30 @@ uint32_t rudekpi_cost_of_leave(struct rudekpi_slot *slot, uint32_t node, uint32_
 uint32_t rudekpi_cost_of_point(struct rudekpi_slot *slot, uint32_t node, uint32_t target, uint32_t *cost);
 uint32_t rudekpi_cost_of_flag(struct rudekpi_slot *slot, uint32_t node, bool value, uint32_t *cost);
 
+/* Whether a node is at rest: its flag is right where the rules use flags, and it is paired, or points nowhere and each of its neighbours is
+ * paired. Whatever the daemon chooses, it does not move until an edit or a fault reaches it. An absent one is at rest. It looks at the
+ * node's neighbours only where it points nowhere; no entry is added. DONE; NO_SESSION; BAD_ARGUMENT for a name that is 0 or above 65,535.
+ * `rests` is written in each case, false where the answer is not DONE. */
+uint32_t rudekpi_is_at_rest(struct rudekpi_slot *slot, uint32_t node, bool *rests);
+
+/* Whom an edit or a fault would reach if it came now: each other node that is at rest stays at rest. Copies their names, ascending, to the
+ * start of `out`, if there is room for all of them; else `out` is as before. `count` says how many there are: they were copied where that
+ * is at most `room`. Nobody where the machine would refuse it. It is told by one look through the neighbours of the nodes that it names
+ * and of their partners (docs/BOUNDS.md has the table, with how many there are at most); nothing is done, and no entry added. DONE;
+ * NO_MEMORY; NO_SESSION; BAD_ARGUMENT for a name that is 0 or above 65,535, but for a target, of which 0 is null. `count` is written in
+ * each case, 0 where the answer is not DONE, and then `out` is as before. */
+uint32_t rudekpi_reach_of_link(struct rudekpi_slot *slot, uint32_t a, uint32_t b, uint32_t *out, size_t room, size_t *count);
+uint32_t rudekpi_reach_of_unlink(struct rudekpi_slot *slot, uint32_t a, uint32_t b, uint32_t *out, size_t room, size_t *count);
+uint32_t rudekpi_reach_of_join(struct rudekpi_slot *slot, uint32_t node, uint32_t *out, size_t room, size_t *count);
+uint32_t rudekpi_reach_of_leave(struct rudekpi_slot *slot, uint32_t node, uint32_t *out, size_t room, size_t *count);
+uint32_t rudekpi_reach_of_point(struct rudekpi_slot *slot, uint32_t node, uint32_t target, uint32_t *out, size_t room, size_t *count);
+uint32_t rudekpi_reach_of_flag(struct rudekpi_slot *slot, uint32_t node, bool value, uint32_t *out, size_t room, size_t *count);
+
+/* How many moves can still come before the next edit or fault that is accepted: at most this many, whatever the daemon chooses. It is the
+ * charge; under RUDEKPI_HH it is also at most n*n/2 + n - 2 among n nodes, the half rounded down. Adds no entry; a look at what has changed
+ * since this or a status was last asked. DONE; NO_SESSION, where `moves` is 0. */
+uint32_t rudekpi_moves_left(struct rudekpi_slot *slot, uint32_t *moves);
+
 /* What an audit finds. */
 struct rudekpi_verdict {
     uint32_t kind;    /* one of the following */
@@ -210,6 +234,15 @@ enum {
 /* Judges a transcript, without the engine that writes them: accepts exactly those of runs, and names the first damage of other
  * bytes. Costs what the program's `audit` costs. Takes no slot, so any thread may call it. */
 void rudekpi_audit(const uint8_t *bytes, size_t length, struct rudekpi_verdict *verdict);
+
+/* Joins the verdict of a text with that of one that it meets: the first text ends with the lines of a base, all of them, with which the next
+ * begins. Joined the base stands once, and `verdict` becomes what rudekpi_audit says of that: accepted exactly if both are, with the sums of
+ * entries and moves, and of epochs less one; else the damage of the first, or that of the next so many `lines` further on, which stand in
+ * the first text before the base; they are used for nothing else. UNJUDGED, if that is the verdict of the first, or if the first is
+ * accepted and it is that of the next. Texts that meet one another in a row are joined in their order, two by two, in any grouping. DONE;
+ * BAD_ARGUMENT for a kind above 6, or a sum that its field does not hold: `verdict` is as before. That the texts meet nothing checks.
+ * Takes no memory and no slot. */
+uint32_t rudekpi_audit_join(struct rudekpi_verdict *verdict, uint64_t lines, const struct rudekpi_verdict *next);
 
 /* Where an audit is kept that is fed a transcript as it comes: what C has to keep of a slot holds of it, too. */
 struct rudekpi_audit_slot {
