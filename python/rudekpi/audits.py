@@ -3,6 +3,7 @@
 from __future__ import annotations
 
 import contextlib
+import io
 import os
 import re
 import subprocess
@@ -10,6 +11,7 @@ import tempfile
 from dataclasses import dataclass, replace
 from typing import Any, Optional, Union
 
+from .containment import reaches
 from .errors import VERDICT, Damaged, Ended, Garbled, text_of
 from .library import Library, chosen
 from .numbers import MOST_ENTRIES, number_within
@@ -76,8 +78,22 @@ def summary_read(said: str) -> Summary:
 
 
 def epochs(transcript: Text, *, program: Program = None) -> list[Epoch]:
-    """The epochs of a transcript, each with its bound and what the disturbance that began it cost. Raises `Damaged`
-    where `audit` refuses it, or `Ended`."""
+    """The epochs of a transcript, each with its bound, what the disturbance that began it cost, and how many nodes that
+    had in its reach.
+
+    The program judges the transcript and lists all but the reach, which the client counts along the entries. Raises
+    `Damaged` if `audit` refuses it, `Ended`, or `Garbled` if the program lists other epochs than the entries begin.
+    """
+    first, *rest = judged_epochs(transcript, program)
+    lines = (line.decode().rstrip("\n") for line in io.BytesIO(bytes_of(transcript)))
+    sizes = dict(reaches(lines))
+    if [epoch.start for epoch in rest] != [*sizes]:
+        raise Garbled("the program lists epochs that begin at other entries than the accepted edits and faults")
+    return [first, *(replace(epoch, reach=size) for epoch, size in zip(rest, sizes.values()))]
+
+
+def judged_epochs(transcript: Text, program: Program = None) -> list[Epoch]:
+    """The epochs as `epochs` lists them, but for their reach, which is None."""
     row = ",".join(["([0-9]+|-)", *["([0-9]+)"] * 4, "([0-9]+|-)"]) + "\n"
     rows = numbers_in("epochs", judged(["epochs"], transcript, program), row, "start,moves,edges,nodes,bound,cost\n")
     # a header's second word, which is that of a transcript that begins with a base, too

@@ -232,7 +232,10 @@ class Epoch:
 
     The bound is 2m + n (`hh`) or 2m + 3n (`manne`) with m edges and n nodes; under `hh` it is also at most n²/2 + n -
     2, the half rounded down, unless the entry is None. The cost is that of the disturbance, a sum of degrees; None in
-    the first epoch, which no disturbance of the transcript began."""
+    the first epoch, which no disturbance of the transcript began.
+
+    The reach is how many nodes the disturbance had in its reach, in the state right before it; None in the first epoch.
+    If the network was silent then, no other nodes move in this epoch."""
 
     start: Optional[int]
     moves: int
@@ -240,6 +243,7 @@ class Epoch:
     nodes: int
     bound: int
     cost: Optional[int]
+    reach: Optional[int] = None
 
 
 Choice = Iterable[Union[Name, Wish]]

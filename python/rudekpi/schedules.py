@@ -15,7 +15,7 @@ from dataclasses import dataclass
 from typing import Callable, Iterable, Iterator, Sequence
 
 from . import rules as rule_sets
-from .audits import epochs
+from .audits import judged_epochs
 from .graphs import Graph
 from .network import Network
 from .program import Program
@@ -64,7 +64,7 @@ class Longest:
         wrong."""
         with Network(self.rules, len(self.graph.nodes), program=program) as net:
             transcript = net._played(self.script().splitlines())
-        played = epochs(transcript, program=program)[-1].moves
+        played = judged_epochs(transcript, program=program)[-1].moves
         if played != self.moves:
             raise AssertionError(f"{self.graph.title}: {played} moves are played, and {self.moves} foretold")
         return transcript

@@ -17,7 +17,7 @@ from dataclasses import asdict, astuple, dataclass, fields
 from typing import Any, Callable, Iterable, Iterator, Optional, Sequence, TextIO, Union
 
 from . import daemons
-from .audits import epochs
+from .audits import judged_epochs
 from .choices import Daemon
 from .errors import Lost, RudekpiError
 from .graphs import Graph
@@ -152,7 +152,7 @@ class Experiment:
                 disturb(net, self, joining, drawn)
             daemon = daemons.named(self.daemon, self.seed) if isinstance(self.daemon, str) else self.daemon
             before, settled, status = net.status(), net.settle(daemon), net.status()
-        last = epochs(net.transcript(), program=self.program)[-1]
+        last = judged_epochs(net.transcript(), program=self.program)[-1]
         if not last.moves == status.spent == before.spent + settled.moves:
             raise RudekpiError(f"{self.told()}: the daemon itself disturbed the network")
         return Row(

@@ -1,0 +1,49 @@
+"""Which nodes an edit or fault has in its reach: the table of docs/BOUNDS.md, "Where the moves are".
+
+Both rule sets have the same."""
+
+from __future__ import annotations
+
+from typing import Iterable, Iterator
+
+from .state import State
+
+
+def unpaired(state: State, node: int) -> set[int]:
+    """The neighbours of a node that are in no pair."""
+    return {other for other in state.neighbours[node] if state.partner(other) is None}
+
+
+def reach(state: State, word: str, node: int, other: int = 0) -> set[int]:
+    """The nodes in the reach of an edit or fault that a network in this state accepts.
+
+    `other` is the second node of `link`, `unlink` or `point`, 0 for the null pointer, or the value of `flag`. Looks at
+    the neighbours of the nodes named and of their partners alone.
+    """
+    partner = state.partner(node)
+    if word == "link":
+        return {node, other} if partner is None and state.partner(other) is None else set()
+    if word == "flag":
+        return {node} if bool(other) != (partner is not None) else set()
+    if partner is None:
+        return {node} if word == "point" and other not in (0, state.pointers.get(node)) else set()
+    if word == "leave":
+        return {partner} | unpaired(state, partner)
+    is_parted = other == partner if word == "unlink" else other != partner
+    return {node, partner} | unpaired(state, node) | unpaired(state, partner) if is_parted else set()
+
+
+def reaches(lines: Iterable[str]) -> Iterator[tuple[int, int]]:
+    """The entry of each accepted edit and fault of a transcript that `audit` accepts, in order, with how many nodes are
+    in its reach in the state before it.
+
+    The lines have no newline at their ends. They are followed once, and none is kept.
+    """
+    state = State()
+    for line in lines:
+        # of all entries only an accepted edit or fault ends so
+        if line.endswith(" = ok"):
+            entry, word, *numbers = line.split(" = ")[0].split(" ")
+            named = (0 if number == "-" else int(number) for number in numbers)
+            yield int(entry), len(reach(state, word, *named))
+        state.follow([line])
