@@ -332,6 +332,8 @@ class Handlers(Asking):
                     said.append(str(error))
 
             self.signalled(1, net.close, play_on)
+            # the signal may have come behind the last of its calls
+            play_on()
             self.assertEqual(set(said), {"the network is closed"})
             self.assertEqual(net.audit().entries, net.transcript().count(" = "))
 
