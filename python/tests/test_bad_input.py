@@ -291,7 +291,7 @@ class Creation(Timed):
                 cut += 1
         sender.join()
         gc.collect()
-        self.assertGreater(cut, times // 4)
+        self.assertGreater(cut, times // 20)
 
     def test_no_process_is_left(self) -> None:
         before = set(children())

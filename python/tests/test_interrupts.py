@@ -259,8 +259,8 @@ def wait_until(is_so: Callable[[], bool], seconds: float = 5) -> None:
 TERMINAL = """
 import sys, rudekpi
 net = rudekpi.Network("hh", 3)
-print("ready", flush=True)
 try:
+    print("ready", flush=True)
     while True: net.status()
 except KeyboardInterrupt:
     print("cut", flush=True)
