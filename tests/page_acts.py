@@ -71,7 +71,7 @@ class Counts(Protocol):
 
     program: str
 
-    def expect(self, name: str, came: object, wanted: object) -> None:
+    def expect(self, name: str, came: object, wanted: object) -> object:
         """Counts a check, and prints what came if that is not what is wanted."""
 
 

@@ -535,9 +535,9 @@ def many(pages: Pages, browser: Browser) -> None:
     load = os.getloadavg()[0] / len(os.sched_getaffinity(0))
     print(f"500 nodes: {best:.0f} pictures a second, {shown:.0f} of which show moves")
     if best < 30 and load > 1:
-        print(f"skipped: 30 pictures a second with 500 nodes: {load:.1f} programs want each processor")
+        pages.skip("30 pictures a second with 500 nodes", f"{load:.1f} programs want each processor")
     elif 15 <= best < 30:
-        print("skipped: 30 pictures a second with 500 nodes: this machine is too slow to tell")
+        pages.skip("30 pictures a second with 500 nodes", "this machine is too slow to tell")
     else:
         pages.expect("30 pictures a second with 500 nodes", (best >= 30, shown >= 30), (True, True))
     pages.expect("complaints of 500 nodes", browser.complaints, [])

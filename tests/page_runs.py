@@ -8,6 +8,7 @@ import subprocess
 from typing import Any, Optional, Sequence
 
 from browser import PageFault
+from lib.tally import Tally
 from scripts_for_pages import Page
 
 TOP = os.path.dirname(os.path.dirname(os.path.abspath(__file__)))
@@ -18,17 +19,12 @@ EDGE = re.compile(r"^(\d+) -- (\d+)(?: \[(style=bold|dir=forward|dir=back)\])?;$
 Ended = tuple[int, bytes, bytes]
 
 
-class Pages:
-    def __init__(self, program: str, wait: float, folder: str, own: bool = False) -> None:
-        self.program, self.wait, self.folder, self.own = program, wait, folder, own
-        self.passed = self.failed = 0
+class Pages(Tally):
+    """Counts checks of pages, and makes these of transcripts."""
 
-    def expect(self, name: str, came: object, wanted: object) -> None:
-        if came == wanted:
-            self.passed += 1
-        else:
-            self.failed += 1
-            print(f"{name}: {str(came)[:600]}, and not {str(wanted)[:600]}")
+    def __init__(self, program: str, wait: float, folder: str, own: bool = False) -> None:
+        super().__init__()
+        self.program, self.wait, self.folder, self.own = program, wait, folder, own
 
     def run(self, words: Sequence[str], text: bytes) -> Ended:
         made = subprocess.run(words, input=text, capture_output=True, timeout=600)
