@@ -177,8 +177,7 @@ def json_of(path: str) -> Any:
 
 
 class NodeLinkReader:
-    """Reads `nodes` with their `id`, and `links` or `edges` with `source` and `target`, as networkx and D3 write
-    them."""
+    """Reads `nodes` with their `id`, and `links` or `edges` with `source` and `target`, as networkx and d3.js do."""
 
     def __init__(self, path: str, undirected: bool) -> None:
         self.made, self.undirected, self.data = (GraphBuilder(path, "edge {}".format), undirected, json_of(path))
