@@ -89,7 +89,7 @@ def library() -> dict[str, bytes]:
     except FileNotFoundError:
         return {}
     found = path.read_bytes()
-    if f"\nlibrudekpi.so {hashlib.sha256(found).hexdigest()}\n" not in told:
+    if not re.search(rf"^librudekpi\.so\.\d+ {hashlib.sha256(found).hexdigest()}$", told, re.MULTILINE):
         raise ValueError("release/librudekpi.so is not the library of which release/LIBRARY_MADE_FROM tells")
     return {LIBRARY: found}
 

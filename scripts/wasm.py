@@ -96,34 +96,29 @@ def build(rtlib: types.ModuleType) -> None:
         shutil.copyfile(fresh, KEPT)
 
 
-def turned(text: str) -> str:
-    """An LLVM module as text, for the other target."""
-    text = re.sub(r'^target datalayout = ".*"$', f'target datalayout = "{LAYOUT}"', text, flags=re.MULTILINE)
-    text = re.sub(r'^target triple = ".*"$', f'target triple = "{TARGET}"', text, flags=re.MULTILINE)
+def turned(text: str, target: str = TARGET, layout: str = LAYOUT) -> str:
+    """An LLVM module as text, for another target."""
+    text = re.sub(r'^target datalayout = ".*"$', f'target datalayout = "{layout}"', text, flags=re.MULTILINE)
+    text = re.sub(r'^target triple = ".*"$', f'target triple = "{target}"', text, flags=re.MULTILINE)
     return re.sub(r"^attributes #\d+ = \{.*$", lambda line: PROCESSOR.sub("", line[0]), text, flags=re.MULTILINE)
+
+
+def text_of(rtlib: types.ModuleType) -> str:
+    """The LLVM module that was kept, as text."""
+    clang = pathlib.Path(rtlib.KIT, "toolchain", "bin", "clang")
+    words = ["-S", "-emit-llvm", "-Xclang", "-disable-llvm-passes", "-o", "engine.ll"]
+    with tempfile.TemporaryDirectory() as made:
+        shutil.copyfile(KEPT, f"{made}/engine.bc")
+        run(clang, "-x", "ir", "engine.bc", *words, cwd=made)
+        return pathlib.Path(made, "engine.ll").read_text(encoding="utf-8")
 
 
 def module_of(rtlib: types.ModuleType) -> bytes:
     """The bytes of the WebAssembly module, made of the LLVM module that was kept."""
     tools = pathlib.Path(rtlib.KIT, "toolchain", "bin")
     with tempfile.TemporaryDirectory() as made:
-        shutil.copyfile(KEPT, f"{made}/engine.bc")
         shutil.copyfile(HEAP, f"{made}/heap.c")
-        run(
-            tools / "clang",
-            "-x",
-            "ir",
-            "engine.bc",
-            "-S",
-            "-emit-llvm",
-            "-Xclang",
-            "-disable-llvm-passes",
-            "-o",
-            "engine.ll",
-            cwd=made,
-        )
-        text = pathlib.Path(made, "engine.ll")
-        text.write_text(turned(text.read_text(encoding="utf-8")), encoding="utf-8")
+        pathlib.Path(made, "engine.ll").write_text(turned(text_of(rtlib)), encoding="utf-8")
         run(tools / "clang", *CODE, *WIDE, "-x", "ir", "-c", "engine.ll", "-o", "engine.o", cwd=made)
         run(tools / "clang", *CODE, "-ffreestanding", "-fno-builtin", "-c", "heap.c", "-o", "heap.o", cwd=made)
         exports = [f"--export=rudekpi_{name}" for name in CALLS]

@@ -7,17 +7,23 @@ import sys
 
 # By the name of the program, or of the library of Python.
 PACKAGES = {
+    "aarch64-linux-gnu-gcc": "gcc-aarch64-linux-gnu libc6-dev-arm64-cross",
     "black": "black",
+    "cargo": "cargo",
     "cc": "gcc",
     "chromium": "chromium",
     "clang": "clang",
+    "clang++": "clang",
     "clang-format": "clang-format",
+    "cmake": "cmake",
     "distributed": "python3-distributed",
     "dot": "graphviz",
     "firefox": "firefox-esr",
     "firefox-esr": "firefox-esr",
     "flake8": "flake8",
+    "g++": "g++",
     "gcc": "gcc",
+    "make": "make",
     "man": "man-db",
     "mandoc": "mandoc",
     "matplotlib": "python3-matplotlib",
@@ -26,7 +32,11 @@ PACKAGES = {
     "node": "nodejs",
     "objcopy": "binutils",
     "pandas": "python3-pandas",
+    "pkg-config": "pkg-config",
     "python3-venv": "python3-venv",
+    "qemu-aarch64": "qemu-user",
+    "qemu-riscv64": "qemu-user",
+    "riscv64-linux-gnu-gcc": "gcc-riscv64-linux-gnu libc6-dev-riscv64-cross",
     "rustc": "rustc",
     "shellcheck": "shellcheck",
     "tqdm": "python3-tqdm",
@@ -36,12 +46,13 @@ PACKAGES = {
 OF_THE_GATE = (
     *("chromium", "dot", "firefox-esr", "gcc", "man", "mandoc", "node"),
     *("black", "clang", "clang-format", "flake8", "mypy", "shellcheck", "tsc"),
+    *("aarch64-linux-gnu-gcc", "cmake", "g++", "make", "pkg-config", "qemu-aarch64", "riscv64-linux-gnu-gcc"),
 )
 
 
 def missing_packages() -> list[str]:
     """Debian's packages of the programs that the gate runs and that are not in the PATH."""
-    return [PACKAGES[name] for name in OF_THE_GATE if shutil.which(name) is None]
+    return [package for name in OF_THE_GATE if shutil.which(name) is None for package in PACKAGES[name].split()]
 
 
 if __name__ == "__main__":

@@ -1,0 +1,107 @@
+//! Why a call has no answer.
+
+use crate::ffi::{self, Told};
+use std::fmt;
+
+/// Why the machine refuses an event: the first reason that holds, in the order of their numbers in `docs/USE.md`.
+#[derive(Clone, Copy, Debug, PartialEq, Eq, Hash)]
+#[non_exhaustive]
+pub enum Refusal {
+    UnknownNode,
+    SelfLoop,
+    AlreadyLinked,
+    NotLinked,
+    TooManyEdges,
+    NotNeighbour,
+    NoFlag,
+    EmptyChoice,
+    NotCentral,
+    ChosenTwice,
+    NotEnabled,
+    BadTarget,
+    AlreadyPresent,
+}
+
+impl Refusal {
+    /// All refusals with their texts, by their numbers from 1 on.
+    const ALL: [(Refusal, &'static str); 13] = [
+        (Refusal::UnknownNode, "unknown-node"),
+        (Refusal::SelfLoop, "self-loop"),
+        (Refusal::AlreadyLinked, "already-linked"),
+        (Refusal::NotLinked, "not-linked"),
+        (Refusal::TooManyEdges, "too-many-edges"),
+        (Refusal::NotNeighbour, "not-neighbour"),
+        (Refusal::NoFlag, "no-flag"),
+        (Refusal::EmptyChoice, "empty-choice"),
+        (Refusal::NotCentral, "not-central"),
+        (Refusal::ChosenTwice, "chosen-twice"),
+        (Refusal::NotEnabled, "not-enabled"),
+        (Refusal::BadTarget, "bad-target"),
+        (Refusal::AlreadyPresent, "already-present"),
+    ];
+
+    /// The refusal of this number in a transcript, 1 to 13.
+    pub fn from_number(number: u32) -> Option<Refusal> {
+        let at = usize::try_from(number).ok()?.checked_sub(1)?;
+        Some(Refusal::ALL.get(at)?.0)
+    }
+
+    /// Its text in a transcript.
+    pub fn text(self) -> &'static str {
+        Refusal::ALL.iter().find(|it| it.0 == self).map_or("unknown", |it| it.1)
+    }
+}
+
+impl fmt::Display for Refusal {
+    fn fmt(&self, f: &mut fmt::Formatter<'_>) -> fmt::Result {
+        f.write_str(self.text())
+    }
+}
+
+/// Why a call has no answer.
+#[derive(Clone, Copy, Debug, PartialEq, Eq)]
+#[non_exhaustive]
+pub enum Fault {
+    /// The machine refused the event, which entry `entry` says. The network is as before.
+    Refused { why: Refusal, entry: u32 },
+    /// The log has 16,777,216 entries already.
+    LogFull,
+    /// Memory was refused. The network is as before, but first turns of a `drive` or a `scramble` stay.
+    NoMemory,
+    /// A number was out of its range. Nothing was done.
+    BadArgument,
+    /// Line `number` is neither empty nor a command. Nothing was done.
+    BadLine { number: u64 },
+}
+
+impl fmt::Display for Fault {
+    fn fmt(&self, f: &mut fmt::Formatter<'_>) -> fmt::Result {
+        match self {
+            Fault::Refused { why, entry } => write!(f, "entry {entry} was refused: {why}"),
+            Fault::LogFull => f.write_str("the log is full"),
+            Fault::NoMemory => f.write_str("memory was refused"),
+            Fault::BadArgument => f.write_str("a number is out of its range"),
+            Fault::BadLine { number } => write!(f, "line {number}: not a command"),
+        }
+    }
+}
+
+impl std::error::Error for Fault {}
+
+/// The number of the entry, or why there is no answer.
+pub(crate) fn answer(status: u32, told: &Told) -> Result<u32, Fault> {
+    match (status, Refusal::from_number(told.refusal)) {
+        (ffi::DONE, _) => Ok(told.entry),
+        (ffi::REFUSED, Some(why)) => Err(Fault::Refused { why, entry: told.entry }),
+        (other, _) => Err(fault(other)),
+    }
+}
+
+/// The fault of a status that is neither done nor a refusal.
+pub(crate) fn fault(status: u32) -> Fault {
+    match status {
+        ffi::LOG_FULL => Fault::LogFull,
+        ffi::NO_MEMORY => Fault::NoMemory,
+        _ => Fault::BadArgument,
+    }
+}

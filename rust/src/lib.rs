@@ -1,0 +1,28 @@
+//! Rudekpi for Rust: a network whose nodes its rules keep in pairs, and an auditor of its transcripts.
+//!
+//! Each call is one of `rudekpi.h`, whose functions are proved; these types around them are tested. A network or an
+//! audit owns its memory and may be sent between threads; one thread at a time uses it.
+//!
+//! ```
+//! use rudekpi::{Fault, Network, Rules};
+//!
+//! fn main() -> Result<(), Fault> {
+//!     let mut net = Network::new(Rules::HsuHuang, 2)?;
+//!     net.link(1, 2)?;
+//!     net.drive(1, 9)?;
+//!     assert_eq!(net.matching()?, [(1, 2)]);
+//!     Ok(())
+//! }
+//! ```
+
+mod audit;
+mod fault;
+mod ffi;
+mod network;
+
+pub use audit::{audit, Audit, Damage, Summary, Verdict};
+pub use fault::{Fault, Refusal};
+pub use network::{Counts, Enabled, Item, Move, Network, Rule, Rules};
+
+/// A node's name, from 1 on.
+pub type Node = u32;

@@ -1,0 +1,318 @@
+//! A network, its edits, faults, steps and questions.
+
+use crate::fault::{answer, fault, Fault};
+use crate::ffi::{self, RawItem, Row, Slot, Told};
+use crate::Node;
+
+/// A rule set.
+#[derive(Clone, Copy, Debug, PartialEq, Eq)]
+pub enum Rules {
+    /// Hsu and Huang (1992): one enabled node moves at a time.
+    HsuHuang = 0,
+    /// Manne, Mjelde, Pilard and Tixeuil (2009): any set of enabled nodes moves at once.
+    Manne = 1,
+}
+
+/// The rule by which a node moves.
+#[derive(Clone, Copy, Debug, PartialEq, Eq)]
+pub enum Rule {
+    Update,
+    Marry,
+    Seduce,
+    Abandon,
+}
+
+impl Rule {
+    fn of(number: u32) -> Rule {
+        match number {
+            1 => Rule::Update,
+            2 => Rule::Marry,
+            3 => Rule::Seduce,
+            _ => Rule::Abandon,
+        }
+    }
+}
+
+/// The state of a network in numbers. At most `charge` moves come before the next edit or fault.
+#[repr(C)]
+#[derive(Clone, Copy, Debug, Default, PartialEq, Eq)]
+pub struct Counts {
+    pub nodes: u32,
+    pub edges: u32,
+    pub pairs: u32,
+    pub enabled: u32,
+    pub charge: u32,
+    pub spent: u32,
+}
+
+/// A node that may move, and by which rule.
+#[derive(Clone, Copy, Debug, PartialEq, Eq)]
+pub struct Enabled {
+    pub node: Node,
+    pub rule: Rule,
+}
+
+/// A node that moved, by which rule, and where it points now if the rule wrote its pointer.
+#[derive(Clone, Copy, Debug, PartialEq, Eq)]
+pub struct Move {
+    pub node: Node,
+    pub rule: Rule,
+    pub target: Option<Node>,
+}
+
+/// A chosen node, and the neighbour that it shall point at, if any.
+#[derive(Clone, Copy, Debug, PartialEq, Eq)]
+pub struct Item {
+    pub node: Node,
+    pub wish: Option<Node>,
+}
+
+fn node_or_null(node: u32) -> Option<Node> {
+    Some(node).filter(|&it| it != 0)
+}
+
+/// A network whose nodes its rules keep in pairs, with its transcript.
+pub struct Network {
+    slot: Box<Slot>,
+}
+
+// one thread at a time may use a session, whichever made it
+unsafe impl Send for Network {}
+
+/// Calls that add entries and return the number of the last one.
+macro_rules! entries {
+    ($($(#[$text:meta])* $name:ident, $call:ident, ($($word:ident: $kind:ty),*);)*) => {$(
+        $(#[$text])*
+        pub fn $name(&mut self, $($word: $kind),*) -> Result<u32, Fault> {
+            let mut told = Told::default();
+            let status = unsafe { ffi::$call(&mut *self.slot, $($word,)* &mut told) };
+            answer(status, &told)
+        }
+    )*};
+}
+
+/// Calls that write one value and add no entry.
+macro_rules! values {
+    ($($(#[$text:meta])* $name:ident, $call:ident, ($($word:ident: $kind:ty),*) -> $value:ty;)*) => {$(
+        $(#[$text])*
+        pub fn $name(&mut self, $($word: $kind),*) -> Result<$value, Fault> {
+            let mut value = <$value>::default();
+            match unsafe { ffi::$call(&mut *self.slot, $($word,)* &mut value) } {
+                ffi::DONE => Ok(value),
+                status => Err(fault(status)),
+            }
+        }
+    )*};
+}
+
+/// Calls that list nodes and add no entry.
+macro_rules! lists {
+    ($($(#[$text:meta])* $name:ident, $call:ident, ($($word:ident: $kind:ty),*);)*) => {$(
+        $(#[$text])*
+        pub fn $name(&mut self, $($word: $kind),*) -> Result<Vec<Node>, Fault> {
+            self.names(|slot, out, room, count| unsafe { ffi::$call(slot, $($word,)* out, room, count) })
+        }
+    )*};
+}
+
+impl Network {
+    /// A network of the nodes 1 to `nodes`, at most 65,535, without edges.
+    pub fn new(rules: Rules, nodes: u32) -> Result<Network, Fault> {
+        Network::with_present(rules, nodes, nodes)
+    }
+
+    /// A network of the names 1 to `nodes`, at most 65,535, of which the nodes 1 to `present` are present.
+    pub fn with_present(rules: Rules, nodes: u32, present: u32) -> Result<Network, Fault> {
+        let mut slot = Slot::empty();
+        match unsafe { ffi::rudekpi_session_new(rules as u32, nodes, present, &mut *slot) } {
+            ffi::DONE => Ok(Network { slot }),
+            status => Err(fault(status)),
+        }
+    }
+
+    entries! {
+        /// Adds an edge.
+        link, rudekpi_link, (a: Node, b: Node);
+        /// Removes an edge.
+        unlink, rudekpi_unlink, (a: Node, b: Node);
+        /// Adds a node.
+        join, rudekpi_join, (node: Node);
+        /// Removes a node, with its edges and the pointers at it.
+        leave, rudekpi_leave, (node: Node);
+        /// Writes a node's flag, as a fault does.
+        flag, rudekpi_flag, (node: Node, value: bool);
+        /// Makes up to `count` steps of a seeded daemon, until no node is enabled.
+        drive, rudekpi_drive, (seed: u64, count: u32);
+        /// Makes `count` seeded faults of registers.
+        scramble, rudekpi_scramble, (seed: u64, count: u32);
+        /// Adds the lines of a base to the transcript, from which an audit can begin.
+        checkpoint, rudekpi_checkpoint, ();
+    }
+
+    values! {
+        /// How many moves can still come before the next edit or fault, at most.
+        moves_left, rudekpi_moves_left, () -> u32;
+        /// Whether a node is at rest: it does not move until an edit or a fault reaches it.
+        is_at_rest, rudekpi_is_at_rest, (node: Node) -> bool;
+        /// How many moves an edge that comes would cost at most; 0 also if it would be refused. Nothing is done.
+        cost_of_link, rudekpi_cost_of_link, (a: Node, b: Node) -> u32;
+        /// How many moves an edge that goes would cost at most.
+        cost_of_unlink, rudekpi_cost_of_unlink, (a: Node, b: Node) -> u32;
+        /// How many moves a node that comes would cost at most.
+        cost_of_join, rudekpi_cost_of_join, (node: Node) -> u32;
+        /// How many moves a node that goes would cost at most.
+        cost_of_leave, rudekpi_cost_of_leave, (node: Node) -> u32;
+        /// How many moves a written flag would cost at most.
+        cost_of_flag, rudekpi_cost_of_flag, (node: Node, value: bool) -> u32;
+    }
+
+    lists! {
+        /// The nodes that an edge that comes would reach, ascending. Nothing is done.
+        reach_of_link, rudekpi_reach_of_link, (a: Node, b: Node);
+        /// The nodes that an edge that goes would reach.
+        reach_of_unlink, rudekpi_reach_of_unlink, (a: Node, b: Node);
+        /// The nodes that a node that goes would reach.
+        reach_of_leave, rudekpi_reach_of_leave, (node: Node);
+        /// The nodes that a written flag would reach.
+        reach_of_flag, rudekpi_reach_of_flag, (node: Node, value: bool);
+    }
+
+    /// The nodes that a written pointer would reach.
+    pub fn reach_of_point(&mut self, node: Node, target: Option<Node>) -> Result<Vec<Node>, Fault> {
+        let target = target.unwrap_or(0);
+        self.names(|slot, out, room, count| unsafe {
+            ffi::rudekpi_reach_of_point(slot, node, target, out, room, count)
+        })
+    }
+
+    /// How many moves a written pointer would cost at most.
+    pub fn cost_of_point(&mut self, node: Node, target: Option<Node>) -> Result<u32, Fault> {
+        let mut cost = 0;
+        let target = target.unwrap_or(0);
+        match unsafe { ffi::rudekpi_cost_of_point(&mut *self.slot, node, target, &mut cost) } {
+            ffi::DONE => Ok(cost),
+            status => Err(fault(status)),
+        }
+    }
+
+    /// The node's partner, if it is in a pair. Adds no entry.
+    pub fn partner(&mut self, node: Node) -> Result<Option<Node>, Fault> {
+        let mut partner = 0;
+        match unsafe { ffi::rudekpi_partner(&mut *self.slot, node, &mut partner) } {
+            ffi::DONE => Ok(node_or_null(partner)),
+            status => Err(fault(status)),
+        }
+    }
+
+    /// Writes a node's pointer, as a fault does.
+    pub fn point(&mut self, node: Node, target: Option<Node>) -> Result<u32, Fault> {
+        let mut told = Told::default();
+        let status = unsafe { ffi::rudekpi_point(&mut *self.slot, node, target.unwrap_or(0), &mut told) };
+        answer(status, &told)
+    }
+
+    /// Where a node points.
+    pub fn show(&mut self, node: Node) -> Result<Option<Node>, Fault> {
+        let mut told = Told::default();
+        let status = unsafe { ffi::rudekpi_show(&mut *self.slot, node, &mut told) };
+        answer(status, &told)?;
+        Ok(node_or_null(told.target))
+    }
+
+    /// Lets nodes move, all at once, and returns their moves.
+    pub fn step(&mut self, items: &[Item]) -> Result<Vec<Move>, Fault> {
+        let raw: Vec<RawItem> = items
+            .iter()
+            .map(|it| RawItem {
+                node: it.node,
+                wish: it.wish.unwrap_or(0),
+            })
+            .collect();
+        let rows = self.rows(|slot, told| unsafe { ffi::rudekpi_step(slot, raw.as_ptr(), raw.len(), told) })?;
+        let of = |it: &Row| Move {
+            node: it.node,
+            rule: Rule::of(it.rule),
+            target: node_or_null(it.other),
+        };
+        Ok(rows.iter().map(of).collect())
+    }
+
+    /// The nodes that may move, and by which rule.
+    pub fn enabled(&mut self) -> Result<Vec<Enabled>, Fault> {
+        let rows = self.rows(|slot, told| unsafe { ffi::rudekpi_enabled(slot, told) })?;
+        Ok(rows
+            .iter()
+            .map(|it| Enabled {
+                node: it.node,
+                rule: Rule::of(it.rule),
+            })
+            .collect())
+    }
+
+    /// The nodes that point at each other.
+    pub fn matching(&mut self) -> Result<Vec<(Node, Node)>, Fault> {
+        let rows = self.rows(|slot, told| unsafe { ffi::rudekpi_pairs(slot, told) })?;
+        Ok(rows.iter().map(|it| (it.node, it.other)).collect())
+    }
+
+    /// The state of the network in numbers.
+    pub fn status(&mut self) -> Result<Counts, Fault> {
+        let (mut counts, mut told) = (Counts::default(), Told::default());
+        let status = unsafe { ffi::rudekpi_status(&mut *self.slot, &mut counts, &mut told) };
+        answer(status, &told)?;
+        Ok(counts)
+    }
+
+    /// Carries out a line of a script, without its line feed. The transcript says if its event is refused.
+    pub fn feed(&mut self, line: &[u8]) -> Result<(), Fault> {
+        let mut number = 0;
+        match unsafe { ffi::rudekpi_session_feed(&mut *self.slot, line.as_ptr(), line.len(), &mut number) } {
+            ffi::DONE => Ok(()),
+            ffi::BAD_LINE => Err(Fault::BadLine { number }),
+            status => Err(fault(status)),
+        }
+    }
+
+    /// The text of the transcript since this was last called.
+    pub fn take_transcript(&mut self) -> Vec<u8> {
+        let mut text = vec![0; unsafe { ffi::rudekpi_session_length(&mut *self.slot) }];
+        unsafe { ffi::rudekpi_session_read(&mut *self.slot, text.as_mut_ptr(), text.len()) };
+        text
+    }
+
+    /// Whether the network keeps its text from here on. If not, what there is is dropped.
+    pub fn keep_transcript(&mut self, keeps: bool) -> Result<(), Fault> {
+        match unsafe { ffi::rudekpi_transcript(&mut *self.slot, keeps) } {
+            ffi::DONE => Ok(()),
+            status => Err(fault(status)),
+        }
+    }
+
+    fn rows(&mut self, call: impl FnOnce(*mut Slot, *mut Told) -> u32) -> Result<Vec<Row>, Fault> {
+        let mut told = Told::default();
+        let status = call(&mut *self.slot, &mut told);
+        answer(status, &told)?;
+        let mut rows = vec![Row::default(); told.rows];
+        unsafe { ffi::rudekpi_rows(&mut *self.slot, rows.as_mut_ptr(), rows.len()) };
+        Ok(rows)
+    }
+
+    fn names(&mut self, call: impl Fn(*mut Slot, *mut u32, usize, *mut usize) -> u32) -> Result<Vec<Node>, Fault> {
+        let mut ask = |names: &mut [u32]| {
+            let mut count = 0;
+            match call(&mut *self.slot, names.as_mut_ptr(), names.len(), &mut count) {
+                ffi::DONE => Ok(count),
+                status => Err(fault(status)),
+            }
+        };
+        let mut names = vec![0; ask(&mut [])?];
+        ask(&mut names)?;
+        Ok(names)
+    }
+}
+
+impl Drop for Network {
+    fn drop(&mut self) {
+        unsafe { ffi::rudekpi_session_free(&mut *self.slot) }
+    }
+}

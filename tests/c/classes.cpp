@@ -1,0 +1,104 @@
+/* The classes of rudekpi.hpp: each call once, with answers worked out by hand, and each fault as its exception. Three
+ * nodes in a row: 1 - 2 - 3, Hsu and Huang's rules. */
+#include <iostream>
+#include <string>
+#include "rudekpi.hpp"
+
+using rudekpi::Network;
+using rudekpi::Rule;
+using rudekpi::Rules;
+
+static int wrong = 0;
+
+static void expect(const char *name, bool holds) {
+    if (holds) return;
+    std::cerr << name << " does not hold\n";
+    wrong++;
+}
+
+template <typename Fault, typename Call> static void throws(const char *name, Call call) {
+    try {
+        call();
+    } catch (const Fault &) {
+        return;
+    }
+    expect(name, false);
+}
+
+static void edits_and_steps() {
+    Network net(Rules::hsu_huang, 4, 2);
+    expect("join", net.join(3) == 1);
+    expect("link", net.link(1, 2) == 2 && net.link(2, 3) == 3);
+    expect("costs", net.cost_of_link(1, 3) == 2 && net.cost_of_unlink(1, 2) == 0 && net.cost_of_leave(3) == 0 &&
+                        net.cost_of_join(4) == 0 && net.cost_of_point(1, 2) == 1 && net.cost_of_flag(1, true) == 0);
+    auto enabled = net.enabled();
+    expect("enabled", enabled.size() == 3 && enabled[0].node == 1 && enabled[0].rule == Rule::seduce);
+    auto moves = net.step({{2, 3}});
+    expect("step", moves.size() == 1 && moves[0].node == 2 && moves[0].rule == Rule::seduce && moves[0].target == 3u);
+    expect("show", net.show(2) == 3u && !net.show(3));
+    expect("drive", net.drive(1, 9) == 8);
+    expect("matching", net.matching() == std::vector<rudekpi::Pair>{{2, 3}});
+    expect("partner", net.partner(3) == 2u && !net.partner(1));
+    expect("at rest", net.is_at_rest(1) && net.moves_left() == 0);
+    auto counts = net.status();
+    expect("status", counts.nodes == 3 && counts.edges == 2 && counts.pairs == 1 && counts.enabled == 0);
+}
+
+static void reach_and_faults() {
+    Network net(Rules::manne, 3);
+    net.link(1, 2);
+    net.link(2, 3);
+    net.drive(1, 99);
+    expect("reach of a cut that is none", net.reach_of_unlink(1, 3).empty());
+    expect("reach of a flag", net.reach_of_flag(1, true) == std::vector<rudekpi::Node>{1});
+    expect("reach", net.reach_of_link(1, 3).size() <= 2 && !net.reach_of_leave(2).empty() &&
+                        net.reach_of_join(1).empty() && !net.reach_of_point(2, {}).empty());
+    expect("point", net.point(1, {}) > 0 && net.flag(1, false) > 0 && net.unlink(1, 2) > 0 && net.leave(3) > 0);
+    expect("scramble", net.scramble(3, 2) > 0 && text(Rule::update) == std::string("update"));
+}
+
+static void exceptions() {
+    Network net(Rules::hsu_huang, 2);
+    throws<rudekpi::Refused>("a loop is refused", [&] { net.link(1, 1); });
+    try {
+        net.link(1, 1);
+    } catch (const rudekpi::Refused &it) {
+        expect("why", it.why == RUDEKPI_SELF_LOOP && it.entry == 2 && it.what() == std::string("self-loop"));
+    }
+    throws<std::invalid_argument>("no name", [&] { net.link(0, 1); });
+    throws<std::invalid_argument>("too many names", [] { Network(Rules::manne, 65536); });
+    throws<rudekpi::BadLine>("no line", [&] { net.feed("lnk 1 2"); });
+    net.feed("");
+    net.feed({});
+    Network other = std::move(net);
+    expect("moved", other.link(1, 2) == 3);
+}
+
+static void audits() {
+    Network net(Rules::hsu_huang, 2);
+    net.link(1, 2);
+    net.checkpoint();
+    auto text = net.transcript();
+    expect("read once", net.transcript().empty());
+    expect("accepted", rudekpi::audit(text).accepted() && rudekpi::audit(text).entries == 1);
+    auto verdict = rudekpi::audit("");
+    expect("no transcript", !verdict.accepted() && verdict.line == 1 && verdict.text() == std::string("bad header"));
+    rudekpi::Audit audit;
+    for (char byte : text) expect("fed", audit.feed(std::string_view(&byte, 1)));
+    expect("finished", audit.finish().accepted());
+    throws<std::logic_error>("finished twice", [&] { audit.finish(); });
+    rudekpi::Audit damaged;
+    expect("damaged", !damaged.feed("matching hh x\n") && damaged.finish().line == 1);
+    net.keep_transcript(false);
+    net.show(1);
+    expect("no text is kept", net.transcript().empty());
+}
+
+int main() {
+    edits_and_steps();
+    reach_and_faults();
+    exceptions();
+    audits();
+    std::cout << "classes: " << wrong << " wrong\n";
+    return wrong != 0;
+}
