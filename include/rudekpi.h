@@ -212,7 +212,7 @@ uint32_t rudekpi_reach_of_point(struct rudekpi_slot *slot, uint32_t node, uint32
 uint32_t rudekpi_reach_of_flag(struct rudekpi_slot *slot, uint32_t node, bool value, uint32_t *out, size_t room, size_t *count);
 
 /* How many moves can still come before the next edit or fault that is accepted: at most this many, whatever the daemon chooses. It is the
- * charge; under RUDEKPI_HH it is also at most n*n/2 + n - 2 among n nodes, the half rounded down. Adds no entry; a look at what has changed
+ * charge; under RUDEKPI_HSU_HUANG it is also at most n*n/2 + n - 2 among n nodes, the half rounded down. Adds no entry; a look at what has changed
  * since this or a status was last asked. DONE; NO_SESSION, where `moves` is 0. */
 uint32_t rudekpi_moves_left(struct rudekpi_slot *slot, uint32_t *moves);
 
