@@ -15,6 +15,9 @@ SOURCES = VIEWER / "src"
 RELEASED = TOP / "release" / "playground.html"
 IMPORT = re.compile(r'^import (\{[^}]*\}) from "(\.{1,2}/[\w/.]+)\.mjs";$', re.MULTILINE)
 EXPORT = re.compile(r"^export ((?:const|class|async function|function) (\w+))", re.MULTILINE)
+# what a browser without WebAssembly plays: examples/check has the program judge it, and tests/pages compares the verdict
+RECORDED = TOP / "examples" / "breaks_and_mends.transcript"
+RECORDED_VERDICT = "accepted: 382 entries, 341 epochs, 719 moves"
 ENGINE = re.compile(r'<script type="application/json" id="engine">"([A-Za-z0-9+/=]+)"</script>')
 
 
@@ -33,17 +36,21 @@ def module_order(path: pathlib.Path, seen: set[str]) -> list[tuple[pathlib.Path,
     return [*below, (path, text)]
 
 
-def joined_script() -> str:
-    """All modules in one, each in a function of its own, so that their names do not meet."""
+def renamed_imports(path: pathlib.Path, text: str) -> str:
+    """A module's text, which takes what it imports from the joined modules."""
+    return IMPORT.sub(lambda found: f'const {found[1]} = modules["{named(path.parent / found[2])}"];', text)
+
+
+def joined_script(top: str, begin: str = "") -> str:
+    """The modules on which the module `top` stands, in one, each in a function of its own, so that their names do not
+    meet; after them `begin`, and then `top`."""
     parts = ["\nconst modules = {};\n"]
-    for path, text in module_order(SOURCES / "page", set()):
-        told = ", ".join(exported for _, exported in EXPORT.findall(text))
-        plain = IMPORT.sub(lambda found: f'const {found[1]} = modules["{named(path.parent / found[2])}"];', text)
-        parts.append(
-            f'modules["{named(path)}"] = (() => {{\n{EXPORT.sub(lambda found: found[1], plain)}\n'
-            f"return {{ {told} }};\n}})();\n"
-        )
-    return "\n".join(parts)
+    *below, (last, text) = module_order(SOURCES / top, set())
+    for path, module in below:
+        told = ", ".join(exported for _, exported in EXPORT.findall(module))
+        plain = EXPORT.sub(lambda found: found[1], renamed_imports(path, module))
+        parts.append(f'modules["{named(path)}"] = (() => {{\n{plain}\nreturn {{ {told} }};\n}})();\n')
+    return "\n".join([*parts, begin, renamed_imports(last, text)])
 
 
 def embedded(value: object) -> str:
@@ -61,8 +68,13 @@ def page_of(transcript: Optional[str], judge: Optional[Mapping[str, object]], en
     `engine` is the module as text, or None."""
     template = (VIEWER / "page.html").read_text(encoding="utf-8")
     style = "\n" + "".join((VIEWER / name).read_text(encoding="utf-8") for name in ["page.css", "playground.css"])
-    script = joined_script()
-    runs = "" if engine is None else " 'wasm-unsafe-eval'"
+    script = joined_script("page")
+    # WebAssembly runs by it, also in the browsers of 2021 and 2022, which do not know 'wasm-unsafe-eval' yet
+    runs = "" if engine is None else " 'unsafe-eval'"
+    recorded = None
+    if transcript is None:
+        judged = {"program": "console", "own": True, "verdict": RECORDED_VERDICT}
+        recorded = {"transcript": RECORDED.read_text(encoding="ascii"), "judge": judged}
     parts = {
         "style": style,
         "script": script,
@@ -70,6 +82,7 @@ def page_of(transcript: Optional[str], judge: Optional[Mapping[str, object]], en
         "transcript": embedded(transcript),
         "judge": embedded(judge),
         "engine": embedded(engine),
+        "recorded": embedded(recorded),
         # the playground lies in the repository; where a page of a transcript will lie, nobody knows
         "project": ' href="../README.md"' if transcript is None else "",
     }

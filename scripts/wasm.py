@@ -1,9 +1,11 @@
-"""The engine as a module for browsers: the LLVM module of the proved code, compiled for a 64-bit WebAssembly memory.
+"""The engine as a WebAssembly module: the LLVM module of the proved code, compiled and lowered to a 32-bit memory.
 
 The kit compiles no heap for that target, so this way is the repository's own: what comes out is tested, and not
 proved. The kit's build calls a compiler of its toolchain folder; given a folder whose compiler keeps what it is
 given, it leaves the LLVM module of the functions that it has just proved. That is turned to the other target and
-linked with viewer/wasm/heap.c.
+linked with viewer/wasm/heap.c, which gives the wide module: its memory has 64-bit places, as the layouts of the LLVM
+module have. Debian's binaryen lowers it, so that browsers without such a memory run it: each place is cut to 32 bits
+where memory is read or written, and all calls keep their types.
 """
 
 from __future__ import annotations
@@ -14,13 +16,14 @@ import shutil
 import subprocess
 import tempfile
 import types
-from typing import Any
+from typing import Any, Optional
 
 TOP = pathlib.Path(__file__).resolve().parent.parent
 CRATE = TOP / "crates" / "rudekpi_c"
 BUILT = CRATE / "out" / "librudekpi_c.a"
 KEPT = CRATE / "out" / "librudekpi_c.bc"
 HEAP = TOP / "viewer" / "wasm" / "heap.c"
+HEADER = TOP / "include" / "rudekpi.h"
 TARGET = "wasm64-unknown-unknown"
 LAYOUT = "e-m:e-p:64:64-p10:8:8-p20:8:8-i64:64-i128:128-n32:64-S128-ni:1:10:20"
 # the processor's own, which the other target does not know
@@ -37,9 +40,12 @@ LINK = [
     "--strip-all",
     "--threads=1",
 ]
-SESSION = ["session_new", "session_feed", "session_length", "session_read", "session_free"]
-REACH = [f"reach_of_{kind}" for kind in ("link", "unlink", "join", "leave", "point", "flag")]
-CALLS = [*SESSION, "is_at_rest", "moves_left", *REACH, "audit", "room", "give_back"]
+# the module has all calls of the header, and two of the heap
+CALL = re.compile(r"^(?:uint32_t|size_t|void) (rudekpi_\w+)\(", re.MULTILINE)
+OF_THE_HEAP = ["rudekpi_room", "rudekpi_give_back"]
+LOWERER, PACKAGE = "wasm-opt", "binaryen"
+# what the browsers of five years have; a module that needs more is refused
+FEATURES = ["memory64", "bulk-memory", "mutable-globals", "sign-ext", "nontrapping-float-to-int"]
 # keeps the LLVM module that it compiles
 COMPILER = """#!/bin/sh
 last=
@@ -113,14 +119,35 @@ def text_of(rtlib: types.ModuleType) -> str:
         return pathlib.Path(made, "engine.ll").read_text(encoding="utf-8")
 
 
-def module_of(rtlib: types.ModuleType) -> bytes:
-    """The bytes of the WebAssembly module, made of the LLVM module that was kept."""
+def exports() -> list[str]:
+    """The names that the module exports: those of the header, and what hands over memory."""
+    return [*CALL.findall(HEADER.read_text(encoding="utf-8")), *OF_THE_HEAP]
+
+
+def wide_module(rtlib: types.ModuleType) -> bytes:
+    """The bytes of the WebAssembly module with a 64-bit memory, made of the LLVM module that was kept."""
     tools = pathlib.Path(rtlib.KIT, "toolchain", "bin")
     with tempfile.TemporaryDirectory() as made:
         shutil.copyfile(HEAP, f"{made}/heap.c")
         pathlib.Path(made, "engine.ll").write_text(turned(text_of(rtlib)), encoding="utf-8")
         run(tools / "clang", *CODE, *WIDE, "-x", "ir", "-c", "engine.ll", "-o", "engine.o", cwd=made)
         run(tools / "clang", *CODE, "-ffreestanding", "-fno-builtin", "-c", "heap.c", "-o", "heap.o", cwd=made)
-        exports = [f"--export=rudekpi_{name}" for name in CALLS]
-        run("wasm-ld", *LINK, *exports, "engine.o", "heap.o", "-o", "engine.wasm", cwd=made, executable=tools / "clang")
+        names = [f"--export={name}" for name in exports()]
+        run("wasm-ld", *LINK, *names, "engine.o", "heap.o", "-o", "engine.wasm", cwd=made, executable=tools / "clang")
+        return pathlib.Path(made, "engine.wasm").read_bytes()
+
+
+def lowerer() -> Optional[str]:
+    """What the tool that lowers a module says of its version; None if it is missing."""
+    if shutil.which(LOWERER) is None:
+        return None
+    return run(LOWERER, "--version", stdout=subprocess.PIPE).stdout.decode().strip()
+
+
+def lowered(wide: bytes) -> bytes:
+    """The module with a 32-bit memory."""
+    with tempfile.TemporaryDirectory() as made:
+        pathlib.Path(made, "wide.wasm").write_bytes(wide)
+        words = [f"--enable-{feature}" for feature in FEATURES]
+        run(LOWERER, "wide.wasm", *words, "--memory64-lowering", "-o", "engine.wasm", cwd=made)
         return pathlib.Path(made, "engine.wasm").read_bytes()

@@ -148,9 +148,9 @@ class Browser:
                 self.note(said)
 
     def open(self, path: str) -> None:
-        """Opens a file, and forgets what was complained of before."""
+        """Opens a file or an address, and forgets what was complained of before."""
         self.complaints, self.fetched, self.seen = [], [], []
-        self.call("Page.navigate", url=f"file://{path}")
+        self.call("Page.navigate", url=path if "://" in path else f"file://{path}")
         until = time.monotonic() + self.wait
         while "Page.loadEventFired" not in self.seen:
             said = self.message(until)

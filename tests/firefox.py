@@ -40,7 +40,7 @@ KEYS = {
     "ArrowDown": "\ue015",
 }
 # how an error of a page begins in Firefox's output
-SIGN = "JavaScript error: file:"
+SIGNS = ("JavaScript error: file:", "JavaScript error: http:")
 
 
 def firefox_path() -> str | None:
@@ -128,10 +128,10 @@ class Firefox:
     def complaints(self) -> list[str]:
         """The errors of pages so far."""
         with open(f"{self.home}/said", encoding="utf-8", errors="replace") as file:
-            return [line.rstrip("\n") for line in file if line.startswith(SIGN)]
+            return [line.rstrip("\n") for line in file if line.startswith(SIGNS)]
 
     def open(self, path: str) -> None:
-        self.call("WebDriver:Navigate", url=f"file://{path}")
+        self.call("WebDriver:Navigate", url=path if "://" in path else f"file://{path}")
 
     def reload(self) -> None:
         self.call("WebDriver:Refresh")

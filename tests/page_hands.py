@@ -11,7 +11,7 @@ import struct
 import time
 import xml.etree.ElementTree as ElementTree
 import zlib
-from typing import Any
+from typing import Any, Protocol
 
 from browser import Browser, PageFault
 from page_runs import Pages
@@ -47,7 +47,14 @@ def edge_place(browser: Browser, low: int, high: int) -> Any:
     return place(browser, f"[data-ends='{low}-{high}']")
 
 
-def waited(browser: Browser, wanted: Any, probe: str, *words: Any, seconds: float = 10) -> Any:
+class Asks(Protocol):
+    """A browser that is asked by probes."""
+
+    def ask(self, probe: str, *words: Any) -> Any:
+        """What a probe of page_probes.js returns."""
+
+
+def waited(browser: Asks, wanted: Any, probe: str, *words: Any, seconds: float = 10) -> Any:
     """What a probe returns in the page, once it is what is wanted or so many seconds have passed."""
     until = time.monotonic() + seconds
     while (came := browser.ask(probe, *words)) != wanted and time.monotonic() < until:

@@ -15,6 +15,7 @@ from page_runs import Pages
 TOP = os.path.dirname(os.path.dirname(os.path.abspath(__file__)))
 PLAYGROUND = f"{TOP}/release/playground.html"
 TITLE = "Break a network by hand – Rudekpi"
+REFUSED = ("text", "#refusal-said")
 # what a node adds to the bound by the edges
 WEIGHTS = {"hh": 1, "manne": 3}
 
@@ -544,17 +545,33 @@ def many(pages: Pages, browser: Browser) -> None:
 
 
 def without(pages: Pages, browser: Browser) -> None:
-    """A browser without 64-bit memory gets one sentence, and plays transcripts."""
-    script = browser.before_pages("WebAssembly.validate = () => false;")
-    browser.open(PLAYGROUND)
-    hint = browser.ask("text", "#hint")
-    pages.expect("one clear sentence", "64-bit WebAssembly memory, which this browser lacks" in hint, True)
-    dropped(browser, f"{TOP}/examples/breaks_and_mends.transcript")
-    waited(browser, "382", "attribute", "#slider", "max")
-    foot = browser.ask("text", "#judged").startswith("Nobody has judged this transcript")
-    pages.expect("a transcript is played all the same", foot, True)
-    browser.forget(script)
-    pages.expect("complaints without the engine", browser.complaints, [])
+    """A browser without WebAssembly, or one that refuses the module, plays a recorded transcript, and those that are
+    opened; it says why no network is there."""
+    with open(f"{TOP}/examples/breaks_and_mends.transcript", "rb") as file:
+        verdict = pages.run([pages.program, "audit"], file.read())[1].decode().strip()
+    with open(f"{TOP}/examples/broken_ring.transcript", encoding="ascii") as lines:
+        other = str(len(lines.readlines()) - 1)
+    lacks = ["delete globalThis.WebAssembly;", "WebAssembly.validate = () => false;"]
+    for source in [*lacks, "WebAssembly.instantiate = async () => { throw new Error(); };"]:
+        script = browser.before_pages(source)
+        browser.open(f"{TOP}/viewer/page.css")
+        browser.ask("forgetAll")
+        browser.open(PLAYGROUND)
+        waited(browser, "382", "attribute", "#slider", "max")
+        pages.expect(f"{source} one clear sentence", "does not run WebAssembly" in browser.ask(*REFUSED), True)
+        judged = browser.ask("text", "#judged").startswith(f"Judged by Rudekpi's console audit: {verdict}. ")
+        pages.expect(f"{source} a recorded transcript, as the program judges it", judged, True)
+        first = browser.ask("entry")
+        until = time.monotonic() + 5
+        while browser.ask("entry") == first and time.monotonic() < until:
+            time.sleep(0.1)
+        pages.expect(f"{source} it plays", browser.ask("entry") != first, True)
+        dropped(browser, f"{TOP}/examples/broken_ring.transcript")
+        pages.expect(f"{source} another one", waited(browser, other, "attribute", "#slider", "max"), other)
+        foot = browser.ask("text", "#judged").startswith("Nobody has judged this transcript")
+        pages.expect(f"{source} nobody judged that", foot, True)
+        browser.forget(script)
+        pages.expect(f"{source} complaints", browser.complaints, [])
 
 
 def use(pages: Pages, browser: Browser) -> None:

@@ -53,6 +53,8 @@ const probes = (() => {
     heights: (...selectors) => selectors.map((selector) => one(selector).clientHeight),
     validity: (selector) => one(selector).validationMessage,
     title: () => document.title,
+    fetched: () => performance.getEntriesByType("resource").map(({ name }) => name),
+    told: (name) => document.documentElement.dataset[name] ?? null,
     address: () => location.hash,
     forgetAll: () => sessionStorage.clear(),
     goTo: (hash) => void (location.hash = hash),

@@ -28,11 +28,6 @@ interface Layout {
 /** The two ends of a link. */
 type Link = number[];
 
-/** In browsers and in node, and not yet in TypeScript's own library. */
-interface Array<T> {
-  findLast(isWanted: (value: T) => boolean): T | undefined;
-}
-
 type RuleName = "hh" | "manne";
 
 /** Registers and edges, as a machine loads them: `ends` holds both ends of each edge in turn. */

@@ -2,6 +2,7 @@
 
 from __future__ import annotations
 
+import glob
 import shutil
 import sys
 
@@ -18,6 +19,7 @@ PACKAGES = {
     "cmake": "cmake",
     "distributed": "python3-distributed",
     "dot": "graphviz",
+    "gir1.2-webkit2-4.1": "gir1.2-webkit2-4.1",
     "firefox": "firefox-esr",
     "firefox-esr": "firefox-esr",
     "flake8": "flake8",
@@ -33,6 +35,7 @@ PACKAGES = {
     "objcopy": "binutils",
     "pandas": "python3-pandas",
     "pkg-config": "pkg-config",
+    "python3-gi": "python3-gi",
     "python3-venv": "python3-venv",
     "qemu-aarch64": "qemu-user",
     "qemu-riscv64": "qemu-user",
@@ -41,18 +44,32 @@ PACKAGES = {
     "shellcheck": "shellcheck",
     "tqdm": "python3-tqdm",
     "tsc": "node-typescript",
+    "wasm-opt": "binaryen",
+    "WebKitWebDriver": "webkit2gtk-driver",
+    "Xvfb": "xvfb",
 }
 # The programs that `.ci/tools` installs for the gate; the libraries are those that `tests/client --lacks` prints.
 OF_THE_GATE = (
-    *("chromium", "dot", "firefox-esr", "gcc", "man", "mandoc", "node"),
+    *("chromium", "dot", "firefox-esr", "gcc", "man", "mandoc", "node", "wasm-opt", "WebKitWebDriver", "Xvfb"),
     *("black", "clang", "clang-format", "flake8", "mypy", "shellcheck", "tsc"),
     *("aarch64-linux-gnu-gcc", "cmake", "g++", "make", "pkg-config", "qemu-aarch64", "riscv64-linux-gnu-gcc"),
 )
+# What the gate needs that is no program, by its package.
+FILES = {
+    "python3-gi": "/usr/lib/python3/dist-packages/gi/__init__.py",
+    "gir1.2-webkit2-4.1": "/usr/lib/*/girepository-1.0/WebKit2-4.1.typelib",
+}
+
+
+def missing_files() -> list[str]:
+    """Debian's packages of the files that the gate needs and that are not there."""
+    return [package for package, path in FILES.items() if not glob.glob(path)]
 
 
 def missing_packages() -> list[str]:
-    """Debian's packages of the programs that the gate runs and that are not in the PATH."""
-    return [package for name in OF_THE_GATE if shutil.which(name) is None for package in PACKAGES[name].split()]
+    """Debian's packages of the programs and files that the gate needs and that are not there."""
+    lacking = [PACKAGES[name] for name in OF_THE_GATE if shutil.which(name) is None]
+    return [*(package for it in lacking for package in it.split()), *missing_files()]
 
 
 if __name__ == "__main__":

@@ -1,4 +1,5 @@
 // What an entry does to a machine.
+import {lastOf} from "./lists.mjs";
 import {movesOf, wordsOf} from "./transcript.mjs";
 
 /**
@@ -28,7 +29,7 @@ function mayMove(machine, { node, rule, target }) {
   }
   if (rule === "seduce") {
     const open = machine.openNeighbours(node);
-    return machine.flags ? open.at(-1) === target : open.includes(target);
+    return machine.flags ? lastOf(open) === target : open.includes(target);
   }
   return target === 0;
 }

@@ -1,5 +1,6 @@
 // What a node or an edge is, in words: its registers, the rule that is enabled there with its guard, and what the
 // charge counts.
+import {lastOf} from "./lists.mjs";
 import {counted} from "./numbers.mjs";
 
 const MOST_NAMED = 12;
@@ -12,7 +13,7 @@ export function listed(names) {
   if (names.length > MOST_NAMED) {
     return `${names.slice(0, MOST_NAMED).join(", ")} and ${names.length - MOST_NAMED} more`;
   }
-  return names.length < 2 ? names.join("") : `${names.slice(0, -1).join(", ")} and ${names.at(-1)}`;
+  return names.length < 2 ? names.join("") : `${names.slice(0, -1).join(", ")} and ${lastOf(names)}`;
 }
 
 /**
@@ -53,7 +54,7 @@ function whySeduce(machine, v) {
   const open = machine.openNeighbours(v);
   const free = "it points nowhere, nobody points at it";
   if (machine.flags) {
-    return `${free}, and ${open.at(-1)} is the highest neighbour above it that points nowhere and has the flag 0`;
+    return `${free}, and ${lastOf(open)} is the highest neighbour above it that points nowhere and has the flag 0`;
   }
   return `${free}, and ${
     open.length === 1 ? `its neighbour ${open[0]} points` : `its neighbours ${listed(open)} point`} nowhere too`;

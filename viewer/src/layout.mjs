@@ -2,6 +2,7 @@
 // A path or a cycle lies on a ring; any other part is spread by its distances (pivot scaling) and then by forces.
 import {spread} from "./forces.mjs";
 import {placeByDistance} from "./distances.mjs";
+import {lastOf} from "./lists.mjs";
 
 /**
  * Nodes that hang together, and their places.
@@ -181,7 +182,7 @@ function pack(parts) {
   /** @type {{ x: number, y: number, height: number, parts: (typeof boxes) }[]} */
   const rows = [{ x: 0, y: 0, height: 0, parts: [] }];
   for (const part of boxes) {
-    const last = rows.at(-1);
+    const last = lastOf(rows);
     const fits = last.x === 0 || last.x + part.box.width <= rowWidth + 1;
     const row = fits ? last : { x: 0, y: last.y + last.height, height: 0, parts: [] };
     if (!fits) {
@@ -199,7 +200,7 @@ function pack(parts) {
         [part.at + (width - row.x) / 2 - part.box.left, row.y + (row.height - part.box.height) / 2 - part.box.top];
     }
   }
-  return { boxes, width, height: rows.at(-1).y + rows.at(-1).height };
+  return { boxes, width, height: lastOf(rows).y + lastOf(rows).height };
 }
 
 /**

@@ -1,11 +1,13 @@
 // Puts the page together: a transcript that stands in it is played; else there is a network to break. What is opened,
 // dropped or pasted is told apart: the engine inside judges a transcript, plays a script, and links a graph.
 import {Playing} from "./playing.mjs";
-import {canRun, Engine} from "./playground/engine.mjs";
 import {forget, keep, kept} from "./playground/keeping.mjs";
 import {LabPage} from "./playground/lab_page.mjs";
 import {listenToFiles} from "./playground/opening.mjs";
 import {kindOf} from "./playground/text_kinds.mjs";
+import {summaryOf} from "./rudekpi/audits.mjs";
+import {canRun, Engine} from "./rudekpi/engine.mjs";
+import {Damaged} from "./rudekpi/errors.mjs";
 import {byId, nameWindow} from "./svg.mjs";
 
 const LONGEST_SHOWN = 300;
@@ -13,11 +15,41 @@ const LONGEST_SHOWN = 300;
 const SOON = 400;
 const LARGE = 1 << 20;
 const WITHOUT =
-  "The engine of this page needs 64-bit WebAssembly memory, which this browser lacks: Chrome 133, Edge 133, Firefox 134 and later ones have it. Transcripts can be played here all the same: open one.";
+  "This browser does not run WebAssembly, so no network can be broken here. A recorded run is played in its place, and so is a transcript that you open.";
 
 /** @param {string} id */
 function dataOf(id) {
   return JSON.parse(byId(id).textContent);
+}
+
+/**
+ * The engine of a module as text, or null if this browser refuses it.
+ * @param {string} text
+ */
+async function load(text) {
+  try {
+    return await Engine.load(Uint8Array.from(atob(text), (letter) => letter.charCodeAt(0)));
+  } catch {
+    return null;
+  }
+}
+
+/**
+ * What the audit says of a transcript: a line as the program writes it, whether it accepts, and the first wrong line,
+ * else 0.
+ * @param {Engine} engine
+ * @param {Uint8Array} bytes
+ */
+function verdictOf(engine, bytes) {
+  try {
+    const { entries, epochs, moves } = summaryOf(engine, bytes);
+    return { said: `accepted: ${entries} entries, ${epochs} epochs, ${moves} moves`, accepted: true, line: 0 };
+  } catch (wrong) {
+    if (!(wrong instanceof Damaged)) {
+      throw wrong;
+    }
+    return { said: wrong.message, accepted: false, line: wrong.line };
+  }
 }
 
 class Page {
@@ -30,12 +62,10 @@ class Page {
      * @type {string | null}
      */
     this.opened = null;
-    const bytes = dataOf("engine");
-    this.runs = bytes !== null && canRun();
-    // loaded once, when it is needed first
-    /** @type {Promise<Engine> | undefined} */
+    /** @type {Promise<Engine | null> | undefined} */
     this.loaded = undefined;
-    this.engine = () => (this.loaded ??= Engine.load(Uint8Array.from(atob(bytes), (letter) => letter.charCodeAt(0))));
+    /** Whether the engine runs here, as far as that is known. */
+    this.runs = dataOf("engine") !== null && canRun();
     byId("to-lab").hidden = !this.runs;
     byId("to-lab").addEventListener("click", () => this.openLab(null));
     /**
@@ -62,6 +92,29 @@ class Page {
     }
   }
 
+  /** The engine, which is loaded when it is needed first; null if this browser does not run it. */
+  async engine() {
+    this.loaded ??= this.runs ? load(dataOf("engine")) : Promise.resolve(null);
+    const engine = await this.loaded;
+    this.runs = engine !== null;
+    byId("to-lab").hidden = !this.runs;
+    return engine;
+  }
+
+  /** What is there without the engine: the page's own transcript, or a recorded one. */
+  playRecorded() {
+    if (this.embedded !== null) {
+      this.play(this.embedded, dataOf("judge"));
+      return;
+    }
+    const { transcript, judge } = dataOf("recorded");
+    this.play(transcript, judge);
+    this.refuse({ said: WITHOUT, line: "" });
+    if (!matchMedia("(prefers-reduced-motion: reduce)").matches) {
+      byId("play").click();
+    }
+  }
+
   /**
    * @param {string} text
    * @param {Judge} judge
@@ -74,10 +127,12 @@ class Page {
 
   /** @param {import("./playground/keeping.mjs").KeptLab | null} state what was kept before a reload, or null */
   async openLab(state) {
-    if (this.runs) {
-      const engine = await this.engine();
-      this.lab ??= this.labPage(engine);
+    const engine = await this.engine();
+    if (engine === null) {
+      this.playRecorded();
+      return;
     }
+    this.lab ??= this.labPage(engine);
     this.showLab(state);
   }
 
@@ -92,12 +147,7 @@ class Page {
     document.body.classList.add("lab");
     nameWindow("Break a network by hand");
     byId("title").textContent = "Each node knows its neighbours alone. Whatever you break, they pair up anew.";
-    if (this.lab) {
-      this.lab.enter(state ?? this.keptLab ?? null);
-    } else {
-      document.body.classList.add("engineless");
-      byId("hint").textContent = WITHOUT;
-    }
+    this.lab.enter(state ?? this.keptLab ?? null);
   }
 
   /** @param {Engine} engine */
@@ -143,8 +193,6 @@ class Page {
         "There is nothing in it." :
         "GraphML and other XML are not read here: save the graph as an edge list, or as node-link JSON.";
       this.refuse({ said, line: "" });
-    } else if (!this.runs) {
-      this.refuse({ said: WITHOUT, line: "" });
     } else {
       await this.openInLab(text, name, kind);
     }
@@ -157,6 +205,10 @@ class Page {
    */
   async openInLab(text, name, kind) {
     const engine = await this.engine();
+    if (engine === null) {
+      this.refuse({ said: WITHOUT, line: "" });
+      return;
+    }
     this.lab ??= this.labPage(engine);
     this.lab.openText(text, name, kind, () => this.showLab(null));
   }
@@ -167,12 +219,13 @@ class Page {
    */
   async judge(bytes) {
     const text = new TextDecoder().decode(bytes);
-    if (!this.runs) {
+    const engine = await this.engine();
+    if (engine === null) {
       this.opened = text;
       this.play(text, { verdict: null });
       return;
     }
-    const { said, accepted, line } = (await this.engine()).audit(bytes);
+    const { said, accepted, line } = verdictOf(engine, bytes);
     this.refuse(accepted ? null : {
       said: `The transcript is refused: ${said}`,
       line: text.split("\n")[line - 1] || "(there is no such line, or it is empty)"

@@ -1,6 +1,7 @@
 // Replays a transcript once, keeps what the plots show of every entry, and a snapshot here and there to go back to.
 import {Machine, mostAmong, RULE_SETS} from "./machine.mjs";
 import {carryOut, changes, isPossible} from "./entries.mjs";
+import {lastOf, lastWhere} from "./lists.mjs";
 import {movesOf, wordsOf} from "./transcript.mjs";
 
 const SNAPSHOT_BYTES = 64 << 20;
@@ -78,7 +79,7 @@ export class Replay {
    * @param {number} number
    */
   noteBurst(number) {
-    const goesOn = this.burstEnds.length > 0 && !(this.lastMove > this.burstEnds.at(-1));
+    const goesOn = this.burstEnds.length > 0 && !(this.lastMove > lastOf(this.burstEnds));
     this.burstEnds.splice(goesOn ? -1 : this.burstEnds.length, 1, number);
   }
 
@@ -211,7 +212,7 @@ export class Replay {
    * @param {number} number
    */
   previousDisturbance(number) {
-    return this.burstEnds.findLast((end) => end < number) ?? null;
+    return lastWhere(this.burstEnds, (end) => end < number) ?? null;
   }
 
   /**
@@ -228,7 +229,7 @@ export class Replay {
    * @param {number} number
    */
   goTo(number) {
-    const last = this.snapshots.findLast((snapshot) => snapshot.number <= number);
+    const last = lastWhere(this.snapshots, (snapshot) => snapshot.number <= number);
     if (last && (number < this.at || last.number > this.at)) {
       this.machine.load(last.state);
       this.at = last.number;

@@ -3,7 +3,9 @@
 import assert from "node:assert/strict";
 import test from "node:test";
 import {drawn, engineOfPage, program, whatIsMissing} from "./wasm.mjs";
-import {EngineFault} from "../src/playground/engine.mjs";
+import {summaryOf} from "../src/rudekpi/audits.mjs";
+import {Session} from "../src/rudekpi/engine.mjs";
+import {Damaged, EngineFault} from "../src/rudekpi/errors.mjs";
 import {BadLine, Lab, MOST_FAULTS, MOST_TEXT} from "../src/playground/lab.mjs";
 import {Replay} from "../src/replay.mjs";
 import {Transcript} from "../src/transcript.mjs";
@@ -64,7 +66,7 @@ function wordsOf({ rules, names, present }) {
 
 /** What the engine writes of a script, and the exit status that the program would have. */
 function played(engine, { rules, names, present, lines }) {
-  const session = engine.begin(rules, names, present);
+  const session = new Session(engine, rules, names, present);
   const parts = [session.read()];
   let status = 0;
   for (const line of lines) {
@@ -79,6 +81,17 @@ function played(engine, { rules, names, present, lines }) {
   }
   session.free();
   return { status, text: parts.join("") };
+}
+
+/** The verdict of the engine, and the exit status that the program would have. */
+function judged(engine, text) {
+  try {
+    const { entries, epochs, moves } = summaryOf(engine, Buffer.from(text, "latin1"));
+    return { status: 0, text: `accepted: ${entries} entries, ${epochs} epochs, ${moves} moves\n` };
+  } catch (wrong) {
+    assert.ok(wrong instanceof Damaged, `${wrong}`);
+    return { status: 1, text: `${wrong.message}\n` };
+  }
 }
 
 /** A transcript with one byte or one line otherwise than it was, or cut. */
@@ -110,9 +123,7 @@ test(`the engine writes what the program writes of ${SCRIPTS} scripts, and judge
     const texts = [theirs.text, ...Array.from({ length: DAMAGES }, () => damaged(theirs.text, script.next))];
     for (const text of texts) {
       const verdict = program(["audit"], text);
-      const { said, accepted: isAccepted } = engine.audit(Buffer.from(text, "latin1"));
-      assert.deepEqual(
-        { status: isAccepted ? 0 : 1, text: `${said}\n` }, verdict, `seed ${seed}: ${JSON.stringify(text)}`);
+      assert.deepEqual(judged(engine, text), verdict, `seed ${seed}: ${JSON.stringify(text)}`);
       [refused, accepted] = [refused + verdict.status, accepted + 1 - verdict.status];
     }
   }
@@ -175,7 +186,7 @@ test("a lab takes no bad line, and plays other lines from the start", { skip }, 
   assert.equal(lab.words, "run --rules hh --nodes 4 --present 3");
   lab.replay(["link 1 2"]);
   assert.equal(lab.transcript, "matching hh 4 3\n1 link 1 2 = ok\n");
-  assert.deepEqual([lab.seen.told.edges, lab.seen.charge, lab.seen.enabledNodes], [1, 2, [1, 2]]);
+  assert.deepEqual([lab.seen.edgeCount, lab.seen.charge, lab.seen.enabledNodes], [1, 2, [1, 2]]);
   assert.throws(() => lab.replay(["link 1 2", "lnk"]), new BadLine(2, "lnk", "is no command"));
   lab.free();
 });

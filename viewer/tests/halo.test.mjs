@@ -42,7 +42,7 @@ const FLAGS = {
 async function settled(rules) {
   const lab = new Lab(await engineOfPage(), { rules, names: 7, present: 6 });
   lab.replay(SETTLED[rules]);
-  assert.equal(lab.seen.told.enabled, 0);
+  assert.equal(lab.seen.enabledCount, 0);
   assert.deepEqual([2, 5].map((v) => lab.seen.partner(v)), [3, 6]);
   return lab;
 }

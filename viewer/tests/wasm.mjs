@@ -3,11 +3,7 @@
 import {existsSync, readFileSync} from "node:fs";
 import {spawnSync} from "node:child_process";
 import {fileURLToPath} from "node:url";
-import {setFlagsFromString} from "node:v8";
-import {canRun, Engine} from "../src/playground/engine.mjs";
-
-// what browsers have by themselves, node has behind a flag
-setFlagsFromString("--experimental-wasm-memory64");
+import {canRun, Engine} from "../src/rudekpi/engine.mjs";
 
 const PAGE = process.env.PLAYGROUND ?? fileURLToPath(new URL("../../release/playground.html", import.meta.url));
 const PROGRAM = process.env.CONSOLE ?? fileURLToPath(new URL("../../crates/console/out/console", import.meta.url));
@@ -21,13 +17,18 @@ export function whatIsMissing() {
   if (!existsSync(PROGRAM)) {
     return `no program at ${PROGRAM}`;
   }
-  return !canRun() && "this node has no 64-bit WebAssembly memory";
+  return !canRun() && "this node does not run the engine";
+}
+
+/** The bytes of the module in the page. */
+export function moduleOfPage() {
+  const [, text] = EMBEDDED.exec(readFileSync(PAGE, "utf8"));
+  return Buffer.from(text, "base64");
 }
 
 /** A new engine. */
 export function engineOfPage() {
-  const [, text] = EMBEDDED.exec(readFileSync(PAGE, "utf8"));
-  return Engine.load(Buffer.from(text, "base64"));
+  return Engine.load(moduleOfPage());
 }
 
 /** What the program answers: its exit status and its text. */

@@ -1,5 +1,5 @@
-/* The heap of the module that stands in the playground: what the engine's code calls where it takes or gives back memory. Nothing
- * of it is proved; in the library for C, malloc stands in its place.
+/* The heap of the WebAssembly module in the playground and in rudekpi.mjs: what the engine's code calls to take or give back memory.
+ * Nothing of it is proved; in the library for C, malloc stands in its place.
  *
  * Blocks are powers of two from 32 bytes on, with their class in a header of 16 bytes; a block that is given back goes to the front
  * of its class's list, and memory never shrinks. What calls returns whether it was done, and where. */
@@ -23,7 +23,7 @@ static int class_of(u64 size) {
     return class;
 }
 
-/* Lets memory grow until so many bytes lie between top and end; 0 where that is refused. */
+/* Lets memory grow until so many bytes lie between top and end; 0 if that is refused. */
 static int has_room(u64 size) {
     if (!top) {
         top = (u8 *)(((u64)&__heap_base + HEADER - 1) & -(u64)HEADER);
@@ -33,8 +33,11 @@ static int has_room(u64 size) {
     if (left >= size) return 1;
     u64 pages = (size - left + PAGE - 1) / PAGE + 1;
     if (pages < LEAST_PAGES) pages = LEAST_PAGES;
-    if (__builtin_wasm_memory_grow(0, pages) == (u64)-1) return 0;
-    end += pages * PAGE;
+    /* The memory's size says whether it grew: lowered to 32 bits, this module gets no -1 of 64 bits for a growth that is refused. */
+    __builtin_wasm_memory_grow(0, pages);
+    u8 *grown = (u8 *)(__builtin_wasm_memory_size(0) * PAGE);
+    if (grown < end + pages * PAGE) return 0;
+    end = grown;
     return 1;
 }
 
@@ -80,7 +83,7 @@ struct tried rattle_realloc(u8 *at, u64 kept, u64 size, u64 align) {
     return told(to);
 }
 
-/* Room for what the page hands over and is handed; null where there is none. */
+/* Room for what JavaScript hands over and is handed; null if there is none. */
 u8 *rudekpi_room(u64 size) {
     return take(size);
 }

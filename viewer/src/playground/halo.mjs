@@ -61,7 +61,7 @@ export function linesBetween(name, node, thing) {
 
 /**
  * The nodes that one of the lines would reach, ascending: all others that are at rest stay at rest.
- * @param {import("./engine.mjs").Session} session
+ * @param {import("../rudekpi/engine.mjs").Session} session
  * @param {string[]} lines
  */
 export function reachOf(session, lines) {

@@ -1,12 +1,11 @@
-// A network in hands: its script so far, the transcript that the engine writes of it, and its state. A second session
-// goes along, so that the questions that the page asks for its picture stand in no transcript.
+// A network in hands: its script so far, the transcript that the engine writes of it, and its state, which follows that.
 import {grouped} from "../numbers.mjs";
-import {EngineFault} from "./engine.mjs";
+import {BAD_LINE, Session} from "../rudekpi/engine.mjs";
+import {EngineFault} from "../rudekpi/errors.mjs";
 import {reachOf} from "./halo.mjs";
 import {Seen} from "./seen.mjs";
 
-/** @typedef {import("./engine.mjs").Engine} Engine */
-/** @typedef {import("./engine.mjs").Session} Session */
+/** @typedef {import("../rudekpi/engine.mjs").Engine} Engine */
 
 // What one line and one lab may make here. The engine takes more, but the page would stand still while it does.
 export const MOST_FAULTS = 100_000;
@@ -38,8 +37,7 @@ export class Lab {
     this.rules = rules;
     this.names = names;
     this.present = present;
-    this.seen = new Seen(rules, names);
-    /** Whether a line was fed since the engine last told its state. */
+    /** Whether a line was fed since the state was last looked at. */
     this.fed = false;
     /**
      * The nodes that moved since the last picture.
@@ -51,14 +49,15 @@ export class Lab {
 
   begin() {
     const { engine, rules, names, present } = this;
-    this.session = engine.begin(rules, names, present);
-    this.asked = engine.begin(rules, names, present);
+    this.session = new Session(engine, rules, names, present);
+    this.seen = new Seen(rules, names, present);
     /** @type {string[]} */
     this.lines = [];
     this.parts = [this.session.read()];
     this.size = this.parts[0].length;
-    this.asked.read();
-    this.seen.ask(this.asked);
+    /** What the engine wrote since the state was last looked at. */
+    this.unseen = "";
+    this.look();
   }
 
   /**
@@ -71,11 +70,11 @@ export class Lab {
     try {
       this.session.feed(line);
     } catch (wrong) {
-      throw wrong instanceof EngineFault && wrong.status === 1 ? this.bad(line, "is no command") : wrong;
+      throw wrong instanceof EngineFault && wrong.status === BAD_LINE ? this.bad(line, "is no command") : wrong;
     }
-    this.asked.feed(line);
     this.lines.push(line);
     const text = this.session.read();
+    this.unseen += text;
     this.size += text.length;
     this.parts.push(text);
     return text;
@@ -112,13 +111,13 @@ export class Lab {
    * @param {string[]} lines
    */
   reachOf(lines) {
-    return reachOf(this.asked, lines);
+    return reachOf(this.session, lines);
   }
 
-  /** Has the engine tell its state. */
+  /** The state as of now. */
   look() {
-    this.asked.read();
-    this.seen.ask(this.asked);
+    this.seen.goOn(this.unseen, this.session);
+    this.unseen = "";
     this.fed = false;
     return this.seen;
   }
@@ -167,6 +166,5 @@ export class Lab {
 
   free() {
     this.session.free();
-    this.asked.free();
   }
 }

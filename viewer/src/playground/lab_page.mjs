@@ -26,7 +26,7 @@ function isCalm() {
 
 export class LabPage {
   /**
-   * @param {import("./engine.mjs").Engine} engine
+   * @param {import("../rudekpi/engine.mjs").Engine} engine
    * @param {(text: string) => void} judge judges a transcript and plays it
    * @param {(wrong: Wrong | null) => void} refuse tells what was refused
    */

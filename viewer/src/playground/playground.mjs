@@ -1,4 +1,5 @@
 // The playground: one network, or the same one under both rule sets, in the hands of whoever opens the page.
+import {lastOf} from "../lists.mjs";
 import {counted} from "../numbers.mjs";
 import {byId, field} from "../svg.mjs";
 import {nodesOf, readEntry} from "../transcript.mjs";
@@ -25,7 +26,7 @@ const LIT = 700;
  * @param {string} text
  */
 function lastEntry(text) {
-  const line = text.trimEnd().split("\n").at(-1);
+  const line = lastOf(text.trimEnd().split("\n"));
   return /^\d/.test(line) ? readEntry(line) : null;
 }
 
@@ -39,7 +40,7 @@ function isSame(one, other) {
 
 export class Playground {
   /**
-   * @param {import("./engine.mjs").Engine} engine
+   * @param {import("../rudekpi/engine.mjs").Engine} engine
    * @param {(text: string) => void} judge judges a transcript and plays it
    */
   constructor(engine, judge) {
@@ -120,7 +121,7 @@ export class Playground {
     try {
       for (const { rules, lines } of plan.labs) {
         labs.push(new Lab(this.engine, { rules, names, present }));
-        labs.at(-1).replay(lines);
+        lastOf(labs).replay(lines);
       }
     } catch (wrong) {
       labs.forEach((lab) => lab.free());
@@ -219,7 +220,7 @@ export class Playground {
     return labs.map((lab) => {
       const text = this.feedOne(line, lab);
       lab.fed = true;
-      lab.lit.push(...text.split("\n").filter((entry) => entry.includes(" step ")).map(readEntry).flatMap(nodesOf));
+      lab.lit.push(...text.split("\n").filter((line) => line.includes(" step ")).map(readEntry).flatMap(nodesOf));
       return text;
     });
   }
@@ -439,7 +440,7 @@ export class Playground {
   }
 
   /**
-   * Has the engine tell of networks that have come on since it told of them last.
+   * Asks the engine about networks that have come on since it was asked last.
    * @param {Lab[]} labs
    */
   look(labs) {
@@ -447,7 +448,7 @@ export class Playground {
   }
 
   /**
-   * Has the engine tell of all networks, after so many moves, and shows it.
+   * Asks the engine about all networks, after so many moves, and shows them.
    * @param {number} moves
    */
   show(moves) {

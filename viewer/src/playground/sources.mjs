@@ -1,6 +1,6 @@
 // What a script or a graph that is opened makes: a network with the lines that each rule set plays in it.
 import {counted, grouped} from "../numbers.mjs";
-import {EngineFault} from "./engine.mjs";
+import {RudekpiError} from "../rudekpi/errors.mjs";
 import {GraphFault, readGraph} from "./graph_files.mjs";
 import {BadLine, Lab} from "./lab.mjs";
 import {AddressFault, MOST_NAMES, namesIn} from "./sharing.mjs";
@@ -88,7 +88,7 @@ export function sourceOf(text, name, kind, rules) {
 
 /**
  * Throws a `BadLine`, with its number in the text, if a line can't be played.
- * @param {import("./engine.mjs").Engine} engine
+ * @param {import("../rudekpi/engine.mjs").Engine} engine
  * @param {Opened} opened
  */
 export function tryOut(engine, {source, rules, numbers}) {
@@ -109,5 +109,5 @@ export function tryOut(engine, {source, rules, numbers}) {
  */
 export function isTold(wrong) {
   return wrong instanceof AddressFault || wrong instanceof BadLine || wrong instanceof GraphFault
-    || wrong instanceof EngineFault;
+    || wrong instanceof RudekpiError;
 }

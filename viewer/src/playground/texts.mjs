@@ -1,6 +1,6 @@
 // The script and the transcript beside the picture: shown as they grow, edited, copied and saved.
 import {byId, field} from "../svg.mjs";
-import {EngineFault} from "./engine.mjs";
+import {RudekpiError} from "../rudekpi/errors.mjs";
 import {copy, save} from "./files.mjs";
 import {BadLine} from "./lab.mjs";
 import {writeAddress} from "./sharing.mjs";
@@ -153,7 +153,7 @@ export class Texts {
       const told = renumbered(wrong, numbers);
       this.mark(told.line);
       this.refuse(`The script was not played: ${told.message}.`);
-    } else if (wrong instanceof EngineFault) {
+    } else if (wrong instanceof RudekpiError) {
       this.refuse(`The script was not played, since the engine does not go on: ${wrong.message}.`);
     } else {
       throw wrong;

@@ -1,0 +1,25 @@
+// Ends of lists, for browsers that came before `at` and `findLast`.
+
+/**
+ * The last item of a list that has one.
+ * @template Item
+ * @param {Item[]} list
+ */
+export function lastOf(list) {
+  return list[list.length - 1];
+}
+
+/**
+ * The last item that is wanted, or undefined.
+ * @template Item
+ * @param {Item[]} list
+ * @param {(item: Item) => boolean} isWanted
+ */
+export function lastWhere(list, isWanted) {
+  for (let at = list.length - 1; at >= 0; at -= 1) {
+    if (isWanted(list[at])) {
+      return list[at];
+    }
+  }
+  return undefined;
+}

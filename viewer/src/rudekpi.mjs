@@ -1,0 +1,7 @@
+// Rudekpi as a module for JavaScript: networks that the engine inside plays, and audits. Types: rudekpi.d.ts.
+import {Audit, audit} from "./rudekpi/audits.mjs";
+import {Damaged, Ended, MemoryError, NoReply, Refused, RudekpiError} from "./rudekpi/errors.mjs";
+import {Network} from "./rudekpi/network.mjs";
+import {Matching, Wish} from "./rudekpi/replies.mjs";
+
+export {Audit, Damaged, Ended, Matching, MemoryError, Network, NoReply, Refused, RudekpiError, Wish, audit};

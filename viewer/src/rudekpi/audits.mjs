@@ -1,0 +1,167 @@
+// Judges transcripts: the audit of the engine accepts exactly the texts of runs, and names the first wrong line of every
+// other text.
+import {DONE, Engine, inUse, NO_SESSION} from "./engine.mjs";
+import {Damaged, MemoryError} from "./errors.mjs";
+import {shown} from "./names.mjs";
+
+const VERDICT_BYTES = 32;
+// what an audit is handed at once
+const PIECE = 1 << 20;
+const ACCEPTED = 0;
+const WHYS =
+  ["", "bad header", "not a transcript line", "out of order", "not the machine's reply", "bad base"];
+
+/**
+ * What an accepted transcript has.
+ * @typedef {{ entries: number, epochs: number, moves: number }} Summary
+ */
+
+/**
+ * The bytes of a text. Throws a `TypeError` for what is none.
+ * @param {any} text
+ * @returns {Uint8Array}
+ */
+function bytesOf(text) {
+  if (typeof text === "string") {
+    return new TextEncoder().encode(text);
+  }
+  if (text instanceof ArrayBuffer) {
+    return new Uint8Array(text);
+  }
+  if (ArrayBuffer.isView(text)) {
+    return new Uint8Array(text.buffer, text.byteOffset, text.byteLength);
+  }
+  throw new TypeError(`a transcript is a text or bytes, and not ${shown(text)}`);
+}
+
+/**
+ * What a verdict says. Throws a `Damaged`, or a `MemoryError`.
+ * @param {Engine} engine
+ * @param {bigint} at where it lies
+ * @returns {Summary}
+ */
+function read(engine, at) {
+  const told = new DataView(engine.memory.buffer, Number(at), VERDICT_BYTES);
+  const [kind, entries, epochs] = [0, 4, 8].map((place) => told.getUint32(place, true));
+  const [moves, line] = [16, 24].map((place) => Number(told.getBigUint64(place, true)));
+  if (kind === ACCEPTED) {
+    return { entries, epochs, moves };
+  }
+  if (kind >= WHYS.length) {
+    throw new MemoryError("no memory for an audit");
+  }
+  throw new Damaged(line, WHYS[kind]);
+}
+
+/**
+ * The verdict of an engine on a text or its bytes.
+ * @param {Engine} engine
+ * @param {any} text
+ */
+export function summaryOf(engine, text) {
+  const judge = new Audit(engine);
+  try {
+    // a long text is encoded and handed over piece by piece; no piece ends between the halves of a character that has two
+    for (let at = 0; at < text.length; at += PIECE) {
+      judge.feed(typeof text === "string" ? text.slice(at, at + PIECE) : bytesOf(text).subarray(at, at + PIECE));
+    }
+    return judge.finish();
+  } finally {
+    judge.close();
+  }
+}
+
+/**
+ * Judges a transcript: what it has. Throws a `Damaged` if it is none.
+ * @param {string | ArrayBuffer | ArrayBufferView} text
+ */
+export function audit(text) {
+  return summaryOf(inUse.engine, typeof text === "string" ? text : bytesOf(text));
+}
+
+/**
+ * Ends audits that nothing refers to any more.
+ * @type {FinalizationRegistry<{ engine: Engine, slot: bigint }>}
+ */
+const FORGOTTEN = new FinalizationRegistry(({ engine, slot }) => {
+  engine.calls.rudekpi_audit_free(slot);
+  engine.calls.rudekpi_give_back(slot);
+});
+
+/** Judges a transcript that comes in pieces, cut anywhere, and keeps only a line or a base that is not whole yet. */
+export class Audit {
+  /** @type {Engine} */
+  #engine;
+  /** @type {bigint} */
+  #slot;
+  /**
+   * What it came to: a summary, or what is thrown.
+   * @type {{ summary?: Summary, wrong?: Error } | null}
+   */
+  #verdict = null;
+
+  /** @param {Engine} engine that of the module if none is given */
+  constructor(engine = inUse.engine) {
+    this.#engine = engine;
+    this.#slot = engine.slot();
+    if (engine.calls.rudekpi_audit_new(this.#slot) !== DONE) {
+      engine.calls.rudekpi_give_back(this.#slot);
+      throw new MemoryError("no memory for an audit");
+    }
+    FORGOTTEN.register(this, { engine, slot: this.#slot }, this);
+  }
+
+  /**
+   * Feeds it what comes next. Throws a `Damaged` if what came is no transcript, whatever comes next, and so do later
+   * calls.
+   * @param {string | ArrayBuffer | ArrayBufferView} piece
+   */
+  feed(piece) {
+    const bytes = bytesOf(piece);
+    const engine = this.#engine;
+    const status = engine.calls.rudekpi_audit_feed(this.#slot, engine.give(bytes), BigInt(bytes.length));
+    if (status !== DONE) {
+      this.finish();
+    }
+    if (status === NO_SESSION) {
+      throw new TypeError("the audit is over");
+    }
+  }
+
+  /** What the transcript has that it was fed; it may be asked again, and nothing more can be fed. */
+  finish() {
+    if (this.#verdict === null && this.#slot !== this.#engine.nowhere) {
+      this.#verdict = this.#end();
+      this.close();
+    }
+    if (this.#verdict === null) {
+      throw new TypeError("the audit is closed");
+    }
+    if (this.#verdict.wrong) {
+      throw this.#verdict.wrong;
+    }
+    return this.#verdict.summary;
+  }
+
+  /** Ends it, without a verdict if none was asked for. */
+  close() {
+    const engine = this.#engine;
+    if (this.#slot !== engine.nowhere) {
+      FORGOTTEN.unregister(this);
+      engine.calls.rudekpi_audit_free(this.#slot);
+      engine.calls.rudekpi_give_back(this.#slot);
+      this.#slot = engine.nowhere;
+    }
+  }
+
+  #end() {
+    const engine = this.#engine;
+    const at = engine.taken.of(VERDICT_BYTES);
+    engine.calls.rudekpi_audit_finish(this.#slot, at);
+    try {
+      return { summary: read(engine, at) };
+    } catch (wrong) {
+      return { wrong };
+    }
+  }
+}

@@ -1,0 +1,92 @@
+// The words of an edit or a fault of which something is asked beforehand, and why it would be refused.
+import {numberWithin, shown} from "./names.mjs";
+
+/** @typedef {import("./names.mjs").Names} Names */
+/** @typedef {import("./names.mjs").Name} Name */
+
+/** @type {Record<string, number>} */
+const COSTED = {
+  link: 2,
+  unlink: 2,
+  join: 1,
+  leave: 1,
+  point: 2,
+  flag: 2
+};
+const MOST_EDGES = 1_048_576;
+
+/**
+ * The numbers of an edit's or a fault's words, 0 for the pointer that is null. Throws a `RangeError` or a `TypeError`
+ * for what is none.
+ * @param {Names} names
+ * @param {string} word
+ * @param {Name[]} given
+ * @param {string} asked what is asked of it
+ */
+export function numbersOfEdit(names, word, given, asked) {
+  if (!Object.keys(COSTED).includes(word)) {
+    throw new RangeError(`${Object.keys(COSTED).join(" or ")} has a ${asked}, and not ${shown(word)}`);
+  }
+  if (given.length !== COSTED[word]) {
+    throw new TypeError(`${word} takes ${COSTED[word] === 1 ? "1 word" : "2 words"}, and not ${given.length}`);
+  }
+  const [first, second] = given;
+  const node = names.numberOf(first);
+  switch (word) {
+    case "flag":
+      return [node, numberWithin(Number(second), 1, "a flag")];
+    case "point":
+      return [node, names.numberOrNull(second)];
+    default:
+      return given.length === 1 ? [node] : [node, names.numberOf(second)];
+  }
+}
+
+/**
+ * The refusal with which a network answers an edit or a fault; no text if it carries it out.
+ * @param {{ rules: RuleName, names: number, here: Uint8Array, ends: Int32Array }} state
+ * @param {string} word
+ * @param {number} node
+ * @param {number} other
+ */
+export function whyRefused({ rules, names, here, ends }, word, node, other = 0) {
+  if (word === "join") {
+    return here[node] ? "already-present" : node > names ? "unknown-node" : "";
+  }
+  if (word === "flag" && rules === "hh") {
+    return "no-flag";
+  }
+  const namesTwo = word === "link" || word === "unlink" || (word === "point" && other !== 0);
+  if (!here[node] || (namesTwo && !here[other])) {
+    return "unknown-node";
+  }
+  if (!namesTwo) {
+    return "";
+  }
+  if (word === "point") {
+    return isEdge(ends, node, other) ? "" : "not-neighbour";
+  }
+  if (node === other) {
+    return "self-loop";
+  }
+  if (word === "unlink") {
+    return isEdge(ends, node, other) ? "" : "not-linked";
+  }
+  return isEdge(ends, node, other) ? "already-linked" : ends.length >= 2 * MOST_EDGES ? "too-many-edges" : "";
+}
+
+/**
+ * Whether two nodes are linked.
+ * @param {Int32Array} ends both ends of each edge in turn, the lower one first
+ * @param {number} v
+ * @param {number} w
+ */
+function isEdge(ends, v, w) {
+  const [low, high] = v < w ? [v, w] : [w, v];
+  for (let at = 0; at < ends.length; at += 2) {
+    if (ends[at] === low && ends[at + 1] === high) {
+      return true;
+    }
+  }
+  return false;
+}

@@ -1,0 +1,313 @@
+// The engine: the proved code as a WebAssembly module, called as C calls the library. Where include/rudekpi.h says
+// more, it holds here too. A place in the module's memory is a number of 64 bits, a `bigint`.
+import {EngineFault, MemoryError} from "./errors.mjs";
+
+/**
+ * The calls of the module, those of include/rudekpi.h, and two that hand over memory.
+ * @typedef {Record<string, (...words: (bigint | number)[]) => any>} Calls
+ */
+
+/** What calls answer. */
+export const DONE = 0;
+export const BAD_LINE = 1;
+export const LOG_FULL = 2;
+export const NO_MEMORY = 3;
+export const NO_SESSION = 4;
+export const REFUSED = 6;
+
+/** The rule sets, by the numbers that the calls take. */
+export const RULE_SET_NAMES = ["hh", "manne"];
+/** How many bytes a slot has, of a session or of an audit. */
+export const SLOT_BYTES = 16;
+
+// of what a call tells, the 32-bit numbers, the 64-bit number of rows, and behind them the counts of a status
+const TOLD_ROWS = 4;
+const COUNTS = 6;
+const DESK_WORDS = 12;
+const WORD_BYTES = 4;
+const ROW_WORDS = 3;
+// so many names have room at first
+const FEW = 64;
+const LEAST_ROOM = 1 << 12;
+// a module that does what the engine's code does beside the first version of WebAssembly
+const PROBE = Uint8Array.of(
+  0, 97, 115, 109, 1, 0, 0, 0, 1, 4, 1, 96, 0, 0, 3, 2, 1, 0, 5, 3, 1, 0, 1, 10, 27, 1, 25, 0, 68, 0, 0, 0, 0, 0, 0, 0,
+  0, 252, 2, 192, 26, 65, 0, 65, 0, 65, 0, 252, 10, 0, 0, 11);
+
+/** Whether this browser has what the engine needs. */
+export function canRun() {
+  return typeof WebAssembly === "object" && WebAssembly.validate(PROBE);
+}
+
+/** Room in the module's memory that grows as it must. */
+class Room {
+  /** @param {Engine} engine */
+  constructor(engine) {
+    this.engine = engine;
+    this.at = 0n;
+    this.size = 0;
+  }
+
+  /**
+   * Where so many bytes lie. Throws a `MemoryError` if there is no memory for them.
+   * @param {number} size
+   */
+  of(size) {
+    if (size > this.size) {
+      const wanted = Math.max(size, 2 * this.size, LEAST_ROOM);
+      const at = this.engine.roomFor(wanted);
+      if (this.size > 0) {
+        this.engine.calls.rudekpi_give_back(this.at);
+      }
+      this.at = at;
+      this.size = wanted;
+    }
+    return this.at;
+  }
+}
+
+export class Engine {
+  /**
+   * @param {Calls} calls
+   * @param {WebAssembly.Memory} memory
+   */
+  constructor(calls, memory) {
+    this.calls = calls;
+    this.memory = memory;
+    this.given = new Room(this);
+    this.taken = new Room(this);
+    /** Where calls write what they tell, and the counts of a status. */
+    this.told = this.roomFor(DESK_WORDS * WORD_BYTES);
+    this.counts = this.told + BigInt(COUNTS * WORD_BYTES);
+    this.desk = Number(this.told) / WORD_BYTES;
+    /** A slot that stays empty: what asks it is answered that there is no session. */
+    this.nowhere = this.slot();
+    this.numbers = new Uint32Array(memory.buffer);
+  }
+
+  /**
+   * The engine of a module's bytes.
+   * @param {BufferSource} bytes
+   */
+  static async load(bytes) {
+    const { instance } = await WebAssembly.instantiate(bytes, {});
+    const {memory, ...calls} = instance.exports;
+    return new Engine(
+      /** @type {Calls} */ (/** @type {unknown} */ (calls)),
+      /** @type {WebAssembly.Memory} */ (/** @type {unknown} */ (memory)));
+  }
+
+  /**
+   * Where so many bytes lie, until they are given back. Throws a `MemoryError` if there is no memory for them.
+   * @param {number} size
+   */
+  roomFor(size) {
+    const at = this.calls.rudekpi_room(BigInt(size));
+    if (at === 0n) {
+      throw new MemoryError(`no memory for ${size} bytes`);
+    }
+    return at;
+  }
+
+  /** Where a new slot lies, of a session or of an audit; it is empty. */
+  slot() {
+    const at = this.roomFor(SLOT_BYTES);
+    this.bytesAt(at, SLOT_BYTES).fill(0);
+    return at;
+  }
+
+  /** All of memory as 32-bit numbers; they are new ones once it has grown. */
+  words() {
+    if (this.numbers.length === 0) {
+      this.numbers = new Uint32Array(this.memory.buffer);
+    }
+    return this.numbers;
+  }
+
+  /** The number of the last call's entry. */
+  get entry() {
+    return this.words()[this.desk];
+  }
+
+  /** Why the last call's event was refused. */
+  get refusal() {
+    return this.words()[this.desk + 1];
+  }
+
+  /** Where the node points that the last call asked about, 0 for null. */
+  get target() {
+    return this.words()[this.desk + 2];
+  }
+
+  /** How many rows the last call's answer has. */
+  get rows() {
+    return this.words()[this.desk + TOLD_ROWS];
+  }
+
+  /**
+   * A count of the last status, in the order of include/rudekpi.h.
+   * @param {number} at
+   */
+  count(at) {
+    return this.words()[this.desk + COUNTS + at];
+  }
+
+  /**
+   * Bytes of memory; a later call may move them.
+   * @param {bigint} at
+   * @param {number} size
+   */
+  bytesAt(at, size) {
+    return new Uint8Array(this.memory.buffer, Number(at), size);
+  }
+
+  /**
+   * 32-bit numbers of memory; a later call may move them.
+   * @param {bigint} at
+   * @param {number} count
+   */
+  wordsAt(at, count) {
+    const first = Number(at) / WORD_BYTES;
+    return this.words().subarray(first, first + count);
+  }
+
+  /**
+   * Hands bytes over: where they lie.
+   * @param {Uint8Array} bytes
+   */
+  give(bytes) {
+    const at = this.given.of(bytes.length + 1);
+    this.bytesAt(at, bytes.length).set(bytes);
+    return at;
+  }
+
+  /**
+   * Makes room for the rows of an answer, so that none is lost. Throws a `MemoryError` if there is no memory.
+   * @param {number} most
+   */
+  expectRows(most) {
+    this.taken.of(most * ROW_WORDS * WORD_BYTES);
+  }
+
+  /**
+   * The rows of the last answer of a session, three numbers each; a later call may move them.
+   * @param {bigint} slot
+   */
+  rowsOf(slot) {
+    const count = this.rows;
+    const at = this.taken.of(count * ROW_WORDS * WORD_BYTES);
+    this.calls.rudekpi_rows(slot, at, BigInt(count));
+    return this.wordsAt(at, ROW_WORDS * count);
+  }
+
+  /**
+   * The nodes that an edit or a fault would reach, ascending, 0 for the pointer that is null; nothing is done. Throws an
+   * `EngineFault` if there is no session, a name is out of range or memory is refused.
+   * @param {bigint} slot
+   * @param {string} word of a script, as `unlink`
+   * @param {number[]} numbers
+   */
+  reachOf(slot, word, numbers) {
+    const ask = this.calls[`rudekpi_reach_of_${word}`];
+    const count = this.told;
+    for (let room = FEW;;) {
+      const at = this.taken.of(WORD_BYTES * room);
+      const status = ask(slot, ...numbers, at, BigInt(room), count);
+      if (status !== DONE) {
+        throw new EngineFault(status);
+      }
+      const found = this.words()[this.desk];
+      if (found <= room) {
+        return Array.from(this.wordsAt(at, found));
+      }
+      room = found;
+    }
+  }
+}
+
+/** The engine of this page or program, once it is loaded. */
+export const inUse = { engine: /** @type {Engine | null} */ (null) };
+
+/** A network that goes along a script, line by line, and its text that was not read yet. */
+export class Session {
+  /**
+   * Throws an `EngineFault` if the numbers are out of range, or memory is refused.
+   * @param {Engine} engine
+   * @param {RuleName} rules
+   * @param {number} names
+   * @param {number} present
+   */
+  constructor(engine, rules, names, present) {
+    this.engine = engine;
+    this.calls = engine.calls;
+    this.slot = engine.slot();
+    const status = this.calls.rudekpi_session_new(RULE_SET_NAMES.indexOf(rules), names, present, this.slot);
+    if (status !== DONE) {
+      this.calls.rudekpi_give_back(this.slot);
+      throw new EngineFault(status);
+    }
+  }
+
+  /** @param {number} status */
+  hear(status) {
+    if (status !== DONE) {
+      throw new EngineFault(status);
+    }
+  }
+
+  /**
+   * Carries out the next line. Throws an `EngineFault` if it is none, or if there is no room.
+   * @param {string} line
+   */
+  feed(line) {
+    const bytes = new TextEncoder().encode(line);
+    const at = this.engine.give(bytes);
+    this.hear(this.calls.rudekpi_session_feed(this.slot, at, BigInt(bytes.length), this.engine.told));
+  }
+
+  /** The text that came since it was read last. Throws a `MemoryError` if there is no room for it. */
+  read() {
+    const size = Number(this.calls.rudekpi_session_length(this.slot));
+    const at = this.engine.taken.of(size);
+    this.calls.rudekpi_session_read(this.slot, at, BigInt(size));
+    return new TextDecoder().decode(this.engine.bytesAt(at, size));
+  }
+
+  /** The lines of a base, which are no entry. What came before it must have been read, and it stands in no later text. */
+  base() {
+    this.hear(this.calls.rudekpi_checkpoint(this.slot, this.engine.told));
+    return this.read();
+  }
+
+  /**
+   * Whether a node is at rest: it does not move until an edit or a fault reaches it.
+   * @param {number} node
+   */
+  isAtRest(node) {
+    this.hear(this.calls.rudekpi_is_at_rest(this.slot, node, this.engine.told));
+    // one byte is written
+    return (this.engine.entry & 255) !== 0;
+  }
+
+  /** How many moves can come before the next edit or fault, at most. */
+  movesLeft() {
+    this.hear(this.calls.rudekpi_moves_left(this.slot, this.engine.told));
+    return this.engine.entry;
+  }
+
+  /**
+   * The nodes that an edit or a fault would reach, ascending; nothing is done. Nobody if it would be refused.
+   * @param {string} line of a script
+   */
+  reachOf(line) {
+    const [word, ...given] = line.split(" ");
+    return this.engine.reachOf(this.slot, word, given.map((text) => (text === "-" ? 0 : Number(text))));
+  }
+
+  /** Gives its memory back; it can't be used any more. */
+  free() {
+    this.calls.rudekpi_session_free(this.slot);
+    this.calls.rudekpi_give_back(this.slot);
+    this.slot = this.engine.nowhere;
+  }
+}

@@ -1,0 +1,80 @@
+// What the module throws, beside `RangeError` and `TypeError` for arguments that are out of range or of another type.
+
+const STATUSES =
+  ["done", "not a command", "the log is full", "memory was refused", "there is no session", "out of range"];
+
+/** All errors of this module but those two. */
+export class RudekpiError extends Error {
+  /** @param {string} said */
+  constructor(said) {
+    super(said);
+    this.name = new.target.name;
+  }
+}
+
+/** The network refused an event, and is as it was. */
+export class Refused extends RudekpiError {
+  /**
+   * @param {string} event
+   * @param {number} number of the refusal
+   * @param {string} text the refusal's name, as `not-linked`
+   * @param {number} entry
+   */
+  constructor(event, number, text, entry) {
+    super(`${event}: refused ${number} ${text} (entry ${entry})`);
+    this.event = event;
+    this.number = number;
+    this.text = text;
+    this.entry = entry;
+  }
+}
+
+/** The log is full, which ended the network: the exit status and the last line that the program would have. */
+export class Ended extends RudekpiError {
+  /**
+   * @param {number} status
+   * @param {string} lastLine
+   */
+  constructor(status, lastLine) {
+    super(`the program ended with status ${status}: ${lastLine}`);
+    this.status = status;
+    this.lastLine = lastLine;
+  }
+}
+
+/** Memory was refused: nothing was carried out, and the network is as it was. */
+export class MemoryError extends RudekpiError {}
+
+/** The command was carried out, and there is no memory for its reply: the transcript has it up to `entry`. */
+export class NoReply extends MemoryError {
+  /**
+   * @param {number} entry
+   * @param {string} what
+   */
+  constructor(entry, what = "the command was carried out, and there is no memory for its reply:") {
+    super(`${what} entry ${entry}, which the transcript has`);
+    this.entry = entry;
+  }
+}
+
+/** A text is no transcript: its first wrong line, and why. */
+export class Damaged extends RudekpiError {
+  /**
+   * @param {number} line
+   * @param {string} why
+   */
+  constructor(line, why) {
+    super(`line ${line}: ${why}`);
+    this.line = line;
+    this.why = why;
+  }
+}
+
+/** What a session did not do, and why: how the engine answers, before a network makes an error of its own of it. */
+export class EngineFault extends RudekpiError {
+  /** @param {number} status that of the library, from 1 */
+  constructor(status) {
+    super(STATUSES[status]);
+    this.status = status;
+  }
+}

@@ -1,0 +1,563 @@
+// A network that is played by the engine in this page or program, one command a call.
+import {readBase} from "../transcript.mjs";
+import {summaryOf} from "./audits.mjs";
+import {numbersOfEdit, whyRefused} from "./costs.mjs";
+import {
+  DONE, Engine, inUse, LOG_FULL, NO_MEMORY, NO_SESSION, REFUSED, RULE_SET_NAMES, Session
+} from "./engine.mjs";
+import {Ended, EngineFault, MemoryError, NoReply, Refused} from "./errors.mjs";
+import {MOST_NODES, MOST_TURNS, Names, numberWithin, seedOf, shown} from "./names.mjs";
+import {
+  baseOf, enabledOfRows, faultOfLine, listWith, matchingOfRows, movesOfLine, movesOfRows, REFUSALS, Wish
+} from "./replies.mjs";
+
+/** @typedef {import("./names.mjs").Name} Name */
+/** @typedef {import("./engine.mjs").Calls} Calls */
+
+// after so many entries and rows their text is taken out of the module's memory
+const OFTEN = 1 << 16;
+
+/**
+ * Ends the sessions of networks that nothing refers to any more.
+ * @type {FinalizationRegistry<Session>}
+ */
+const FORGOTTEN = new FinalizationRegistry((session) => session.free());
+
+/**
+ * A new session. Throws a `MemoryError` if memory is refused.
+ * @param {RuleName} rules
+ * @param {number} names
+ * @param {number} present
+ */
+function begin(rules, names, present) {
+  try {
+    return new Session(inUse.engine, rules, names, present);
+  } catch (wrong) {
+    throw wrong instanceof EngineFault ? new MemoryError("no memory for a network") : wrong;
+  }
+}
+
+/**
+ * The numbers of a choice: of each item the node and its target, 0 for none; those of a set by number, so that the same
+ * set is the same step.
+ * @param {any} choice
+ * @param {Names} names
+ * @returns {[number, number][]}
+ */
+function itemsOf(choice, names) {
+  if (typeof choice === "string" || typeof choice?.[Symbol.iterator] !== "function") {
+    throw new TypeError(`a step is given a list of nodes, as [1] or [new Wish(1, 2)], and not ${shown(choice)}`);
+  }
+  /** @type {[number, number][]} */
+  const items = [];
+  for (const item of choice) {
+    items.push(
+      item instanceof Wish ? [names.numberOf(item.node), names.numberOf(item.target)] : [names.numberOf(item), 0]);
+  }
+  if (items.length > MOST_NODES) {
+    throw new RangeError(`${items.length} items are more than a step takes, which is ${MOST_NODES}`);
+  }
+  return choice instanceof Set ? items.sort(([a, b], [c, d]) => a - c || b - d) : items;
+}
+
+export class Network {
+  /** @type {Session} */
+  #session;
+  /** @type {Engine} */
+  #engine;
+  /** @type {Calls} */
+  #calls;
+  /** @type {bigint} */
+  #slot;
+  /** @type {bigint} */
+  #told;
+  /** @type {Names} */
+  #names;
+  /** @type {boolean} */
+  #keeps;
+  /** @type {string[]} */
+  #parts = [];
+  /** How many entries and rows have come since their text was taken last. */
+  #unread = 0;
+  /**
+   * Where the network stands, until an act changes it.
+   * @type {{ rules: RuleName, names: number, here: Uint8Array, pointers: Int32Array, flags: Uint8Array, ends: Int32Array
+   *     } | null}
+   */
+  #state = null;
+  /**
+   * What has ended the network, but a close.
+   * @type {Ended | null}
+   */
+  #ended = null;
+
+  /**
+   * @param {RuleName} rules
+   * @param {number | Iterable<Name>} nodes how many there are, or their names
+   * @param {{ present?: number, keep?: boolean }} options how many are present at the start, and whether the transcript
+   *     is kept from before the last checkpoint
+   */
+  constructor(rules = "manne", nodes = 0, { present, keep = true } = {}) {
+    if (!RULE_SET_NAMES.includes(rules)) {
+      throw new RangeError(`rules are "hh" or "manne", and not ${shown(rules)}`);
+    }
+    this.rules = rules;
+    this.#names = new Names(nodes);
+    this.#keeps = keep;
+    const { count } = this.#names;
+    const start = present === undefined ? count : numberWithin(present, count, "a number of nodes that are present");
+    this.#session = begin(rules, count, start);
+    this.#engine = this.#session.engine;
+    this.#calls = this.#engine.calls;
+    this.#slot = this.#session.slot;
+    this.#told = this.#engine.told;
+    FORGOTTEN.register(this, this.#session, this);
+  }
+
+  /** Ends the network and gives its memory back; the transcript stays. */
+  close() {
+    if (this.#slot !== this.#engine.nowhere) {
+      this.#collect();
+      FORGOTTEN.unregister(this);
+      this.#session.free();
+      this.#slot = this.#engine.nowhere;
+    }
+  }
+
+  /** All names, in the order of their numbers, whether their nodes are present or not. */
+  get nodes() {
+    return this.#names.all();
+  }
+
+  /** @param {Name} name */
+  numberOf(name) {
+    return this.#names.numberOf(name);
+  }
+
+  /** @param {number} number */
+  nameOf(number) {
+    return this.#names.nameOf(number);
+  }
+
+  /**
+   * @param {Name} a
+   * @param {Name} b
+   */
+  link(a, b) {
+    const names = this.#names;
+    const status = this.#calls.rudekpi_link(this.#slot, names.numberOf(a), names.numberOf(b), this.#told);
+    return this.#accepted(status, "link", a, b);
+  }
+
+  /**
+   * @param {Name} a
+   * @param {Name} b
+   */
+  unlink(a, b) {
+    const names = this.#names;
+    const status = this.#calls.rudekpi_unlink(this.#slot, names.numberOf(a), names.numberOf(b), this.#told);
+    return this.#accepted(status, "unlink", a, b);
+  }
+
+  /**
+   * @param {Name} node
+   * @param {Name | null} target
+   */
+  point(node, target) {
+    const names = this.#names;
+    const status = this.#calls.rudekpi_point(this.#slot, names.numberOf(node), names.numberOrNull(target), this.#told);
+    return this.#accepted(status, "point", node, target);
+  }
+
+  /**
+   * @param {Name} node
+   * @param {boolean} value
+   */
+  flag(node, value) {
+    const written = numberWithin(Number(value), 1, "a flag");
+    const status = this.#calls.rudekpi_flag(this.#slot, this.#names.numberOf(node), written, this.#told);
+    return this.#accepted(status, "flag", node, written);
+  }
+
+  /** @param {Name} node */
+  join(node) {
+    return this.#accepted(
+      this.#calls.rudekpi_join(this.#slot, this.#names.numberOf(node), this.#told), "join", node, undefined);
+  }
+
+  /** @param {Name} node */
+  leave(node) {
+    return this.#accepted(
+      this.#calls.rudekpi_leave(this.#slot, this.#names.numberOf(node), this.#told), "leave", node, undefined);
+  }
+
+  /** @param {Iterable<Name | Wish>} choice */
+  step(choice) {
+    const items = itemsOf(choice, this.#names);
+    const engine = this.#engine;
+    const at = engine.given.of(8 * items.length);
+    engine.expectRows(items.length);
+    const words = engine.wordsAt(at, 2 * items.length);
+    items.forEach(([node, wish], place) => {
+      words[2 * place] = node;
+      words[2 * place + 1] = wish;
+    });
+    const status = this.#calls.rudekpi_step(this.#slot, at, BigInt(items.length), this.#told);
+    if (status !== DONE) {
+      this.#fail(status, ["step", ...items.map(([node, wish]) => this.#shownItem(node, wish))].join(" "));
+    }
+    this.#note(engine.rows);
+    return movesOfRows(this.#names, engine.entry, engine.rowsOf(this.#slot));
+  }
+
+  /** @param {Name} node */
+  show(node) {
+    const status = this.#calls.rudekpi_show(this.#slot, this.#names.numberOf(node), this.#told);
+    if (status !== DONE) {
+      this.#fail(status, `show ${shown(node)}`);
+    }
+    this.#note(0);
+    return { entry: this.#engine.entry, node, target: this.#names.named(this.#engine.target) };
+  }
+
+  enabled() {
+    const engine = this.#engine;
+    engine.expectRows(this.#names.count);
+    const status = this.#calls.rudekpi_enabled(this.#slot, this.#told);
+    if (status !== DONE) {
+      this.#fail(status, "enabled");
+    }
+    this.#note(engine.rows);
+    return enabledOfRows(this.#names, engine.entry, engine.rowsOf(this.#slot));
+  }
+
+  matching() {
+    const engine = this.#engine;
+    engine.expectRows(this.#names.count);
+    const status = this.#calls.rudekpi_pairs(this.#slot, this.#told);
+    if (status !== DONE) {
+      this.#fail(status, "matching");
+    }
+    this.#note(engine.rows);
+    return matchingOfRows(this.#names, engine.entry, engine.rowsOf(this.#slot));
+  }
+
+  status() {
+    const engine = this.#engine;
+    const status = this.#calls.rudekpi_status(this.#slot, engine.counts, this.#told);
+    if (status !== DONE) {
+      this.#fail(status, "status");
+    }
+    this.#note(0);
+    return {
+      entry: engine.entry,
+      nodes: engine.count(0),
+      edges: engine.count(1),
+      pairs: engine.count(2),
+      enabled: engine.count(3),
+      charge: engine.count(4),
+      spent: engine.count(5)
+    };
+  }
+
+  /**
+   * @param {number | bigint} seed
+   * @param {number} turns
+   */
+  drive(seed, turns) {
+    return this.#turned("drive", seed, turns, (line) => movesOfLine(this.#names, line));
+  }
+
+  /**
+   * @param {number | bigint} seed
+   * @param {number} faults
+   */
+  scramble(seed, faults) {
+    return this.#turned("scramble", seed, faults, (line) => faultOfLine(this.#names, line));
+  }
+
+  checkpoint() {
+    this.#collect();
+    const status = this.#calls.rudekpi_checkpoint(this.#slot, this.#told);
+    if (status !== DONE) {
+      this.#fail(status, "checkpoint");
+    }
+    const text = this.#written(this.#engine.entry);
+    if (!this.#keeps) {
+      this.#parts = [text];
+    }
+    return baseOf(this.#names, text);
+  }
+
+  /**
+   * With whom a node is paired, or null, also if it is not present; no entry is added.
+   * @param {Name} node
+   */
+  partner(node) {
+    this.#asked(this.#calls.rudekpi_partner(this.#slot, this.#names.numberOf(node), this.#told));
+    return this.#names.named(this.#engine.entry);
+  }
+
+  /**
+   * @param {string} word
+   * @param {...Name} given
+   */
+  costOf(word, ...given) {
+    const numbers = numbersOfEdit(this.#names, word, given, "cost");
+    this.#asked(this.#calls[`rudekpi_cost_of_${word}`](this.#slot, ...numbers, this.#told));
+    const cost = this.#engine.entry;
+    const why = cost === 0 ? whyRefused(this.#look(), word, numbers[0], numbers[1]) : "";
+    if (why !== "") {
+      throw new RangeError(`${[word, ...given.map(shown)].join(" ")} would be refused (${why}), so it has no cost`);
+    }
+    return cost;
+  }
+
+  /**
+   * @param {string} word
+   * @param {...Name} given
+   */
+  reach(word, ...given) {
+    const numbers = numbersOfEdit(this.#names, word, given, "reach");
+    const reached = this.#ask(() => this.#engine.reachOf(this.#slot, word, numbers));
+    return new Set(reached.map((number) => this.#names.nameOf(number)));
+  }
+
+  /** @param {Name} node */
+  isAtRest(node) {
+    this.#asked(this.#calls.rudekpi_is_at_rest(this.#slot, this.#names.numberOf(node), this.#told));
+    return (this.#engine.entry & 255) !== 0;
+  }
+
+  /** The nodes that are not at rest, in the order of their numbers. */
+  restless() {
+    return this.present.filter((node) => !this.isAtRest(node));
+  }
+
+  movesLeft() {
+    this.#asked(this.#calls.rudekpi_moves_left(this.#slot, this.#told));
+    return this.#engine.entry;
+  }
+
+  /** The names of the nodes that are present, in the order of their numbers. */
+  get present() {
+    const { here } = this.#look();
+    return this.nodes.filter((_, at) => here[at + 1] === 1);
+  }
+
+  /** The edges, each with the node of the lower number first. */
+  get edges() {
+    const { ends } = this.#look();
+    return Array.from(
+      { length: ends.length / 2 },
+      (_, at) => /** @type {[Name, Name]} */ ([this.nameOf(ends[2 * at]), this.nameOf(ends[2 * at + 1])]));
+  }
+
+  /**
+   * The neighbours of a node that is present, in the order of their numbers.
+   * @param {Name} node
+   */
+  neighbours(node) {
+    const number = this.#presentNumber(node);
+    const near = [];
+    const { ends } = this.#look();
+    for (let at = 0; at < ends.length; at += 2) {
+      const [low, high] = [ends[at], ends[at + 1]];
+      if (low === number || high === number) {
+        near.push(low === number ? high : low);
+      }
+    }
+    return near.sort((a, b) => a - b).map((other) => this.nameOf(other));
+  }
+
+  /**
+   * What a node that is present holds.
+   * @param {Name} node
+   */
+  registers(node) {
+    const number = this.#presentNumber(node);
+    const { pointers, flags } = this.#look();
+    return { pointer: this.#names.named(pointers[number]), flag: flags[number] === 1 };
+  }
+
+  /** What `console run` writes of the same commands, to the byte; without `keep`, from the last checkpoint on. */
+  transcript() {
+    this.#collect();
+    this.#parts = [this.#parts.join("")];
+    return this.#parts[0];
+  }
+
+  /** What the audit says of the transcript. */
+  audit() {
+    return summaryOf(this.#engine, this.transcript());
+  }
+
+  /**
+   * The reply to an edit or a fault, or throws what its status says.
+   * @param {number} status
+   * @param {string} word
+   * @param {Name} node
+   * @param {Name | null | undefined} other
+   */
+  #accepted(status, word, node, other) {
+    if (status !== DONE) {
+      const words = other === undefined ? [node] : [node, other];
+      this.#fail(status, [word, ...words.map((it) => (it === null ? "-" : shown(it)))].join(" "));
+    }
+    this.#note(0);
+    this.#state = null;
+    return { entry: this.#engine.entry };
+  }
+
+  /**
+   * @param {number} node
+   * @param {number} wish
+   */
+  #shownItem(node, wish) {
+    const names = this.#names;
+    const [mover, target] = [node, wish].map((it) => (it > 0 && it <= names.count ? shown(names.nameOf(it)) : `${it}`));
+    return wish === 0 ? mover : `${mover}>${target}`;
+  }
+
+  /**
+   * Throws what a status says that is not done.
+   * @param {number} status
+   * @param {string} event
+   * @returns {never}
+   */
+  #fail(status, event) {
+    if (status === REFUSED) {
+      const { refusal, entry } = this.#engine;
+      this.#note(0);
+      throw new Refused(event, refusal, REFUSALS[refusal], entry);
+    }
+    if (status === LOG_FULL) {
+      this.close();
+      this.#ended = new Ended(4, "! log full");
+      throw this.#ended;
+    }
+    if (status === NO_SESSION) {
+      throw this.#ended ?? new TypeError("the network is closed");
+    }
+    if (status === NO_MEMORY) {
+      throw new MemoryError("the command was not carried out, and the network is as it was");
+    }
+    throw new RangeError(`${event}: the engine takes no such numbers`);
+  }
+
+  /**
+   * Throws what the status of a question says that is not done.
+   * @param {number} status
+   */
+  #asked(status) {
+    if (status !== DONE) {
+      this.#fail(status, "");
+    }
+  }
+
+  /**
+   * What a question answers; throws what its status says.
+   * @template Answer
+   * @param {() => Answer} question
+   */
+  #ask(question) {
+    try {
+      return question();
+    } catch (wrong) {
+      if (wrong instanceof EngineFault) {
+        this.#asked(wrong.status);
+      }
+      throw wrong;
+    }
+  }
+
+  /**
+   * Counts an entry with so many rows, and takes their text if there is much.
+   * @param {number} rows
+   */
+  #note(rows) {
+    this.#unread += 1 + rows;
+    if (this.#unread > OFTEN) {
+      this.#collectSoon();
+    }
+  }
+
+  /** Takes the text; if there is no memory for that now, it stays where it is. */
+  #collectSoon() {
+    try {
+      this.#collect();
+    } catch (wrong) {
+      if (!(wrong instanceof MemoryError)) {
+        throw wrong;
+      }
+    }
+  }
+
+  /** Takes the text that has come. */
+  #collect() {
+    if (this.#slot !== this.#engine.nowhere) {
+      this.#unread = 0;
+      this.#parts.push(this.#session.read());
+    }
+  }
+
+  /**
+   * The text of a call, whose last entry this is. Throws a `NoReply` if there is no memory for it.
+   * @param {number} entry
+   */
+  #written(entry) {
+    try {
+      const text = this.#session.read();
+      this.#parts.push(text);
+      return text;
+    } catch (wrong) {
+      throw wrong instanceof MemoryError ? new NoReply(entry) : wrong;
+    }
+  }
+
+  /**
+   * Many entries, one a turn, and the status behind them.
+   * @template {object} Turn
+   * @param {string} word
+   * @param {number | bigint} seed
+   * @param {number} turns
+   * @param {(line: string) => Turn} read
+   */
+  #turned(word, seed, turns, read) {
+    const [drawn, count] = [seedOf(seed), numberWithin(turns, MOST_TURNS, "a number of turns")];
+    this.#collect();
+    const status = this.#calls[`rudekpi_${word}`](this.#slot, drawn, count, this.#told);
+    this.#state = null;
+    const { entry } = this.#engine;
+    const lines = status === NO_SESSION ? [] : this.#written(entry).split("\n").slice(0, -1);
+    if (status === NO_MEMORY && lines.length > 0) {
+      throw new NoReply(entry, "some first turns were carried out, the last of them as");
+    }
+    if (status !== DONE) {
+      this.#fail(status, word);
+    }
+    return listWith(lines.map(read), { status: this.status() });
+  }
+
+  /** Where the network stands: the engine writes a base, which is no entry and stays out of the transcript. */
+  #look() {
+    if (this.#state === null) {
+      this.#collect();
+      const { state } = readBase(this.#ask(() => this.#session.base()), 0);
+      this.#state = {...state, rules: this.rules, names: this.#names.count };
+    }
+    return this.#state;
+  }
+
+  /**
+   * The number of a node that is present. Throws a `RangeError` for any other node.
+   * @param {Name} node
+   */
+  #presentNumber(node) {
+    const number = this.numberOf(node);
+    if (!this.#look().here[number]) {
+      throw new RangeError(`node ${shown(node)} is not present`);
+    }
+    return number;
+  }
+}
