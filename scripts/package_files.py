@@ -1,13 +1,16 @@
-"""What pkg-config and CMake read of the library for C.
+"""The files beside a library for C: its headers, and what pkg-config and CMake read.
 
 As a script it prints the rudekpi.pc of a library that is installed below the prefix that is named."""
 
 from __future__ import annotations
 
 import pathlib
+import shutil
 import sys
+from typing import Callable
 
 TOP = pathlib.Path(__file__).resolve().parent.parent
+HEADERS = TOP / "include" / "rudekpi.h", TOP / "include" / "rudekpi.hpp"
 
 
 def version() -> str:
@@ -79,6 +82,31 @@ else()
   endif()
 endif()
 """
+
+
+TEXTS: dict[str, Callable[[], str]] = {
+    "rudekpi.pc": text,
+    "rudekpi-config.cmake": for_cmake,
+    "rudekpi-config-version.cmake": version_for_cmake,
+}
+# All files of a library, but for the name librudekpi.so of the shared one.
+FILES = "librudekpi.a", shared_name(), "rudekpi.h", "rudekpi.hpp", *TEXTS
+
+
+def link(folder: pathlib.Path) -> None:
+    """Lets librudekpi.so name the shared library beside it."""
+    name = folder / "librudekpi.so"
+    name.unlink(missing_ok=True)
+    name.symlink_to(shared_name())
+
+
+def put_beside(folder: pathlib.Path) -> None:
+    """Puts all files but the libraries into a folder."""
+    for header in HEADERS:
+        shutil.copyfile(header, folder / header.name)
+    for name, lines in TEXTS.items():
+        (folder / name).write_text(lines())
+    link(folder)
 
 
 if __name__ == "__main__":
