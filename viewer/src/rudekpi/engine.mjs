@@ -91,7 +91,7 @@ export class Engine {
    */
   static async load(bytes) {
     const { instance } = await WebAssembly.instantiate(bytes, {});
-    const {memory, ...calls} = instance.exports;
+    const { memory, ...calls } = instance.exports;
     return new Engine(
       /** @type {Calls} */ (/** @type {unknown} */ (calls)),
       /** @type {WebAssembly.Memory} */ (/** @type {unknown} */ (memory)));
@@ -201,8 +201,8 @@ export class Engine {
   }
 
   /**
-   * The nodes that an edit or a fault would reach, ascending, 0 for the pointer that is null; nothing is done. Throws an
-   * `EngineFault` if there is no session, a name is out of range or memory is refused.
+   * The nodes that an edit or a fault would reach, ascending, 0 for the pointer that is null; nothing is done. Throws
+   * an `EngineFault` if there is no session, a name is out of range or memory is refused.
    * @param {bigint} slot
    * @param {string} word of a script, as `unlink`
    * @param {number[]} numbers
@@ -226,7 +226,9 @@ export class Engine {
 }
 
 /** The engine of this page or program, once it is loaded. */
-export const inUse = { engine: /** @type {Engine | null} */ (null) };
+export const inUse = {
+  engine: /** @type {Engine | null} */ (null)
+};
 
 /** A network that goes along a script, line by line, and its text that was not read yet. */
 export class Session {
@@ -273,7 +275,9 @@ export class Session {
     return new TextDecoder().decode(this.engine.bytesAt(at, size));
   }
 
-  /** The lines of a base, which are no entry. What came before it must have been read, and it stands in no later text. */
+  /**
+   * The lines of a base, which are no entry. What came before it must have been read, and it stands in no later text.
+   */
   base() {
     this.hear(this.calls.rudekpi_checkpoint(this.slot, this.engine.told));
     return this.read();

@@ -2,14 +2,10 @@
 import {readBase} from "../transcript.mjs";
 import {summaryOf} from "./audits.mjs";
 import {numbersOfEdit, whyRefused} from "./costs.mjs";
-import {
-  DONE, Engine, inUse, LOG_FULL, NO_MEMORY, NO_SESSION, REFUSED, RULE_SET_NAMES, Session
-} from "./engine.mjs";
+import {DONE, Engine, inUse, LOG_FULL, NO_MEMORY, NO_SESSION, REFUSED, RULE_SET_NAMES, Session} from "./engine.mjs";
 import {Ended, EngineFault, MemoryError, NoReply, Refused} from "./errors.mjs";
 import {MOST_NODES, MOST_TURNS, Names, numberWithin, seedOf, shown} from "./names.mjs";
-import {
-  baseOf, enabledOfRows, faultOfLine, listWith, matchingOfRows, movesOfLine, movesOfRows, REFUSALS, Wish
-} from "./replies.mjs";
+import {baseOf, enabledOfRows, faultOfLine, listWith, matchingOfRows, movesOfLine, movesOfRows, REFUSALS, Wish} from "./replies.mjs";
 
 /** @typedef {import("./names.mjs").Name} Name */
 /** @typedef {import("./engine.mjs").Calls} Calls */
@@ -81,7 +77,8 @@ export class Network {
   #unread = 0;
   /**
    * Where the network stands, until an act changes it.
-   * @type {{ rules: RuleName, names: number, here: Uint8Array, pointers: Int32Array, flags: Uint8Array, ends: Int32Array
+   * @type {{ rules: RuleName, names: number, here: Uint8Array, pointers: Int32Array, flags: Uint8Array, ends:
+   *   Int32Array
    *     } | null}
    */
   #state = null;
