@@ -10,7 +10,8 @@ import {moduleOfPage, program, whatIsMissing} from "./wasm.mjs";
 
 const PAGE = 65536;
 const MEMORY_SECTION = 5;
-const NAMES = 1500;
+const NAMES = 12000;
+const LINKED = 2500;
 const skip = whatIsMissing();
 
 /** A number as WebAssembly writes it (LEB128), 7 bits a byte. */
@@ -53,7 +54,7 @@ function limited(bytes, most) {
 /** A script whose network, answers and base grow, without lines that have several turns. */
 function linesOfGrowth() {
   const lines = [];
-  for (let v = 1; v < NAMES; v += 1) {
+  for (let v = 1; v < LINKED; v += 1) {
     lines.push(`link ${v} ${v + 1}`, `point ${v} ${v + 1}`);
     if (v % 500 === 0) {
       lines.push("enabled", "checkpoint", "matching");
@@ -116,7 +117,7 @@ test("each growth is refused in turn: what could not be done was not done, and t
   const { pages } = memoryOf(bytes);
   assert.equal(played(whole, lines).done.length, lines.length);
   const needed = whole.memory.buffer.byteLength / PAGE;
-  assert.ok(needed > pages + 48, `${needed} pages for a script that is to grow`);
+  assert.ok(needed > pages + 40, `${needed} pages for a script that is to grow`);
   let [cut, full, unread] = [0, 0, 0];
   for (let most = pages; most <= needed; most += 4) {
     const engine = await Engine.load(limited(bytes, most)).catch((wrong) => wrong);
@@ -148,13 +149,13 @@ test("networks and audits throw a MemoryError, and live on", { skip }, async () 
   const bytes = moduleOfPage();
   const before = inUse.engine;
   try {
-    inUse.engine = await Engine.load(limited(bytes, memoryOf(bytes).pages + 32));
+    inUse.engine = await Engine.load(limited(bytes, memoryOf(bytes).pages + 64));
     const net = new Network("manne", 3);
     assert.deepEqual(net.link(1, 2), { entry: 1 });
     const others = [];
     assert.throws(() => {
       for (;;) {
-        others.push(new Network("manne", 60000));
+        others.push(new Network("manne", 2000));
       }
     }, { name: "MemoryError", message: "no memory for a network" });
     assert.throws(() => {
@@ -163,10 +164,15 @@ test("networks and audits throw a MemoryError, and live on", { skip }, async () 
       }
     }, MemoryError);
     assert.deepEqual(net.link(2, 3), { entry: 2 });
-    others.forEach((other) => other.close());
-    assert.equal(net.transcript(), "matching manne 3\n1 link 1 2 = ok\n2 link 2 3 = ok\n");
-    const wide = new Network("manne", 20000);
-    assert.equal(wide.status().nodes, 20000);
+    assert.equal(net.status().edges, 2);
+    // what one gives back another one takes, and the text needs room, too
+    assert.ok(others.length > 3);
+    others.pop().close();
+    others[0].close();
+    const next = new Network("manne", 2000);
+    others[1].close();
+    assert.equal(next.status().nodes, 2000);
+    assert.equal(net.transcript().split("\n", 3).join("\n"), "matching manne 3\n1 link 1 2 = ok\n2 link 2 3 = ok");
   } finally {
     inUse.engine = before;
   }

@@ -26,9 +26,11 @@ const COUNTS = 6;
 const DESK_WORDS = 12;
 const WORD_BYTES = 4;
 const ROW_WORDS = 3;
+const NO_ROWS = new Uint32Array(0);
 // so many names have room at first
 const FEW = 64;
 const LEAST_ROOM = 1 << 12;
+const LEAST_TEXT = 1 << 15;
 // a module that does what the engine's code does beside the first version of WebAssembly
 const PROBE = Uint8Array.of(
   0, 97, 115, 109, 1, 0, 0, 0, 1, 4, 1, 96, 0, 0, 3, 2, 1, 0, 5, 3, 1, 0, 1, 10, 27, 1, 25, 0, 68, 0, 0, 0, 0, 0, 0, 0,
@@ -83,6 +85,8 @@ export class Engine {
     /** A slot that stays empty: what asks it is answered that there is no session. */
     this.nowhere = this.slot();
     this.numbers = new Uint32Array(memory.buffer);
+    // so that short texts are read even if memory is refused
+    this.taken.of(LEAST_TEXT);
   }
 
   /**
@@ -144,12 +148,20 @@ export class Engine {
     return this.words()[this.desk + TOLD_ROWS];
   }
 
-  /**
-   * A count of the last status, in the order of include/rudekpi.h.
-   * @param {number} at
-   */
-  count(at) {
-    return this.words()[this.desk + COUNTS + at];
+  /** The last status. */
+  statusTold() {
+    const words = this.words();
+    const { desk } = this;
+    const at = desk + COUNTS;
+    return {
+      entry: words[desk],
+      nodes: words[at],
+      edges: words[at + 1],
+      pairs: words[at + 2],
+      enabled: words[at + 3],
+      charge: words[at + 4],
+      spent: words[at + 5]
+    };
   }
 
   /**
@@ -195,6 +207,9 @@ export class Engine {
    */
   rowsOf(slot) {
     const count = this.rows;
+    if (count === 0) {
+      return NO_ROWS;
+    }
     const at = this.taken.of(count * ROW_WORDS * WORD_BYTES);
     this.calls.rudekpi_rows(slot, at, BigInt(count));
     return this.wordsAt(at, ROW_WORDS * count);

@@ -111,13 +111,19 @@ export class Network {
     FORGOTTEN.register(this, this.#session, this);
   }
 
-  /** Ends the network and gives its memory back; the transcript stays. */
+  /**
+   * Ends the network and gives its memory back; the transcript stays. Throws a `MemoryError` if there is no memory for
+   * the end of that, which is lost then.
+   */
   close() {
     if (this.#slot !== this.#engine.nowhere) {
-      this.#collect();
-      FORGOTTEN.unregister(this);
-      this.#session.free();
-      this.#slot = this.#engine.nowhere;
+      try {
+        this.#collect();
+      } finally {
+        FORGOTTEN.unregister(this);
+        this.#session.free();
+        this.#slot = this.#engine.nowhere;
+      }
     }
   }
 
@@ -246,15 +252,7 @@ export class Network {
       this.#fail(status, "status");
     }
     this.#note(0);
-    return {
-      entry: engine.entry,
-      nodes: engine.count(0),
-      edges: engine.count(1),
-      pairs: engine.count(2),
-      enabled: engine.count(3),
-      charge: engine.count(4),
-      spent: engine.count(5)
-    };
+    return engine.statusTold();
   }
 
   /**
