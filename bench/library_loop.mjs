@@ -5,17 +5,25 @@ import {pathToFileURL} from "node:url";
 const [path, entries] = process.argv.slice(2);
 const { Network } = await import(pathToFileURL(path));
 
+// so many parts of the calls are timed, the first ones while the code is still compiled
+const PARTS = 20;
+
 /**
- * The nanoseconds of processor time of each of so many calls.
+ * The nanoseconds of each of so many calls, in the fastest part of them.
  * @param {number} calls
  * @param {() => void} call
  */
 function timed(calls, call) {
-  const began = process.cpuUsage().user;
-  for (let left = calls; left > 0; left -= 1) {
-    call();
+  const each = Math.ceil(calls / PARTS);
+  let least = Infinity;
+  for (let part = PARTS; part > 0; part -= 1) {
+    const began = process.hrtime.bigint();
+    for (let left = each; left > 0; left -= 1) {
+      call();
+    }
+    least = Math.min(least, Number(process.hrtime.bigint() - began) / each);
   }
-  return (process.cpuUsage().user - began) * 1000 / calls;
+  return least;
 }
 
 const count = Number(entries);
