@@ -15,7 +15,7 @@ SOURCES = VIEWER / "src"
 RELEASED = TOP / "release" / "playground.html"
 IMPORT = re.compile(r'^import (\{[^}]*\}) from "(\.{1,2}/[\w/.]+)\.mjs";$', re.MULTILINE)
 EXPORT = re.compile(r"^export ((?:const|class|async function|function) (\w+))", re.MULTILINE)
-# what a browser without WebAssembly plays: examples/check has the program judge it, and tests/pages compares the verdict
+# what a browser without WebAssembly plays: examples/check has it judged, and tests/pages compares the verdict
 RECORDED = TOP / "examples" / "breaks_and_mends.transcript"
 RECORDED_VERDICT = "accepted: 382 entries, 341 epochs, 719 moves"
 ENGINE = re.compile(r'<script type="application/json" id="engine">"([A-Za-z0-9+/=]+)"</script>')

@@ -1,5 +1,5 @@
-"""The playground and the module for JavaScript in the engines of all browsers: Chromium's, Firefox's and WebKit's, which
-is Safari's, in a window and as wide as a phone."""
+"""The playground and the module for JavaScript in the engines of all browsers: Chromium's, Firefox's and WebKit's,
+which is Safari's, in a window and as wide as a phone."""
 
 from __future__ import annotations
 
@@ -57,7 +57,14 @@ enabled
 drive 8 100
 status
 """
-HTML = '<!DOCTYPE html><html lang="en"><meta charset="utf-8"><link rel="icon" href="data:,"><title>a module</title><script type="module" src="commands.mjs"></script></html>\n'
+HTML = """\
+<!DOCTYPE html>
+<html lang="en">
+<meta charset="utf-8">
+<link rel="icon" href="data:,">
+<title>a module</title>
+<script type="module" src="commands.mjs"></script>
+"""
 
 
 class Quiet(http.server.SimpleHTTPRequestHandler):

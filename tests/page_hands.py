@@ -35,6 +35,8 @@ node 3 - 0
 edge 1 2
 823 step 2 = 2:marry>1
 """
+# the script elements of each page: four of data, and its code
+OWN_SCRIPTS = 5
 SVG = "{http://www.w3.org/2000/svg}"
 
 
@@ -412,7 +414,7 @@ def judges(pages: Pages, browser: Browser) -> None:
         pages.expect(
             f"what is said of {text[:40]!r}",
             (said[0], said[1].startswith(f"This is no transcript: line {line} "), said[2]),
-            ("no transcript – Rudekpi", True, 4),
+            ("no transcript – Rudekpi", True, OWN_SCRIPTS),
         )
         pages.expect(
             f"what {text[:40]!r} fetches", [url for url in browser.fetched if not url.startswith("file:///")], []

@@ -9,7 +9,7 @@ import time
 from typing import Any, Sequence
 
 from browser import Browser, PageFault
-from page_hands import saved, waited
+from page_hands import OWN_SCRIPTS, saved, waited
 from page_runs import Pages
 
 TOP = os.path.dirname(os.path.dirname(os.path.abspath(__file__)))
@@ -361,7 +361,7 @@ def drops(pages: Pages, browser: Browser) -> None:
             browser.ask("count", "script"),
             browser.ask("isHidden", "#refusal"),
         ]
-        pages.expect(f"a hostile transcript, {at}", (came, seen), (wanted, [TITLE, 0, 4, False]))
+        pages.expect(f"a hostile transcript, {at}", (came, seen), (wanted, [TITLE, 0, OWN_SCRIPTS, False]))
     example = f"{TOP}/examples/breaks_and_mends.transcript"
     dropped(browser, example)
     verdict = pages.run([pages.program, "audit"], open(example, "rb").read())[1].decode().strip()
@@ -427,7 +427,7 @@ def addresses(pages: Pages, browser: Browser) -> None:
             browser.ask("count", "img"),
             browser.ask("count", "script"),
         ]
-        pages.expect(f"a hostile address, {at}", (said in told[0], told[1:]), (True, [TITLE, 0, 4]))
+        pages.expect(f"a hostile address, {at}", (said in told[0], told[1:]), (True, [TITLE, 0, OWN_SCRIPTS]))
     pages.expect("what addresses fetch", [url for url in browser.fetched if not url.startswith("file:")], [])
     pages.expect("complaints of addresses", browser.complaints, [])
 

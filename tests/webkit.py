@@ -1,5 +1,5 @@
-"""A WebKit, the engine of Safari and of all browsers on iPhones: a window of WebKitGTK on a screen of Xvfb, driven through
-WebKitWebDriver with the standard library alone.
+"""A WebKit, the engine of Safari and of all browsers on iPhones: a window of WebKitGTK on a screen of Xvfb, driven
+through WebKitWebDriver with the standard library alone.
 
 It has the calls of `browser.Browser` that short visits need. It needs Debian's packages webkit2gtk-driver, xvfb,
 python3-gi and gir1.2-webkit2-4.1.

@@ -110,7 +110,10 @@ export declare class Network {
    */
   constructor(rules?: RuleSet, nodes?: number | Iterable<Name>, options?: { present?: number; keep?: boolean });
   readonly rules: RuleSet;
-  /** Ends the network and gives its memory back; the transcript stays. One that nothing refers to is ended, too. */
+  /**
+   * Ends the network and gives its memory back; the transcript stays. Throws `MemoryError` if there is no memory for the
+   * end of that, which is lost then. A network that nothing refers to is ended, too.
+   */
   close(): void;
   /** All names, in the order of their numbers, whether their nodes are present or not. */
   get nodes(): Name[];

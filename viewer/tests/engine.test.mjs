@@ -2,7 +2,8 @@
 // script, and the same verdict on each transcript, whole or damaged. SCRIPTS says how many; 200 where nothing is said.
 import assert from "node:assert/strict";
 import test from "node:test";
-import {drawn, engineOfPage, program, whatIsMissing} from "./wasm.mjs";
+import {scriptOf, wordsOf} from "./scripts.mjs";
+import {engineOfPage, program, whatIsMissing} from "./wasm.mjs";
 import {summaryOf} from "../src/rudekpi/audits.mjs";
 import {Session} from "../src/rudekpi/engine.mjs";
 import {Damaged, EngineFault} from "../src/rudekpi/errors.mjs";
@@ -11,58 +12,8 @@ import {Replay} from "../src/replay.mjs";
 import {Transcript} from "../src/transcript.mjs";
 
 const SCRIPTS = Number(process.env.SCRIPTS ?? 200);
-const LINES = 60;
 const DAMAGES = 3;
-const BAD_LINES = [
-  "lnk 1 2", "link 1", "step 1  2", " status", "link 1 2 ", "flag 1 2", "drive 1", "link 01 2", "step \u00e9",
-  "<img src=x>", "matching hh 2"
-];
 const skip = whatIsMissing();
-
-function lineOf(next, nodes) {
-  const name = () => 1 + next(nodes + 1);
-  const kinds = [
-    () => `link ${name()} ${name()}`,
-    () => `link ${name()} ${name()}`,
-    () => `link ${name()} ${name()}`,
-    () => `unlink ${name()} ${name()}`,
-    () => `point ${name()} ${name()}`,
-    () => `point ${name()} -`,
-    () => `flag ${name()} ${next(2)}`,
-    () => `join ${name()}`,
-    () => `leave ${name()}`,
-    () => `step ${name()}`,
-    () => `step ${name()} ${name()}`,
-    () => `step ${name()}>${name()}`,
-    () => "step",
-    () => `show ${name()}`,
-    () => "enabled",
-    () => "matching",
-    () => "status",
-    () => "checkpoint",
-    () => "",
-    () => `drive ${next(100000)} ${1 + next(9)}`,
-    () => `scramble ${next(100000)} ${1 + next(5)}`,
-  ];
-  return kinds[next(kinds.length)]();
-}
-
-/** A network and a script; one of four meets a line that is no command. */
-function scriptOf(seed) {
-  const next = drawn(seed);
-  // the first of near seeds are near
-  next(2);
-  const names = 1 + next(14);
-  const lines = Array.from({ length: LINES }, () => lineOf(next, names));
-  if (next(4) === 0) {
-    lines.splice(next(LINES), 0, BAD_LINES[next(BAD_LINES.length)]);
-  }
-  return { rules: ["hh", "manne"][seed % 2], names, present: names - next(3 < names ? 3 : 1), lines, next };
-}
-
-function wordsOf({ rules, names, present }) {
-  return ["run", "--rules", rules, "--nodes", `${names}`, "--present", `${present}`];
-}
 
 /** What the engine writes of a script, and the exit status that the program would have. */
 function played(engine, { rules, names, present, lines }) {

@@ -2,7 +2,7 @@
  * Nothing of it is proved; in the library for C, malloc stands in its place.
  *
  * Blocks are powers of two from 32 bytes on, with their class in a header of 16 bytes; a block that is given back goes to the front
- * of its class's list, and memory never shrinks. What calls returns whether it was done, and where. */
+ * of its class's list, and memory never shrinks. A call returns whether it was done, and where. */
 typedef unsigned long u64;
 typedef unsigned char u8;
 
@@ -44,15 +44,17 @@ static int has_room(u64 size) {
 static u8 *take(u64 size) {
     if (size >= 1ul << 40) return 0;
     int class = class_of(size);
-    u8 *block = free_blocks[class];
-    if (block) {
-        free_blocks[class] = *(u8 **)(block + HEADER);
+    if (!free_blocks[class] && has_room(1ul << class)) {
+        u8 *block = top;
+        top += 1ul << class;
+        *(int *)block = class;
         return block + HEADER;
     }
-    if (!has_room(1ul << class)) return 0;
-    block = top;
-    top += 1ul << class;
-    *(int *)block = class;
+    /* If memory does not grow, a larger block that was given back has to do. */
+    while (class < CLASSES && !free_blocks[class]) class ++;
+    if (class == CLASSES) return 0;
+    u8 *block = free_blocks[class];
+    free_blocks[class] = *(u8 **)(block + HEADER);
     return block + HEADER;
 }
 
@@ -75,9 +77,11 @@ void rattle_dealloc(u8 *at) {
 
 struct tried rattle_realloc(u8 *at, u64 kept, u64 size, u64 align) {
     (void)align;
-    if (size < 1ul << 40 && class_of(size) == *(int *)(at - HEADER)) return told(at);
+    if (size >= 1ul << 40) return told(0);
+    int class = *(int *)(at - HEADER), wanted = class_of(size);
+    if (wanted == class) return told(at);
     u8 *to = take(size);
-    if (!to) return told(0);
+    if (!to) return told(wanted < class ? at : 0);
     __builtin_memcpy(to, at, kept);
     rattle_dealloc(at);
     return told(to);

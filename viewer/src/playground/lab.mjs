@@ -1,4 +1,5 @@
-// A network in hands: its script so far, the transcript that the engine writes of it, and its state, which follows that.
+// A network in hands: its script so far, the transcript that the engine writes of it, and its state, which follows
+// that.
 import {grouped} from "../numbers.mjs";
 import {BAD_LINE, Session} from "../rudekpi/engine.mjs";
 import {EngineFault} from "../rudekpi/errors.mjs";

@@ -1,5 +1,5 @@
-// Judges transcripts: the audit of the engine accepts exactly the texts of runs, and names the first wrong line of every
-// other text.
+// Judges transcripts: the audit of the engine accepts exactly the texts of runs, and names the first wrong line of
+// every other text.
 import {DONE, Engine, inUse, NO_SESSION} from "./engine.mjs";
 import {Damaged, MemoryError} from "./errors.mjs";
 import {shown} from "./names.mjs";
@@ -8,8 +8,7 @@ const VERDICT_BYTES = 32;
 // what an audit is handed at once
 const PIECE = 1 << 20;
 const ACCEPTED = 0;
-const WHYS =
-  ["", "bad header", "not a transcript line", "out of order", "not the machine's reply", "bad base"];
+const WHYS = ["", "bad header", "not a transcript line", "out of order", "not the machine's reply", "bad base"];
 
 /**
  * What an accepted transcript has.
@@ -61,7 +60,8 @@ function read(engine, at) {
 export function summaryOf(engine, text) {
   const judge = new Audit(engine);
   try {
-    // a long text is encoded and handed over piece by piece; no piece ends between the halves of a character that has two
+    // a long text is encoded and handed over piece by piece; no piece ends between the halves of a character that has
+    // two
     for (let at = 0; at < text.length; at += PIECE) {
       judge.feed(typeof text === "string" ? text.slice(at, at + PIECE) : bytesOf(text).subarray(at, at + PIECE));
     }

@@ -49,7 +49,7 @@ export function numbersOfEdit(names, word, given, asked) {
  * @param {number} node
  * @param {number} other
  */
-export function whyRefused({ rules, names, here, ends }, word, node, other = 0) {
+export function whyRefused({rules, names, here, ends}, word, node, other = 0) {
   if (word === "join") {
     return here[node] ? "already-present" : node > names ? "unknown-node" : "";
   }

@@ -26,9 +26,11 @@ const COUNTS = 6;
 const DESK_WORDS = 12;
 const WORD_BYTES = 4;
 const ROW_WORDS = 3;
+const NO_ROWS = new Uint32Array(0);
 // so many names have room at first
 const FEW = 64;
 const LEAST_ROOM = 1 << 12;
+const LEAST_TEXT = 1 << 15;
 // a module that does what the engine's code does beside the first version of WebAssembly
 const PROBE = Uint8Array.of(
   0, 97, 115, 109, 1, 0, 0, 0, 1, 4, 1, 96, 0, 0, 3, 2, 1, 0, 5, 3, 1, 0, 1, 10, 27, 1, 25, 0, 68, 0, 0, 0, 0, 0, 0, 0,
@@ -83,6 +85,8 @@ export class Engine {
     /** A slot that stays empty: what asks it is answered that there is no session. */
     this.nowhere = this.slot();
     this.numbers = new Uint32Array(memory.buffer);
+    // so that short texts are read even if memory is refused
+    this.taken.of(LEAST_TEXT);
   }
 
   /**
@@ -91,7 +95,7 @@ export class Engine {
    */
   static async load(bytes) {
     const { instance } = await WebAssembly.instantiate(bytes, {});
-    const {memory, ...calls} = instance.exports;
+    const { memory, ...calls } = instance.exports;
     return new Engine(
       /** @type {Calls} */ (/** @type {unknown} */ (calls)),
       /** @type {WebAssembly.Memory} */ (/** @type {unknown} */ (memory)));
@@ -144,12 +148,20 @@ export class Engine {
     return this.words()[this.desk + TOLD_ROWS];
   }
 
-  /**
-   * A count of the last status, in the order of include/rudekpi.h.
-   * @param {number} at
-   */
-  count(at) {
-    return this.words()[this.desk + COUNTS + at];
+  /** The last status. */
+  statusTold() {
+    const words = this.words();
+    const { desk } = this;
+    const at = desk + COUNTS;
+    return {
+      entry: words[desk],
+      nodes: words[at],
+      edges: words[at + 1],
+      pairs: words[at + 2],
+      enabled: words[at + 3],
+      charge: words[at + 4],
+      spent: words[at + 5]
+    };
   }
 
   /**
@@ -195,14 +207,17 @@ export class Engine {
    */
   rowsOf(slot) {
     const count = this.rows;
+    if (count === 0) {
+      return NO_ROWS;
+    }
     const at = this.taken.of(count * ROW_WORDS * WORD_BYTES);
     this.calls.rudekpi_rows(slot, at, BigInt(count));
     return this.wordsAt(at, ROW_WORDS * count);
   }
 
   /**
-   * The nodes that an edit or a fault would reach, ascending, 0 for the pointer that is null; nothing is done. Throws an
-   * `EngineFault` if there is no session, a name is out of range or memory is refused.
+   * The nodes that an edit or a fault would reach, ascending, 0 for the pointer that is null; nothing is done. Throws
+   * an `EngineFault` if there is no session, a name is out of range or memory is refused.
    * @param {bigint} slot
    * @param {string} word of a script, as `unlink`
    * @param {number[]} numbers
@@ -226,7 +241,9 @@ export class Engine {
 }
 
 /** The engine of this page or program, once it is loaded. */
-export const inUse = { engine: /** @type {Engine | null} */ (null) };
+export const inUse = {
+  engine: /** @type {Engine | null} */ (null)
+};
 
 /** A network that goes along a script, line by line, and its text that was not read yet. */
 export class Session {
@@ -273,7 +290,9 @@ export class Session {
     return new TextDecoder().decode(this.engine.bytesAt(at, size));
   }
 
-  /** The lines of a base, which are no entry. What came before it must have been read, and it stands in no later text. */
+  /**
+   * The lines of a base, which are no entry. What came before it must have been read, and it stands in no later text.
+   */
   base() {
     this.hear(this.calls.rudekpi_checkpoint(this.slot, this.engine.told));
     return this.read();

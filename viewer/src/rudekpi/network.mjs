@@ -2,14 +2,10 @@
 import {readBase} from "../transcript.mjs";
 import {summaryOf} from "./audits.mjs";
 import {numbersOfEdit, whyRefused} from "./costs.mjs";
-import {
-  DONE, Engine, inUse, LOG_FULL, NO_MEMORY, NO_SESSION, REFUSED, RULE_SET_NAMES, Session
-} from "./engine.mjs";
+import {DONE, Engine, inUse, LOG_FULL, NO_MEMORY, NO_SESSION, REFUSED, RULE_SET_NAMES, Session} from "./engine.mjs";
 import {Ended, EngineFault, MemoryError, NoReply, Refused} from "./errors.mjs";
 import {MOST_NODES, MOST_TURNS, Names, numberWithin, seedOf, shown} from "./names.mjs";
-import {
-  baseOf, enabledOfRows, faultOfLine, listWith, matchingOfRows, movesOfLine, movesOfRows, REFUSALS, Wish
-} from "./replies.mjs";
+import {baseOf, enabledOfRows, faultOfLine, listWith, matchingOfRows, movesOfLine, movesOfRows, REFUSALS, Wish} from "./replies.mjs";
 
 /** @typedef {import("./names.mjs").Name} Name */
 /** @typedef {import("./engine.mjs").Calls} Calls */
@@ -81,7 +77,8 @@ export class Network {
   #unread = 0;
   /**
    * Where the network stands, until an act changes it.
-   * @type {{ rules: RuleName, names: number, here: Uint8Array, pointers: Int32Array, flags: Uint8Array, ends: Int32Array
+   * @type {{ rules: RuleName, names: number, here: Uint8Array, pointers: Int32Array, flags: Uint8Array, ends:
+   *   Int32Array
    *     } | null}
    */
   #state = null;
@@ -114,13 +111,19 @@ export class Network {
     FORGOTTEN.register(this, this.#session, this);
   }
 
-  /** Ends the network and gives its memory back; the transcript stays. */
+  /**
+   * Ends the network and gives its memory back; the transcript stays. Throws a `MemoryError` if there is no memory for
+   * the end of that, which is lost then.
+   */
   close() {
     if (this.#slot !== this.#engine.nowhere) {
-      this.#collect();
-      FORGOTTEN.unregister(this);
-      this.#session.free();
-      this.#slot = this.#engine.nowhere;
+      try {
+        this.#collect();
+      } finally {
+        FORGOTTEN.unregister(this);
+        this.#session.free();
+        this.#slot = this.#engine.nowhere;
+      }
     }
   }
 
@@ -249,15 +252,7 @@ export class Network {
       this.#fail(status, "status");
     }
     this.#note(0);
-    return {
-      entry: engine.entry,
-      nodes: engine.count(0),
-      edges: engine.count(1),
-      pairs: engine.count(2),
-      enabled: engine.count(3),
-      charge: engine.count(4),
-      spent: engine.count(5)
-    };
+    return engine.statusTold();
   }
 
   /**

@@ -109,8 +109,8 @@ export function matchingOfRows(names, entry, rows) {
  */
 export function movesOfLine(names, line) {
   const entry = readEntry(line);
-  const moves = movesOf(entry).map(
-    ({ node, rule, target }) => ({ node: names.nameOf(node), rule, target: names.named(target) }));
+  const moves =
+    movesOf(entry).map(({ node, rule, target }) => ({ node: names.nameOf(node), rule, target: names.named(target) }));
   return listWith(moves, { entry: entry.number });
 }
 

@@ -1,0 +1,376 @@
+// release/rudekpi.mjs, or the module that RUDEKPI_MJS names, beside the program: random scripts told by calls make the
+// same bytes, and each reply is what its entry says. SCRIPTS says how many; 200 if nothing is said.
+import assert from "node:assert/strict";
+import {existsSync, readFileSync} from "node:fs";
+import {spawnSync} from "node:child_process";
+import test from "node:test";
+import {fileURLToPath, pathToFileURL} from "node:url";
+import {scriptOf, wordsOf} from "./scripts.mjs";
+import {program, whatIsMissing} from "./wasm.mjs";
+
+const PATH = process.env.RUDEKPI_MJS ?? fileURLToPath(new URL("../../release/rudekpi.mjs", import.meta.url));
+const EXAMPLE = fileURLToPath(new URL("../../examples/javascript/ring.mjs", import.meta.url));
+const SCRIPTS = Number(process.env.SCRIPTS ?? 200);
+const skip = existsSync(PATH) ? whatIsMissing() : `no module at ${PATH}`;
+const { Audit, audit, Damaged, Ended, Network, Refused, RudekpiError, Wish } =
+  skip ? {} : await import(pathToFileURL(PATH));
+
+const TURNED = ["drive", "scramble"];
+const LISTED = ["enabled", "matching"];
+// by docs/USE.md
+const REFUSALS = [
+  "unknown-node", "self-loop", "already-linked", "not-linked", "too-many-edges", "not-neighbour", "no-flag",
+  "empty-choice", "not-central", "chosen-twice", "not-enabled", "bad-target", "already-present"
+];
+
+/** Calls what a line of a script says, on a network of numbers or of the caller's own names. */
+function told(net, line, name = (number) => number) {
+  const [word, ...given] = line.split(" ");
+  const node = (text) => (text === "-" ? null : name(Number(text)));
+  const item = (text) => {
+    const [mover, target] = text.split(">");
+    return target === undefined ? node(mover) : new Wish(node(mover), node(target));
+  };
+  switch (word) {
+    case "flag":
+      return net.flag(node(given[0]), given[1] === "1");
+    case "step":
+      return net.step(given.map(item));
+    case "drive":
+    case "scramble":
+      return net[word](Number(given[0]), Number(given[1]));
+    default:
+      return net[word](...given.map(node));
+  }
+}
+
+/** A reply as its entry says it. */
+function written(word, reply) {
+  const move = ({ node, rule, target }) => `${node}:${rule}${target === null ? "" : `>${target}`}`;
+  switch (word) {
+    case "step":
+      return reply.map(move).join(" ");
+    case "show":
+      return `${reply.target ?? "-"}`;
+    case "enabled":
+      return [...reply].map(([node, rule]) => `${node}:${rule}`).join(" ") || "none";
+    case "matching":
+      return reply.pairs.map(([a, b]) => `${a}-${b}`).join(" ") || "none";
+    case "status": {
+      const { entry: _, ...counts } = reply;
+      return Object.entries(counts).map(([key, value]) => `${key}=${value}`).join(" ");
+    }
+    default:
+      return "ok";
+  }
+}
+
+/** The entries that a call says it has made, with their replies as a transcript has them. */
+function entriesOf(net, line) {
+  const [word] = line.split(" ");
+  try {
+    const reply = told(net, line);
+    if (TURNED.includes(word)) {
+      const turns = reply.map((turn) => [turn.entry, word === "drive" ? written("step", turn) : "ok"]);
+      return [...turns, [reply.status.entry, written("status", reply.status)]];
+    }
+    return word === "checkpoint" ? [] : [[reply.entry, written(word, reply)]];
+  } catch (wrong) {
+    assert.ok(wrong instanceof Refused, `${line}: ${wrong}`);
+    assert.equal(wrong.text, REFUSALS[wrong.number - 1], line);
+    assert.equal(wrong.message, `${line}: refused ${wrong.number} ${wrong.text} (entry ${wrong.entry})`);
+    return [[wrong.entry, `refused ${wrong.number} ${wrong.text}`]];
+  }
+}
+
+/** The lines that the calls of a script stand for: a status comes after turns, and what is no command is left out. */
+function linesOf({ lines }) {
+  const words = ["link", "unlink", "point", "flag", "join", "leave", "step", "show", "status", "checkpoint"];
+  const known = [...words, ...LISTED, ...TURNED];
+  const shape = /^[a-z]+(?: (?:[1-9]\d*|0|-)(?:>\d+)?)*$/;
+  const arity = { link: 2, flag: 2, drive: 2 };
+  return lines.filter((line) => {
+    const [word, ...given] = line.split(" ");
+    return known.includes(word) && shape.test(line) && given.length >= (arity[word] ?? 0)
+      && (word !== "flag" || given[1] < 2);
+  });
+}
+
+/** The script as the program gets it. */
+function scriptFor(lines) {
+  return lines.flatMap((line) => (TURNED.includes(line.split(" ")[0]) ? [line, "status"] : [line]))
+    .map((line) => `${line}\n`)
+    .join("");
+}
+
+/** Entries of a transcript with their replies. */
+function entriesIn(text) {
+  return [...text.matchAll(/^(\d+) [^=]*?(?: = )(.*)$/gm)].map(([, entry, reply]) => [Number(entry), reply]);
+}
+
+/** Compares what is asked without an entry with the last base and the last answers of a transcript. */
+function compareState(net, text, seed) {
+  const base = text.slice(text.lastIndexOf("matching2 "));
+  const nodes = [...base.matchAll(/^node (\d+) (\d+|-) ([01])$/gm)].map(
+    ([, node, pointer, flag]) => [Number(node), pointer === "-" ? null : Number(pointer), flag === "1"]);
+  const edges = [...base.matchAll(/^edge (\d+) (\d+)$/gm)].map(([, a, b]) => [Number(a), Number(b)]);
+  assert.deepEqual(net.present, nodes.map(([node]) => node), `seed ${seed}`);
+  assert.deepEqual(net.edges, edges, `seed ${seed}`);
+  for (const [node, pointer, flag] of nodes) {
+    assert.deepEqual(net.registers(node), { pointer, flag }, `seed ${seed}, node ${node}`);
+    const near = edges.filter((ends) => ends.includes(node)).map(([a, b]) => a + b - node).sort((a, b) => a - b);
+    assert.deepEqual(net.neighbours(node), near, `seed ${seed}, node ${node}`);
+    const other = nodes.find(([it]) => it === pointer);
+    assert.equal(net.partner(node), other?.[1] === node ? pointer : null, `seed ${seed}, node ${node}`);
+  }
+}
+
+test(`${SCRIPTS} random scripts by calls write what the program writes, and replies are the entries'`, { skip }, () => {
+  const kinds = new Set();
+  let refused = 0;
+  for (let seed = 1; seed <= SCRIPTS; seed += 1) {
+    const script = scriptOf(seed);
+    const lines = [...linesOf(script), "checkpoint"];
+    const theirs = program(wordsOf(script), scriptFor(lines)).text;
+    const net = new Network(script.rules, script.names, { present: script.present });
+    const entries = lines.flatMap((line) => entriesOf(net, line));
+    assert.deepEqual(entries, entriesIn(theirs), `seed ${seed}`);
+    compareState(net, theirs, seed);
+    assert.equal(net.transcript(), theirs, `seed ${seed}`);
+    const said = program(["audit"], theirs).text;
+    const { entries: count, epochs, moves } = net.audit();
+    assert.equal(`accepted: ${count} entries, ${epochs} epochs, ${moves} moves\n`, said, `seed ${seed}`);
+    // what can still come, by docs/BOUNDS.md
+    const { nodes, charge } = net.status();
+    const dense = nodes < 2 ? 0 : Math.floor((nodes * nodes) / 2) + nodes - 2;
+    assert.equal(net.movesLeft(), script.rules === "hh" ? Math.min(charge, dense) : charge, `seed ${seed}`);
+    net.close();
+    lines.forEach((line) => kinds.add(line.split(" ")[0]));
+    refused += entries.filter(([, reply]) => reply.startsWith("refused ")).length;
+  }
+  assert.equal(kinds.size, 14);
+  assert.ok(refused > SCRIPTS, `${refused} refused`);
+});
+
+test("names of the caller's own stand for numbers, in replies and in errors", { skip }, () => {
+  const net = new Network("manne", ["ann", "bob", 7], { present: 2 });
+  assert.deepEqual(
+    [net.nodes, net.present, net.numberOf(7), net.nameOf(2)], [["ann", "bob", 7], ["ann", "bob"], 3, "bob"]);
+  assert.deepEqual(net.join(7), { entry: 1 });
+  assert.deepEqual(net.link("ann", "bob"), { entry: 2 });
+  assert.deepEqual(net.link("bob", 7), { entry: 3 });
+  assert.deepEqual([...net.enabled()], [["ann", "seduce"], ["bob", "seduce"]]);
+  assert.deepEqual([...net.step(["bob"])], [{ node: "bob", rule: "seduce", target: 7 }]);
+  assert.deepEqual([...net.step([new Wish(7, "bob")])], [{ node: 7, rule: "marry", target: "bob" }]);
+  assert.deepEqual(net.show("bob"), { entry: 7, node: "bob", target: 7 });
+  assert.deepEqual(net.matching().pairs, [["bob", 7]]);
+  assert.deepEqual([net.matching().partner(7), net.matching().partner("ann"), net.partner(7)], ["bob", null, "bob"]);
+  assert.throws(() => net.unlink("ann", 7), {
+    name: "Refused",
+    message: "unlink \"ann\" 7: refused 4 not-linked (entry 11)",
+    event: "unlink \"ann\" 7",
+    number: 4,
+    text: "not-linked",
+    entry: 11
+  });
+  assert.throws(() => net.link("ann", "cleo"), { name: "RangeError", message: "no node has the name \"cleo\"" });
+  assert.throws(() => net.step([new Wish("ann", 7)]), /^Refused: step "ann">7: refused 11 not-enabled \(entry 12\)$/);
+  // those of a set go by number, so the same set is the same step
+  net.scramble(3, 4);
+  const enabled = [...net.enabled().keys()];
+  const [one, other] = [new Network("manne", 3), new Network("manne", 3)];
+  for (const it of [one, other]) {
+    it.link(1, 2);
+    it.link(2, 3);
+  }
+  assert.deepEqual(one.step(new Set([2, 1])), other.step(new Set([1, 2])));
+  assert.equal(one.transcript(), other.transcript());
+  assert.ok(enabled.length > 0);
+});
+
+test("what an edit or a fault costs, and whom it reaches, by the tables of docs/BOUNDS.md", { skip }, () => {
+  const net = new Network("hh", 4);
+  [[1, 2], [2, 3], [3, 4]].forEach(([a, b]) => net.link(a, b));
+  // 1 and 2 pair, and so do 3 and 4
+  for (const choice of [[1], [2], [3], [4]]) {
+    net.step(choice);
+  }
+  assert.deepEqual(net.matching().pairs, [[1, 2], [3, 4]]);
+  assert.equal(net.enabled().size, 0);
+  assert.deepEqual([...net.reach("unlink", 1, 2)], [1, 2]);
+  assert.deepEqual([...net.reach("unlink", 2, 3)], []);
+  assert.deepEqual([...net.reach("link", 1, 4)], []);
+  assert.deepEqual([...net.reach("leave", 4)], [3]);
+  assert.equal(net.costOf("link", 1, 4), 2);
+  assert.equal(net.costOf("unlink", 2, 3), 0);
+  assert.equal(net.costOf("unlink", 1, 2), 2);
+  assert.equal(net.costOf("leave", 4), 2);
+  assert.equal(net.costOf("point", 1, null), 6);
+  net.unlink(1, 2);
+  assert.throws(
+    () => net.costOf("unlink", 1, 2), { name: "RangeError", message: /^unlink 1 2 would be refused \(not-linked\)/});
+  for (const [words, why] of [
+         [["link", 2, 3], "already-linked"],
+         [["link", 2, 2], "self-loop"],
+         [["join", 1], "already-present"],
+         [["flag", 1, true], "no-flag"],
+         [["point", 1, 4], "not-neighbour"],
+         [["leave", 9], "unknown-node"],
+  ]) {
+    assert.throws(() => net.costOf(...words), { message: new RegExp(`would be refused \\(${why}\\)`) });
+    assert.deepEqual([...net.reach(...words)], []);
+  }
+  assert.throws(() => net.costOf("step", 1), { name: "RangeError" });
+  assert.throws(() => net.costOf("link", 1), { name: "TypeError", message: "link takes 2 words, and not 1" });
+  assert.deepEqual([net.isAtRest(3), net.isAtRest(1), net.restless()], [true, true, []]);
+});
+
+test("arguments that are none throw a RangeError or a TypeError, and add no entry", { skip }, () => {
+  for (const [words, name] of [
+         [["rattle", 3], "RangeError"],
+         [["hh", -1], "RangeError"],
+         [["hh", 65536], "RangeError"],
+         [["hh", 2.5], "TypeError"],
+         [["hh", "abc"], "TypeError"],
+         [["hh", ["a", "a"]], "RangeError"],
+         [["hh", ["a", null]], "TypeError"],
+         [["hh", 3, { present: 4 }], "RangeError"],
+  ]) {
+    assert.throws(() => new Network(...words), { name });
+  }
+  const net = new Network("manne", 3);
+  for (const [call, name] of [
+         [() => net.link(0, 1), "RangeError"],
+         [() => net.link(1, 65536), "RangeError"],
+         [() => net.link("1", 2), "TypeError"],
+         [() => net.link(1.5, 2), "TypeError"],
+         [() => net.show(), "TypeError"],
+         [() => net.flag(1, 2), "RangeError"],
+         [() => net.step("12"), "TypeError"],
+         [() => net.step(1), "TypeError"],
+         [() => net.step([1, NaN]), "TypeError"],
+         [() => net.drive(-1, 2), "RangeError"],
+         [() => net.drive(2n ** 64n, 2), "RangeError"],
+         [() => net.drive("7", 2), "TypeError"],
+         [() => net.drive(7, 1_000_001), "RangeError"],
+         [() => net.scramble(7, 0.5), "TypeError"],
+         [() => net.neighbours(4), "RangeError"],
+         [() => net.step(new Array(65536).fill(1)), "RangeError"],
+         [() => audit(7), "TypeError"],
+         [() => audit(null), "TypeError"],
+  ]) {
+    assert.throws(call, { name }, `${call}`);
+  }
+  assert.equal(net.transcript(), "matching manne 3\n");
+  assert.deepEqual(net.drive(2n ** 64n - 1n, 3).status.entry, 1);
+  net.close();
+  net.close();
+  assert.equal(net.transcript(), "matching manne 3\n1 status = nodes=3 edges=0 pairs=0 enabled=0 charge=3 spent=0\n");
+  for (const call of
+         [() => net.link(1, 2), () => net.enabled(), () => net.drive(1, 1), () => net.edges, () => net.partner(1),
+         () => net.reach("link", 1, 2), () => net.checkpoint()]) {
+    assert.throws(call, { name: "TypeError", message: "the network is closed" }, `${call}`);
+  }
+});
+
+test("a transcript that is not kept begins with its last base", { skip }, () => {
+  const net = new Network("hh", 3, { keep: false });
+  net.link(1, 2);
+  net.step([1]);
+  const { number, spent, nodes, edges } = net.checkpoint();
+  assert.deepEqual([number, spent, edges], [2, 1, [[1, 2]]]);
+  assert.deepEqual(
+    [...nodes],
+    [[1, { pointer: 2, flag: false }], [2, { pointer: null, flag: false }], [3, { pointer: null, flag: false }]]);
+  net.step([2]);
+  assert.equal(
+    net.transcript(),
+    "matching2 hh 3\nbase 2 spent=1 nodes=3 edges=1\nnode 1 2 0\nnode 2 - 0\nnode 3 - 0\nedge 1 2\n" +
+      "3 step 2 = 2:marry>1\n");
+  assert.deepEqual(net.audit(), { entries: 1, epochs: 1, moves: 1 });
+});
+
+/** The verdict of the module, at once or in pieces, as the program says it. */
+function verdict(judge) {
+  try {
+    const { entries, epochs, moves } = judge();
+    return `accepted: ${entries} entries, ${epochs} epochs, ${moves} moves\n`;
+  } catch (wrong) {
+    assert.ok(wrong instanceof Damaged && wrong instanceof RudekpiError, `${wrong}`);
+    assert.equal(wrong.message, `line ${wrong.line}: ${wrong.why}`);
+    return `${wrong.message}\n`;
+  }
+}
+
+test("transcripts, whole and damaged, are judged as the program judges them, in pieces too", { skip }, () => {
+  const bytes = (text) => Buffer.from(text, "latin1");
+  for (let seed = 1; seed <= 30; seed += 1) {
+    const script = scriptOf(seed + 900);
+    const whole = program(wordsOf(script), scriptFor(linesOf(script))).text;
+    const at = script.next(whole.length);
+    const texts = [
+      whole, whole.slice(0, at), `${whole.slice(0, at)}7${whole.slice(at + 1)}`,
+      `${whole.slice(0, at)}\u00e9${whole.slice(at)}`, whole.replace(" = ok", " = refused 1 absent")
+    ];
+    for (const text of texts) {
+      const wanted = program(["audit"], bytes(text)).text;
+      assert.equal(verdict(() => audit(bytes(text))), wanted, `seed ${seed}: ${JSON.stringify(text)}`);
+      assert.equal(verdict(() => audit(text)), wanted, `seed ${seed}, as a text`);
+      const size = 1 + script.next(50);
+      assert.equal(
+        verdict(() => {
+          const judge = new Audit();
+          for (let from = 0; from < text.length; from += size) {
+            judge.feed(bytes(text).subarray(from, from + size));
+          }
+          return judge.finish();
+        }),
+        wanted, `seed ${seed}, in pieces of ${size}`);
+    }
+  }
+});
+
+test("an audit that is over says so, and its verdict may be asked again", { skip }, () => {
+  const judge = new Audit();
+  judge.feed("matching hh 2\n1 link ");
+  judge.feed("1 2 = ok\n");
+  assert.deepEqual(judge.finish(), { entries: 1, epochs: 2, moves: 0 });
+  assert.deepEqual(judge.finish(), { entries: 1, epochs: 2, moves: 0 });
+  assert.throws(() => judge.feed("2 status"), { name: "TypeError", message: "the audit is over" });
+  const damaged = new Audit();
+  damaged.feed("matching hh 2\n");
+  const wrong = { name: "Damaged", line: 2, why: "not a transcript line" };
+  assert.throws(() => damaged.feed("lnk\n"), wrong);
+  assert.throws(() => damaged.feed("1 link 1 2 = ok\n"), wrong);
+  assert.throws(() => damaged.finish(), wrong);
+  const closed = new Audit();
+  closed.close();
+  assert.throws(() => closed.finish(), { name: "TypeError", message: "the audit is closed" });
+});
+
+test("a full log ends the network, as it ends the program", { skip }, () => {
+  const net = new Network("hh", 1, { keep: false });
+  for (let entry = 1; entry <= 16_777_216; entry += 1) {
+    net.show(1);
+    if (entry % 60_000 === 0) {
+      net.checkpoint();
+    }
+  }
+  assert.throws(() => net.show(1), (wrong) => wrong instanceof Ended && wrong.status === 4);
+  assert.throws(() => net.link(1, 1), { name: "Ended", lastLine: "! log full" });
+  assert.ok(net.transcript().endsWith("\n16777216 show 1 = -\n"));
+});
+
+/** The programs that run the example here. */
+const RUNNERS = [["node", [EXAMPLE]], ["deno", ["run", "--allow-read", EXAMPLE]], ["bun", ["run", EXAMPLE]]];
+
+for (const [name, words] of RUNNERS) {
+  const lacks = spawnSync(name, ["--version"]).status !== 0 && `no ${name}`;
+  test(`the example by ${name}`, { skip: skip || lacks || (process.env.RUDEKPI_MJS && "another module") }, () => {
+    const { status, stdout } = spawnSync(name, words, { encoding: "utf8" });
+    assert.equal(status, 0);
+    const script = EXAMPLE.replace(".mjs", ".script");
+    const { text } = program(["run", "--rules", "manne", "--nodes", "12"], readFileSync(script));
+    assert.equal(stdout, text);
+  });
+}
