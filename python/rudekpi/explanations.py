@@ -215,14 +215,14 @@ def notes_of(state: State, line: str, reply: str, node: Optional[int]) -> list[s
     if event.split(" ")[0] in ("link", "unlink", "point"):
         nodes += [int(text) for text in event.split(" ")[2:3] if text.isdigit() and int(text) <= state.count]
     for number in nodes[:MOST_NODES_SHOWN]:
-        notes += words.around(number)
+        notes += [note for note in words.around(number) if note not in notes]
     return notes
 
 
 def of_base(broken: Broken, damaged: Damaged, program: Program, engine: Optional[str]) -> Explanation:
     """What is said of a line of a base: of one in which a transcript begins, of its form; else of that of the state
     that was reached."""
-    head = broken.start if broken.raw.startswith(HEAD) else broken.base_before(broken.start)
+    head = head_of(broken, program, engine)
     if not head:
         return of_first_base(broken, damaged)
     prefix = broken.accepted(head)
@@ -238,6 +238,18 @@ def of_base(broken: Broken, damaged: Damaged, program: Program, engine: Optional
         raise Garbled(f"the base has {len(lines)} lines, and the auditor refuses line {place + 1} of it")
     fault = unprinted(broken.raw) or base_faults.compared(text_of_line(broken.raw), lines[place], broken.is_cut)
     return broken.explained(damaged, fault, [f"where the run has come to, the line is: {lines[place][:WIDTH]}"])
+
+
+def head_of(broken: Broken, program: Program, engine: Optional[str]) -> int:
+    """Where the base begins to which the wrong line belongs."""
+    if broken.raw.startswith(HEAD):
+        try:
+            # it is a first line, unless the base in front of it is not whole
+            audit(broken.accepted(broken.start), program=program, engine=engine)
+            return broken.start
+        except Damaged:
+            pass
+    return broken.base_before(broken.start)
 
 
 def of_first_base(broken: Broken, damaged: Damaged) -> Explanation:

@@ -136,6 +136,8 @@ def of_number(line: str, expected: int) -> Optional[Fault]:
         zeros = word.lstrip("0")
         hint = f": `{zeros}` has no leading zeros" if NUMERAL.fullmatch(zeros) else ""
         return at_word(line, 0, f"an entry begins with its number, here {expected}{hint}")
+    if not 0 < int(word[:12]) <= MOST_ENTRIES:
+        return at_word(line, 0, f"an entry's number is 1 to {MOST_ENTRIES}, and here {expected}")
     return None if rest else at_word(line, 1, "behind the number stands the event")
 
 
@@ -173,6 +175,8 @@ def of_reply(line: str) -> Optional[Fault]:
     event, reply = line[line.index(" ") + 1 : start - 3], line[start:]
     word = event.split(" ")[0]
     if reply.startswith("refused"):
+        if word in ("enabled", "matching", "status"):
+            return Fault(start, len(line), f"`{word}` is never refused")
         return of_refusal(line, start, reply)
     if not reply:
         return Fault(len(line), len(line) + 1, "here stands the reply")
