@@ -6,8 +6,9 @@ usage: examples/own_nodes.py [--rules hh|manne] [--events N] [--seed S] [--mista
 
 A node moves once all its neighbours, and it itself, have granted it their locks. With each grant comes what the granter
 holds. Then the node chooses its move by these copies, writes the move into the log, and lets all go with what it holds
-now. With a mistake one node does not follow the rules: `low` seduces a neighbour below it, `stale` chooses by the copies
-from before it asked. The log goes to FILE too, and to standard output, without a verdict, if that is `-`.
+now. With a mistake one node does not follow the rules: `low` seduces a neighbour below it, `stale` chooses by the
+copies from before it asked. The log is written to FILE too; if that is `-`, to standard output, and no verdict is
+given.
 """
 
 from __future__ import annotations

@@ -543,7 +543,10 @@ class LogJudge:
 
 def spelled_line(line: Any) -> str:
     """A line of a log as a message has it."""
-    return cut(line.decode().strip()) if isinstance(line, bytes) else spelled(line)
+    if not isinstance(line, bytes):
+        return spelled(line)
+    text = line.decode().strip()
+    return cut(text if text.isprintable() else ascii(text)[1:-1])
 
 
 def told_refusal(number: int) -> str:

@@ -87,7 +87,8 @@ class Broken:
 
     def explained(self, damaged: Damaged, fault: Fault, notes: Iterable[str] = ()) -> Explanation:
         line = text_of_line(self.raw)
-        return Explanation(self.line, damaged.why, line, self.before, fault.start, fault.end, fault.why, tuple(notes))
+        end = max(fault.end, fault.start + 1)
+        return Explanation(self.line, damaged.why, line, self.before, fault.start, end, fault.why, tuple(notes))
 
 
 def explain(transcript: Text, *, program: Program = None, engine: Optional[str] = None) -> Optional[Explanation]:

@@ -152,6 +152,9 @@ def of_event(line: str) -> Optional[Fault]:
         return Fault(len(line), len(line) + 1, "here stand ` = ` and the reply")
     event = line[start:end] if end >= start else ""
     word = event.split(" ")[0]
+    spaces = f"{event} ".find("  ")
+    if event and (spaces >= 0 or event.startswith(" ")):
+        return Fault(start + max(0, spaces), start + max(0, spaces) + 2, "words are separated by one space")
     if word in NO_EVENTS:
         return Fault(start, end, f"`{word}` is a line of a script: in a transcript stand the {NO_EVENTS[word]}")
     why = why_no_command(event.encode()) if event else "an event stands in front of ` = `"
@@ -221,19 +224,15 @@ def of_list(line: str, start: int, reply: str, word: str) -> Optional[Fault]:
     if reply == "none" and word != "step":
         return None
     what, pattern = ITEMS[word]
-    last = 0
     for place, text in enumerate(reply.split(" ")):
         found = re.fullmatch(pattern, text, re.ASCII)
         if not found:
             return at_word(line, place, f"this is not {what}", start)
         why = next((why for number in found.groups() if number and (why := why_no_word(number, NODE))), None)
+        if not why and word == "matching" and int(found[1]) >= int(found[2]):
+            why = "the lower node of a pair stands first"
         if why:
             return at_word(line, place, why, start)
-        if int(found[1]) <= last:
-            return at_word(
-                line, place, f"nodes stand in ascending order, each once: {found[1]} comes behind {last}", start
-            )
-        last = int(found[1])
     return None
 
 

@@ -36,16 +36,16 @@ def told_divergence(found: Divergence) -> str:
 def told_verdict(found: Conformance) -> str:
     """A verdict, for a terminal: what was judged, and where the network stands."""
     moves = ", ".join(f"{count} {rule}" for rule, count in found.moves.items())
+    verdict = "accepted" if found else f"not accepted, {counted(found.divergences, 'divergence')}"
     events = (
-        f"{counted(found.events, 'event')}: {counted(found.edits, 'edit')}, {counted(found.faults, 'fault')}, "
-        f"{counted(sum(found.moves.values()), 'move')} ({moves})"
+        f"{counted(found.events, 'event')}, {counted(found.edits, 'edit')}, {counted(found.faults, 'fault')}, "
+        f"{counted(sum(found.moves.values()), 'move')}: {moves}"
     )
     stand = found.stand
     where = (
         f"at the end: {counted(stand.nodes, 'node')}, {counted(stand.edges, 'edge')}, {counted(stand.pairs, 'pair')}, "
         f"{stand.enabled} enabled; spent {stand.spent}, charge {stand.charge}, bound {found.bound}"
     )
-    verdict = "accepted" if found else f"diverged {counted(found.divergences, 'time')}"
     return "\n".join([*([f"ended: {found.stopped}"] if found.stopped else []), f"{verdict}: {events}", where])
 
 
@@ -67,7 +67,7 @@ def run_conform(given: argparse.Namespace) -> int:
     try:
         found = judge_blocks(judge, log_of(given.log), given.transcript)
     except KeyboardInterrupt:
-        if judge.so_far:
+        if judge.so_far is not None:
             say(told_verdict(judge.so_far))
         print(f"! cut short after {counted(judge.events, 'event')}", file=sys.stderr)
         return INTERRUPTED
