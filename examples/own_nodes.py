@@ -293,7 +293,8 @@ def main() -> int:
     print(f"{found.events} events, {found.edits} edits, {found.faults} faults, moves: {moves}")
     if found.first:
         print(f"line {found.first.line}: {found.first.wrote}, and the rules do not allow it: {found.first.why}")
-        print(*[found.first.hint] if found.first.hint else [], sep="\n")
+        if found.first.hint:
+            print(found.first.hint)
     else:
         print("the rules allow all of it")
     return 0 if found else 1

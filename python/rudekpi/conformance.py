@@ -103,6 +103,11 @@ def observed(node: int, old: int, new: int, was: bool, flag: bool) -> Observed:
     return Observed(node, old, new, was, flag, new, 0 if new else ABANDON)
 
 
+def is_plain(move: Any) -> bool:
+    """Whether this is a move of one register, as most are."""
+    return isinstance(move, dict) and len(move) == 2 and "move" in move and ("pointer" in move or "flag" in move)
+
+
 class Named:
     """The names of a log's nodes, and their numbers in the transcript."""
 
@@ -293,7 +298,7 @@ class LogJudge:
         found = []
         for at, move in enumerate(moves, 1):
             try:
-                if log_lines.kind_of(number, move) != "move":
+                if not is_plain(move) and log_lines.kind_of(number, move) != "move":
                     raise BadLine(number, f"in moves stand moves alone, and not {spelled(move)}")
                 found.append(self.observed(number, move, "move", named))
             except BadLine as error:

@@ -55,17 +55,17 @@ def log_of(path: str) -> log_lines.Log:
 
 def run_conform(given: argparse.Namespace) -> int:
     """Judges a log; prints each divergence as it comes, and the verdict."""
-    if given.transcript == "-":
+    if given.output == "-":
         raise ValueError("a transcript goes to a file, since the verdict goes to standard output")
     judge = LogJudge(
         given.rules,
         resync=given.resync,
-        keeps=given.transcript is not None,
+        keeps=given.output is not None,
         told=lambda found: say(told_divergence(found)),
         program=given.program,
     )
     try:
-        found = judge_blocks(judge, log_of(given.log), given.transcript)
+        found = judge_blocks(judge, log_of(given.log), given.output)
     except KeyboardInterrupt:
         if judge.so_far is not None:
             say(told_verdict(judge.so_far))
@@ -108,7 +108,7 @@ def add_commands(command: Command) -> None:
     conform.add_argument("log", nargs="?", default="-", help="a file of JSON Lines (standard input)")
     conform.add_argument("--rules", choices=("hh", "manne"), required=True, help="the rules that it implements")
     conform.add_argument("--resync", action="store_true", help="goes on after a divergence, which is taken for a fault")
-    conform.add_argument("--transcript", help="a file for the machine's transcript; the names go to FILE.names")
+    conform.add_argument("--output", help="a file for the transcript; the names go to another one, FILE.names")
     conform.add_argument("--program", help="the program that plays")
     why = command("explain", run_explain, "why audit refuses a transcript, and what the machine says there")
     why.add_argument("transcript", nargs="?", default="-", help="a file (standard input)")

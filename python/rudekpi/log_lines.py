@@ -82,6 +82,14 @@ def why_no_json(line: bytes, error: Exception, is_cut: bool) -> str:
     return str(error)
 
 
+def keys_of(made: Any) -> int:
+    """How many keys an event has, with those of its moves."""
+    if not isinstance(made, dict):
+        return -1
+    moves = made.get("moves")
+    return len(made) + (sum([len(move) for move in moves if isinstance(move, dict)]) if isinstance(moves, list) else 0)
+
+
 def object_of(number: int, line: bytes, is_last: bool = False) -> Any:
     """The value of a line that is not blank. Raises `BadLine`."""
     try:
@@ -90,7 +98,7 @@ def object_of(number: int, line: bytes, is_last: bool = False) -> Any:
         if end != len(text):
             raise json.JSONDecodeError("a second value", text, end)
         # a key that is there twice leaves fewer keys than colons
-        return made if isinstance(made, dict) and len(made) == text.count(":") else STRICT.decode(text)
+        return made if keys_of(made) == text.count(":") else STRICT.decode(text)
     except (ValueError, RecursionError) as error:
         raise BadLine(number, why_no_json(line, error, is_last)) from None
 

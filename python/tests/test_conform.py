@@ -357,7 +357,7 @@ class Command(Timed):
         path = os.path.join(self.folder(), "log")
         pathlib.Path(path).write_bytes(text_of([*HH[:6], '{"move": "b", "pointer": null}']))
         transcript = os.path.join(self.folder(), "transcript")
-        said = self.said("--rules", "hh", path, "--transcript", transcript, status=1).splitlines()
+        said = self.said("--rules", "hh", path, "--output", transcript, status=1).splitlines()
         self.assertEqual(
             said[:3],
             [
@@ -376,9 +376,9 @@ class Command(Timed):
             ([], b"", 2, '! line 1: the log is empty: it begins with {"nodes": ["a", "b", ..], "capacity": N}\n'),
             (["/none"], b"", 3, "! /none: No such file or directory\n"),
             (["/"], b"", 3, "! /: Is a directory\n"),
-            (["--transcript", "-"], text_of(HH), 2, "! a transcript goes to a file, .*\n"),
-            (["--transcript", "/dev/full"], text_of(HH), 3, "! /dev/full: No space left on device\n"),
-            (["--transcript", "/none/t"], text_of(HH), 3, "! /none/t: No such file or directory\n"),
+            (["--output", "-"], text_of(HH), 2, "! a transcript goes to a file, .*\n"),
+            (["--output", "/dev/full"], text_of(HH), 3, "! /dev/full: No space left on device\n"),
+            (["--output", "/none/t"], text_of(HH), 3, "! /none/t: No such file or directory\n"),
         )
         for words, given, status, told in cases:
             with self.subTest(told):
