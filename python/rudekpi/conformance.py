@@ -216,14 +216,19 @@ class LogJudge:
 
     def take(self, block: log_lines.Block) -> None:
         """Judges the next lines, up to a divergence that ends it. Raises `BadLine`."""
-        match = log_lines.REGISTER.fullmatch
+        register, edge = log_lines.REGISTER.fullmatch, log_lines.EDGE.fullmatch
         for number, line in block:
             if self.is_over:
                 return
-            found = match(line) if type(line) is bytes else None
-            if found and self.take_register(number, line, found):
-                self.events += 1
-                continue
+            if type(line) is bytes:
+                found = register(line)
+                if found and self.take_register(number, line, found):
+                    self.events += 1
+                    continue
+                found = None if found else edge(line)
+                if found and self.take_edge(number, found):
+                    self.events += 1
+                    continue
             event = log_lines.value_of(number, line)
             if self.named is None:
                 self.begin(number, event)
@@ -250,6 +255,15 @@ class LogJudge:
             self.move(number, line, seen)
         else:
             self.fault(number, seen, target is not None, target is None)
+        return True
+
+    def take_edge(self, number: int, found: re.Match[bytes]) -> bool:
+        """The same of a line that names an edge."""
+        kind, *names = found.groups()
+        a, b = map(self.raw.get, names)
+        if not self.named or not a or not b:
+            return False
+        self.edit_numbers(number, kind.decode(), [a, b], self.named)
         return True
 
     def begin(self, number: int, head: Any) -> None:
@@ -316,6 +330,10 @@ class LogJudge:
             numbers = [named.add(number, given)]
         else:
             numbers = [named.number(number, given)]
+        self.edit_numbers(number, kind, numbers, named)
+
+    def edit_numbers(self, number: int, kind: str, numbers: Sequence[int], named: Named) -> None:
+        """The same, of nodes by their numbers."""
         refusal = self.machine.edit(kind, *numbers)
         if refusal:
             names = " and ".join(map(named.shown, numbers))

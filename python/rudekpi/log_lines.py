@@ -18,11 +18,13 @@ Block = List[Tuple[int, Any]]
 # how many bytes are read at once, and how many a line may have
 PIECE, LONGEST = 1 << 16, 1 << 24
 UTF_16 = (b"\xff\xfe", b"\xfe\xff")
-# a line that names one register of a node, in the spelling of most writers; strings without escapes
+# a line that names one register of a node, or an edge, in the spelling of most writers; strings without escapes
 NAME = rb'"[^"\\\x00-\x1f]*"|[0-9]+'
-REGISTER = re.compile(
-    rb'\{"(move|fault)": ?(' + NAME + rb'), ?(?:"pointer": ?(' + NAME + rb'|null)|"flag": ?(true|false))\}\r?'
-)
+TIME = rb'"time": ?-?(?:0|[1-9][0-9]*)(?:\.[0-9]+)?(?:[eE][-+]?[0-9]+)?'
+START, END = rb"\{(?:" + TIME + rb", ?)?", rb"\}\r?"
+VALUE = rb'(?:"pointer": ?(' + NAME + rb'|null)|"flag": ?(true|false))'
+REGISTER = re.compile(START + rb'"(move|fault)": ?(' + NAME + rb"), ?" + VALUE + END)
+EDGE = re.compile(START + rb'"(link|unlink)": ?\[(' + NAME + rb"), ?(" + NAME + rb")\]" + END)
 # how many characters of a line or a name stand in a message
 SHOWN = 200
 EVENTS = ("link", "unlink", "join", "leave", "move", "moves", "fault")

@@ -267,7 +267,7 @@ def damaged_line(line: str, lines: list[str], chance: random.Random) -> str:
     elif act == 2:
         event[chance.choice(KEYS)] = event.pop(key)
     elif act == 3:
-        event[chance.choice([*KEYS, "note"])] = chance.choice([None, True, False, "a", "c", 1])
+        event[chance.choice([*KEYS, "time", "note"])] = chance.choice([None, True, False, "a", "c", 1, -0.5, 1e99])
     elif act == 4:
         return json.dumps({"moves": [json.loads(chance.choice(lines)) for _ in range(chance.randrange(4))]})
     else:

@@ -274,6 +274,8 @@ class BadLines(Timed):
         ('{"move": "a", "pointer": "b", "note": 1}', 'no key "note": its keys are move, pointer, flag, time'),
         ('{"move": "a", "flag": 1}', "a flag is true or false, and not 1"),
         ('{"move": "a", "move": "a", "pointer": "b"}', 'the key "move" is there twice'),
+        ('{"time": 1, "move": "a", "pointer": "b", "time": 2}', 'the key "time" is there twice'),
+        ('{"time": 01, "move": "a", "pointer": "b"}', "this is no JSON"),
         ('{"move": "a", "pointer": NaN}', "NaN is no JSON"),
         ('{"move": "a", "pointer": "b"} {}', "a second value"),
         ('{"moves": []}', "moves is a list of one move or more"),
