@@ -610,8 +610,8 @@ class Transcript:
             self.file.close()
 
     def write_names(self, names: Sequence[Name]) -> None:
-        """Writes the names, a JSON value a line, so that line N is the name of node N."""
-        if isinstance(self.target, (str, os.PathLike)):
+        """Writes the names beside a file, a JSON value a line, so that line N is the name of node N."""
+        if isinstance(self.target, (str, os.PathLike)) and os.path.isfile(self.target):
             write_whole(f"{os.fspath(self.target)}.names", "".join(f"{json.dumps(name)}\n" for name in names).encode())
 
 

@@ -71,7 +71,7 @@ class OfLibrary:
 
     def __init__(self, library: Library, rules: str, count: int, present: int, keeps: bool) -> None:
         self.library, self.session = library, Direct(library, Names(count), rules, present, True)
-        self.at, self.count = self.session.at, count
+        self.at, self.count, self.place = self.session.at, count, 0
         told, items, row = ((ctypes.c_uint32 * 8)(), (ctypes.c_uint32 * 2)(), (ctypes.c_uint32 * ROW_NUMBERS)())
         self.told_at, self.items_at, self.row_at = map(ctypes.byref, (told, items, row))
         self.told, self.item, self.row = (memoryview(it).cast("B").cast("I") for it in (told, items, row))
@@ -122,6 +122,10 @@ class OfLibrary:
         return self.told[ENTRY]
 
     def taken(self) -> bytes:
+        if self.session.is_closed:
+            # a full log has ended it, which took the rest of the text out of it
+            text, self.place = self.session.text_kept.since(self.place)
+            return text
         wanted = self.library.session_length(self.at)
         room = ctypes.create_string_buffer(wanted)
         self.library.session_read(self.at, room, ctypes.c_size_t(wanted))

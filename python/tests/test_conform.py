@@ -21,8 +21,8 @@ from typing import Any, Iterable
 from unittest import mock
 
 import log_fuzz
-from rudekpi.library import found_library
-from rudekpi import BadLine, Conformance, Divergence, audit, conform, conformance, engines
+from rudekpi import BadLine, Conformance, Divergence, Ended, audit, conform, conformance, engines
+from rudekpi.library import LOG_FULL, found_library
 from support import TOP, Timed
 
 PATH = ['{"nodes": ["a", "b", "c", "d"]}', '{"link": ["a", "b"]}', '{"link": ["b", "c"]}', '{"link": ["c", "d"]}']
@@ -225,6 +225,26 @@ class Verdicts(Timed):
         self.assertEqual(dataclasses.asdict(found)["first"]["line"], 5)
         bad = BadLine(3, "why")
         self.assertEqual(pickle.loads(pickle.dumps(bad)).args, bad.args)
+
+    def test_a_full_log(self) -> None:
+        """The log is full at once: the calls of this library, or the program, say so behind the first edit."""
+        transcript = io.BytesIO()
+        if self.engine == "library":
+            library = found_library()
+            assert library is not None
+            with mock.patch.object(library, "unlink", lambda *_: LOG_FULL), self.assertRaises(Ended) as raised:
+                conform([*PATH, '{"unlink": ["a", "b"]}', *HH[4:]], "hh", transcript=transcript)
+        else:
+            script = (
+                "echo 'matching hh 4'\nread -r _ && echo '1 link 1 2 = ok'\nread -r _\necho '! log full' >&2\nexit 4\n"
+            )
+            with self.assertRaises(Ended) as raised:
+                conform(PATH, "hh", transcript=transcript, program=self.program(script))
+        self.assertEqual((raised.exception.status, raised.exception.last_line), (4, "! log full"))
+        whole = (
+            "".join(HH_TRANSCRIPT.splitlines(keepends=True)[1:4]) if self.engine == "library" else "1 link 1 2 = ok\n"
+        )
+        self.assertEqual(transcript.getvalue().decode(), f"matching hh 4\n{whole}")
 
     def test_the_machine_is_given_back(self) -> None:
         made: list[Any] = []
@@ -449,6 +469,7 @@ class OwnNodes(Timed):
     """The example, whose nodes know nothing of this package."""
 
     engines = ("program",)
+    seconds = 240
     # the example takes the library, if there is one
     engine_of_example = "library" if found_library() else "program"
 
