@@ -208,8 +208,10 @@ def notes_of(state: State, line: str, reply: str, node: Optional[int]) -> list[s
     event = line.partition(" ")[2].partition(" = ")[0]
     words = Reasons(state, str)
     notes = [f"the machine's reply: {reply[:WIDTH]}{' ..' if len(reply) > WIDTH else ''}"]
-    if node is None or node > state.count:
+    if node is None:
         return notes
+    if not 0 < node <= state.count:
+        return [*notes, f"the names of this network are 1 to {state.count}"]
     if event.split(" ")[0] in ("step", "enabled"):
         notes.append(words.allowed(node))
     nodes = [node]

@@ -8,7 +8,17 @@ from typing import NamedTuple, Optional
 
 from .library import MOVES, REFUSALS
 from .numbers import MOST_ENTRIES, MOST_NODES
-from .script_words import BIT, COMMANDS, NODE, NULLABLE, NUMERAL, why_no_command, why_no_word, why_not_plain
+from .script_words import (
+    BIT,
+    COMMANDS,
+    LONGEST_LINE,
+    NODE,
+    NULLABLE,
+    NUMERAL,
+    why_no_command,
+    why_no_word,
+    why_not_plain,
+)
 
 # commands of a script that are no events
 NO_EVENTS = {"drive": "steps that it made", "scramble": "faults that it drew", "checkpoint": "lines of a base"}
@@ -45,7 +55,8 @@ def text_of_line(raw: bytes) -> str:
 
 def unprinted(raw: bytes) -> Optional[Fault]:
     """A byte that no transcript has."""
-    why = why_not_plain(raw)
+    # a line of a transcript may be longer than one of a script
+    why = why_not_plain(raw if len(raw) <= LONGEST_LINE else raw[: LONGEST_LINE - 1] + raw[-1:])
     if not why:
         return None
     why = why.replace("a script is printable ASCII", "a transcript is printable ASCII")

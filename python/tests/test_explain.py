@@ -97,6 +97,7 @@ class Reasons(Timed):
     def test_a_step_that_the_rules_do_not_allow(self) -> None:
         for text, line, marked, why in (
             (FLAGS + "3 step 2 = 2:seduce>1\n", 4, "2:seduce>1", "1 stands below 2 (they are nodes 1 and 2)"),
+            (FLAGS + "3 step 9 = 9:update\n", 4, "9:update", "the names of this network are 1 to 3"),
             (FLAGS + "3 step 3 = 3:seduce>2\n", 4, "3:seduce>2", "the machine replies `refused 11 not-enabled`"),
             (FLAGS + "3 step 1 2 = 1:seduce>2\n", 4, "", "the move of 2 is missing here"),
             (FLAGS + "3 step 1 2 = 2:seduce>3 1:seduce>2\n", 4, "2:seduce>3", "the move of 1 is missing here"),
