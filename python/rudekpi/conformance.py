@@ -594,16 +594,19 @@ class Transcript:
         self.file: Optional[BinaryIO] = None
 
     def __enter__(self) -> Transcript:
-        if isinstance(self.target, (str, os.PathLike)):
-            path = os.fspath(self.target)
-            self.file = cast(BinaryIO, io.BufferedWriter(Output(path, path)))
-        else:
-            self.file = self.target
         return self
 
     def write(self, text: bytes) -> None:
-        if self.file and text:
-            self.file.write(text)
+        """Writes what comes next. A file is opened for the first of it, so that an older one stays if there is none."""
+        if not text or self.target is None:
+            return
+        if self.file is None:
+            if isinstance(self.target, (str, os.PathLike)):
+                path = os.fspath(self.target)
+                self.file = cast(BinaryIO, io.BufferedWriter(Output(path, path)))
+            else:
+                self.file = self.target
+        self.file.write(text)
 
     def __exit__(self, kind: Optional[type[BaseException]], *_: object) -> None:
         if self.file and self.file is not self.target:
@@ -611,7 +614,7 @@ class Transcript:
 
     def write_names(self, names: Sequence[Name]) -> None:
         """Writes the names beside a file, a JSON value a line, so that line N is the name of node N."""
-        if isinstance(self.target, (str, os.PathLike)) and os.path.isfile(self.target):
+        if self.file and isinstance(self.target, (str, os.PathLike)) and os.path.isfile(self.target):
             write_whole(f"{os.fspath(self.target)}.names", "".join(f"{json.dumps(name)}\n" for name in names).encode())
 
 

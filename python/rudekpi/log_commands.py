@@ -4,6 +4,7 @@ is refused."""
 from __future__ import annotations
 
 import argparse
+import os
 import pathlib
 import sys
 from typing import Callable
@@ -53,10 +54,16 @@ def log_of(path: str) -> log_lines.Log:
     return sys.stdin.buffer if path == "-" else pathlib.Path(path)
 
 
+def is_same_file(one: str, other: str) -> bool:
+    return os.path.exists(one) and os.path.exists(other) and os.path.samefile(one, other)
+
+
 def run_conform(given: argparse.Namespace) -> int:
     """Judges a log; prints each divergence as it comes, and the verdict."""
     if given.output == "-":
         raise ValueError("a transcript goes to a file, since the verdict goes to standard output")
+    if given.output is not None and is_same_file(given.output, given.log):
+        raise ValueError(f"the transcript would be written over the log {given.log}")
     judge = LogJudge(
         given.rules,
         resync=given.resync,

@@ -408,6 +408,19 @@ class Command(Timed):
                 self.assertEqual((done.returncode, done.stdout), (status, b""))
                 self.assertRegex(done.stderr.decode(), "^" + told.replace("[", r"\[").replace("{", r"\{") + "$")
 
+    def test_no_file_is_lost(self) -> None:
+        log, old = os.path.join(self.folder(), "log"), os.path.join(self.folder(), "old")
+        pathlib.Path(log).write_bytes(text_of(HH))
+        pathlib.Path(old).write_text("old")
+        for words, status in (((log, "--output", log), 2), (("/none", "--output", old), 3)):
+            done = rudekpi("conform", "--rules", "hh", *words)
+            self.assertEqual((done.returncode, done.stdout), (status, b""))
+        done = rudekpi("conform", "--rules", "hh", "--output", old, given=b"x\n")
+        self.assertEqual(done.returncode, 2)
+        self.assertEqual(pathlib.Path(old).read_text(), "old")
+        self.assertEqual(pathlib.Path(log).read_bytes(), text_of(HH))
+        self.assertFalse(os.path.exists(old + ".names"))
+
     def test_streams_that_fail(self) -> None:
         path = os.path.join(self.folder(), "log")
         pathlib.Path(path).write_bytes(text_of(HH))
