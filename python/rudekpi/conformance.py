@@ -181,8 +181,8 @@ class Named:
 class LogJudge:
     """Judges a log line by line, from its first line on.
 
-    `told` is called with each divergence as it is met. With `resync` what was observed is then written as faults, and
-    the judge goes on.
+    `on_divergence` is called with each divergence as it is met. With `resync` what was observed is then written as
+    faults, and the judge goes on.
     """
 
     def __init__(
@@ -191,13 +191,13 @@ class LogJudge:
         *,
         resync: bool = False,
         keeps: bool = False,
-        told: Optional[Callable[[Divergence], object]] = None,
+        on_divergence: Optional[Callable[[Divergence], object]] = None,
         program: Program = None,
         engine: Optional[str] = None,
     ) -> None:
         if rules not in ("hh", "manne"):
             raise ValueError(f"rules are 'hh' or 'manne', and not {rules!r}")
-        self.rules, self.resync, self.keeps, self.told = rules, resync, keeps, told
+        self.rules, self.resync, self.keeps, self.on_divergence = rules, resync, keeps, on_divergence
         self.made_of = program, engine
         self.named: Optional[Named] = None
         self.has_flags = rules == "manne"
@@ -337,7 +337,7 @@ class LogJudge:
         refusal = self.machine.edit(kind, *numbers)
         if refusal:
             names = " and ".join(map(named.shown, numbers))
-            raise BadLine(number, f"the machine refuses to {kind} {names}: {told_refusal(refusal)}")
+            raise BadLine(number, f"the machine refuses to {kind} {names}: {refusal_text(refusal)}")
         self.remember_cleared(number, kind, numbers)
         getattr(self.state, kind)(*numbers)
         self.edits += 1
@@ -358,7 +358,7 @@ class LogJudge:
         if has_flag and not refusal:
             refusal = self.machine.edit("flag", seen.node, int(seen.flag))
         if refusal:
-            raise BadLine(number, f"the machine refuses this fault ({self.wrote(seen)}): {told_refusal(refusal)}")
+            raise BadLine(number, f"the machine refuses this fault ({self.wrote(seen)}): {refusal_text(refusal)}")
         self.write(number, seen)
         self.faults += 1
 
@@ -432,8 +432,8 @@ class LogJudge:
         found = self.divergence(number, line, seen, refusal)
         self.divergences += 1
         self.first = self.first or found
-        if self.told:
-            self.told(found)
+        if self.on_divergence:
+            self.on_divergence(found)
         if not self.resync:
             self.is_over = True
             return
@@ -451,7 +451,7 @@ class LogJudge:
             refusal = self.machine.edit(word, node, value) if is_new else 0
             if refusal:
                 what = self.wrote(seen)
-                self.stopped = f"line {number}: no fault can write this ({what}): {told_refusal(refusal)}"
+                self.stopped = f"line {number}: no fault can write this ({what}): {refusal_text(refusal)}"
                 self.is_over = True
                 return
         state = self.state
@@ -500,7 +500,7 @@ class LogJudge:
             return f"{cut(', '.join(map(self.shown, nodes)))} move at once, and under hh one node moves at a time"
         if twice:
             return f"{self.shown(twice)} moves twice in one step"
-        return f"the machine refuses this step: {told_refusal(refusal)}"
+        return f"the machine refuses this step: {refusal_text(refusal)}"
 
     def hint(self, bad: Observed) -> str:
         """Whose stale copy the node may have read, if its move was allowed before that neighbour wrote."""
@@ -572,7 +572,7 @@ def spelled_line(line: Any) -> str:
     return cut(text if text.isprintable() else ascii(text)[1:-1])
 
 
-def told_refusal(number: int) -> str:
+def refusal_text(number: int) -> str:
     return f"{number} {REFUSALS[number - 1]}"
 
 
@@ -643,7 +643,7 @@ def conform(
     *,
     resync: bool = False,
     transcript: Target = None,
-    told: Optional[Callable[[Divergence], object]] = None,
+    on_divergence: Optional[Callable[[Divergence], object]] = None,
     program: Program = None,
     engine: Optional[str] = None,
 ) -> Conformance:
@@ -651,10 +651,12 @@ def conform(
 
     `log` is a `pathlib.Path`, a file that is open for bytes, text or bytes, or anything that gives its lines or objects
     one by one, as they come. It ends at the first divergence, or with `resync` goes on with what was observed as
-    faults. `told` is called with each divergence at once. `transcript` is a path, or a file that is open for bytes, to
-    which the machine's transcript goes; beside a path come the names, in `PATH.names`.
+    faults. `on_divergence` is called with each divergence at once. `transcript` is a path, or a file that is open for
+    bytes, to which the machine's transcript goes; beside a path come the names, in `PATH.names`.
 
     Raises `BadLine` for a line that is no event, or an edit or a fault that the machine refuses.
     """
-    judge = LogJudge(rules, resync=resync, keeps=transcript is not None, told=told, program=program, engine=engine)
+    judge = LogJudge(
+        rules, resync=resync, keeps=transcript is not None, on_divergence=on_divergence, program=program, engine=engine
+    )
     return judge_blocks(judge, log, transcript)

@@ -27,14 +27,14 @@ def say(text: str) -> None:
     print(text.encode(encoding, "backslashreplace").decode(encoding), flush=True)
 
 
-def told_divergence(found: Divergence) -> str:
+def divergence_text(found: Divergence) -> str:
     """A divergence, for a terminal."""
     lines = [f"line {found.line}: {found.wrote}, and the rules do not allow it", f"    {found.event}", f"  {found.why}"]
     lines += [f"  {found.hint}"] if found.hint else []
     return "\n".join([*lines, *(f"    {held}" for held in found.around)])
 
 
-def told_verdict(found: Conformance) -> str:
+def verdict_text(found: Conformance) -> str:
     """A verdict, for a terminal: what was judged, and where the network stands."""
     moves = ", ".join(f"{count} {rule}" for rule, count in found.moves.items())
     verdict = "accepted" if found else f"not accepted, {counted(found.divergences, 'divergence')}"
@@ -68,14 +68,14 @@ def run_conform(given: argparse.Namespace) -> int:
         given.rules,
         resync=given.resync,
         keeps=given.output is not None,
-        told=lambda found: say(told_divergence(found)),
+        on_divergence=lambda found: say(divergence_text(found)),
         program=given.program,
     )
     try:
         found = judge_blocks(judge, log_of(given.log), given.output)
     except KeyboardInterrupt:
         if judge.so_far is not None:
-            say(told_verdict(judge.so_far))
+            say(verdict_text(judge.so_far))
         print(f"! cut short after {counted(judge.events, 'event')}", file=sys.stderr)
         return INTERRUPTED
     except Ended as ended:
@@ -83,7 +83,7 @@ def run_conform(given: argparse.Namespace) -> int:
             raise
         print(f"! {ended.last_line.lstrip('! ')} after {counted(judge.events, 'event')}", file=sys.stderr)
         return FULL
-    say(told_verdict(found))
+    say(verdict_text(found))
     return DONE if found else FAILED
 
 

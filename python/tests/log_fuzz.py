@@ -235,7 +235,7 @@ def fault_of_resync(log: bytes, rules: str, engine: str, first: Verdict) -> list
     """What is wrong with a log that is judged beyond its divergences: its transcript has to be accepted."""
     transcript, told = io.BytesIO(), list[Divergence]()
     try:
-        conform(log, rules, engine=engine, resync=True, transcript=transcript, told=told.append)
+        conform(log, rules, engine=engine, resync=True, transcript=transcript, on_divergence=told.append)
     except BadLine:
         pass
     if bool(told) != (first[0] == "diverged") or (told and told[0].line != first[1]):

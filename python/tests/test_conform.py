@@ -200,7 +200,7 @@ class Verdicts(Timed):
         ]
         told: list[Divergence] = []
         transcript = io.BytesIO()
-        found = conform([*log, HH[5]], "hh", resync=True, told=told.append, transcript=transcript)
+        found = conform([*log, HH[5]], "hh", resync=True, on_divergence=told.append, transcript=transcript)
         self.assertEqual([it.line for it in told], [6, 7])
         self.assertEqual((found.divergences, found.first, found.stopped), (2, told[0], ""))
         # a points at b, so that b marries it; what it seduces is c
