@@ -3,7 +3,7 @@
 
 _rudekpi_commands='run audit picture epochs storm'
 # what the Python package has beside the words of the program
-_rudekpi_bench='sweep compare worst check shell json'
+_rudekpi_bench='sweep compare worst check shell json conform explain'
 
 # Completes the word at the cursor by some words.
 _rudekpi_words() {
@@ -30,6 +30,8 @@ _rudekpi_flags() {
         check) _rudekpi_words --help ;;
         shell) _rudekpi_words --rules --nodes --present --program --help ;;
         json) _rudekpi_words --program --help ;;
+        conform) _rudekpi_words --rules --resync --output --program --help ;;
+        explain) _rudekpi_words --program --help ;;
     esac
 }
 
@@ -75,7 +77,7 @@ _rudekpi() {
             case $command,$word in
                 ,*) _rudekpi_words "$(_rudekpi_all)" help --help --version ;;
                 help,*) _rudekpi_words "$(_rudekpi_all)" ;;
-                storm,[!-]* | storm, | check,[!-]* | check, | json,[!-]* | json,) _rudekpi_files ;;
+                storm,[!-]* | storm, | check,[!-]* | check, | json,[!-]* | json, | conform,[!-]* | conform, | explain,[!-]* | explain,) _rudekpi_files ;;
                 *) _rudekpi_flags "$command" ;;
             esac
             ;;

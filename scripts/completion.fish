@@ -40,9 +40,11 @@ complete -c rudekpi -n __fish_use_subcommand -a worst -d 'the longest schedule o
 complete -c rudekpi -n __fish_use_subcommand -a check -d 'why lines of a script are no commands'
 complete -c rudekpi -n __fish_use_subcommand -a shell -d 'a session at a terminal that forgives typing errors'
 complete -c rudekpi -n __fish_use_subcommand -a json -d 'a transcript as JSON Lines, an object an entry'
+complete -c rudekpi -n __fish_use_subcommand -a conform -d 'whether the rules allow the moves in the log of ones own implementation'
+complete -c rudekpi -n __fish_use_subcommand -a explain -d 'why audit refuses a transcript, and what the machine says there'
 complete -c rudekpi -n __fish_use_subcommand -l help -d 'tells of all commands'
 complete -c rudekpi -n __fish_use_subcommand -l version -d 'tells the version'
-complete -c rudekpi -n '__fish_seen_subcommand_from help' -a 'run audit picture epochs storm sweep compare worst check shell json'
+complete -c rudekpi -n '__fish_seen_subcommand_from help' -a 'run audit picture epochs storm sweep compare worst check shell json conform explain'
 complete -c rudekpi -n '__fish_seen_subcommand_from run' -l rules -x -a 'hh manne' -d 'the rules'
 complete -c rudekpi -n '__fish_seen_subcommand_from run' -l nodes -x -d 'how many nodes there are'
 complete -c rudekpi -n '__fish_seen_subcommand_from run' -l present -x -d 'how many of them are present at the start'
@@ -111,3 +113,12 @@ complete -c rudekpi -n '__fish_seen_subcommand_from shell' -l help -d 'tells of 
 complete -c rudekpi -n '__fish_seen_subcommand_from json' -l program -r -F -d ''
 complete -c rudekpi -n '__fish_seen_subcommand_from json' -l help -d 'tells of the command'
 complete -c rudekpi -n '__fish_seen_subcommand_from json' -F
+complete -c rudekpi -n '__fish_seen_subcommand_from conform' -l rules -x -a 'hh manne' -d 'the rules that it implements'
+complete -c rudekpi -n '__fish_seen_subcommand_from conform' -l resync -d 'goes on after a divergence, which is taken for a fault'
+complete -c rudekpi -n '__fish_seen_subcommand_from conform' -l output -r -F -d 'a file for the transcript'
+complete -c rudekpi -n '__fish_seen_subcommand_from conform' -l program -r -F -d 'the program that plays'
+complete -c rudekpi -n '__fish_seen_subcommand_from conform' -l help -d 'tells of the command'
+complete -c rudekpi -n '__fish_seen_subcommand_from conform' -F
+complete -c rudekpi -n '__fish_seen_subcommand_from explain' -l program -r -F -d 'the program that plays'
+complete -c rudekpi -n '__fish_seen_subcommand_from explain' -l help -d 'tells of the command'
+complete -c rudekpi -n '__fish_seen_subcommand_from explain' -F

@@ -20,6 +20,8 @@ _rudekpi() {
         'check:why lines of a script are no commands'
         'shell:a session at a terminal that forgives typing errors'
         'json:a transcript as JSON Lines, an object an entry'
+        'conform:whether the rules allow the moves in the log of ones own implementation'
+        'explain:why audit refuses a transcript, and what the machine says there'
     )
     _arguments -C '1: :->command' '*:: :->rest' '(- *)--help[tells of all commands]' '(- *)--version[tells the version]'
     case $state in
@@ -43,6 +45,8 @@ _rudekpi_rest() {
         check) _arguments '--help[tells of the command]' '*:file:_files' ;;
         shell) _arguments '--rules[]:word:(hh manne)' '--nodes[]:number: ' '--present[]:number: ' '--program[]:file:_files' '--help[tells of the command]' ;;
         json) _arguments '--program[]:file:_files' '--help[tells of the command]' '*:file:_files' ;;
+        conform) _arguments '--rules[the rules that it implements]:word:(hh manne)' '--resync[goes on after a divergence, which is taken for a fault]' '--output[a file for the transcript]:file:_files' '--program[the program that plays]:file:_files' '--help[tells of the command]' '*:file:_files' ;;
+        explain) _arguments '--program[the program that plays]:file:_files' '--help[tells of the command]' '*:file:_files' ;;
     esac
 }
 

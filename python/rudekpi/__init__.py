@@ -23,7 +23,21 @@ kept in memory as long as its network.
 from . import daemons, graphs
 from .audits import audit, epochs
 from .batch import Batch, Pending
-from .errors import Damaged, Ended, Garbled, Lost, NoReply, NoSuchCommand, PastBound, Refused, RudekpiError, WrongChoice
+from .conformance import Conformance, Divergence, conform
+from .errors import (
+    BadLine,
+    Damaged,
+    Ended,
+    Garbled,
+    Lost,
+    NoReply,
+    NoSuchCommand,
+    PastBound,
+    Refused,
+    RudekpiError,
+    WrongChoice,
+)
+from .explanations import Explanation, explain
 from .network import Network
 from .parts import audit_parts
 from .pieces import Audit
@@ -54,12 +68,16 @@ __version__ = "0.1.0"
 __all__ = [
     "Accepted",
     "Audit",
+    "BadLine",
     "Base",
     "Batch",
+    "Conformance",
     "Damaged",
+    "Divergence",
     "Enabled",
     "Ended",
     "Epoch",
+    "Explanation",
     "Fault",
     "Garbled",
     "Lost",
@@ -83,8 +101,10 @@ __all__ = [
     "WrongChoice",
     "audit",
     "audit_parts",
+    "conform",
     "daemons",
     "epochs",
+    "explain",
     "graphs",
     "longest",
     "replay",

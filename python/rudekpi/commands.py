@@ -1,4 +1,5 @@
-"""The bench's commands: `python3 -m rudekpi sweep`, `compare`, `worst`, `check`, `shell` and `json`."""
+"""The bench's commands: `python3 -m rudekpi sweep`, `compare`, `worst`, `check`, `shell`, `json`, `conform` and
+`explain`."""
 
 from __future__ import annotations
 
@@ -13,7 +14,7 @@ import warnings
 from concurrent.futures import Executor
 from typing import Callable, Iterable, Iterator, Optional, Sequence, TextIO
 
-from . import daemons, json_lines, script_words, shell, streams, sweeps
+from . import daemons, json_lines, log_commands, script_words, shell, streams, sweeps
 from .audits import audit
 from .errors import Damaged
 from .graphs import Graph, graph_of
@@ -327,6 +328,7 @@ def parser_of() -> argparse.ArgumentParser:
     objects = command("json", run_json, "a transcript as JSON Lines, an object an entry")
     objects.add_argument("transcript", nargs="?", default="-", help="a file (standard input)")
     objects.add_argument("--program")
+    log_commands.add_commands(command)
     return parser
 
 

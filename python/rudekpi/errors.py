@@ -87,6 +87,17 @@ class Damaged(RudekpiError):
         return cls(int(found[1]), found[2])
 
 
+class BadLine(RudekpiError, ValueError):
+    """A line of a log is no event, or one that the machine refuses: its number, and why."""
+
+    def __init__(self, line: int, why: str) -> None:
+        super().__init__(f"line {line}: {why}")
+        self.line, self.why = line, why
+
+    def __reduce__(self) -> tuple[object, ...]:
+        return type(self), (self.line, self.why)
+
+
 class Lost(RudekpiError):
     """Workers died twice over the same part of some work: over experiments of a sweep, or a part of a transcript."""
 

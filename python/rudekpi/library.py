@@ -81,6 +81,7 @@ SHORT = (
     "partner",
     "moves_left",
     "is_at_rest",
+    "transcript",
     *(f"cost_of_{word}" for word in COSTED),
     *(f"reach_of_{word}" for word in COSTED),
 )

@@ -1,0 +1,265 @@
+"""Why `audit` refuses a transcript: which word is wrong, what the machine says there, and what the registers hold.
+
+The verdict is the auditor's, and the reply the machine's, which plays the transcript up to there. The rest is said of
+the registers that are followed.
+"""
+
+from __future__ import annotations
+
+import re
+from dataclasses import dataclass
+from typing import Iterable, Iterator, Optional, Sequence
+
+from . import base_faults, rules
+from .audits import Text, audit, bytes_of
+from .errors import Damaged, Garbled
+from .line_faults import Fault, at_word, of_entry, of_header, text_of_line, unprinted
+from .network import Network
+from .program import Program
+from .reading import MOVE
+from .reasons import Reasons
+from .replays import replay
+from .state import State
+
+HEAD = b"matching2"
+# how many characters of a line are shown round what is wrong
+WIDTH = 100
+# the nodes round which registers are shown
+MOST_NODES_SHOWN = 3
+WITHOUT_REPLY = re.compile(r"[0-9]+ [^=]* = ")
+
+
+@dataclass(frozen=True)
+class Explanation:
+    """Why a transcript is refused: the line and the verdict of `audit`, that line and the one before it, from which
+    character to which it is wrong and why, and what else is to be said."""
+
+    line: int
+    verdict: str
+    text: str
+    before: Optional[str]
+    start: int
+    end: int
+    why: str
+    notes: tuple[str, ...] = ()
+
+    def __str__(self) -> str:
+        return "\n".join([f"line {self.line}: {self.verdict}", *self.frame(), *(f"  {note}" for note in self.notes)])
+
+    def frame(self) -> Iterator[str]:
+        """The line with the mark below what is wrong."""
+        wide = len(str(self.line))
+        # of a long line a part is shown
+        left = max(0, min(self.start - WIDTH // 2, len(self.text) - WIDTH))
+        front, back = ".. " if left else "", " .." if len(self.text) > left + WIDTH else ""
+        shown = f"{front}{self.text[left : left + WIDTH]}{back}"
+        mark = max(1, min(self.end, left + WIDTH) - self.start)
+        if self.before is not None:
+            yield f"{self.line - 1:>{wide}} | {self.before[:WIDTH]}{' ..' if len(self.before) > WIDTH else ''}"
+        yield f"{self.line:>{wide}} | {shown}"
+        yield f"{'':>{wide}} | {' ' * (len(front) + self.start - left)}{'^' * mark} {self.why}"
+
+
+class Broken:
+    """A transcript that is refused: its lines up to the wrong one, and where its state is followed from."""
+
+    def __init__(self, text: bytes, line: int) -> None:
+        self.line, self.start, self.last = line, 0, 0
+        for _ in range(line - 1):
+            self.last, self.start = self.start, text.find(b"\n", self.start) + 1
+        end = text.find(b"\n", self.start)
+        self.is_cut = end < 0
+        self.raw = text[self.start :] if self.is_cut else text[self.start : end]
+        self.text = text
+
+    @property
+    def before(self) -> Optional[str]:
+        """The line in front of the wrong one."""
+        return text_of_line(self.text[self.last : self.start - 1][: 2 * WIDTH]) if self.start else None
+
+    def base_before(self, end: int) -> int:
+        """Where the last base in front of a place begins; 0 if there is none."""
+        return self.text.rfind(b"\n" + HEAD, 0, end) + 1
+
+    def accepted(self, end: int) -> str:
+        """An accepted text that leads to a place: from the last base that is whole before it, or from the start."""
+        return self.text[self.base_before(max(0, end - 1)) : end].decode("ascii")
+
+    def explained(self, damaged: Damaged, fault: Fault, notes: Iterable[str] = ()) -> Explanation:
+        line = text_of_line(self.raw)
+        end = max(fault.end, fault.start + 1)
+        return Explanation(self.line, damaged.why, line, self.before, fault.start, end, fault.why, tuple(notes))
+
+
+def explain(transcript: Text, *, program: Program = None, engine: Optional[str] = None) -> Optional[Explanation]:
+    """Why `audit` refuses a transcript; None if it accepts it. `str` of it is the text for a terminal."""
+    text = bytes_of(transcript)
+    try:
+        audit(text, program=program, engine=engine)
+        return None
+    except Damaged as damaged:
+        return explained(Broken(text, damaged.line), damaged, program, engine)
+
+
+def explained(broken: Broken, damaged: Damaged, program: Program, engine: Optional[str]) -> Explanation:
+    """What is said of a transcript's first wrong line."""
+    if damaged.why == "bad header":
+        return broken.explained(damaged, of_header(broken.raw, broken.is_cut))
+    if damaged.why == "bad base":
+        return of_base(broken, damaged, program, engine)
+    prefix = broken.accepted(broken.start)
+    state = State()
+    state.follow(prefix.splitlines())
+    if damaged.why == "not a transcript line":
+        return broken.explained(damaged, of_entry(broken.raw, broken.is_cut, state.entry + 1))
+    if damaged.why == "out of order":
+        return broken.explained(damaged, of_order(broken.raw, state.entry + 1))
+    with replay(prefix, program=program, engine=engine) as net:
+        reply = replied(net, broken.raw.decode("ascii"))
+    fault, node = of_replies(broken.raw.decode("ascii"), reply, state)
+    return broken.explained(damaged, fault, notes_of(state, broken.raw.decode("ascii"), reply, node))
+
+
+def of_order(raw: bytes, expected: int) -> Fault:
+    line = text_of_line(raw)
+    number = int(line.split(" ")[0])
+    if number < expected:
+        return at_word(line, 0, f"here stands entry {expected}; an entry {number} stands above")
+    missing = f"entry {expected} is" if number == expected + 1 else f"entries {expected} to {number - 1} are"
+    return at_word(line, 0, f"here stands entry {expected}: {missing} missing")
+
+
+def replied(net: Network, line: str) -> str:
+    """The machine's reply to the event of a line, in the state of a network."""
+    event = line.partition(" ")[2].partition(" = ")[0]
+    before = len(net.transcript())
+    net._session.tell(event)
+    return net.transcript()[before:].rstrip("\n").partition(" = ")[2]
+
+
+def of_replies(line: str, reply: str, state: State) -> tuple[Fault, Optional[int]]:
+    """Where a line's reply differs from the machine's, and the node of which that speaks."""
+    event, _, told = line.partition(" ")[2].partition(" = ")
+    start = len(line) - len(told)
+    word = event.split(" ")[0]
+    if word == "step" and not told.startswith("refused") and not reply.startswith("refused"):
+        return of_moves(line, start, event, told, reply, state)
+    if told.startswith("refused") or reply.startswith("refused") or word not in ("enabled", "matching", "status"):
+        node = event.split(" ")[1:2]
+        return (
+            whole_reply(line, start, f"the machine replies `{reply[:WIDTH]}`"),
+            int(node[0].split(">")[0]) if node else None,
+        )
+    ours, theirs = told.split(" "), reply.split(" ")
+    place = next((at for at, (a, b) in enumerate(zip(ours, theirs)) if a != b), min(len(ours), len(theirs)))
+    if word == "status":
+        return at_word(line, place, f"the machine says `{theirs[place]}`", start), None
+    return of_listed(line, start, place, ours, theirs)
+
+
+def whole_reply(line: str, start: int, why: str) -> Fault:
+    return Fault(start, len(line), why)
+
+
+def of_listed(
+    line: str, start: int, place: int, ours: Sequence[str], theirs: Sequence[str]
+) -> tuple[Fault, Optional[int]]:
+    """The first enabled node or pair of two lists that differs, one of which may end there."""
+    mine = ours[place] if place < len(ours) else ""
+    other = theirs[place] if place < len(theirs) else ""
+    found = [int(number[0]) if (number := re.match(r"\d+", text)) else None for text in (mine, other)]
+    if found[0] is not None and (found[1] is None or found[0] < found[1]):
+        return at_word(line, place, "the machine's list does not have this", start), found[0]
+    if mine and found[0] == found[1]:
+        return at_word(line, place, f"the machine says `{other}`", start), found[0]
+    return at_word(line, place, f"`{other}` is missing here", start), found[1]
+
+
+def of_moves(line: str, start: int, event: str, told: str, reply: str, state: State) -> tuple[Fault, Optional[int]]:
+    """The first of a step's moves that the rules do not allow."""
+    wished = dict(item.split(">") for item in event.split(" ")[1:] if ">" in item)
+    chosen = sorted(int(item.split(">")[0]) for item in event.split(" ")[1:])
+    for place, text in enumerate(told.split(" ")):
+        found = MOVE.fullmatch(text)
+        node = int(text.split(":")[0])
+        if place >= len(chosen) or node != chosen[place]:
+            missing = chosen[place] if place < len(chosen) else None
+            if missing is not None and node > missing:
+                return at_word(line, place, f"the move of {missing} is missing here", start), missing
+            return at_word(line, place, f"{node} is not among the nodes of this step", start), node
+        rule, target = (found[2] or found[3], int(found[4] or 0)) if found else ("", 0)
+        real = rules.rule_at(state, node) or ""
+        if rule != real:
+            return at_word(line, place, f"the rule that is enabled at {node} is {real}", start), node
+        wish = wished.get(str(node))
+        if wish and int(wish) != target:
+            return at_word(line, place, f"the step wishes {node} to point at {wish}", start), node
+        if target and target not in rules.targets(state, node, rule):
+            why = Reasons(state, str).why_not_at(node, target) or f"{node} may not {rule} {target}"
+            return at_word(line, place, why, start), node
+    if len(told.split(" ")) < len(chosen):
+        missing = chosen[len(told.split(" "))]
+        return at_word(line, len(told.split(" ")), f"the move of {missing} is missing here", start), missing
+    return whole_reply(line, start, f"the machine replies `{reply[:WIDTH]}`"), None
+
+
+def notes_of(state: State, line: str, reply: str, node: Optional[int]) -> list[str]:
+    """The machine's reply, and what the nodes of which it speaks hold and may do."""
+    event = line.partition(" ")[2].partition(" = ")[0]
+    words = Reasons(state, str)
+    notes = [f"the machine's reply: {reply[:WIDTH]}{' ..' if len(reply) > WIDTH else ''}"]
+    if node is None:
+        return notes
+    if not 0 < node <= state.count:
+        return [*notes, f"the names of this network are 1 to {state.count}"]
+    if event.split(" ")[0] in ("step", "enabled"):
+        notes.append(words.allowed(node))
+    nodes = [node]
+    if event.split(" ")[0] in ("link", "unlink", "point"):
+        nodes += [int(text) for text in event.split(" ")[2:3] if text.isdigit() and int(text) <= state.count]
+    for number in nodes[:MOST_NODES_SHOWN]:
+        notes += [note for note in words.around(number) if note not in notes]
+    return notes
+
+
+def of_base(broken: Broken, damaged: Damaged, program: Program, engine: Optional[str]) -> Explanation:
+    """What is said of a line of a base: of one in which a transcript begins, of its form; else of that of the state
+    that was reached."""
+    head = head_of(broken, program, engine)
+    if not head:
+        return of_first_base(broken, damaged)
+    prefix = broken.accepted(head)
+    state = State()
+    state.follow(prefix.splitlines())
+    with replay(prefix, program=program, engine=engine) as net:
+        before = len(net.transcript())
+        net._session.tell("checkpoint")
+        lines = net.transcript()[before:].splitlines()
+    lines[1] = base_faults.numbered(lines[1], state.entry, base_faults.spent_in(prefix))
+    place = broken.text.count(b"\n", head, broken.start)
+    if place >= len(lines):
+        raise Garbled(f"the base has {len(lines)} lines, and the auditor refuses line {place + 1} of it")
+    fault = unprinted(broken.raw) or base_faults.compared(text_of_line(broken.raw), lines[place], broken.is_cut)
+    return broken.explained(damaged, fault, [f"where the run has come to, the line is: {lines[place][:WIDTH]}"])
+
+
+def head_of(broken: Broken, program: Program, engine: Optional[str]) -> int:
+    """Where the base begins to which the wrong line belongs."""
+    if broken.raw.startswith(HEAD):
+        try:
+            # it is a first line, unless the base in front of it is not whole
+            audit(broken.accepted(broken.start), program=program, engine=engine)
+            return broken.start
+        except Damaged:
+            pass
+    return broken.base_before(broken.start)
+
+
+def of_first_base(broken: Broken, damaged: Damaged) -> Explanation:
+    """The base in which a transcript begins, which is judged by itself."""
+    lines = [text_of_line(line) for line in broken.text.split(b"\n")]
+    fault = base_faults.of_line(broken.raw, broken.line, lines, broken.is_cut)
+    notes: list[str] = []
+    if fault is None:
+        fault, notes = base_faults.of_state(lines)
+    return broken.explained(damaged, fault, notes)

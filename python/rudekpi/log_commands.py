@@ -1,0 +1,122 @@
+"""The commands `conform`, which judges the log of one's own implementation, and `explain`, which says why a transcript
+is refused."""
+
+from __future__ import annotations
+
+import argparse
+import os
+import pathlib
+import sys
+from typing import Callable
+
+from . import log_lines
+from .audits import audit
+from .conformance import Conformance, Divergence, LogJudge, judge_blocks
+from .errors import Ended
+from .explanations import explain
+from .numbers import counted
+
+DONE, FAILED, BAD_WORDS, FULL, INTERRUPTED = 0, 1, 2, 4, 130
+# makes the parser of a command: its name, what runs it, and what it is for
+Command = Callable[[str, Callable[[argparse.Namespace], int], str], argparse.ArgumentParser]
+
+
+def say(text: str) -> None:
+    """Prints at once; a letter that the output's encoding lacks is escaped."""
+    encoding = sys.stdout.encoding or "utf-8"
+    print(text.encode(encoding, "backslashreplace").decode(encoding), flush=True)
+
+
+def divergence_text(found: Divergence) -> str:
+    """A divergence, for a terminal."""
+    lines = [f"line {found.line}: {found.wrote}, and the rules do not allow it", f"    {found.event}", f"  {found.why}"]
+    lines += [f"  {found.hint}"] if found.hint else []
+    return "\n".join([*lines, *(f"    {held}" for held in found.around)])
+
+
+def verdict_text(found: Conformance) -> str:
+    """A verdict, for a terminal: what was judged, and where the network stands."""
+    moves = ", ".join(f"{count} {rule}" for rule, count in found.moves.items())
+    verdict = "accepted" if found else f"not accepted, {counted(found.divergences, 'divergence')}"
+    events = (
+        f"{counted(found.events, 'event')}, {counted(found.edits, 'edit')}, {counted(found.faults, 'fault')}, "
+        f"{counted(sum(found.moves.values()), 'move')}: {moves}"
+    )
+    stand = found.stand
+    where = (
+        f"at the end: {counted(stand.nodes, 'node')}, {counted(stand.edges, 'edge')}, {counted(stand.pairs, 'pair')}, "
+        f"{stand.enabled} enabled; spent {stand.spent}, charge {stand.charge}, bound {found.bound}"
+    )
+    return "\n".join([*([f"ended: {found.stopped}"] if found.stopped else []), f"{verdict}: {events}", where])
+
+
+def log_of(path: str) -> log_lines.Log:
+    return sys.stdin.buffer if path == "-" else pathlib.Path(path)
+
+
+def is_same_file(one: str, other: str) -> bool:
+    return os.path.exists(one) and os.path.exists(other) and os.path.samefile(one, other)
+
+
+def run_conform(given: argparse.Namespace) -> int:
+    """Judges a log; prints each divergence as it comes, and the verdict."""
+    if given.output == "-":
+        raise ValueError("a transcript goes to a file, since the verdict goes to standard output")
+    if given.output is not None and is_same_file(given.output, given.log):
+        raise ValueError(f"the transcript would be written over the log {given.log}")
+    judge = LogJudge(
+        given.rules,
+        resync=given.resync,
+        keeps=given.output is not None,
+        on_divergence=lambda found: say(divergence_text(found)),
+        program=given.program,
+    )
+    try:
+        found = judge_blocks(judge, log_of(given.log), given.output)
+    except KeyboardInterrupt:
+        if judge.so_far is not None:
+            say(verdict_text(judge.so_far))
+        print(f"! cut short after {counted(judge.events, 'event')}", file=sys.stderr)
+        return INTERRUPTED
+    except Ended as ended:
+        if ended.status != FULL:
+            raise
+        print(f"! {ended.last_line.lstrip('! ')} after {counted(judge.events, 'event')}", file=sys.stderr)
+        return FULL
+    say(verdict_text(found))
+    return DONE if found else FAILED
+
+
+def read(path: str) -> bytes:
+    """What a file has, or standard input."""
+    return sys.stdin.buffer.read() if path == "-" else pathlib.Path(path).read_bytes()
+
+
+def run_explain(given: argparse.Namespace) -> int:
+    """Why a transcript is refused, or what it has."""
+    transcript = read(given.transcript)
+    found = explain(transcript, program=given.program)
+    if found is None:
+        has = audit(transcript, program=given.program)
+        say(
+            f"accepted: {counted(has.entries, 'entry', 'entries')}, {counted(has.epochs, 'epoch')}, "
+            f"{counted(has.moves, 'move')}"
+        )
+        return DONE
+    say(str(found))
+    return FAILED
+
+
+def add_commands(command: Command) -> None:
+    """Adds both to the commands of the client."""
+    conform = command(
+        "conform", run_conform, "whether the rules allow the moves in the log of one's own implementation"
+    )
+    conform.add_argument("log", nargs="?", default="-", help="a file of JSON Lines (standard input)")
+    conform.add_argument("--rules", choices=("hh", "manne"), required=True, help="the rules that it implements")
+    conform.add_argument("--resync", action="store_true", help="goes on after a divergence, which is taken for a fault")
+    conform.add_argument("--output", help="a file for the transcript; the names go to another one, FILE.names")
+    conform.add_argument("--program", help="the program that plays")
+    why = command("explain", run_explain, "why audit refuses a transcript, and what the machine says there")
+    why.add_argument("transcript", nargs="?", default="-", help="a file (standard input)")
+    why.add_argument("--program", help="the program that plays")

@@ -1,0 +1,186 @@
+"""The log of one's own implementation: JSON Lines, an object an event, read line by line as they come."""
+
+from __future__ import annotations
+
+import difflib
+import io
+import json
+import os
+import re
+from typing import Any, BinaryIO, Iterable, Iterator, List, NoReturn, Tuple, Union, cast
+
+from .errors import BadLine
+
+# a log: the path of a file, a file that is open for bytes, its text, or its lines or objects one by one
+Log = Union["os.PathLike[str]", BinaryIO, str, bytes, Iterable[Any]]
+# lines or objects with their numbers, that came at once
+Block = List[Tuple[int, Any]]
+# how many bytes are read at once, and how many a line may have
+PIECE, LONGEST = 1 << 16, 1 << 24
+UTF_16 = (b"\xff\xfe", b"\xfe\xff")
+# a line that names one register of a node, or an edge, in the spelling of most writers; strings without escapes
+NAME = rb'"[^"\\\x00-\x1f]*"|[0-9]+'
+TIME = rb'"time": ?-?(?:0|[1-9][0-9]*)(?:\.[0-9]+)?(?:[eE][-+]?[0-9]+)?'
+START, END = rb"\{(?:" + TIME + rb", ?)?", rb"\}\r?"
+VALUE = rb'(?:"pointer": ?(' + NAME + rb'|null)|"flag": ?(true|false))'
+REGISTER = re.compile(START + rb'"(move|fault)": ?(' + NAME + rb"), ?" + VALUE + END)
+EDGE = re.compile(START + rb'"(link|unlink)": ?\[(' + NAME + rb"), ?(" + NAME + rb")\]" + END)
+# how many characters of a line or a name stand in a message
+SHOWN = 200
+EVENTS = ("link", "unlink", "join", "leave", "move", "moves", "fault")
+# the keys of each event beside its own; any line may have a time, which is the writer's
+KEYS = {"move": ("pointer", "flag"), "fault": ("pointer", "flag")}
+FREE = "time"
+
+
+def cut(text: str, most: int = SHOWN) -> str:
+    return text if len(text) <= most else f"{text[:most]}.."
+
+
+def spelled(given: object) -> str:
+    """A value as a log has it, in one line of printable ASCII."""
+    try:
+        return cut(json.dumps(given))
+    except (TypeError, ValueError, RecursionError):
+        return cut(ascii(given))
+
+
+def shown(name: object) -> str:
+    """A name as messages have it: as it is if it can be printed in a row of words, else as a log spells it."""
+    text = str(name)
+    is_plain = text.isprintable() and bool(text) and not any(sign in text for sign in ' ",:;')
+    return text if is_plain and len(text) <= SHOWN else spelled(name)
+
+
+def unique(pairs: list[tuple[str, Any]]) -> dict[str, Any]:
+    """The object of some pairs. Raises `ValueError` if a key is there twice."""
+    made = dict(pairs)
+    if len(made) != len(pairs):
+        keys = [key for key, _ in pairs]
+        raise ValueError(f"the key {spelled(next(key for key in keys if keys.count(key) > 1))} is there twice")
+    return made
+
+
+def refuse_constant(text: str) -> NoReturn:
+    raise ValueError(f"{text} is no JSON")
+
+
+PLAIN = json.JSONDecoder(parse_constant=refuse_constant)
+STRICT = json.JSONDecoder(object_pairs_hook=unique, parse_constant=refuse_constant)
+
+
+def why_no_json(line: bytes, error: Exception, is_cut: bool) -> str:
+    """Why a line is no JSON, in words for whoever wrote it."""
+    if isinstance(error, UnicodeDecodeError):
+        if line.startswith(UTF_16):
+            return "the log is UTF-16: write it as UTF-8"
+        return f"there is the byte 0x{line[error.start]:02x}, which is no UTF-8 there"
+    if isinstance(error, RecursionError):
+        return "the line is nested too deeply"
+    if is_cut:
+        return "the log ends in the middle of this line"
+    if isinstance(error, json.JSONDecodeError):
+        return f"this is no JSON: {error.msg[:1].lower()}{error.msg[1:]} at character {error.pos + 1}"
+    return str(error)
+
+
+def keys_of(made: Any) -> int:
+    """How many keys an event has, with those of its moves."""
+    if not isinstance(made, dict):
+        return -1
+    moves = made.get("moves")
+    return len(made) + (sum([len(move) for move in moves if isinstance(move, dict)]) if isinstance(moves, list) else 0)
+
+
+def object_of(number: int, line: bytes, is_last: bool = False) -> Any:
+    """The value of a line that is not blank. Raises `BadLine`."""
+    try:
+        text = line.decode("utf-8-sig" if number == 1 else "utf-8").strip(" \t\r\n")
+        made, end = PLAIN.raw_decode(text)
+        if end != len(text):
+            raise json.JSONDecodeError("a second value", text, end)
+        # a key that is there twice leaves fewer keys than colons
+        return made if keys_of(made) == text.count(":") else STRICT.decode(text)
+    except (ValueError, RecursionError) as error:
+        raise BadLine(number, why_no_json(line, error, is_last)) from None
+
+
+def pieces(file: BinaryIO) -> Iterator[bytes]:
+    """What a file has, each piece as soon as some of it is there."""
+    read = getattr(file, "read1", file.read)
+    while piece := read(PIECE):
+        yield piece
+
+
+def blocks_of_pieces(parts: Iterable[bytes]) -> Iterator[Block]:
+    """The lines that end in each piece, with their numbers; those that are blank are left out. Raises `BadLine`."""
+    held: list[bytes] = []
+    number = held_size = 0
+    for piece in parts:
+        first, *lines = piece.split(b"\n")
+        held.append(first)
+        held_size += len(first)
+        if held_size > LONGEST:
+            raise BadLine(number + 1, f"the line has more than {LONGEST} bytes")
+        if lines:
+            *whole, rest = [b"".join(held), *lines]
+            held, held_size = [rest], len(rest)
+            yield [(at, line) for at, line in enumerate(whole, number + 1) if line and not line.isspace()]
+            number += len(whole)
+    rest = b"".join(held)
+    if rest.strip():
+        yield [(number + 1, object_of(number + 1, rest, True))]
+
+
+def file_blocks(path: os.PathLike[str]) -> Iterator[Block]:
+    with open(path, "rb") as file:
+        yield from blocks_of_pieces(pieces(cast(BinaryIO, file)))
+
+
+def blocks(log: Log) -> Iterator[Block]:
+    """The lines of a log, or their values, with their numbers, in blocks as they come. Raises `BadLine` and
+    `OSError`."""
+    if isinstance(log, os.PathLike):
+        return file_blocks(log)
+    if isinstance(log, str):
+        log = log.encode("utf-8", "surrogatepass")
+    if isinstance(log, (bytes, bytearray, memoryview)):
+        return blocks_of_pieces(pieces(io.BytesIO(log)))
+    if hasattr(log, "read"):
+        return blocks_of_pieces(pieces(cast(BinaryIO, log)))
+    if isinstance(log, dict) or not isinstance(log, Iterable):
+        raise TypeError(f"a log is a pathlib.Path, an open file, its text, or its lines, and not {cut(repr(log))}")
+    return ([pair] for pair in enumerate(log, 1))
+
+
+def value_of(number: int, line: Any) -> Any:
+    """The value of a line, or what is one already. Raises `BadLine`."""
+    if isinstance(line, str):
+        line = line.encode("utf-8", "surrogatepass")
+    return object_of(number, line) if isinstance(line, bytes) else line
+
+
+def kind_of(number: int, event: Any) -> str:
+    """The word of an event, whose keys are all known. Raises `BadLine`."""
+    if not isinstance(event, dict):
+        raise BadLine(number, f'an event is an object, as {{"move": "a", "pointer": "b"}}, and not {spelled(event)}')
+    found: list[str] = [key for key in event if key in EVENTS]
+    if len(found) != 1:
+        raise BadLine(number, why_no_event(event, found))
+    wanted = (found[0], *KEYS.get(found[0], ()), FREE)
+    odd = next((key for key in event if key not in wanted), None)
+    if odd is not None:
+        near = difflib.get_close_matches(str(odd), wanted, 1)
+        hint = f"{near[0]!r} may be meant" if near else f"its keys are {', '.join(wanted)}"
+        raise BadLine(number, f"{found[0]!r} has no key {spelled(odd)}: {hint}")
+    return found[0]
+
+
+def why_no_event(event: dict[Any, Any], found: list[str]) -> str:
+    if found:
+        return f"an event is one of {', '.join(EVENTS)}, and this line has {' and '.join(found)}"
+    if "nodes" in event:
+        return 'nodes are named in the first line; later ones come by {"join": ..}'
+    near = [close for key in event for close in difflib.get_close_matches(str(key), EVENTS, 1)]
+    hint = f": {near[0]!r} may be meant" if near else ""
+    return f"an event has one of the keys {', '.join(EVENTS)}, and this line has none{hint}"

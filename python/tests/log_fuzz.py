@@ -1,0 +1,346 @@
+#!/usr/bin/env python3
+"""Damages logs by chance, and compares what `conform` says of them with the auditor's verdict on the moves they claim.
+
+usage: python/tests/log_fuzz.py [--count N] [--seed S] [--engine library|program]
+
+N logs are judged (10,000 by default). A log passes if `conform` says of it what a second reading says: that makes a
+transcript of all that the log claims, each move by the one rule that writes so, and has it audited. So both must find
+the same first line, and both that it is no event, or that the rules do not allow it. Any other error does not pass. The
+exit status is 1 if a log did not pass; it is printed then.
+"""
+
+from __future__ import annotations
+
+import argparse
+import collections
+import io
+import json
+import os
+import pathlib
+import random
+import re
+import sys
+import time
+from typing import Any, Iterator, Optional
+
+sys.path.insert(0, os.path.join(os.path.dirname(os.path.realpath(__file__)), ".."))
+from rudekpi import BadLine, Damaged, Divergence, audit, conform  # noqa: E402
+
+EXAMPLES = pathlib.Path(__file__).resolve().parents[2] / "examples"
+KEYS = ["nodes", "capacity", "link", "unlink", "join", "leave", "move", "moves", "fault", "pointer", "flag", "time"]
+MOVE = re.compile(r"([0-9]+):(update|abandon|marry|seduce)(?:>([0-9]+))?")
+# a verdict, and the line of which it speaks, 0 for all
+Verdict = tuple[str, int]
+
+
+def log_of(transcript: str, names: Any = "abcdefghijklmnopqrstuvwxyz") -> list[str]:
+    """The log of what a transcript has, in which nodes 1, 2, .. have these names."""
+    header, *lines = transcript.splitlines()
+    words = header.split(" ")
+    count, present = int(words[2]), int(words[-1])
+    log, flags = [json.dumps({"nodes": list(names[:present]), "capacity": count})], set[str]()
+    for line in lines:
+        head, _, reply = line.partition(" = ")
+        _, word, *rest = head.split(" ")
+        named = [None if text == "-" else names[int(text) - 1] for text in rest if text.isdigit() or text == "-"]
+        if reply.startswith("refused"):
+            continue
+        if word in ("link", "unlink"):
+            log.append(json.dumps({word: named}))
+        elif word in ("join", "leave"):
+            log.append(json.dumps({word: named[0]}))
+            flags.discard(rest[0])
+        elif word == "point":
+            log.append(json.dumps({"fault": named[0], "pointer": named[1]}))
+        elif word == "flag":
+            flags ^= flags & {rest[0]} if rest[1] == "0" else {rest[0]} - flags
+            log.append(json.dumps({"fault": named[0], "flag": rest[1] == "1"}))
+        elif word == "step":
+            moves = []
+            for node, rule, target in (found.groups() for found in MOVE.finditer(reply)):
+                flags ^= {node} if rule == "update" else set()
+                wrote: dict[str, Any] = {"flag": node in flags} if rule == "update" else {"pointer": None}
+                moves.append(
+                    {"move": names[int(node) - 1], **wrote, **({"pointer": names[int(target) - 1]} if target else {})}
+                )
+            log.append(json.dumps(moves[0] if len(moves) == 1 else {"moves": moves}))
+    return log
+
+
+def samples() -> list[tuple[str, list[str]]]:
+    """Whole logs with their rules, of the examples that few nodes play."""
+    found = []
+    for path in sorted(EXAMPLES.glob("*.transcript")):
+        text = path.read_text()
+        if len(text) < 20_000:
+            found.append((text.split(" ")[1], log_of(text)))
+    return found
+
+
+def once(pairs: list[tuple[str, Any]]) -> dict[str, Any]:
+    if len({key for key, _ in pairs}) < len(pairs):
+        raise ValueError("twice")
+    return dict(pairs)
+
+
+class Claims:
+    """The second reading: a transcript of all that a log claims."""
+
+    def __init__(self, rules: str, head: Any) -> None:
+        assert isinstance(head, dict) and set(head) <= {"nodes", "capacity", "time"}
+        self.names: list[Any] = []
+        assert isinstance(head["nodes"], list)
+        self.capacity = head.get("capacity", len(head["nodes"]))
+        assert type(self.capacity) is int and len(head["nodes"]) <= self.capacity <= 65_535
+        for name in head["nodes"]:
+            self.add(name)
+        present = f" {len(self.names)}" if len(self.names) < self.capacity else ""
+        self.rules, self.text, self.lines = rules, [f"matching {rules} {self.capacity}{present}"], [(1, "")]
+        self.pointers: dict[int, Optional[int]] = {}
+        self.flags: dict[int, bool] = {}
+        self.links: set[frozenset[int]] = set()
+
+    def add(self, name: Any) -> None:
+        assert type(name) in (str, int) and name != "" and str(name) not in map(str, self.names)
+        assert len(self.names) < self.capacity
+        self.names.append(name)
+
+    def number(self, name: Any) -> int:
+        assert type(name) in (str, int)
+        return [(type(it), it) for it in self.names].index((type(name), name)) + 1
+
+    def claim(self, line: int, kind: str, event: str, reply: str = "ok") -> None:
+        self.text.append(f"{len(self.text)} {event} = {reply}")
+        self.lines.append((line, kind))
+
+    def edit(self, line: int, kind: str, given: Any) -> None:
+        if kind in ("link", "unlink"):
+            assert isinstance(given, list) and len(given) == 2
+            numbers = [self.number(name) for name in given]
+        else:
+            if (
+                kind == "join"
+                and type(given) in (str, int)
+                and (type(given), given) not in [(type(it), it) for it in self.names]
+            ):
+                self.add(given)
+            numbers = [self.number(given)]
+        self.claim(line, "bad", " ".join([kind, *map(str, numbers)]))
+        if kind == "link":
+            self.links.add(frozenset(numbers))
+        for link in list(self.links):
+            if (kind == "unlink" and link == frozenset(numbers)) or (kind == "leave" and numbers[0] in link):
+                self.links.discard(link)
+                for end in link:
+                    if self.pointers.get(end) in link:
+                        self.pointers[end] = None
+        if kind == "leave":
+            self.flags[numbers[0]] = False
+
+    def wrote(self, event: Any, kind: str) -> tuple[int, Optional[int], bool]:
+        """What a node holds after a move or a fault."""
+        assert (
+            isinstance(event, dict)
+            and set(event) <= {kind, "pointer", "flag", "time"}
+            and len(set(event) - {"time"}) > 1
+        )
+        node = self.number(event[kind])
+        pointer, flag = self.pointers.get(node), self.flags.get(node, False)
+        if "pointer" in event:
+            pointer = None if event["pointer"] is None else self.number(event["pointer"])
+        if "flag" in event:
+            assert event["flag"] is True or event["flag"] is False
+            flag = event["flag"]
+        return node, pointer, flag
+
+    def fault(self, line: int, event: Any) -> None:
+        node, pointer, flag = self.wrote(event, "fault")
+        if "pointer" in event:
+            self.claim(line, "bad", f"point {node} {pointer or '-'}")
+        if "flag" in event:
+            self.claim(line, "bad", f"flag {node} {int(flag)}")
+        self.pointers[node], self.flags[node] = pointer, flag
+
+    def moves(self, line: int, events: Any) -> None:
+        assert isinstance(events, list) and events
+        made = []
+        for node, pointer, flag in [self.wrote(event, "move") for event in events]:
+            old, was = self.pointers.get(node), self.flags.get(node, False)
+            rule = "abandon" if pointer is None else "marry" if self.pointers.get(pointer) == node else "seduce"
+            if (pointer != old) == (flag != was):
+                rule = "never"
+            elif flag != was:
+                rule = "update"
+            target = f">{pointer}" if rule in ("marry", "seduce") else ""
+            made.append((node, f"{node}{target}", f"{node}:{rule}{target}", pointer, flag))
+        made.sort()
+        choice, reply = " ".join(it[1] for it in made), " ".join(it[2] for it in made)
+        self.claim(line, "diverged", f"step {choice}", reply)
+        for node, _, _, pointer, flag in made:
+            self.pointers[node], self.flags[node] = pointer, flag
+
+    def take(self, line: int, event: Any) -> None:
+        assert isinstance(event, dict)
+        (kind,) = [key for key in event if key in KEYS[2:9]]
+        if kind == "move":
+            self.moves(line, [event])
+        elif kind == "fault":
+            self.fault(line, event)
+        else:
+            assert set(event) <= {kind, "time"}
+            if kind == "moves":
+                self.moves(line, event["moves"])
+            else:
+                self.edit(line, kind, event[kind])
+
+
+def second_verdict(log: bytes, rules: str, engine: str) -> Verdict:
+    """What the auditor says of all that a log claims."""
+    claims: Optional[Claims] = None
+    last: Verdict = ("accepted", 0)
+    number = 0
+    for number, line in enumerate(log.split(b"\n"), 1):
+        if not line.strip():
+            continue
+        try:
+            text = line.decode("utf-8-sig" if number == 1 else "utf-8")
+            event = json.loads(text.strip(" \t\r\n"), object_pairs_hook=once, parse_constant=float.fromhex)
+            if claims:
+                claims.take(number, event)
+            else:
+                claims = Claims(rules, event)
+        except (ValueError, AssertionError, KeyError, TypeError, RecursionError):
+            last = "bad", number
+            break
+    if not claims:
+        return "bad", last[1] or 1
+    try:
+        audit("".join(f"{line}\n" for line in claims.text), engine=engine)
+        return last
+    except Damaged as damaged:
+        wrong, kind = claims.lines[damaged.line - 1]
+        return kind, wrong
+
+
+def first_verdict(log: bytes, rules: str, engine: str) -> Verdict:
+    """What `conform` says of a log."""
+    try:
+        found = conform(log, rules, engine=engine)
+    except BadLine as bad:
+        return "bad", bad.line
+    return ("diverged", found.first.line) if found.first else ("accepted", 0)
+
+
+def fault_of_resync(log: bytes, rules: str, engine: str, first: Verdict) -> list[str]:
+    """What is wrong with a log that is judged beyond its divergences: its transcript has to be accepted."""
+    transcript, told = io.BytesIO(), list[Divergence]()
+    try:
+        conform(log, rules, engine=engine, resync=True, transcript=transcript, on_divergence=told.append)
+    except BadLine:
+        pass
+    if bool(told) != (first[0] == "diverged") or (told and told[0].line != first[1]):
+        return [f"{first}, and with --resync {told[:1]}"]
+    try:
+        if transcript.getvalue():
+            audit(transcript.getvalue(), engine=engine)
+        return []
+    except Damaged as damaged:
+        return [f"the transcript is refused: {damaged}"]
+
+
+def damaged_value(value: Any, chance: random.Random) -> Any:
+    return chance.choice(
+        [value, None, True, 1, 0.5, "", "a", "b", "zz", [], {}, [value], -1, "\ud800", 10**30, {"a": value}]
+    )
+
+
+def damaged_line(line: str, lines: list[str], chance: random.Random) -> str:
+    """A line with one thing in it changed."""
+    event = json.loads(line)
+    key = chance.choice([*event])
+    act = chance.randrange(6)
+    if act == 0:
+        event[key] = damaged_value(event[key], chance)
+    elif act == 1:
+        other = json.loads(chance.choice(lines))
+        event[key] = other.get(key, other[chance.choice([*other])])
+    elif act == 2:
+        event[chance.choice(KEYS)] = event.pop(key)
+    elif act == 3:
+        event[chance.choice([*KEYS, "time", "note"])] = chance.choice([None, True, False, "a", "c", 1, -0.5, 1e99])
+    elif act == 4:
+        return json.dumps({"moves": [json.loads(chance.choice(lines)) for _ in range(chance.randrange(4))]})
+    else:
+        return line[:-1] + f", {json.dumps(key)}: null}}"
+    return json.dumps(event)
+
+
+def damaged_log(lines: list[str], chance: random.Random) -> bytes:
+    """A log with one or two things in it changed."""
+    lines = lines[:]
+    for _ in range(chance.randrange(1, 3)):
+        at, act = chance.randrange(len(lines)), chance.randrange(8)
+        if act == 0:
+            del lines[at]
+        elif act == 1:
+            lines.insert(at, chance.choice(lines))
+        elif act == 2:
+            other = chance.randrange(len(lines))
+            lines[at], lines[other] = lines[other], lines[at]
+        else:
+            lines[at] = damaged_line(lines[at], lines, chance) if lines else ""
+        lines = lines or [""]
+    text = "\n".join(lines).encode() + chance.choice([b"", b"\n", b"\r\n", b"\n\n"])
+    act = chance.randrange(20)
+    if act == 0:
+        text = text[: chance.randrange(len(text) + 1)]
+    elif act == 1 and text:
+        at = chance.randrange(len(text))
+        text = text[:at] + bytes([chance.randrange(256)]) + text[at + 1 :]
+    elif act == 2:
+        text = text.replace(b"\n", b"\r\n")
+    elif act == 3:
+        text = b"\xef\xbb\xbf" + text
+    elif act == 4:
+        text = text.replace(b": ", b":").replace(b", ", b" , ")
+    return text
+
+
+def fuzz(count: int, seed: int, engine: str = "library") -> tuple[collections.Counter[str], Iterator[str]]:
+    """How many logs had which verdict, and what did not pass."""
+    chance, known = random.Random(seed), samples()
+    counts: collections.Counter[str] = collections.Counter()
+    wrong: list[str] = []
+    for _ in range(count):
+        rules, lines = chance.choice(known)
+        log = damaged_log(lines, chance)
+        if chance.random() < 0.05:
+            rules = "hh" if rules == "manne" else "manne"
+        try:
+            first, second = first_verdict(log, rules, engine), second_verdict(log, rules, engine)
+        except Exception as error:
+            wrong.append(f"{error!r}: {rules} {log!r}")
+            continue
+        counts[first[0]] += 1
+        wrong += [f"{it}: {rules} {log!r}" for it in fault_of_resync(log, rules, engine, first)]
+        if first != second:
+            wrong.append(f"{first}, and the second reading {second}: {rules} {log!r}")
+    return counts, iter(wrong)
+
+
+def main() -> int:
+    parser = argparse.ArgumentParser(description=__doc__, formatter_class=argparse.RawDescriptionHelpFormatter)
+    parser.add_argument("--count", type=int, default=10_000)
+    parser.add_argument("--seed", type=int, default=1)
+    parser.add_argument("--engine", choices=("library", "program"), default="library")
+    given = parser.parse_args()
+    began = time.monotonic()
+    counts, wrong = fuzz(given.count, given.seed, given.engine)
+    print(*(f"{count} {word}" for word, count in sorted(counts.items())), f"{time.monotonic() - began:.0f} s", sep=", ")
+    told = list(wrong)
+    print("".join(f"{it}\n" for it in told), end="")
+    return 1 if told else 0
+
+
+if __name__ == "__main__":
+    sys.exit(main())
