@@ -1,5 +1,5 @@
-// A network as the engine tells it: what the replies change, or after many of them a base; and beside that who is at
-// rest, and how many moves can come.
+// The state of a network: what the engine's replies change, or after many of them a base; who is at rest, and how many
+// moves can come.
 import {carryOut, changes} from "../entries.mjs";
 import {Machine} from "../machine.mjs";
 import {movesOf, readBase, readEntry} from "../transcript.mjs";

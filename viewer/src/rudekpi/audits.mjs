@@ -60,8 +60,7 @@ function read(engine, at) {
 export function summaryOf(engine, text) {
   const judge = new Audit(engine);
   try {
-    // a long text is encoded and handed over piece by piece; no piece ends between the halves of a character that has
-    // two
+    // a long text is handed over piece by piece; a character beyond ASCII is no transcript's, however it is cut
     for (let at = 0; at < text.length; at += PIECE) {
       judge.feed(typeof text === "string" ? text.slice(at, at + PIECE) : bytesOf(text).subarray(at, at + PIECE));
     }

@@ -1,4 +1,4 @@
-// The words of an edit or a fault of which something is asked beforehand, and why it would be refused.
+// An edit or a fault about which something is asked beforehand: its numbers, and why it would be refused.
 import {numberWithin, shown} from "./names.mjs";
 
 /** @typedef {import("./names.mjs").Names} Names */

@@ -1,5 +1,5 @@
-// The engine: the proved code as a WebAssembly module, called as C calls the library. Where include/rudekpi.h says
-// more, it holds here too. A place in the module's memory is a number of 64 bits, a `bigint`.
+// The engine: the proved code as a WebAssembly module, called as C calls the library. What include/rudekpi.h says of a
+// call holds here too. A place in the module's memory is a number of 64 bits, a `bigint`.
 import {EngineFault, MemoryError} from "./errors.mjs";
 
 /**
@@ -20,18 +20,19 @@ export const RULE_SET_NAMES = ["hh", "manne"];
 /** How many bytes a slot has, of a session or of an audit. */
 export const SLOT_BYTES = 16;
 
-// of what a call tells, the 32-bit numbers, the 64-bit number of rows, and behind them the counts of a status
+// what a call reports, in 32-bit numbers: its own three and a gap, the 64-bit number of rows, and the counts of a
+// status
 const TOLD_ROWS = 4;
 const COUNTS = 6;
 const DESK_WORDS = 12;
 const WORD_BYTES = 4;
 const ROW_WORDS = 3;
 const NO_ROWS = new Uint32Array(0);
-// so many names have room at first
+// how many names the first question for a reach has room for
 const FEW = 64;
 const LEAST_ROOM = 1 << 12;
 const LEAST_TEXT = 1 << 15;
-// a module that does what the engine's code does beside the first version of WebAssembly
+// a module that uses what the engine's code uses and the first version of WebAssembly lacks
 const PROBE = Uint8Array.of(
   0, 97, 115, 109, 1, 0, 0, 0, 1, 4, 1, 96, 0, 0, 3, 2, 1, 0, 5, 3, 1, 0, 1, 10, 27, 1, 25, 0, 68, 0, 0, 0, 0, 0, 0, 0,
   0, 252, 2, 192, 26, 65, 0, 65, 0, 65, 0, 252, 10, 0, 0, 11);
@@ -51,7 +52,7 @@ class Room {
   }
 
   /**
-   * Where so many bytes lie. Throws a `MemoryError` if there is no memory for them.
+   * The place of this many bytes. Throws a `MemoryError` if there is no memory for them.
    * @param {number} size
    */
   of(size) {
@@ -78,7 +79,7 @@ export class Engine {
     this.memory = memory;
     this.given = new Room(this);
     this.taken = new Room(this);
-    /** Where calls write what they tell, and the counts of a status. */
+    /** Where calls write what they report, and the counts of a status. */
     this.told = this.roomFor(DESK_WORDS * WORD_BYTES);
     this.counts = this.told + BigInt(COUNTS * WORD_BYTES);
     this.desk = Number(this.told) / WORD_BYTES;
@@ -102,7 +103,7 @@ export class Engine {
   }
 
   /**
-   * Where so many bytes lie, until they are given back. Throws a `MemoryError` if there is no memory for them.
+   * The place of this many bytes, until they are given back. Throws a `MemoryError` if there is no memory for them.
    * @param {number} size
    */
   roomFor(size) {

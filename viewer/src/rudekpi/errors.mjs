@@ -1,4 +1,5 @@
-// What the module throws, beside `RangeError` and `TypeError` for arguments that are out of range or of another type.
+// What the module throws; for arguments that are out of range or of another type it throws `RangeError` and
+// `TypeError`.
 
 const STATUSES =
   ["done", "not a command", "the log is full", "memory was refused", "there is no session", "out of range"];

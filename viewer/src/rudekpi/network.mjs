@@ -1,4 +1,4 @@
-// A network that is played by the engine in this page or program, one command a call.
+// A network that is played by the engine in this page or program, one command a call. rudekpi.d.ts says what each does.
 import {readBase} from "../transcript.mjs";
 import {summaryOf} from "./audits.mjs";
 import {numbersOfEdit, whyRefused} from "./costs.mjs";
@@ -511,7 +511,7 @@ export class Network {
   }
 
   /**
-   * Many entries, one a turn, and the status behind them.
+   * Many entries, one a turn, and the status after them.
    * @template {object} Turn
    * @param {string} word
    * @param {number | bigint} seed
