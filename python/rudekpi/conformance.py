@@ -7,10 +7,12 @@ that it makes, or its list of who is enabled. The registers that are followed he
 from __future__ import annotations
 
 import contextlib
+import heapq
 import io
 import json
 import os
 import re
+from collections import Counter
 from dataclasses import dataclass
 from typing import Any, BinaryIO, Callable, Mapping, NamedTuple, Optional, Sequence, Tuple, Union, cast
 
@@ -30,6 +32,8 @@ from .streams import Output
 UPDATE, ABANDON = RULES["update"], RULES["abandon"]
 # those that have a target
 CHOOSING = RULES["marry"], RULES["seduce"]
+# how many of the last writes of neighbours may be a node's stale copy
+MOST_TRIED = 64
 # a line in which a node's registers were written, and what they were before
 Write = Tuple[int, int, bool]
 Target = Union[str, "os.PathLike[str]", BinaryIO, None]
@@ -495,7 +499,7 @@ class LogJudge:
     def why_together(self, seen: Sequence[Observed], refusal: int) -> str:
         """Why moves can't come at once of which the rules allow each."""
         nodes = [it.node for it in seen]
-        twice = next((node for node in nodes if nodes.count(node) > 1), None)
+        twice = next((node for node, count in Counter(nodes).items() if count > 1), None)
         if self.rules == "hh":
             return f"{cut(', '.join(map(self.shown, nodes)))} move at once, and under hh one node moves at a time"
         if twice:
@@ -504,23 +508,22 @@ class LogJudge:
 
     def hint(self, bad: Observed) -> str:
         """Whose stale copy the node may have read, if its move was allowed before that neighbour wrote."""
-        state, found = self.state, ""
-        last = -1
-        for other in state.neighbours.get(bad.node, ()):
+        state = self.state
+        near = (other for other in state.neighbours.get(bad.node, ()) if other in self.written)
+        writes = [(*write, other) for other in near for write in self.written[other] if write]
+        for line, pointer, flag, other in heapq.nlargest(MOST_TRIED, writes):
             held = state.pointers.get(other, 0), other in state.flags
-            for write in self.written.get(other, ()):
-                if write and write[0] > last:
-                    state.point(other, write[1])
-                    state.flag(other, write[2])
-                    if is_allowed(state, bad):
-                        last = write[0]
-                        found = (
-                            f"with what {self.shown(other)} held before line {last} it was allowed: "
-                            f"{self.shown(bad.node)} may have read a stale copy of {self.shown(other)}"
-                        )
+            state.point(other, pointer)
+            state.flag(other, flag)
+            was_allowed = is_allowed(state, bad)
             state.point(other, held[0])
             state.flag(other, held[1])
-        return found
+            if was_allowed:
+                return (
+                    f"with what {self.shown(other)} held before line {line} it was allowed: "
+                    f"{self.shown(bad.node)} may have read a stale copy of {self.shown(other)}"
+                )
+        return ""
 
     def wrote(self, seen: Observed) -> str:
         """What a node wrote, in words."""
