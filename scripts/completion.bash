@@ -3,7 +3,7 @@
 
 _rudekpi_commands='run audit picture epochs storm'
 # what the Python package has beside the words of the program
-_rudekpi_bench='sweep compare worst check shell json conform explain'
+_rudekpi_bench='sweep compare worst check shell json conform explain bursts'
 
 # Completes the word at the cursor by some words.
 _rudekpi_words() {
@@ -32,6 +32,7 @@ _rudekpi_flags() {
         json) _rudekpi_words --program --help ;;
         conform) _rudekpi_words --rules --resync --output --program --help ;;
         explain) _rudekpi_words --program --help ;;
+        bursts) _rudekpi_words --program --help ;;
     esac
 }
 
@@ -77,7 +78,7 @@ _rudekpi() {
             case $command,$word in
                 ,*) _rudekpi_words "$(_rudekpi_all)" help --help --version ;;
                 help,*) _rudekpi_words "$(_rudekpi_all)" ;;
-                storm,[!-]* | storm, | check,[!-]* | check, | json,[!-]* | json, | conform,[!-]* | conform, | explain,[!-]* | explain,) _rudekpi_files ;;
+                storm,[!-]* | storm, | check,[!-]* | check, | json,[!-]* | json, | conform,[!-]* | conform, | explain,[!-]* | explain, | bursts,[!-]* | bursts,) _rudekpi_files ;;
                 *) _rudekpi_flags "$command" ;;
             esac
             ;;

@@ -42,9 +42,10 @@ complete -c rudekpi -n __fish_use_subcommand -a shell -d 'a session at a termina
 complete -c rudekpi -n __fish_use_subcommand -a json -d 'a transcript as JSON Lines, an object an entry'
 complete -c rudekpi -n __fish_use_subcommand -a conform -d 'whether the rules allow the moves in the log of ones own implementation'
 complete -c rudekpi -n __fish_use_subcommand -a explain -d 'why audit refuses a transcript, and what the machine says there'
+complete -c rudekpi -n __fish_use_subcommand -a bursts -d 'how long a network took to mend, from silence to silence, as CSV'
 complete -c rudekpi -n __fish_use_subcommand -l help -d 'tells of all commands'
 complete -c rudekpi -n __fish_use_subcommand -l version -d 'tells the version'
-complete -c rudekpi -n '__fish_seen_subcommand_from help' -a 'run audit picture epochs storm sweep compare worst check shell json conform explain'
+complete -c rudekpi -n '__fish_seen_subcommand_from help' -a 'run audit picture epochs storm sweep compare worst check shell json conform explain bursts'
 complete -c rudekpi -n '__fish_seen_subcommand_from run' -l rules -x -a 'hh manne' -d 'the rules'
 complete -c rudekpi -n '__fish_seen_subcommand_from run' -l nodes -x -d 'how many nodes there are'
 complete -c rudekpi -n '__fish_seen_subcommand_from run' -l present -x -d 'how many of them are present at the start'
@@ -122,3 +123,6 @@ complete -c rudekpi -n '__fish_seen_subcommand_from conform' -F
 complete -c rudekpi -n '__fish_seen_subcommand_from explain' -l program -r -F -d 'the program that plays'
 complete -c rudekpi -n '__fish_seen_subcommand_from explain' -l help -d 'tells of the command'
 complete -c rudekpi -n '__fish_seen_subcommand_from explain' -F
+complete -c rudekpi -n '__fish_seen_subcommand_from bursts' -l program -r -F -d 'the program that judges'
+complete -c rudekpi -n '__fish_seen_subcommand_from bursts' -l help -d 'tells of the command'
+complete -c rudekpi -n '__fish_seen_subcommand_from bursts' -F

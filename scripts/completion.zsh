@@ -22,6 +22,7 @@ _rudekpi() {
         'json:a transcript as JSON Lines, an object an entry'
         'conform:whether the rules allow the moves in the log of ones own implementation'
         'explain:why audit refuses a transcript, and what the machine says there'
+        'bursts:how long a network took to mend, from silence to silence, as CSV'
     )
     _arguments -C '1: :->command' '*:: :->rest' '(- *)--help[tells of all commands]' '(- *)--version[tells the version]'
     case $state in
@@ -47,6 +48,7 @@ _rudekpi_rest() {
         json) _arguments '--program[]:file:_files' '--help[tells of the command]' '*:file:_files' ;;
         conform) _arguments '--rules[the rules that it implements]:word:(hh manne)' '--resync[goes on after a divergence, which is taken for a fault]' '--output[a file for the transcript]:file:_files' '--program[the program that plays]:file:_files' '--help[tells of the command]' '*:file:_files' ;;
         explain) _arguments '--program[the program that plays]:file:_files' '--help[tells of the command]' '*:file:_files' ;;
+        bursts) _arguments '--program[the program that judges]:file:_files' '--help[tells of the command]' '*:file:_files' ;;
     esac
 }
 

@@ -23,6 +23,7 @@ kept in memory as long as its network.
 from . import daemons, graphs
 from .audits import audit, epochs
 from .batch import Batch, Pending
+from .bursts import Burst, bursts
 from .conformance import Conformance, Divergence, conform
 from .errors import (
     BadLine,
@@ -71,6 +72,7 @@ __all__ = [
     "BadLine",
     "Base",
     "Batch",
+    "Burst",
     "Conformance",
     "Damaged",
     "Divergence",
@@ -101,6 +103,7 @@ __all__ = [
     "WrongChoice",
     "audit",
     "audit_parts",
+    "bursts",
     "conform",
     "daemons",
     "epochs",

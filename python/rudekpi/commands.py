@@ -1,5 +1,5 @@
-"""The bench's commands: `python3 -m rudekpi sweep`, `compare`, `worst`, `check`, `shell`, `json`, `conform` and
-`explain`."""
+"""The bench's commands: `python3 -m rudekpi sweep`, `compare`, `worst`, `check`, `shell`, `json`, `conform`,
+`explain` and `bursts`."""
 
 from __future__ import annotations
 
@@ -14,7 +14,7 @@ import warnings
 from concurrent.futures import Executor
 from typing import Callable, Iterable, Iterator, Optional, Sequence, TextIO
 
-from . import daemons, json_lines, log_commands, script_words, shell, streams, sweeps
+from . import burst_commands, daemons, json_lines, log_commands, script_words, shell, streams, sweeps
 from .audits import audit
 from .errors import Damaged
 from .graphs import Graph, graph_of
@@ -329,6 +329,7 @@ def parser_of() -> argparse.ArgumentParser:
     objects.add_argument("transcript", nargs="?", default="-", help="a file (standard input)")
     objects.add_argument("--program")
     log_commands.add_commands(command)
+    burst_commands.add_commands(command)
     return parser
 
 

@@ -1,0 +1,34 @@
+"""The command `bursts`, which lists what happened from silence to silence."""
+
+from __future__ import annotations
+
+import argparse
+import csv
+import sys
+from typing import Callable
+
+from .bursts import HEAD, bursts, row_of
+from .errors import Damaged
+from .log_commands import read
+
+DONE, FAILED = 0, 1
+Command = Callable[[str, Callable[[argparse.Namespace], int], str], argparse.ArgumentParser]
+
+
+def run_bursts(given: argparse.Namespace) -> int:
+    """The bursts of a transcript as CSV."""
+    try:
+        found = bursts(read(given.transcript), program=given.program)
+    except Damaged as damaged:
+        print(damaged, file=sys.stderr)
+        return FAILED
+    print(HEAD)
+    csv.writer(sys.stdout, lineterminator="\n").writerows(map(row_of, found))
+    return DONE
+
+
+def add_commands(command: Command) -> None:
+    """Adds it to the commands of the client."""
+    of_bursts = command("bursts", run_bursts, "how long a network took to mend, from silence to silence, as CSV")
+    of_bursts.add_argument("transcript", nargs="?", default="-", help="a file (standard input)")
+    of_bursts.add_argument("--program", help="the program that judges")

@@ -1,0 +1,170 @@
+"""Bursts: the parts of a run from silence to silence. How long does it take to mend, against the bound?
+
+The program judges the transcript and lists moves and costs. Silence, rounds and who is reached are found here, along
+the entries.
+"""
+
+from __future__ import annotations
+
+import itertools
+from collections import Counter
+from dataclasses import dataclass
+from typing import Iterable, Iterator, Mapping, Optional
+
+from .audits import Text, bytes_of, judged_epochs
+from .containment import reach
+from .errors import Garbled
+from .names import Names, own_names
+from .program import Program
+from .reading import numbers_of_base
+from .replays import parts_of
+from .replies import Epoch, Fixed, Name
+from .rounds import Watch
+from .state import WORDS, State
+
+
+@dataclass(frozen=True)
+class Burst:
+    """What happened from a silent network to the next silent one.
+
+    It begins with the edit or fault of the entry `start`, and ends after the entry `end`, once nobody is enabled; those
+    that follow each other directly come at once, and belong to one burst even if the network stays silent. The start is
+    None if the transcript begins with a base at which somebody is enabled, and the end None if somebody is enabled at
+    the end. `disturbances` has how many there were of each word, `moves`, `steps` and `rounds` what came of them.
+
+    `cost` is the sum of their costs. The moves are at most the `bound`, which is proved: the cost; under `manne` two
+    more for each pair that was gained and one for each node that left. Both are None if the start is.
+
+    `pairs_before` and `pairs_after` are the numbers of pairs. `reached` are the nodes in the reach of one of the
+    disturbances when it came, `moved` those that moved, in the order of their numbers. If the burst began in a silent
+    network, no other nodes moved.
+    """
+
+    start: Optional[int]
+    end: Optional[int]
+    disturbances: Mapping[str, int]
+    cost: Optional[int]
+    bound: Optional[int]
+    moves: int
+    steps: int
+    rounds: int
+    pairs_before: int
+    pairs_after: int
+    reached: tuple[Name, ...]
+    moved: tuple[Name, ...]
+
+
+class BurstReader:
+    """Reads the bursts of an accepted transcript, entry by entry, beside the epochs that the program lists."""
+
+    def __init__(self, rules: str, names: Names, state: State, epochs: Iterable[Epoch]) -> None:
+        self.rules, self.names, self.watch = rules, names, Watch(state)
+        self.costs = {epoch.start: epoch.cost for epoch in epochs}
+        self.is_open, self.last = False, state.entry
+        if not self.watch.is_silent:
+            self.begin(None)
+
+    def begin(self, start: Optional[int]) -> None:
+        watch = self.watch
+        self.is_open, self.start, self.cost, self.pairs_before = (True, start, 0, watch.pairs)
+        self.words: Counter[str] = Counter()
+        self.reached: set[int] = set()
+        watch.moved = set()
+        self.counts_before = self.counts()
+
+    def counts(self) -> tuple[int, int, int]:
+        return sum(self.watch.moves.values()), self.watch.steps, self.watch.rounds
+
+    def read(self, line: str) -> Iterator[Burst]:
+        """The bursts that end right before this entry, or with it."""
+        event, _, reply = line.partition(" = ")
+        number, word, *rest = event.split(" ")
+        is_edit = word in WORDS and reply == "ok"
+        if self.is_open and self.watch.is_silent and not is_edit:
+            # those that came at once are over, and nothing has to be mended
+            yield self.ended(self.last)
+        self.last = int(number)
+        if is_edit:
+            if not self.is_open:
+                self.begin(self.last)
+            self.add(word, [0 if text == "-" else int(text) for text in rest])
+        self.watch.follow(line)
+        if self.is_open and self.watch.is_silent and not is_edit:
+            yield self.ended(self.last)
+
+    def add(self, word: str, numbers: list[int]) -> None:
+        """Adds the edit or fault of the last entry, before it is followed."""
+        cost = self.costs.get(self.last)
+        if cost is None:
+            raise Garbled(f"the program lists no epoch that begins at entry {self.last}")
+        self.words[word] += 1
+        self.cost += cost
+        self.reached |= reach(self.watch.state, word, *numbers)
+
+    def rest(self) -> Iterator[Burst]:
+        """The burst that is under way at the end, if any."""
+        if self.is_open:
+            yield self.ended(self.last if self.watch.is_silent else None)
+
+    def ended(self, end: Optional[int]) -> Burst:
+        watch, self.is_open = self.watch, False
+        gained = max(0, watch.pairs - self.pairs_before)
+        more = 2 * gained + self.words["leave"] if self.rules == "manne" else 0
+        moves, steps, rounds = (now - before for now, before in zip(self.counts(), self.counts_before))
+        is_known = self.start is not None
+        return Burst(
+            self.start,
+            end,
+            Fixed(self.words),
+            self.cost if is_known else None,
+            self.cost + more if is_known else None,
+            moves,
+            steps,
+            rounds,
+            self.pairs_before,
+            watch.pairs,
+            tuple(map(self.names.name_of, sorted(self.reached))),
+            tuple(map(self.names.name_of, sorted(watch.moved))),
+        )
+
+
+def bursts(transcript: Text, *, names: Optional[Iterable[Name]] = None, program: Program = None) -> list[Burst]:
+    """The bursts of a transcript, from silence to silence, in order.
+
+    `names` are the caller's, in the order of the numbers. The program judges the transcript, and lists the moves and
+    costs. Raises `Damaged` if `audit` refuses it, `Ended`, `ValueError` for another number of names, or `Garbled` if
+    the program lists other moves than the entries have.
+    """
+    epochs = judged_epochs(transcript, program)
+    parts = parts_of(bytes_of(transcript).decode())
+    state, head = State(), next(parts)
+    state.follow(head)
+    # the first epoch has the moves before the base at which a transcript begins, too
+    spent = numbers_of_base(head)[0] if len(head) > 1 else 0
+    reader = BurstReader(state.rules, names_for(state.count, names), state, epochs)
+    # a base in the middle changes nothing
+    entries = (part[0] for part in parts if len(part) == 1)
+    found = [*itertools.chain.from_iterable(map(reader.read, entries)), *reader.rest()]
+    if spent + sum(reader.watch.moves.values()) != sum(epoch.moves for epoch in epochs):
+        raise Garbled("the program lists other moves than the entries have")
+    return found
+
+
+def names_for(count: int, names: Optional[Iterable[Name]]) -> Names:
+    """The names of a network of so many nodes: the caller's, or the numbers."""
+    own = None if names is None else own_names(names)
+    if own is not None and len(own) != count:
+        raise ValueError(f"{len(own)} names for {count} nodes")
+    return Names(count if own is None else own)
+
+
+HEAD = "start,end,disturbances,cost,bound,moves,steps,rounds,pairs_before,pairs_after,reached,moved"
+
+
+def row_of(burst: Burst) -> list[str]:
+    """A burst as a row of CSV below `HEAD`: a `-` for None, and lists with blanks between their items."""
+    words = " ".join(f"{count} {word}" for word, count in burst.disturbances.items())
+    figures = (burst.cost, burst.bound, burst.moves, burst.steps, burst.rounds, burst.pairs_before, burst.pairs_after)
+    lists = (" ".join(map(str, nodes)) for nodes in (burst.reached, burst.moved))
+    told = ["-" if it is None else str(it) for it in (burst.start, burst.end)]
+    return [*told, words, *("-" if it is None else str(it) for it in figures), *lists]
