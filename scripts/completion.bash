@@ -25,7 +25,7 @@ _rudekpi_flags() {
         epochs) _rudekpi_words --help ;;
         storm) _rudekpi_words --rules --nodes --present --workers --roam --turns --help ;;
         sweep) _rudekpi_words --graph --undirected --rules --daemon --seeds --first-seed --faults --registers --joins --leaves --csv --plot --processes --dask --program --help ;;
-        compare) _rudekpi_words --graph --undirected --rules --daemon --seeds --first-seed --faults --registers --joins --leaves --csv --plot --processes --dask --program --help ;;
+        compare) _rudekpi_words --graph --undirected --rules --daemon --seeds --first-seed --faults --registers --joins --leaves --csv --plot --processes --dask --program --markdown --help ;;
         worst) _rudekpi_words --graph --undirected --rules --seconds --seed --transcript --output --program --help ;;
         check) _rudekpi_words --help ;;
         shell) _rudekpi_words --rules --nodes --present --program --help ;;

@@ -94,6 +94,7 @@ complete -c rudekpi -n '__fish_seen_subcommand_from compare' -l plot -r -F -d 'a
 complete -c rudekpi -n '__fish_seen_subcommand_from compare' -l processes -x -d 'how many'
 complete -c rudekpi -n '__fish_seen_subcommand_from compare' -l dask -x -d 'a scheduler of Dask, whose workers then play'
 complete -c rudekpi -n '__fish_seen_subcommand_from compare' -l program -r -F -d 'the program that plays'
+complete -c rudekpi -n '__fish_seen_subcommand_from compare' -l markdown -d 'writes the table in Markdown'
 complete -c rudekpi -n '__fish_seen_subcommand_from compare' -l help -d 'tells of the command'
 complete -c rudekpi -n '__fish_seen_subcommand_from worst' -l graph -r -F -d 'a file'
 complete -c rudekpi -n '__fish_seen_subcommand_from worst' -l undirected -d 'takes a directed graph of a file, without its directions'

@@ -8,13 +8,12 @@ import contextlib
 import math
 import re
 import socket
-import statistics
 import sys
 import warnings
 from concurrent.futures import Executor
 from typing import Callable, Iterable, Iterator, Optional, Sequence, TextIO
 
-from . import burst_commands, daemons, json_lines, log_commands, script_words, shell, streams, sweeps
+from . import burst_commands, daemons, json_lines, log_commands, script_words, shell, streams, sweeps, tables
 from .audits import audit
 from .errors import Damaged
 from .graphs import Graph, graph_of
@@ -208,37 +207,9 @@ def run_compare(given: argparse.Namespace) -> int:
     rows: list[Row] = []
     with written(given.csv) if given.csv else contextlib.nullcontext() as file:
         status = rows_of(given, rows, file)
-    print("\n".join(table_of(rows)))
+    print("\n".join(tables.table_of(rows, given.markdown)))
     plot_rows(given, rows)
     return status
-
-
-def table_of(rows: Sequence[Row]) -> list[str]:
-    """The moves of each graph, daemon and disturbance under both rule sets, beside the bound, as the lines of a
-    table."""
-    groups: dict[tuple[str, ...], list[Row]] = {}
-    for row in rows:
-        groups.setdefault((row.graph, row.disturbance, row.daemon, row.rules), []).append(row)
-    lines: list[tuple[str, ...]] = [
-        ("graph", "disturbance", "daemon", "rules", "runs", "min", "mean", "median", "95th", "max", "bound")
-    ]
-    for key, group in sorted(groups.items(), key=lambda item: [sweeps.natural(word) for word in item[0]]):
-        moves = sorted(row.moves for row in group)
-        figures = [
-            min(moves),
-            f"{statistics.mean(moves):.1f}",
-            f"{statistics.median(moves):g}",
-            moves[(len(moves) * 95 + 99) // 100 - 1],
-            max(moves),
-        ]
-        lines.append((*key, *map(str, [len(moves), *figures, max(row.bound for row in group)])))
-    widths = [max(map(len, column)) for column in zip(*lines)]
-    return [
-        "  ".join(
-            text.ljust(width) if at < 4 else text.rjust(width) for at, (text, width) in enumerate(zip(line, widths))
-        )
-        for line in lines
-    ]
 
 
 def run_worst(given: argparse.Namespace) -> int:
@@ -301,9 +272,9 @@ def parser_of() -> argparse.ArgumentParser:
         return made
 
     words_of_sweep(command("sweep", run_sweep, "plays networks by the thousand, a CSV row each"), "manne")
-    words_of_sweep(
-        command("compare", run_compare, "a table of the moves under both rule sets, beside the bound"), "hh,manne"
-    )
+    compare = command("compare", run_compare, "a table of the moves under both rule sets, beside the bound")
+    words_of_sweep(compare, "hh,manne")
+    compare.add_argument("--markdown", action="store_true", help="writes the table in Markdown")
     worst = command("worst", run_worst, "the longest schedule of a network, as a script")
     worst.add_argument("--graph", required=True, help=MADE)
     words_of_graph(worst)

@@ -115,3 +115,16 @@ class Watch:
             else:
                 self.enabled.discard(node)
                 self.awaited.discard(node)
+
+
+def watch_after(transcript: str, entry: int) -> Watch:
+    """A network that was followed through an accepted transcript, and watched after an entry of it."""
+    lines = iter(transcript.splitlines())
+    state = State()
+    state.follow([next(lines)])
+    while state.entry < entry:
+        state.follow([next(lines)])
+    watch = Watch(state)
+    for line in lines:
+        watch.follow(line)
+    return watch

@@ -25,6 +25,7 @@ from .network import Network
 from .numbers import MOST_SEED, MOST_TURNS, counted, number_within
 from .program import Program, found_program
 from .replies import Name
+from .rounds import watch_after
 from .workers import Handing, count_of
 
 # a daemon, a function that is one, or the word of one
@@ -83,10 +84,12 @@ class Disturbance:
 
 @dataclass(frozen=True)
 class Row:
-    """What an experiment showed: the steps and moves, the charge at the beginning, the bound, and the pairs at the end.
+    """What an experiment showed: the steps and moves, rounds, the moves of each rule, the charge at the beginning, the
+    bound, and the pairs at the end.
 
     The bound is that of the last `Epoch`: 2m + n (`hh`) or 2m + 3n (`manne`), and under `hh` at most n²/2 + n - 2. The
-    moves are at most the charge and at most the bound. `seconds` is the time that it all took."""
+    moves are at most the charge and at most the bound. The rounds are measured, and no bound on them is proved: see
+    `rudekpi.rounds`. `seconds` is the time that it all took."""
 
     graph: str
     rules: str
@@ -97,6 +100,11 @@ class Row:
     disturbance: str
     steps: int
     moves: int
+    rounds: int
+    update: int
+    marry: int
+    seduce: int
+    abandon: int
     charge: int
     bound: int
     pairs: int
@@ -152,8 +160,11 @@ class Experiment:
                 disturb(net, self, joining, drawn)
             daemon = daemons.named(self.daemon, self.seed) if isinstance(self.daemon, str) else self.daemon
             before, settled, status = net.status(), net.settle(daemon), net.status()
-        last = judged_epochs(net.transcript(), program=self.program)[-1]
-        if not last.moves == status.spent == before.spent + settled.moves:
+        transcript = net.transcript()
+        last = judged_epochs(transcript, program=self.program)[-1]
+        watch = watch_after(transcript, before.entry)
+        of_rules = watch.moves
+        if not last.moves == status.spent == before.spent + settled.moves == before.spent + sum(of_rules.values()):
             raise RudekpiError(f"{self.told()}: the daemon itself disturbed the network")
         return Row(
             self.graph.title,
@@ -165,6 +176,11 @@ class Experiment:
             str(self.disturbance),
             settled.steps,
             settled.moves,
+            watch.rounds,
+            of_rules["update"],
+            of_rules["marry"],
+            of_rules["seduce"],
+            of_rules["abandon"],
             settled.charge,
             last.bound,
             status.pairs,

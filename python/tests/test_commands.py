@@ -23,6 +23,7 @@ try:
 except ImportError:
     matplotlib = None
 
+HEAD_OF_TABLE = "graph disturbance daemon rules runs min mean median 95% of median 95th max bound steps rounds"
 PAIR = "link 1 2\nenabled\nstep 1\nenabled\nstep 2\nmatching\nstatus\n"
 
 
@@ -208,12 +209,20 @@ class Bench(Timed):
 
     def test_compare(self) -> None:
         table = said("compare", "--graph", "ring:8", "--seeds", "5", "--daemon", "seeded").splitlines()
-        self.assertEqual(table[0].split(), "graph disturbance daemon rules runs min mean median 95th max bound".split())
+        self.assertEqual(table[0].split(), HEAD_OF_TABLE.split())
         for line, rules, bound in zip(table[1:], ("hh", "manne"), ("24", "40")):
             words = line.split()
-            self.assertEqual((words[:5], words[-1]), (["ring:8", "start", "seeded", rules, "5"], bound))
-            least, mean, median, most_of, most = map(float, words[5:10])
+            self.assertEqual((words[:5], words[11]), (["ring:8", "start", "seeded", rules, "5"], bound))
+            least, mean, median, most_of, most = map(float, [*words[5:8], *words[9:11]])
             self.assertTrue(0 < least <= median <= most_of <= most <= float(bound) and least <= mean <= most)
+            low, high = map(float, words[8].split("-"))
+            self.assertTrue(least <= low <= median <= high <= most)
+            steps, rounds = map(float, words[12:])
+            self.assertTrue(0 < rounds <= steps <= most)
+        lines = said("compare", "--graph", "ring:8", "--seeds", "5", "--daemon", "seeded", "--markdown").splitlines()
+        self.assertEqual(len(lines), 4)
+        self.assertEqual({line.count("|") for line in lines}, {15})
+        self.assertEqual([cell.strip() for cell in lines[2].split("|")[1:-1]], table[1].split())
 
     def test_worst(self) -> None:
         done = rudekpi("worst", "--graph", "ring:4", "--rules", "manne")

@@ -28,7 +28,7 @@ def row(
     moves: int = 4,
     bound: int = 27,
 ) -> Row:
-    return Row(graph, rules, n, 9, daemon, seed, hit, 1, moves, 9, bound, 4, 0.1)
+    return Row(graph, rules, n, 9, daemon, seed, hit, 1, moves, 1, 0, 0, moves, 0, 9, bound, 4, 0.1)
 
 
 def named(figure: Any) -> dict[str, Any]:

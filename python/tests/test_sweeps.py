@@ -84,6 +84,11 @@ class Rows(Timed):
             with self.subTest(row=row):
                 self.assertTrue(0 <= row.moves <= row.charge <= row.bound == 2 * row.m + 3 * row.n)
                 self.assertTrue(row.steps <= row.moves and row.seconds > 0 and row.rules == "manne")
+                self.assertEqual(row.update + row.marry + row.seduce + row.abandon, row.moves)
+                self.assertTrue(min(1, row.steps) <= row.rounds <= row.steps)
+                if row.daemon == "synchronous":
+                    # all that are enabled move
+                    self.assertEqual(row.rounds, row.steps)
                 gone = 3 if "leaves" in row.disturbance else 0
                 self.assertEqual(row.n, (12 if row.graph == "ring:12" else 9) - gone)
                 self.assertGreater(3 * row.pairs + 2 + gone, row.n // 2)
@@ -123,6 +128,16 @@ class Rows(Timed):
                 (settled.steps, settled.moves, settled.charge, len(net.matching())),
             )
             self.assertEqual(row.bound, audits.epochs(net.transcript())[-1].bound)
+
+    def test_rounds_and_rules_by_hand(self) -> None:
+        # 1 seduces 2, 2 marries; 2 updates no flag under hh; the path's third node points at nobody
+        [row] = sweep([graphs.path(3)], ["hh"], ["least"])
+        self.assertEqual((row.steps, row.moves, row.rounds, row.pairs), (2, 2, 1, 1))
+        self.assertEqual((row.update, row.marry, row.seduce, row.abandon), (0, 1, 1, 0))
+        # all at once: 1 and 2 seduce; 3 marries; 2 and 3 update; 1 abandons
+        [row] = sweep([graphs.path(3)], ["manne"], ["synchronous"])
+        self.assertEqual((row.steps, row.moves, row.rounds, row.pairs), (4, 6, 4, 1))
+        self.assertEqual((row.update, row.marry, row.seduce, row.abandon), (2, 1, 2, 1))
 
     def test_the_same_in_every_executor(self) -> None:
         chosen: list[AnyDaemon] = ["seeded", "least", "synchronous", greatest]
@@ -192,7 +207,8 @@ class Rows(Timed):
         self.assertEqual(list(sweeps.write_csv(made, file)), made)
         self.assertEqual(
             file.getvalue().splitlines()[0],
-            "graph,rules,n,m,daemon,seed,disturbance,steps,moves,charge,bound,pairs,seconds",
+            "graph,rules,n,m,daemon,seed,disturbance,steps,moves,rounds,update,marry,seduce,abandon,charge,bound,pairs,"
+            "seconds",
         )
         file.seek(0)
         self.assertEqual(sweeps.read_csv(file), made)

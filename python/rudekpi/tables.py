@@ -1,0 +1,89 @@
+"""The table of `compare`: the moves of each graph, daemon and disturbance under both rule sets, beside the bound."""
+
+from __future__ import annotations
+
+import random
+import statistics
+from typing import Sequence
+
+from .sweeps import Row, natural
+
+HEAD = (
+    *("graph", "disturbance", "daemon", "rules", "runs", "min", "mean", "median", "95% of median", "95th", "max"),
+    *("bound", "steps", "rounds"),
+)
+# how many columns have words
+WORDS = 4
+RESAMPLES, SEED = 2000, 0
+
+
+def interval(numbers: Sequence[float]) -> tuple[float, float]:
+    """The 95 % bootstrap interval of the median of some numbers, one at least: between which most medians of 2,000
+    resamples lie. The seed is the same each time.
+
+    After Efron, "Bootstrap methods", 1979. No resample is made: its median is that of draws of which the place is
+    drawn, as an order statistic of uniform numbers.
+    """
+    known, drawn = sorted(numbers), random.Random(SEED)
+    medians = sorted(resampled_median(known, drawn) for _ in range(RESAMPLES))
+    return medians[RESAMPLES // 40 - 1], medians[-(RESAMPLES // 40)]
+
+
+def resampled_median(known: Sequence[float], drawn: random.Random) -> float:
+    """The median of as many draws, with replacement, from numbers that are sorted."""
+    count, low = len(known), (len(known) + 1) // 2
+    # where the draw stands that is the low one of both in the middle, and if there are two, the next one
+    place = drawn.betavariate(low, count - low + 1)
+    middle = known[min(count - 1, int(place * count))]
+    if count % 2:
+        return middle
+    place += (1 - place) * (1 - drawn.random() ** (1 / (count - low)))
+    return (middle + known[min(count - 1, int(place * count))]) / 2
+
+
+def groups_of(rows: Sequence[Row]) -> list[tuple[tuple[str, ...], list[Row]]]:
+    """The rows of each graph, disturbance, daemon and rules, in their natural order."""
+    groups: dict[tuple[str, ...], list[Row]] = {}
+    for row in rows:
+        groups.setdefault((row.graph, row.disturbance, row.daemon, row.rules), []).append(row)
+    return sorted(groups.items(), key=lambda item: [natural(word) for word in item[0]])
+
+
+def figures_of(group: Sequence[Row]) -> list[str]:
+    """The figures of the rows of a group."""
+    moves = sorted(row.moves for row in group)
+    low, high = interval(moves)
+    figures = [
+        len(moves),
+        min(moves),
+        f"{statistics.mean(moves):.1f}",
+        f"{statistics.median(moves):g}",
+        f"{low:g}-{high:g}",
+        moves[(len(moves) * 95 + 99) // 100 - 1],
+        max(moves),
+        max(row.bound for row in group),
+        f"{statistics.median(row.steps for row in group):g}",
+        f"{statistics.median(row.rounds for row in group):g}",
+    ]
+    return [str(figure) for figure in figures]
+
+
+def table_of(rows: Sequence[Row], is_markdown: bool = False) -> list[str]:
+    """The lines of the table, in columns or in Markdown."""
+    lines = [HEAD, *((*key, *figures_of(group)) for key, group in groups_of(rows))]
+    if is_markdown:
+        return markdown_of(lines)
+    widths = [max(map(len, column)) for column in zip(*lines)]
+    return [
+        "  ".join(
+            text.ljust(width) if at < WORDS else text.rjust(width) for at, (text, width) in enumerate(zip(line, widths))
+        )
+        for line in lines
+    ]
+
+
+def markdown_of(lines: Sequence[Sequence[str]]) -> list[str]:
+    """The same as a table of Markdown, whose figures stand at the right."""
+    rule = ["---" if at < WORDS else "---:" for at in range(len(HEAD))]
+    escaped = [[text.replace("\\", "\\\\").replace("|", "\\|") for text in line] for line in lines]
+    return [f"| {' | '.join(line)} |" for line in (escaped[0], rule, *escaped[1:])]
