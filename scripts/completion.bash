@@ -24,8 +24,8 @@ _rudekpi_flags() {
         picture) _rudekpi_words --entry --help ;;
         epochs) _rudekpi_words --help ;;
         storm) _rudekpi_words --rules --nodes --present --workers --roam --turns --help ;;
-        sweep) _rudekpi_words --graph --undirected --rules --daemon --seeds --first-seed --faults --registers --joins --leaves --csv --plot --processes --dask --program --help ;;
-        compare) _rudekpi_words --graph --undirected --rules --daemon --seeds --first-seed --faults --registers --joins --leaves --csv --plot --processes --dask --program --markdown --help ;;
+        sweep) _rudekpi_words --graph --undirected --rules --daemon --seeds --first-seed --faults --registers --joins --leaves --cut --add --rewire --move --every --csv --plot --processes --dask --program --help ;;
+        compare) _rudekpi_words --graph --undirected --rules --daemon --seeds --first-seed --faults --registers --joins --leaves --cut --add --rewire --move --every --csv --plot --processes --dask --program --markdown --help ;;
         worst) _rudekpi_words --graph --undirected --rules --seconds --seed --transcript --output --program --help ;;
         check) _rudekpi_words --help ;;
         shell) _rudekpi_words --rules --nodes --present --program --help ;;
@@ -70,7 +70,7 @@ _rudekpi() {
     case $before in
         *'<' | *'>') _rudekpi_files ;;
         --rules) _rudekpi_words hh manne ;;
-        --nodes | --present | --workers | --entry | --roam | --turns | --seeds | --first-seed | --faults | --joins | --leaves | --processes | --dask | --seconds | --seed) : a number, which nobody can complete ;;
+        --nodes | --present | --workers | --entry | --roam | --turns | --seeds | --first-seed | --faults | --joins | --leaves | --cut | --add | --rewire | --move | --every | --processes | --dask | --seconds | --seed) : a number, which nobody can complete ;;
         --graph | --csv | --plot | --program | --output) _rudekpi_files ;;
         --daemon) _rudekpi_words synchronous least greatest age seeded greedy helpful ;;
         --registers) _rudekpi_words any pointer flag ;;

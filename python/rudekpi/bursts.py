@@ -54,6 +54,12 @@ class Burst:
     moved: tuple[Name, ...]
 
 
+def bound_of_costs(rules: str, cost: int, gained: int, left: int) -> int:
+    """The most moves that come of edits and faults with this sum of costs, from a silent network on, if so many pairs
+    are gained, or lost, and so many nodes leave."""
+    return cost + 2 * max(0, gained) + left if rules == "manne" else cost
+
+
 class BurstReader:
     """Reads the bursts of an accepted transcript, entry by entry, beside the epochs that the program lists."""
 
@@ -108,8 +114,7 @@ class BurstReader:
 
     def ended(self, end: Optional[int]) -> Burst:
         watch, self.is_open = self.watch, False
-        gained = max(0, watch.pairs - self.pairs_before)
-        more = 2 * gained + self.words["leave"] if self.rules == "manne" else 0
+        gained = watch.pairs - self.pairs_before
         moves, steps, rounds = (now - before for now, before in zip(self.counts(), self.counts_before))
         is_known = self.start is not None
         return Burst(
@@ -117,7 +122,7 @@ class BurstReader:
             end,
             Fixed(self.words),
             self.cost if is_known else None,
-            self.cost + more if is_known else None,
+            bound_of_costs(self.rules, self.cost, gained, self.words["leave"]) if is_known else None,
             moves,
             steps,
             rounds,

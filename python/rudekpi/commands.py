@@ -16,12 +16,13 @@ from typing import Callable, Iterable, Iterator, Optional, Sequence, TextIO
 from . import burst_commands, daemons, json_lines, log_commands, script_words, shell, streams, sweeps, tables
 from .audits import audit
 from .errors import Damaged
-from .graphs import Graph, graph_of
+from .graphs import Graph, decimal, graph_of
 from .schedules import longest
 from .network import Network
 from .numbers import counted
 from .progress import shown
-from .sweeps import Disturbance, Row
+from .disturbances import REGISTERS, Disturbance
+from .sweeps import Row
 
 DONE, FAILED, BAD_WORDS, INTERRUPTED = 0, 1, 2, 130
 # how many seconds a scheduler may take to be reached
@@ -119,12 +120,13 @@ def words_of_sweep(parser: argparse.ArgumentParser, rules: str) -> None:
     )
     parser.add_argument(
         "--registers",
-        choices=sweeps.REGISTERS,
+        choices=REGISTERS,
         default="any",
         help="which registers faults hit; flags are there under manne alone (%(default)s)",
     )
     parser.add_argument("--joins", type=least(0), default=0, help="how many nodes come, with their edges (%(default)s)")
     parser.add_argument("--leaves", type=least(0), default=0, help="how many nodes go (%(default)s)")
+    words_of_links(parser)
     parser.add_argument("--csv", help="a file for the rows, each as it comes (standard output)")
     parser.add_argument("--plot", help="a file for a plot: .svg, .png or .pdf; wants matplotlib")
     parser.add_argument("--processes", type=least(1), help="how many (one a processor)")
@@ -132,6 +134,46 @@ def words_of_sweep(parser: argparse.ArgumentParser, rules: str) -> None:
         "--dask", metavar="tcp://HOST:PORT", help="a scheduler of Dask, whose workers then play; wants distributed"
     )
     parser.add_argument("--program", help="the program that plays")
+
+
+def words_of_links(parser: argparse.ArgumentParser) -> None:
+    """What `sweep` and `compare` are told of links that come and go."""
+    parser.add_argument("--cut", type=least(0), default=0, help="how many links are cut (%(default)s)")
+    parser.add_argument("--add", type=least(0), default=0, help="how many links are added (%(default)s)")
+    parser.add_argument(
+        "--rewire", type=least(0), default=0, help="how many links have an end that goes elsewhere (%(default)s)"
+    )
+    parser.add_argument(
+        "--move",
+        type=length,
+        default=0,
+        metavar="R",
+        help="how far nodes walk, whose links come and go by distance; those of disk graphs alone (%(default)s)",
+    )
+    parser.add_argument(
+        "--every",
+        type=least(0),
+        default=0,
+        metavar="M",
+        help="how many moves are made between two disturbances; 0: all come at once (%(default)s)",
+    )
+
+
+def length(text: str) -> float:
+    """A number from 0 on."""
+    try:
+        found = decimal(text)
+    except ValueError:
+        found = -1
+    if not 0 <= found < math.inf:
+        raise argparse.ArgumentTypeError(f"{text!r} is no length from 0 on")
+    return found
+
+
+def disturbances_of(given: argparse.Namespace) -> list[Disturbance]:
+    """What hits each network, for each number of faults."""
+    counts = given.joins, given.leaves, given.cut, given.add, given.rewire, given.move, given.every
+    return [Disturbance(count, given.registers, *counts) for count in given.faults]
 
 
 def reach(address: str) -> None:
@@ -164,7 +206,7 @@ def executor_of(given: argparse.Namespace) -> Iterator[Optional[Executor]]:
 def rows_of(given: argparse.Namespace, rows: list[Row], file: Optional[TextIO]) -> int:
     """Plays a sweep, and adds its rows as they come; returns the exit status."""
     seeds = range(given.first_seed, given.first_seed + given.seeds)
-    hits = [Disturbance(count, given.registers, given.joins, given.leaves) for count in given.faults]
+    hits = disturbances_of(given)
     words = (given.graph, given.rules, given.daemon, seeds, hits)
     total = len(sweeps.experiments_of(*words))
     if total < math.prod(map(len, words)):

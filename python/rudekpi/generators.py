@@ -9,10 +9,11 @@ from __future__ import annotations
 import itertools
 import math
 import random
+from dataclasses import replace
 from typing import Iterable, Iterator
 
 from .numbers import MOST_EDGES
-from .simple_graph import Graph, check_sizes
+from .simple_graph import Disk, Graph, check_sizes
 
 Edge = tuple[int, int]
 # how often a regular graph of so few ends is begun anew
@@ -181,7 +182,7 @@ def unit_disk(n: int, radius: float, seed: int = 0) -> Graph:
     check_sizes(title, n, 0)
     drawn = random.Random(seed)
     at = [(drawn.random(), drawn.random()) for _ in range(n)]
-    return numbered(title, n, near_pairs(at, radius))
+    return replace(numbered(title, n, near_pairs(at, radius)), disk=Disk(radius, tuple(at)))
 
 
 def near_pairs(at: list[tuple[float, float]], radius: float) -> Iterator[Edge]:

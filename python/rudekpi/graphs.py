@@ -4,7 +4,7 @@ from __future__ import annotations
 
 import os
 import re
-from typing import Any, Callable, Union
+from typing import Any, Callable, Optional, Union
 
 from .generators import complete, gnp, grid, path, regular, ring, star, unit_disk
 from .graph_documents import graphml, node_link
@@ -12,7 +12,20 @@ from .graph_text import dimacs, edge_list, metis
 from .numbers import MOST_SEED
 from .simple_graph import Graph
 
-__all__ = ["Graph", "complete", "gnp", "graph_of", "grid", "path", "read", "regular", "ring", "star", "unit_disk"]
+__all__ = [
+    "Graph",
+    "complete",
+    "from_networkx",
+    "gnp",
+    "graph_of",
+    "grid",
+    "path",
+    "read",
+    "regular",
+    "ring",
+    "star",
+    "unit_disk",
+]
 
 NUMBER = re.compile(r"-?(?:[0-9]{1,20}|[0-9]*\.[0-9]+|[0-9]+\.)(?:[eE][+-]?[0-9]{1,3})?")
 
@@ -95,3 +108,23 @@ def read(path: Union[str, "os.PathLike[str]"], *, undirected: bool = False) -> G
     end = os.path.splitext(path)[1].lower()
     reader, takes_undirected = READERS.get(end, (edge_list, False))
     return reader(os.fspath(path), undirected) if takes_undirected else reader(os.fspath(path))
+
+
+def from_networkx(graph: Any, title: Optional[str] = None) -> Graph:
+    """The graph of a simple undirected `networkx.Graph`, with its nodes in their order; its title is its name, if it
+    has one, else how many nodes and edges it has.
+
+    Raises `TypeError` for what is no such graph, and `ValueError` for a directed graph, a multigraph or a loop.
+    """
+    if not is_networkx(graph):
+        raise TypeError(f"{graph!r} is no graph of networkx")
+    if graph.is_directed() or graph.is_multigraph():
+        raise ValueError("a simple undirected graph is wanted: see to_undirected and networkx.Graph")
+    nodes, edges = tuple(graph.nodes), tuple((a, b) for a, b in graph.edges)
+    named = title or getattr(graph, "name", "") or f"networkx:{len(nodes)},{len(edges)}"
+    return Graph(str(named), nodes, edges)
+
+
+def is_networkx(graph: Any) -> bool:
+    """Whether this is a graph of networkx; that is not loaded for it."""
+    return all(hasattr(graph, name) for name in ("nodes", "edges", "is_directed", "is_multigraph"))

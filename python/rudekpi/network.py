@@ -13,6 +13,7 @@ from .costs import numbers_of_edit, why_refused
 from .daemons import AnyDaemon, Seeded, check_daemon, named
 from .direct import Direct
 from .errors import PastBound
+from .graphs import Graph, from_networkx, is_networkx
 from .names import Names
 from .numbers import counted, number_within
 from .program import Program, found_program
@@ -41,9 +42,10 @@ class Network:
     """A network that is played by the library in this process, or by a run of the program, one command a call.
 
     `nodes` is how many there are, with the names 1 to that, or their names, which get the numbers 1, 2, .. in that
-    order; the transcript has the numbers. Under `manne` the numbers matter: a node proposes to the greater ones. The
-    first `present` of them are there at the start, all where nothing is said; others may `join`. With `keep=False` the
-    transcript is kept from the last checkpoint on, and not longer.
+    order; the transcript has the numbers. Of a `Graph`, or one of networkx, it has the edges too. Under `manne` the
+    numbers matter: a node proposes to the greater ones. The first `present` of them are there at the start, all where
+    nothing is said; others may `join`. With `keep=False` the transcript is kept from the last checkpoint on, and not
+    longer.
 
     The `engine` is "library" or "program": where nothing is said that of the environment's RUDEKPI_ENGINE, else the
     library where it is found and no program is named. Answers and transcripts are the same. The library is that of
@@ -58,7 +60,7 @@ class Network:
     def __init__(
         self,
         rules: str = "manne",
-        nodes: Union[int, Iterable[Name]] = 0,
+        nodes: Union[int, Iterable[Name], Graph] = 0,
         *,
         present: Optional[int] = None,
         program: Program = None,
@@ -67,7 +69,9 @@ class Network:
     ) -> None:
         if rules not in ("hh", "manne"):
             raise ValueError(f"rules are 'hh' or 'manne', and not {rules!r}")
-        self.rules, self._names, self._program = rules, Names(nodes), program
+        graph = nodes if isinstance(nodes, Graph) else from_networkx(nodes) if is_networkx(nodes) else None
+        names = cast("Union[int, Iterable[Name]]", graph.nodes if graph else nodes)
+        self.rules, self._names, self._program = rules, Names(names), program
         count = self._names.count
         start = count if present is None else number_within(present, count, "a number of nodes that are present")
         held = library.chosen(engine, program)
@@ -77,6 +81,10 @@ class Network:
         )
         self._single = self._session.batch(keeps=False)
         self._follower = Follower(self._session)
+        if graph and graph.edges:
+            with self.batch() as batch:
+                for a, b in graph.edges:
+                    batch.link(a, b)
 
     def _run(self, start: int, keep: bool) -> Session:
         """A run of the program."""

@@ -3,6 +3,7 @@
 from __future__ import annotations
 
 from dataclasses import dataclass, field
+from typing import Optional
 
 from .numbers import MOST_EDGES, MOST_NODES
 from .replies import Name
@@ -19,6 +20,14 @@ def check_sizes(title: str, nodes: int, edges: int) -> None:
 
 
 @dataclass(frozen=True)
+class Disk:
+    """Where the nodes of a unit disk graph are, in their order, and within which distance they are linked."""
+
+    radius: float
+    points: tuple[tuple[float, float], ...]
+
+
+@dataclass(frozen=True)
 class Graph:
     """A simple undirected graph with a title; the order of the nodes is that of their numbers in a network.
 
@@ -29,6 +38,7 @@ class Graph:
     title: str
     nodes: tuple[Name, ...]
     edges: tuple[tuple[Name, Name], ...] = field(repr=False)
+    disk: Optional[Disk] = field(default=None, repr=False, compare=False)
 
     def __post_init__(self) -> None:
         check_sizes(self.title, len(self.nodes), len(self.edges))

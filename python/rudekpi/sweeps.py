@@ -18,19 +18,23 @@ from typing import Any, Callable, Iterable, Iterator, Optional, Sequence, TextIO
 
 from . import daemons
 from .audits import judged_epochs
+from .bursts import bound_of_costs
 from .choices import Daemon
+from .disturbances import Disturbance as Disturbance
+from .disturbances import Events
 from .errors import Lost, RudekpiError
-from .graphs import Graph
+from .graphs import from_networkx, is_networkx
+from .simple_graph import Graph
 from .network import Network
 from .numbers import MOST_SEED, MOST_TURNS, counted, number_within
 from .program import Program, found_program
-from .replies import Name
+from .plays import Player, disturb_at_once, disturb_one_by_one
+from .replies import Name, Status
 from .rounds import watch_after
 from .workers import Handing, count_of
 
 # a daemon, a function that is one, or the word of one
 AnyDaemon = Union[daemons.AnyDaemon, Daemon, str]
-REGISTERS = ("any", "pointer", "flag")
 MOST_EXPERIMENTS = 1_000_000
 # about how many seconds a task takes
 TASK_SECONDS = 1.0
@@ -51,45 +55,14 @@ class LostExperiments(Lost):
 
 
 @dataclass(frozen=True)
-class Disturbance:
-    """What hits a network that is silent: faults of registers (any, pointers or flags alone), nodes that leave, and
-    nodes that join, with their edges. Where it is nothing at all, the network settles from the start, all pointers
-    null."""
-
-    faults: int = 0
-    registers: str = "any"
-    joins: int = 0
-    leaves: int = 0
-
-    def __post_init__(self) -> None:
-        if self.registers not in REGISTERS or min(self.faults, self.joins, self.leaves) < 0:
-            raise ValueError(
-                f"{self} is no disturbance: registers are one of {', '.join(REGISTERS)}, and no number is below 0"
-            )
-
-    def __str__(self) -> str:
-        of = "" if self.registers == "any" else f" of {self.registers}s"
-        parts = [
-            f"{self.faults} fault{'s' * (self.faults != 1)}{of}" * bool(self.faults),
-            f"{self.joins} join{'s' * (self.joins != 1)}" * bool(self.joins),
-            f"{self.leaves} leave{'s' * (self.leaves != 1)}" * bool(self.leaves),
-        ]
-        return ", ".join(filter(None, parts)) or "start"
-
-    @property
-    def is_nothing(self) -> bool:
-        """Whether nothing hits the network, so that it settles from the start."""
-        return not (self.faults or self.joins or self.leaves)
-
-
-@dataclass(frozen=True)
 class Row:
     """What an experiment showed: the steps and moves, rounds, the moves of each rule, the charge at the beginning, the
     bound, and the pairs at the end.
 
-    The bound is that of the last `Epoch`: 2m + n (`hh`) or 2m + 3n (`manne`), and under `hh` at most n²/2 + n - 2. The
-    moves are at most the charge and at most the bound. The rounds are measured, and no bound on them is proved: see
-    `rudekpi.rounds`. `seconds` is the time that it all took."""
+    The bound is that of the last `Epoch`: 2m + n (`hh`) or 2m + 3n (`manne`), and under `hh` at most n²/2 + n - 2. If
+    disturbances come one by one the charge is that before them and the sum of their costs, and the bound that of a
+    `Burst`. The moves are at most the charge and at most the bound. The rounds are measured, and no bound on them is
+    proved: see `rudekpi.rounds`. `seconds` is the time that it all took."""
 
     graph: str
     rules: str
@@ -112,6 +85,18 @@ class Row:
 
 
 @dataclass(frozen=True)
+class Played:
+    """A run: its transcript, and the statuses before and after the part in which the daemon moved, with how far it
+    went."""
+
+    transcript: str
+    before: Status
+    after: Status
+    steps: int
+    moves: int
+
+
+@dataclass(frozen=True)
 class Experiment:
     """One network to be disturbed and settled; the daemon is a word of `daemons.WORDS`, a daemon, or a function."""
 
@@ -125,7 +110,7 @@ class Experiment:
     def __post_init__(self) -> None:
         if not isinstance(self.graph, Graph):
             raise TypeError(f"{self.graph!r} is no graph: rudekpi.graphs makes them, graph_of of words")
-        hit, count = self.disturbance, len(self.graph.nodes)
+        hit = self.disturbance
         if self.rules not in ("hh", "manne"):
             raise ValueError(f"rules are 'hh' or 'manne', and not {self.rules!r}")
         number_within(self.seed, MOST_SEED, "a seed")
@@ -134,8 +119,7 @@ class Experiment:
             daemons.named(self.daemon, self.seed)
         else:
             daemons.check_daemon(self.daemon)
-        if hit.joins + hit.leaves > count:
-            raise ValueError(f"{self.graph.title}: {hit} are more than its {count} nodes")
+        hit.check(self.graph)
 
     def told(self) -> str:
         return f"{self.graph.title} {self.rules} {self.daemon_word()} seed {self.seed} {self.disturbance}"
@@ -146,26 +130,49 @@ class Experiment:
         )
 
     def run(self) -> Row:
-        """Plays it. The moves and the bound are those of the last epoch of the transcript, which the program judges
-        for that."""
+        """Plays it, and makes its row of the transcript, which the program judges."""
         began = time.perf_counter()
-        drawn = random.Random(self.seed)
+        return self.measured(self.played(), began)
+
+    def played(self) -> Played:
+        """Plays it."""
+        drawn, wanted = random.Random(self.seed), self.disturbance
         nodes = list(self.graph.nodes)
         drawn.shuffle(nodes)
-        joining = set(nodes[: self.disturbance.joins])
+        joining = set(nodes[: wanted.joins])
         with Network(self.rules, self.graph.nodes, program=self.program) as net:
             self.begin(net, joining)
-            if not self.disturbance.is_nothing:
-                net.settle(daemons.Seeded(self.seed))
-                disturb(net, self, joining, drawn)
             daemon = daemons.named(self.daemon, self.seed) if isinstance(self.daemon, str) else self.daemon
-            before, settled, status = net.status(), net.settle(daemon), net.status()
-        transcript = net.transcript()
-        last = judged_epochs(transcript, program=self.program)[-1]
-        watch = watch_after(transcript, before.entry)
-        of_rules = watch.moves
-        if not last.moves == status.spent == before.spent + settled.moves == before.spent + sum(of_rules.values()):
+            if not wanted.is_nothing:
+                net.settle(daemons.Seeded(self.seed))
+                events = Events(wanted, self.graph, joining, drawn)
+                if not wanted.every:
+                    disturb_at_once(net, events, self.seed)
+            before, player = net.status(), Player(net, daemon)
+            if wanted.every:
+                disturb_one_by_one(net, events, self.seed, player)
+            player.settle()
+            after = net.status()
+        return Played(net.transcript(), before, after, player.steps, player.moves)
+
+    def measured(self, played: Played, began: float) -> Row:
+        """The row of a run that is judged now. What its daemon did is all that the transcript has, or this raises
+        `RudekpiError`."""
+        before, after = played.before, played.after
+        epochs = judged_epochs(played.transcript, program=self.program)
+        watch = watch_after(played.transcript, before.entry)
+        later = [epoch for epoch in epochs if epoch.start is not None and epoch.start > before.entry]
+        moves, last = sum(watch.moves.values()), epochs[-1]
+        told = sum(epoch.moves for epoch in later) if later else last.moves - before.spent
+        is_of_daemon = moves == told == played.moves and last.moves == after.spent
+        if not is_of_daemon or (later and not self.disturbance.every):
             raise RudekpiError(f"{self.told()}: the daemon itself disturbed the network")
+        charge, bound = before.charge, last.bound
+        if self.disturbance.every:
+            # from silence to silence all moves are within the costs
+            cost = sum(epoch.cost or 0 for epoch in later)
+            charge += cost
+            bound = bound_of_costs(self.rules, cost, after.pairs - before.pairs, self.disturbance.leaves)
         return Row(
             self.graph.title,
             self.rules,
@@ -174,60 +181,28 @@ class Experiment:
             self.daemon_word(),
             self.seed,
             str(self.disturbance),
-            settled.steps,
-            settled.moves,
+            watch.steps,
+            moves,
             watch.rounds,
-            of_rules["update"],
-            of_rules["marry"],
-            of_rules["seduce"],
-            of_rules["abandon"],
-            settled.charge,
-            last.bound,
-            status.pairs,
+            watch.moves["update"],
+            watch.moves["marry"],
+            watch.moves["seduce"],
+            watch.moves["abandon"],
+            charge,
+            bound,
+            after.pairs,
             round(time.perf_counter() - began, 6),
         )
 
     def begin(self, net: Network, joining: set[Name]) -> None:
         """Links all that is there at the start."""
         with net.batch() as batch:
-            for node in joining:
-                batch.leave(node)
+            for node in self.graph.nodes:
+                if node in joining:
+                    batch.leave(node)
             for a, b in self.graph.edges:
                 if a not in joining and b not in joining:
                     batch.link(a, b)
-
-
-def disturb(net: Network, experiment: Experiment, joining: set[Name], drawn: random.Random) -> None:
-    """Lets nodes join and leave, and writes registers."""
-    wanted, graph = experiment.disturbance, experiment.graph
-    leaving = set(drawn.sample([node for node in graph.nodes if node not in joining], wanted.leaves))
-    with net.batch() as batch:
-        for node in graph.nodes:
-            if node in joining:
-                batch.join(node)
-        for a, b in graph.edges:
-            if a in joining or b in joining:
-                batch.link(a, b)
-        for node in graph.nodes:
-            if node in leaving:
-                batch.leave(node)
-        if wanted.registers == "any" and wanted.faults:
-            batch.scramble(experiment.seed, wanted.faults)
-    if wanted.registers != "any":
-        write_registers(net, wanted, drawn)
-
-
-def write_registers(net: Network, wanted: Disturbance, drawn: random.Random) -> None:
-    """Faults of one kind of register, by chance."""
-    present = net.present
-    near = {node: [None, *net.neighbours(node)] for node in present} if wanted.registers == "pointer" else {}
-    with net.batch() as batch:
-        for _ in range(wanted.faults if present else 0):
-            node = drawn.choice(present)
-            if wanted.registers == "pointer":
-                batch.point(node, drawn.choice(near[node]))
-            else:
-                batch.flag(node, drawn.random() < 0.5)
 
 
 def run_all(experiments: Sequence[Experiment]) -> list[Row]:
@@ -236,7 +211,7 @@ def run_all(experiments: Sequence[Experiment]) -> list[Row]:
 
 
 def experiments_of(
-    graphs: Iterable[Graph],
+    graphs: Iterable[Any],
     rules: Iterable[str],
     daemons: Iterable[AnyDaemon],
     seeds: Iterable[int],
@@ -251,6 +226,7 @@ def experiments_of(
     """
     of = [it if isinstance(it, Disturbance) else Disturbance(it) for it in disturbances]
     lists = [first_of(it) for it in (graphs, rules, daemons, seeds, of)]
+    lists[0] = [from_networkx(graph) if is_networkx(graph) else graph for graph in lists[0]]
     if math.prod(map(len, lists)) > MOST_EXPERIMENTS:
         raise ValueError(f"a sweep has at most {MOST_EXPERIMENTS} experiments: fewer seeds, graphs or disturbances")
     check_titles(lists[0])
@@ -278,7 +254,7 @@ def check_titles(graphs: Sequence[Any]) -> None:
     known: dict[str, Graph] = {}
     for graph in graphs:
         if isinstance(graph, Graph) and known.setdefault(graph.title, graph) != graph:
-            raise ValueError(f"two graphs have the title {graph.title!r}")
+            raise ValueError(f"two graphs have the title {graph.title!r}: networkx.Graph(name=..) gives one")
 
 
 def is_synchronous(daemon: AnyDaemon) -> bool:
@@ -286,7 +262,7 @@ def is_synchronous(daemon: AnyDaemon) -> bool:
 
 
 def sweep(
-    graphs: Iterable[Graph],
+    graphs: Iterable[Any],
     rules: Iterable[str] = ("manne",),
     daemons: Iterable[AnyDaemon] = ("seeded",),
     seeds: Iterable[int] = (0,),
@@ -298,6 +274,7 @@ def sweep(
 ) -> Iterator[Row]:
     """A row for each graph, rules, daemon, seed and disturbance, in the order in which they are done.
 
+    A graph may be one of networkx.
     A disturbance is a `Disturbance`, or a number of faults. The executor is any of `concurrent.futures`, or a cluster's
     (`distributed.Client().get_executor()`, `mpi4py.futures`), whose workers have this package and the program; by
     default processes of this machine, one a processor or as many as are said. Experiments are handed out in tasks of

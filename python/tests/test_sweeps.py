@@ -14,7 +14,7 @@ import unittest
 import unittest.mock
 from typing import Any, Generator, Iterable, Union
 
-from rudekpi import Enabled, Network, WrongChoice, audits, daemons, graphs, sweeps, workers
+from rudekpi import Enabled, Network, WrongChoice, audits, daemons, disturbances, graphs, sweeps, workers
 from rudekpi.replies import Name
 from rudekpi.sweeps import AnyDaemon, Disturbance, Row, sweep
 from support import Losing, Timed
@@ -100,7 +100,7 @@ class Rows(Timed):
         )
 
     def test_no_fault_of_any_registers_is_the_start(self) -> None:
-        for registers in sweeps.REGISTERS:
+        for registers in disturbances.REGISTERS:
             [made] = sweep([RING], ["manne"], ["least"], [3], [Disturbance(0, registers)])
             self.assertEqual((made.disturbance, made.moves >= 12), ("start", True))
 

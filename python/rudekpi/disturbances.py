@@ -1,0 +1,161 @@
+"""What hits a network that is silent: faults of registers, nodes that come and go, links that come and go."""
+
+from __future__ import annotations
+
+import math
+import random
+from dataclasses import dataclass
+from typing import Iterator, Sequence, Tuple
+
+from .batch import Batch
+from .numbers import counted
+from .replies import Name
+from .simple_graph import Graph
+from .walks import Topology, Walk
+
+REGISTERS = ("any", "pointer", "flag")
+# the edits and faults that come at once, each with the numbers of its nodes
+Event = Sequence[Tuple[str, Tuple[int, ...]]]
+
+
+@dataclass(frozen=True)
+class Disturbance:
+    """What hits a network that is silent: faults of registers (any, pointers or flags alone), nodes that join with
+    their edges and nodes that leave, links that are cut, added or rewired (an end of theirs goes elsewhere), and nodes
+    of a unit disk graph that walk so far, each in a direction by chance. Where it is nothing at all, the network
+    settles from the start, all pointers null.
+
+    All come at once; or one by one, if `every` is not 0: the daemon then makes so many moves between two of them.
+    """
+
+    faults: int = 0
+    registers: str = "any"
+    joins: int = 0
+    leaves: int = 0
+    cut: int = 0
+    add: int = 0
+    rewire: int = 0
+    move: float = 0
+    every: int = 0
+
+    def __post_init__(self) -> None:
+        counts = self.faults, self.joins, self.leaves, self.cut, self.add, self.rewire, self.every
+        if self.registers not in REGISTERS or min(counts) < 0 or not 0 <= self.move < math.inf:
+            raise ValueError(
+                f"{self!r} is no disturbance: registers are one of {', '.join(REGISTERS)}, and no number is below 0"
+            )
+        if self.every and self.is_nothing:
+            raise ValueError("every wants something that comes one by one, as faults or links that are cut")
+
+    def __str__(self) -> str:
+        of = "" if self.registers == "any" else f" of {self.registers}s"
+        parts = [
+            (counted(self.faults, "fault") + of) * bool(self.faults),
+            counted(self.joins, "join") * bool(self.joins),
+            counted(self.leaves, "leave") * bool(self.leaves),
+            f"nodes walk {self.move!r}" * bool(self.move),
+            f"{counted(self.cut, 'link')} cut" * bool(self.cut),
+            f"{counted(self.add, 'link')} added" * bool(self.add),
+            f"{counted(self.rewire, 'link')} rewired" * bool(self.rewire),
+            f"every {counted(self.every, 'move')}" * bool(self.every),
+        ]
+        return ", ".join(filter(None, parts)) or "start"
+
+    @property
+    def is_nothing(self) -> bool:
+        """Whether nothing hits the network, so that it settles from the start."""
+        return not (self.faults or self.joins or self.leaves or self.changes_links)
+
+    @property
+    def changes_links(self) -> bool:
+        return bool(self.cut or self.add or self.rewire or self.move)
+
+    def check(self, graph: Graph) -> None:
+        """Raises `ValueError` if a graph has too few nodes or edges for it, or its nodes cannot walk."""
+        if self.joins + self.leaves > len(graph.nodes):
+            raise ValueError(f"{graph.title}: {self} are more than its {len(graph.nodes)} nodes")
+        if self.cut + self.rewire > len(graph.edges):
+            raise ValueError(f"{graph.title}: {self} are more than its {counted(len(graph.edges), 'edge')}")
+        if self.move and graph.disk is None:
+            raise ValueError(f"{graph.title}: only the nodes of disk:N,RADIUS,SEED walk, which are at places")
+
+
+class Events:
+    """The edits and faults of a disturbance of a graph of which some nodes are to join, drawn by chance."""
+
+    def __init__(self, wanted: Disturbance, graph: Graph, joining: set[Name], drawn: random.Random) -> None:
+        self.wanted, self.graph, self.drawn, self.names = wanted, graph, drawn, graph.nodes
+        numbers = {name: number for number, name in enumerate(graph.nodes, 1)}
+        self.joining = [number for number, name in enumerate(graph.nodes, 1) if name in joining]
+        self.edges = [(numbers[a], numbers[b]) for a, b in graph.edges]
+        present = [number for number in numbers.values() if graph.nodes[number - 1] not in joining]
+        self.topology = Topology(present, self.edges)
+
+    def all(self, seed: int) -> Iterator[Event]:
+        """All of them, in order, each once it is drawn; those of one item belong together."""
+        topology, wanted, drawn = self.topology, self.wanted, self.drawn
+        leaving = sorted(drawn.sample([*topology.near], wanted.leaves))
+        yield from self.joins()
+        for node in leaving:
+            topology.leave(node)
+            yield [("leave", (node,))]
+        if wanted.move and self.graph.disk:
+            yield from Walk(self.graph.disk, topology, drawn).steps(wanted.move, bool(wanted.every))
+        for _ in range(wanted.cut):
+            yield [("unlink", topology.cut(drawn))]
+        for _ in range(wanted.add):
+            yield [("link", topology.add(drawn))]
+        for _ in range(wanted.rewire):
+            cut, added = topology.rewire(drawn)
+            yield [("unlink", cut), ("link", added)]
+        yield from self.faults(seed)
+
+    def joins(self) -> Iterator[Event]:
+        """Nodes that come, each with its edges to those that are there; at once, all nodes come before all edges."""
+        topology, later = self.topology, [*self.joining]
+        for node in self.joining:
+            topology.join(node)
+            links = []
+            for a, b in self.edges if self.wanted.every else ():
+                if node in (a, b) and a in topology.near and b in topology.near:
+                    topology.link(a, b)
+                    links.append(("link", (a, b)))
+            yield [("join", (node,)), *links]
+        if later and not self.wanted.every:
+            came = {*later}
+            links = [("link", (a, b)) for a, b in self.edges if a in came or b in came]
+            for _, (a, b) in links:
+                topology.link(a, b)
+            yield links
+
+    def faults(self, seed: int) -> Iterator[Event]:
+        """Faults of registers: by the machine's own `scramble`, or of one kind of register."""
+        wanted, near, drawn = self.wanted, self.topology.near, self.drawn
+        if wanted.registers == "any":
+            if wanted.every:
+                yield from ([("scramble", ((seed + at) % 2**64, 1))] for at in range(wanted.faults))
+            elif wanted.faults:
+                yield [("scramble", (seed, wanted.faults))]
+            return
+        present = sorted(near)
+        # looked up once: faults change no edges
+        around = {node: [0, *sorted(near[node])] for node in present} if wanted.registers == "pointer" else {}
+        for _ in range(wanted.faults if present else 0):
+            node = drawn.choice(present)
+            if around:
+                yield [("point", (node, drawn.choice(around[node])))]
+            else:
+                yield [("flag", (node, int(drawn.random() < 0.5)))]
+
+    def send(self, batch: Batch, event: Event) -> None:
+        """Gives a batch the edits and faults of an item."""
+        names = self.names
+        for word, numbers in event:
+            if word == "scramble":
+                batch.scramble(*numbers)
+            elif word == "flag":
+                batch.flag(names[numbers[0] - 1], bool(numbers[1]))
+            elif word == "point":
+                batch.point(names[numbers[0] - 1], names[numbers[1] - 1] if numbers[1] else None)
+            else:
+                getattr(batch, word)(*(names[number - 1] for number in numbers))

@@ -1,0 +1,57 @@
+"""Experiments while they are played: a network that mends while a daemon moves, at once or between disturbances."""
+
+from __future__ import annotations
+
+from typing import Union, cast
+
+from .choices import Daemon, checked_choice
+from .daemons import AnyDaemon, Seeded
+from .disturbances import Events
+from .network import Network
+
+
+class Player:
+    """A daemon that moves in a network, a few moves at a time; the steps and moves that it has made."""
+
+    def __init__(self, net: Network, daemon: Union[AnyDaemon, Daemon]) -> None:
+        self.net, self.steps, self.moves = net, 0, 0
+        self.is_seeded, self.seed = isinstance(daemon, Seeded), daemon.seed if isinstance(daemon, Seeded) else 0
+        if not isinstance(daemon, Seeded):
+            self.choose = daemon.begin(net) if hasattr(daemon, "begin") else cast(Daemon, daemon)
+
+    def play(self, least: int) -> None:
+        """Steps until so many moves are made, or nobody is enabled."""
+        wanted = self.moves + least
+        while self.moves < wanted and self.step():
+            pass
+
+    def step(self) -> int:
+        """How many nodes moved in the next step: 0 if nobody is enabled."""
+        if self.is_seeded:
+            moves = sum(map(len, self.net.drive(self.seed, 1)))
+            self.seed = (self.seed + 1) % 2**64
+        else:
+            enabled = self.net.enabled()
+            moves = len(self.net.step(checked_choice(self.choose(enabled), enabled))) if enabled else 0
+        self.steps, self.moves = self.steps + bool(moves), self.moves + moves
+        return moves
+
+    def settle(self) -> None:
+        """Steps until nobody is enabled."""
+        settled = self.net.settle(Seeded(self.seed) if self.is_seeded else self.choose)
+        self.steps, self.moves = self.steps + settled.steps, self.moves + settled.moves
+
+
+def disturb_at_once(net: Network, events: Events, seed: int) -> None:
+    """All edits and faults, none of which waits for another."""
+    with net.batch() as batch:
+        for event in events.all(seed):
+            events.send(batch, event)
+
+
+def disturb_one_by_one(net: Network, events: Events, seed: int, player: Player) -> None:
+    """The edits and faults, between which a daemon moves while the network mends."""
+    for event in events.all(seed):
+        with net.batch() as batch:
+            events.send(batch, event)
+        player.play(events.wanted.every)
