@@ -3,7 +3,7 @@
 
 _rudekpi_commands='run audit picture epochs storm'
 # what the Python package has beside the words of the program
-_rudekpi_bench='sweep compare worst check shell json conform explain bursts'
+_rudekpi_bench='sweep compare worst check shell json conform explain bursts again'
 
 # Completes the word at the cursor by some words.
 _rudekpi_words() {
@@ -33,6 +33,7 @@ _rudekpi_flags() {
         conform) _rudekpi_words --rules --resync --output --program --help ;;
         explain) _rudekpi_words --program --help ;;
         bursts) _rudekpi_words --program --help ;;
+        again) _rudekpi_words --output --page --undirected --program --help ;;
     esac
 }
 
@@ -71,14 +72,14 @@ _rudekpi() {
         *'<' | *'>') _rudekpi_files ;;
         --rules) _rudekpi_words hh manne ;;
         --nodes | --present | --workers | --entry | --roam | --turns | --seeds | --first-seed | --faults | --joins | --leaves | --cut | --add | --rewire | --move | --every | --processes | --dask | --seconds | --seed) : a number, which nobody can complete ;;
-        --graph | --csv | --plot | --program | --output) _rudekpi_files ;;
+        --graph | --csv | --plot | --program | --output | --page) _rudekpi_files ;;
         --daemon) _rudekpi_words synchronous least greatest age seeded greedy helpful ;;
         --registers) _rudekpi_words any pointer flag ;;
         *)
             case $command,$word in
                 ,*) _rudekpi_words "$(_rudekpi_all)" help --help --version ;;
                 help,*) _rudekpi_words "$(_rudekpi_all)" ;;
-                storm,[!-]* | storm, | check,[!-]* | check, | json,[!-]* | json, | conform,[!-]* | conform, | explain,[!-]* | explain, | bursts,[!-]* | bursts,) _rudekpi_files ;;
+                storm,[!-]* | storm, | sweep,[!-]* | sweep, | compare,[!-]* | compare, | check,[!-]* | check, | json,[!-]* | json, | conform,[!-]* | conform, | explain,[!-]* | explain, | bursts,[!-]* | bursts, | again,[!-]* | again,) _rudekpi_files ;;
                 *) _rudekpi_flags "$command" ;;
             esac
             ;;

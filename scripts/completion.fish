@@ -43,9 +43,10 @@ complete -c rudekpi -n __fish_use_subcommand -a json -d 'a transcript as JSON Li
 complete -c rudekpi -n __fish_use_subcommand -a conform -d 'whether the rules allow the moves in the log of ones own implementation'
 complete -c rudekpi -n __fish_use_subcommand -a explain -d 'why audit refuses a transcript, and what the machine says there'
 complete -c rudekpi -n __fish_use_subcommand -a bursts -d 'how long a network took to mend, from silence to silence, as CSV'
+complete -c rudekpi -n __fish_use_subcommand -a again -d 'plays a row of a sweep again, and writes its transcript'
 complete -c rudekpi -n __fish_use_subcommand -l help -d 'tells of all commands'
 complete -c rudekpi -n __fish_use_subcommand -l version -d 'tells the version'
-complete -c rudekpi -n '__fish_seen_subcommand_from help' -a 'run audit picture epochs storm sweep compare worst check shell json conform explain bursts'
+complete -c rudekpi -n '__fish_seen_subcommand_from help' -a 'run audit picture epochs storm sweep compare worst check shell json conform explain bursts again'
 complete -c rudekpi -n '__fish_seen_subcommand_from run' -l rules -x -a 'hh manne' -d 'the rules'
 complete -c rudekpi -n '__fish_seen_subcommand_from run' -l nodes -x -d 'how many nodes there are'
 complete -c rudekpi -n '__fish_seen_subcommand_from run' -l present -x -d 'how many of them are present at the start'
@@ -84,6 +85,7 @@ complete -c rudekpi -n '__fish_seen_subcommand_from sweep' -l processes -x -d 'h
 complete -c rudekpi -n '__fish_seen_subcommand_from sweep' -l dask -x -d 'a scheduler of Dask, whose workers then play'
 complete -c rudekpi -n '__fish_seen_subcommand_from sweep' -l program -r -F -d 'the program that plays'
 complete -c rudekpi -n '__fish_seen_subcommand_from sweep' -l help -d 'tells of the command'
+complete -c rudekpi -n '__fish_seen_subcommand_from sweep' -F
 complete -c rudekpi -n '__fish_seen_subcommand_from compare' -l graph -r -F -d 'a file'
 complete -c rudekpi -n '__fish_seen_subcommand_from compare' -l undirected -d 'takes a directed graph of a file, without its directions'
 complete -c rudekpi -n '__fish_seen_subcommand_from compare' -l rules -x -a 'hh manne' -d 'hh,manne or one of them'
@@ -106,6 +108,7 @@ complete -c rudekpi -n '__fish_seen_subcommand_from compare' -l dask -x -d 'a sc
 complete -c rudekpi -n '__fish_seen_subcommand_from compare' -l program -r -F -d 'the program that plays'
 complete -c rudekpi -n '__fish_seen_subcommand_from compare' -l markdown -d 'writes the table in Markdown'
 complete -c rudekpi -n '__fish_seen_subcommand_from compare' -l help -d 'tells of the command'
+complete -c rudekpi -n '__fish_seen_subcommand_from compare' -F
 complete -c rudekpi -n '__fish_seen_subcommand_from worst' -l graph -r -F -d 'a file'
 complete -c rudekpi -n '__fish_seen_subcommand_from worst' -l undirected -d 'takes a directed graph of a file, without its directions'
 complete -c rudekpi -n '__fish_seen_subcommand_from worst' -l rules -x -a 'hh manne' -d ''
@@ -137,3 +140,9 @@ complete -c rudekpi -n '__fish_seen_subcommand_from explain' -F
 complete -c rudekpi -n '__fish_seen_subcommand_from bursts' -l program -r -F -d 'the program that judges'
 complete -c rudekpi -n '__fish_seen_subcommand_from bursts' -l help -d 'tells of the command'
 complete -c rudekpi -n '__fish_seen_subcommand_from bursts' -F
+complete -c rudekpi -n '__fish_seen_subcommand_from again' -l output -r -F -d 'a file for the transcript'
+complete -c rudekpi -n '__fish_seen_subcommand_from again' -l page -r -F -d 'a file for a page that plays it'
+complete -c rudekpi -n '__fish_seen_subcommand_from again' -l undirected -d 'takes a directed graph of a file, without its directions'
+complete -c rudekpi -n '__fish_seen_subcommand_from again' -l program -r -F -d 'the program that plays'
+complete -c rudekpi -n '__fish_seen_subcommand_from again' -l help -d 'tells of the command'
+complete -c rudekpi -n '__fish_seen_subcommand_from again' -F

@@ -12,12 +12,12 @@ from . import __version__, streams
 from .errors import Ended, RudekpiError
 from .program import found_program
 
-COMMANDS = ("sweep", "compare", "worst", "check", "shell", "json", "conform", "explain", "bursts")
+COMMANDS = ("sweep", "compare", "worst", "check", "shell", "json", "conform", "explain", "bursts", "again")
 OF_PROGRAM = ("run", "audit", "picture", "epochs", "storm")
 HELP = """\
 usage: rudekpi COMMAND ..
 
-Of the bench:        sweep, compare, worst, check, shell, json, conform, explain, bursts
+Of the bench:        sweep, compare, worst, check, shell, json, conform, explain, bursts, again
 Of the program:      run, audit, picture, epochs, storm
 
 `rudekpi COMMAND --help` tells of each; `rudekpi --version` tells which one this is.

@@ -1,5 +1,5 @@
 """The bench's commands: `python3 -m rudekpi sweep`, `compare`, `worst`, `check`, `shell`, `json`, `conform`,
-`explain` and `bursts`."""
+`explain`, `bursts` and `again`."""
 
 from __future__ import annotations
 
@@ -13,13 +13,25 @@ import warnings
 from concurrent.futures import Executor
 from typing import Callable, Iterable, Iterator, Optional, Sequence, TextIO
 
-from . import burst_commands, daemons, json_lines, log_commands, script_words, shell, streams, sweeps, tables
+from . import (
+    again_commands,
+    burst_commands,
+    daemons,
+    json_lines,
+    log_commands,
+    script_words,
+    shell,
+    streams,
+    sweeps,
+    tables,
+)
 from .audits import audit
 from .errors import Damaged
 from .graphs import Graph, decimal, graph_of
 from .schedules import longest
 from .network import Network
 from .numbers import counted
+from .plans import read_plan
 from .progress import shown
 from .disturbances import REGISTERS, Disturbance
 from .sweeps import Row
@@ -27,6 +39,13 @@ from .sweeps import Row
 DONE, FAILED, BAD_WORDS, INTERRUPTED = 0, 1, 2, 130
 # how many seconds a scheduler may take to be reached
 REACHED_SECONDS = 5
+# what a plan has
+IN_PLAN = (
+    *("--graph", "--undirected", "--rules", "--daemon", "--seeds", "--first-seed", "--faults", "--registers"),
+    *("--joins", "--leaves", "--cut", "--add", "--rewire", "--move", "--every"),
+)
+# graphs, rules, daemons, seeds and disturbances
+Words = tuple[Sequence[Graph], Sequence[str], Sequence[str], Sequence[int], Sequence[Disturbance]]
 MADE = (
     "a file (edge list, .csv, .col, .metis, .graphml, .json), or path:N ring:N star:N complete:N grid:RxC gnp:N,P,SEED "
     "regular:N,D,SEED disk:N,R,SEED"
@@ -97,6 +116,10 @@ def words_of_graph(parser: argparse.ArgumentParser) -> None:
 
 def read_graphs(given: argparse.Namespace) -> None:
     """Makes graphs of the words behind --graph, once all words are known."""
+    if given.graph is None:
+        if given.plan is None:
+            given.parser.error("the following arguments are required: --graph, or a plan")
+        return
     words = given.graph if isinstance(given.graph, list) else [given.graph]
     made = [graph_given(given.parser, text, given.undirected) for text in words]
     given.graph = made if isinstance(given.graph, list) else made[0]
@@ -104,7 +127,8 @@ def read_graphs(given: argparse.Namespace) -> None:
 
 def words_of_sweep(parser: argparse.ArgumentParser, rules: str) -> None:
     """What `sweep` and `compare` are told."""
-    parser.add_argument("--graph", action="append", required=True, help=f"{MADE}; may be given again")
+    parser.add_argument("plan", nargs="?", help="a file that has what is played, .toml or .json")
+    parser.add_argument("--graph", action="append", help=f"{MADE}; may be given again")
     words_of_graph(parser)
     parser.add_argument("--rules", type=listed, default=rules, help="hh,manne or one of them (%(default)s)")
     parser.add_argument(
@@ -203,11 +227,30 @@ def executor_of(given: argparse.Namespace) -> Iterator[Optional[Executor]]:
         yield None
 
 
+def words_to_play(given: argparse.Namespace) -> Words:
+    """What a sweep plays: that of its plan, or what stands behind its flags."""
+    if given.plan is None:
+        seeds = range(given.first_seed, given.first_seed + given.seeds)
+        return given.graph, given.rules, given.daemon, seeds, disturbances_of(given)
+    for flag in IN_PLAN:
+        name = flag[2:].replace("-", "_")
+        is_usual = getattr(given, name) in (None, given.parser.get_default(name))
+        # argparse reads texts that are defaults
+        if not is_usual and getattr(given, name) != usual_of(given.parser, name):
+            raise ValueError(f"{flag} stands in the plan, and not beside it")
+    plan = read_plan(given.plan)
+    return plan.graphs, plan.rules, plan.daemons, plan.seeds, plan.disturbances
+
+
+def usual_of(parser: argparse.ArgumentParser, name: str) -> object:
+    """What a flag has that is not given."""
+    [action] = (it for it in parser._actions if it.dest == name)
+    return parser._get_value(action, action.default) if isinstance(action.default, str) else action.default
+
+
 def rows_of(given: argparse.Namespace, rows: list[Row], file: Optional[TextIO]) -> int:
     """Plays a sweep, and adds its rows as they come; returns the exit status."""
-    seeds = range(given.first_seed, given.first_seed + given.seeds)
-    hits = disturbances_of(given)
-    words = (given.graph, given.rules, given.daemon, seeds, hits)
+    words = words_to_play(given)
     total = len(sweeps.experiments_of(*words))
     if total < math.prod(map(len, words)):
         why = "under hh no two nodes move at once, and there are no flags"
@@ -218,7 +261,7 @@ def rows_of(given: argparse.Namespace, rows: list[Row], file: Optional[TextIO]) 
     if given.plot:
         from . import plots
 
-        plots.check(given.plot, len(given.graph) * len(hits))
+        plots.check(given.plot, len(words[0]) * len(words[4]))
     with executor_of(given) as executor:
         found = sweeps.sweep(*words, executor=executor, program=given.program, processes=given.processes)
         written: Iterable[Row] = sweeps.write_csv(found, file) if file else found
@@ -343,6 +386,7 @@ def parser_of() -> argparse.ArgumentParser:
     objects.add_argument("--program")
     log_commands.add_commands(command)
     burst_commands.add_commands(command)
+    again_commands.add_commands(command)
     return parser
 
 

@@ -74,7 +74,7 @@ class HandedOn(Timed):
             )
         for words in (["--help"], ["-h"], ["help"]):
             text = said(*words)
-            self.assertIn("sweep, compare, worst, check, shell, json, conform, explain, bursts", text)
+            self.assertIn("sweep, compare, worst, check, shell, json, conform, explain, bursts, again", text)
             self.assertTrue(text.endswith(subprocess.run([*console, *words], capture_output=True, text=True).stdout))
         done = rudekpi("sweeep")
         self.assertEqual(
@@ -84,7 +84,8 @@ class HandedOn(Timed):
         self.assertEqual(said("--version"), f"rudekpi {rudekpi_version()}\n")
         done = rudekpi("foo")
         known = (
-            "sweep, compare, worst, check, shell, json, conform, explain, bursts, run, audit, picture, epochs, storm"
+            "sweep, compare, worst, check, shell, json, conform, explain, bursts, again, "
+            "run, audit, picture, epochs, storm"
         )
         self.assertEqual((done.returncode, done.stdout), (2, ""))
         self.assertEqual(done.stderr, f"! rudekpi has no command 'foo': they are {known}\n")
@@ -94,7 +95,7 @@ class HandedOn(Timed):
     def test_without_words_and_without_a_program(self) -> None:
         done = rudekpi()
         self.assertEqual((done.returncode, done.stdout), (2, ""))
-        self.assertIn("sweep, compare, worst, check, shell, json, conform, explain, bursts", done.stderr)
+        self.assertIn("sweep, compare, worst, check, shell, json, conform, explain, bursts, again", done.stderr)
         without = environment(RUDEKPI_CONSOLE="/no/such/program")
         # the library wants none for a session
         for words in (["run", "--rules", "hh"], ["sweep", "--graph", "ring:5"], ["shell", "--nodes", "2"])[

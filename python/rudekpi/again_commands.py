@@ -1,0 +1,43 @@
+"""The command `again`, which plays a row of a sweep once more."""
+
+from __future__ import annotations
+
+import argparse
+import sys
+from typing import Callable
+
+from . import drawings, streams
+from .numbers import number_within
+from .plans import play_again, row_in
+from .sweeps import MOST_EXPERIMENTS
+
+DONE = 0
+Command = Callable[[str, Callable[[argparse.Namespace], int], str], argparse.ArgumentParser]
+
+
+def run_again(given: argparse.Namespace) -> int:
+    """The transcript of a row, and its page."""
+    with open(given.rows, newline="") as file:
+        row = row_in(file, number_within(given.number, MOST_EXPERIMENTS, "the number of a row"))
+    played = play_again(row, given.undirected, given.program)
+    if given.page is not None:
+        drawings.write_page(played.transcript, given.page, given.program)
+    if given.output is None or given.output == "-":
+        sys.stdout.write(played.transcript)
+    else:
+        with streams.output_file(given.output) as out:
+            out.write(played.transcript)
+    return DONE
+
+
+def add_commands(command: Command) -> None:
+    """Adds it to the commands of the client."""
+    again = command("again", run_again, "plays a row of a sweep again, and writes its transcript")
+    again.add_argument("rows", help="a file that sweep wrote")
+    again.add_argument("number", type=int, help="which of its rows, the first of which is 1")
+    again.add_argument("--output", help="a file for the transcript (standard output)")
+    again.add_argument("--page", help="a file for a page that plays it")
+    again.add_argument(
+        "--undirected", action="store_true", help="takes a directed graph of a file, without its directions"
+    )
+    again.add_argument("--program", help="the program that plays")

@@ -1,0 +1,166 @@
+"""Experiments that are files: plans of sweeps, in JSON or TOML, and rows that are made again."""
+
+from __future__ import annotations
+
+import importlib
+import json
+import re
+from dataclasses import dataclass, fields
+from typing import Any, Callable, TextIO
+
+from . import daemons
+from .disturbances import Disturbance
+from .errors import RudekpiError
+from .graphs import graph_of
+from .program import Program
+from .simple_graph import Graph
+from .sweeps import Experiment, Played, Row, read_csv
+
+KEYS = ("graphs", "undirected", "rules", "daemons", "seeds", "first_seed", "disturbances")
+# how a disturbance is written in a row: each part, and what it is made of
+PARTS: tuple[tuple[str, Callable[[re.Match[str]], dict[str, Any]]], ...] = (
+    (r"([0-9]+) faults?(?: of (pointer|flag)s)?", lambda it: {"faults": int(it[1]), "registers": it[2] or "any"}),
+    (r"([0-9]+) joins?", lambda it: {"joins": int(it[1])}),
+    (r"([0-9]+) leaves?", lambda it: {"leaves": int(it[1])}),
+    (r"nodes walk ([0-9.e-]+)", lambda it: {"move": float(it[1])}),
+    (r"([0-9]+) links? cut", lambda it: {"cut": int(it[1])}),
+    (r"([0-9]+) links? added", lambda it: {"add": int(it[1])}),
+    (r"([0-9]+) links? rewired", lambda it: {"rewire": int(it[1])}),
+    (r"every ([0-9]+) moves?", lambda it: {"every": int(it[1])}),
+)
+
+
+@dataclass(frozen=True)
+class Plan:
+    """What a sweep plays: each graph under all rules, daemons, seeds and disturbances."""
+
+    graphs: tuple[Graph, ...]
+    rules: tuple[str, ...]
+    daemons: tuple[str, ...]
+    seeds: range
+    disturbances: tuple[Disturbance, ...]
+
+
+def read_plan(path: str) -> Plan:
+    """The plan in a file: TOML if its name ends so, else JSON.
+
+    Raises `ValueError` with the path if it is no plan, or TOML before Python 3.11, and `OSError` if it can't be read.
+    """
+    with open(path, "rb") as file:
+        data = file.read()
+    try:
+        return plan_of(toml_of(data) if path.endswith(".toml") else json.loads(data))
+    except (ValueError, FileNotFoundError) as error:
+        raise ValueError(f"{path}: {error}") from None
+
+
+def toml_of(data: bytes) -> Any:
+    try:
+        reader = importlib.import_module("tomllib")
+    except ImportError:
+        raise ValueError("a plan in TOML needs Python 3.11 or later: write it in JSON") from None
+    return reader.loads(data.decode())
+
+
+def plan_of(given: Any) -> Plan:
+    """The plan that an object says. Raises `ValueError` for a key or a value that is none."""
+    if not isinstance(given, dict):
+        raise ValueError("a plan is an object with the keys " + ", ".join(KEYS))
+    odd = next((key for key in given if key not in KEYS), None)
+    if odd is not None:
+        raise ValueError(f"a plan has no key {odd!r}: its keys are {', '.join(KEYS)}")
+    if "graphs" not in given:
+        raise ValueError("a plan names its graphs, as graphs = ['ring:12', 'edges.txt']")
+    undirected = given.get("undirected", False)
+    if undirected is not True and undirected is not False:
+        raise ValueError(f"undirected is true or false, and not {undirected!r}")
+    first = number_of(given, "first_seed", 0, 0)
+    return Plan(
+        tuple(graph_of(word, undirected=undirected) for word in words_of(given, "graphs", [])),
+        words_of(given, "rules", ["manne"]),
+        words_of(given, "daemons", ["seeded"]),
+        range(first, first + number_of(given, "seeds", 10, 1)),
+        tuple(map(disturbance_of, list_of(given, "disturbances", [{}]))),
+    )
+
+
+def list_of(given: dict[str, Any], key: str, usual: list[Any]) -> list[Any]:
+    found = given.get(key, usual)
+    if not isinstance(found, list) or not found:
+        raise ValueError(f"{key} is a list with one item or more, and not {found!r}")
+    return found
+
+
+def words_of(given: dict[str, Any], key: str, usual: list[Any]) -> tuple[str, ...]:
+    found = list_of(given, key, usual)
+    odd = [word for word in found if not isinstance(word, str)]
+    if odd:
+        raise ValueError(f"{key} is a list of words, and {odd[0]!r} is none")
+    return tuple(found)
+
+
+def number_of(given: dict[str, Any], key: str, usual: int, fewest: int) -> int:
+    found = given.get(key, usual)
+    if type(found) is not int or found < fewest:
+        raise ValueError(f"{key} is a whole number from {fewest} on, and not {found!r}")
+    return found
+
+
+def disturbance_of(given: Any) -> Disturbance:
+    """The disturbance of an object, or of a number of faults."""
+    if type(given) is int:
+        return Disturbance(given)
+    known = {it.name: it.type for it in fields(Disturbance)}
+    if not isinstance(given, dict):
+        raise ValueError(f"a disturbance is a number of faults, or has the keys {', '.join(known)}, and not {given!r}")
+    for key, value in given.items():
+        if key not in known:
+            raise ValueError(f"a disturbance has no key {key!r}: its keys are {', '.join(known)}")
+        kinds: dict[Any, tuple[type, ...]] = {"str": (str,), "float": (int, float)}
+        if type(value) not in kinds.get(known[key], (int,)):
+            raise ValueError(f"{key} of a disturbance is not {value!r}")
+    return Disturbance(**given)
+
+
+def disturbance_in(text: str) -> Disturbance:
+    """The disturbance that a row names. Raises `ValueError` for what is none."""
+    if text == "start":
+        return Disturbance()
+    words: dict[str, Any] = {}
+    for part in text.split(", "):
+        found = next(((made, it) for of, made in PARTS if (it := re.fullmatch(of, part))), None)
+        if not found:
+            raise ValueError(f"{text!r} is no disturbance of a row")
+        words.update(found[0](found[1]))
+    return Disturbance(**words)
+
+
+def experiment_of(row: Row, undirected: bool = False, program: Program = None) -> Experiment:
+    """The experiment of a row: its graph is made or read again by its title.
+
+    Raises `ValueError` if the daemon is a function of the caller's own, or there is no such graph.
+    """
+    if row.daemon not in daemons.WORDS:
+        raise ValueError(f"the daemon {row.daemon!r} is none that has a word: they are {', '.join(daemons.WORDS)}")
+    graph = graph_of(row.graph, undirected=undirected)
+    return Experiment(graph, row.rules, row.daemon, row.seed, disturbance_in(row.disturbance), program)
+
+
+def play_again(row: Row, undirected: bool = False, program: Program = None) -> Played:
+    """The run of a row, played again. Raises `RudekpiError` if another row comes of it, as from a file that changed."""
+    experiment = experiment_of(row, undirected, program)
+    played = experiment.played()
+    made = experiment.measured(played, 0.0)
+    for it in fields(Row):
+        was, now = getattr(row, it.name), getattr(made, it.name)
+        if it.name != "seconds" and was != now:
+            raise RudekpiError(f"another row comes of it: {it.name} is {now}, and not {was}; is the graph another one?")
+    return played
+
+
+def row_in(file: TextIO, number: int) -> Row:
+    """A row of a file that a sweep wrote, the first of which is row 1. Raises `ValueError` if there is none."""
+    rows = read_csv(file)
+    if not 1 <= number <= len(rows):
+        raise ValueError(f"there is no row {number}: {getattr(file, 'name', 'the file')} has rows 1 to {len(rows)}")
+    return rows[number - 1]
