@@ -24,8 +24,8 @@ _rudekpi_flags() {
         picture) _rudekpi_words --entry --help ;;
         epochs) _rudekpi_words --help ;;
         storm) _rudekpi_words --rules --nodes --present --workers --roam --turns --help ;;
-        sweep) _rudekpi_words --graph --undirected --rules --daemon --seeds --first-seed --faults --registers --joins --leaves --cut --add --rewire --move --every --csv --plot --processes --dask --program --help ;;
-        compare) _rudekpi_words --graph --undirected --rules --daemon --seeds --first-seed --faults --registers --joins --leaves --cut --add --rewire --move --every --csv --plot --processes --dask --program --markdown --help ;;
+        sweep) _rudekpi_words --graph --undirected --rules --daemon --seeds --first-seed --faults --registers --joins --leaves --cut --add --rewire --move --every --csv --resume --plot --processes --dask --program --help ;;
+        compare) _rudekpi_words --graph --undirected --rules --daemon --seeds --first-seed --faults --registers --joins --leaves --cut --add --rewire --move --every --csv --resume --plot --processes --dask --program --markdown --help ;;
         worst) _rudekpi_words --graph --undirected --rules --seconds --seed --transcript --output --program --help ;;
         check) _rudekpi_words --help ;;
         shell) _rudekpi_words --rules --nodes --present --program --help ;;

@@ -33,6 +33,7 @@ from .network import Network
 from .numbers import counted
 from .plans import read_plan
 from .progress import shown
+from .resumption import rows_there
 from .disturbances import REGISTERS, Disturbance
 from .sweeps import Row
 
@@ -53,12 +54,12 @@ MADE = (
 
 
 @contextlib.contextmanager
-def written(path: Optional[str]) -> Iterator[TextIO]:
-    """A file that is written, or standard output where no path, or `-`, is given."""
+def written(path: Optional[str], appends: bool = False) -> Iterator[TextIO]:
+    """A file that is written, or goes on, or standard output where no path, or `-`, is given."""
     if path is None or path == "-":
         yield sys.stdout
     else:
-        with streams.output_file(path) as file:
+        with streams.output_file(path, appends) as file:
             yield file
 
 
@@ -152,6 +153,9 @@ def words_of_sweep(parser: argparse.ArgumentParser, rules: str) -> None:
     parser.add_argument("--leaves", type=least(0), default=0, help="how many nodes go (%(default)s)")
     words_of_links(parser)
     parser.add_argument("--csv", help="a file for the rows, each as it comes (standard output)")
+    parser.add_argument(
+        "--resume", action="store_true", help="goes on: rows that are in the file of --csv are not made again"
+    )
     parser.add_argument("--plot", help="a file for a plot: .svg, .png or .pdf; wants matplotlib")
     parser.add_argument("--processes", type=least(1), help="how many (one a processor)")
     parser.add_argument(
@@ -251,7 +255,8 @@ def usual_of(parser: argparse.ArgumentParser, name: str) -> object:
 def rows_of(given: argparse.Namespace, rows: list[Row], file: Optional[TextIO]) -> int:
     """Plays a sweep, and adds its rows as they come; returns the exit status."""
     words = words_to_play(given)
-    total = len(sweeps.experiments_of(*words))
+    todo = sweeps.experiments_of(*words)
+    total = len(todo)
     if total < math.prod(map(len, words)):
         why = "under hh no two nodes move at once, and there are no flags"
         if not total:
@@ -263,10 +268,11 @@ def rows_of(given: argparse.Namespace, rows: list[Row], file: Optional[TextIO]) 
 
         plots.check(given.plot, len(words[0]) * len(words[4]))
     with executor_of(given) as executor:
-        found = sweeps.sweep(*words, executor=executor, program=given.program, processes=given.processes)
-        written: Iterable[Row] = sweeps.write_csv(found, file) if file else found
+        found = sweeps.sweep(*words, executor=executor, program=given.program, processes=given.processes, there=rows)
+        left = total - len({row.key for row in rows} & {it.key for it in todo})
+        written: Iterable[Row] = sweeps.write_csv(found, file, bool(rows)) if file else found
         try:
-            rows.extend(shown(written, total))
+            rows.extend(shown(written, left))
         except KeyboardInterrupt:
             print(f"! cut short: {len(rows)} of {counted(total, 'row')} are there", file=sys.stderr)
             return INTERRUPTED
@@ -274,8 +280,8 @@ def rows_of(given: argparse.Namespace, rows: list[Row], file: Optional[TextIO]) 
 
 
 def run_sweep(given: argparse.Namespace) -> int:
-    rows: list[Row] = []
-    with written(given.csv) as file:
+    rows = rows_there(given.csv) if given.resume else []
+    with written(given.csv, bool(rows)) as file:
         status = rows_of(given, rows, file)
     plot_rows(given, rows)
     return status
@@ -289,8 +295,8 @@ def plot_rows(given: argparse.Namespace, rows: list[Row]) -> None:
 
 
 def run_compare(given: argparse.Namespace) -> int:
-    rows: list[Row] = []
-    with written(given.csv) if given.csv else contextlib.nullcontext() as file:
+    rows = rows_there(given.csv) if given.resume else []
+    with written(given.csv, bool(rows)) if given.csv else contextlib.nullcontext() as file:
         status = rows_of(given, rows, file)
     print("\n".join(tables.table_of(rows, given.markdown)))
     plot_rows(given, rows)

@@ -32,8 +32,8 @@ class Input(io.FileIO):
 class Output(io.FileIO):
     """A file, or a standard output, that says which it is where a write fails."""
 
-    def __init__(self, file: Union[str, int], name: Optional[str] = None) -> None:
-        super().__init__(file, "w", closefd=isinstance(file, str))
+    def __init__(self, file: Union[str, int], name: Optional[str] = None, appends: bool = False) -> None:
+        super().__init__(file, "a" if appends else "w", closefd=isinstance(file, str))
         self.told = name
 
     def write(self, data: ReadableBuffer) -> int:
@@ -45,9 +45,9 @@ class Output(io.FileIO):
             raise OSError(error.errno, error.strerror, self.told) from None
 
 
-def output_file(path: str) -> TextIO:
-    """A file that is written, which says its path where a write fails. Raises `OSError`."""
-    return io.TextIOWrapper(io.BufferedWriter(Output(path, path)), newline="")
+def output_file(path: str, appends: bool = False) -> TextIO:
+    """A file that is written, or goes on, which says its path where a write fails. Raises `OSError`."""
+    return io.TextIOWrapper(io.BufferedWriter(Output(path, path, appends)), newline="")
 
 
 def fill_closed() -> None:

@@ -83,6 +83,11 @@ class Row:
     pairs: int
     seconds: float
 
+    @property
+    def key(self) -> tuple[object, ...]:
+        """What the experiment was."""
+        return self.graph, self.rules, self.daemon, self.seed, self.disturbance
+
 
 @dataclass(frozen=True)
 class Played:
@@ -123,6 +128,11 @@ class Experiment:
 
     def told(self) -> str:
         return f"{self.graph.title} {self.rules} {self.daemon_word()} seed {self.seed} {self.disturbance}"
+
+    @property
+    def key(self) -> tuple[object, ...]:
+        """That of its row."""
+        return self.graph.title, self.rules, self.daemon_word(), self.seed, str(self.disturbance)
 
     def daemon_word(self) -> str:
         return (
@@ -271,6 +281,7 @@ def sweep(
     executor: Optional[Executor] = None,
     program: Program = None,
     processes: Optional[int] = None,
+    there: Iterable[Row] = (),
 ) -> Iterator[Row]:
     """A row for each graph, rules, daemon, seed and disturbance, in the order in which they are done.
 
@@ -282,10 +293,13 @@ def sweep(
     `LostExperiments` is raised at the end. A pool of processes of the caller's own breaks where one of them dies: it is
     not replaced, and raises its `BrokenExecutor`. An error of an experiment is raised as it is. Where the caller stops,
     nothing more is handed out, and processes that were begun here are ended.
+
+    Experiments whose rows are `there` already are not played.
     """
     if processes is not None and processes < 1:
         raise ValueError(f"there is one process or more, and not {processes}")
-    todo = experiments_of(graphs, rules, daemons, seeds, faults, program)
+    known = {row.key for row in there}
+    todo = [it for it in experiments_of(graphs, rules, daemons, seeds, faults, program) if it.key not in known]
     if executor is not None:
         return rows_of(todo, executor)
     # built and named once, before any worker looks for it
@@ -344,10 +358,12 @@ def natural(word: str) -> list[tuple[int, str]]:
 COLUMNS = tuple(it.name for it in fields(Row))
 
 
-def write_csv(rows: Iterable[Row], file: TextIO) -> Iterator[Row]:
-    """The same rows, each written to a CSV file as it comes, so that those so far are there whatever happens."""
+def write_csv(rows: Iterable[Row], file: TextIO, has_head: bool = False) -> Iterator[Row]:
+    """The same rows, each written to a CSV file as it comes, so that those so far are there whatever happens. The head
+    is written too, unless the file has it."""
     writer = csv.writer(file)
-    writer.writerow(COLUMNS)
+    if not has_head:
+        writer.writerow(COLUMNS)
     for row in rows:
         writer.writerow(astuple(row))
         file.flush()

@@ -136,6 +136,32 @@ class Again(Timed):
             self.assertEqual((done.returncode, done.stdout), (status, ""), done.stderr)
             self.assertTrue(done.stderr.startswith(why), done.stderr)
 
+    def test_a_sweep_goes_on(self) -> None:
+        folder = self.folder()
+        path = pathlib.Path(folder, "rows.csv")
+        words = "sweep --graph ring:5 --seeds 6 --processes 1 --csv rows.csv --resume".split()
+        self.assertEqual(rudekpi(*words, folder=folder).returncode, 0)
+        whole = path.read_bytes()
+        lines = whole.splitlines(keepends=True)
+        self.assertEqual(len(lines), 7)
+        # three rows are there, and the fourth is cut in the middle
+        path.write_bytes(b"".join(lines[:4]) + lines[4][:9])
+        done = rudekpi(*words, folder=folder)
+        self.assertEqual((done.returncode, done.stdout, done.stderr), (0, "", ""))
+        made = path.read_bytes().splitlines(keepends=True)
+        self.assertEqual(made[:4], lines[:4], "as they were")
+        seeds = [line.split(b",")[5] for line in made[1:]]
+        self.assertEqual(sorted(seeds), [b"0", b"1", b"2", b"3", b"4", b"5"])
+        before = path.read_bytes()
+        self.assertEqual(rudekpi(*words, folder=folder).returncode, 0)
+        self.assertEqual(path.read_bytes(), before, "nothing is left to play")
+        done = rudekpi(*words[:-3], "--resume", folder=folder)
+        self.assertEqual((done.returncode, done.stderr), (2, "! --resume needs a file of rows: --csv FILE\n"))
+        path.write_text("a,b\n1,2\n")
+        done = rudekpi(*words, folder=folder)
+        self.assertEqual((done.returncode, path.read_text()), (2, "a,b\n1,2\n"))
+        self.assertIn("! rows.csv has not the columns", done.stderr)
+
 
 if __name__ == "__main__":
     unittest.main()
