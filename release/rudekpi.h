@@ -20,6 +20,9 @@
 extern "C" {
 #endif
 
+/* The version of this header: major, minor and patch number. */
+#define RUDEKPI_VERSION "0.1.0"
+
 /* What calls answer. */
 enum {
     RUDEKPI_DONE = 0,         /* it was done */
@@ -209,7 +212,7 @@ uint32_t rudekpi_reach_of_point(struct rudekpi_slot *slot, uint32_t node, uint32
 uint32_t rudekpi_reach_of_flag(struct rudekpi_slot *slot, uint32_t node, bool value, uint32_t *out, size_t room, size_t *count);
 
 /* How many moves can still come before the next edit or fault that is accepted: at most this many, whatever the daemon chooses. It is the
- * charge; under RUDEKPI_HH it is also at most n*n/2 + n - 2 among n nodes, the half rounded down. Adds no entry; a look at what has changed
+ * charge; under RUDEKPI_HSU_HUANG it is also at most n*n/2 + n - 2 among n nodes, the half rounded down. Adds no entry; a look at what has changed
  * since this or a status was last asked. DONE; NO_SESSION, where `moves` is 0. */
 uint32_t rudekpi_moves_left(struct rudekpi_slot *slot, uint32_t *moves);
 
@@ -265,6 +268,40 @@ uint32_t rudekpi_audit_finish(struct rudekpi_audit_slot *slot, struct rudekpi_ve
 
 /* Ends the audit without a verdict and gives its memory back; the slot is empty then, as it may be before. */
 void rudekpi_audit_free(struct rudekpi_audit_slot *slot);
+
+/* The name of a status, in plain ASCII; of an unknown number "unknown". */
+static inline const char *rudekpi_status_text(uint32_t status) {
+    static const char *const texts[] = {"done",       "not a command", "the log is full", "memory was refused",
+                                        "no session", "bad argument",  "refused",         "no transcript"};
+    return status < sizeof texts / sizeof *texts ? texts[status] : "unknown";
+}
+
+/* The name of a refusal, as a transcript has it; of an unknown number "unknown". */
+static inline const char *rudekpi_refusal_text(uint32_t refusal) {
+    static const char *const texts[] = {"unknown",      "unknown-node",   "self-loop",    "already-linked",
+                                        "not-linked",   "too-many-edges", "not-neighbour", "no-flag",
+                                        "empty-choice", "not-central",    "chosen-twice", "not-enabled",
+                                        "bad-target",   "already-present"};
+    return refusal < sizeof texts / sizeof *texts ? texts[refusal] : "unknown";
+}
+
+/* The name of a rule, as a transcript has it; of an unknown number "unknown". */
+static inline const char *rudekpi_rule_text(uint32_t rule) {
+    static const char *const texts[] = {"unknown", "update", "marry", "seduce", "abandon"};
+    return rule < sizeof texts / sizeof *texts ? texts[rule] : "unknown";
+}
+
+/* What a verdict says, in the words of the program's `audit`; of an unknown number "unknown". */
+static inline const char *rudekpi_verdict_text(uint32_t kind) {
+    static const char *const texts[] = {"accepted",
+                                        "bad header",
+                                        "not a transcript line",
+                                        "out of order",
+                                        "not the machine's reply",
+                                        "bad base",
+                                        "unjudged"};
+    return kind < sizeof texts / sizeof *texts ? texts[kind] : "unknown";
+}
 
 #ifdef __cplusplus
 }

@@ -1,0 +1,354 @@
+/* Rudekpi for C++17: a network and an audit as classes that own their memory, and faults as exceptions.
+ *
+ * Each call is one of rudekpi.h, which says what it does, returns and costs. Nodes are 1 to the number of names; a
+ * pointer that is null is an empty optional. A network or an audit is used by one thread at a time, and may be moved.
+ * Memory that is refused is std::bad_alloc, and a number out of its range std::invalid_argument; both change nothing, but
+ * that first turns of a drive or a scramble stay. */
+#ifndef RUDEKPI_HPP
+#define RUDEKPI_HPP
+
+#include <cstdint>
+#include <memory>
+#include <new>
+#include <optional>
+#include <stdexcept>
+#include <string>
+#include <string_view>
+#include <utility>
+#include <vector>
+#include "rudekpi.h"
+
+namespace rudekpi {
+
+using Node = std::uint32_t;
+using Entry = std::uint32_t;
+
+enum class Rules : std::uint32_t { hsu_huang = RUDEKPI_HSU_HUANG, manne = RUDEKPI_MANNE };
+
+enum class Rule : std::uint32_t {
+    update = RUDEKPI_UPDATE,
+    marry = RUDEKPI_MARRY,
+    seduce = RUDEKPI_SEDUCE,
+    abandon = RUDEKPI_ABANDON
+};
+
+inline const char *text(Rule rule) {
+    return rudekpi_rule_text(static_cast<std::uint32_t>(rule));
+}
+
+/* The machine refused the event; its entry says so, and the network is as before. */
+class Refused : public std::runtime_error {
+  public:
+    Refused(std::uint32_t why, Entry number) : std::runtime_error(rudekpi_refusal_text(why)), why(why), entry(number) {}
+    std::uint32_t why; /* one of RUDEKPI_UNKNOWN_NODE and those after it */
+    Entry entry;
+};
+
+/* There are 16,777,216 entries already. */
+class LogFull : public std::runtime_error {
+  public:
+    LogFull() : std::runtime_error(rudekpi_status_text(RUDEKPI_LOG_FULL)) {}
+};
+
+/* A line is neither empty nor a command. */
+class BadLine : public std::invalid_argument {
+  public:
+    explicit BadLine(std::uint64_t number) : std::invalid_argument("line " + std::to_string(number) + ": not a command"), number(number) {}
+    std::uint64_t number;
+};
+
+/* A chosen node, and the neighbour that it shall point at, if any. */
+struct Item {
+    Node node;
+    std::optional<Node> wish = {};
+};
+
+/* A node that moved, by which rule, and where it points now if the rule wrote its pointer. */
+struct Move {
+    Node node;
+    Rule rule;
+    std::optional<Node> target;
+};
+
+struct Enabled {
+    Node node;
+    Rule rule;
+};
+
+using Pair = std::pair<Node, Node>;
+using Counts = rudekpi_counts;
+
+/* What an audit finds: the counts of a transcript, or the first line that is wrong and how. */
+struct Verdict : rudekpi_verdict {
+    bool accepted() const {
+        return kind == RUDEKPI_ACCEPTED;
+    }
+    const char *text() const {
+        return rudekpi_verdict_text(kind);
+    }
+};
+
+namespace detail {
+
+inline std::optional<Node> node_or_null(Node node) {
+    return node ? std::optional<Node>(node) : std::nullopt;
+}
+
+inline const std::uint8_t *bytes_of(std::string_view text) {
+    return reinterpret_cast<const std::uint8_t *>(text.data() ? text.data() : "");
+}
+
+[[noreturn]] inline void fail(std::uint32_t status, const rudekpi_told &told = {}) {
+    switch (status) {
+    case RUDEKPI_REFUSED:
+        throw Refused(told.refusal, told.entry);
+    case RUDEKPI_LOG_FULL:
+        throw LogFull();
+    case RUDEKPI_NO_MEMORY:
+        throw std::bad_alloc();
+    case RUDEKPI_NO_SESSION:
+        throw std::logic_error(rudekpi_status_text(status));
+    default:
+        throw std::invalid_argument(rudekpi_status_text(status));
+    }
+}
+
+inline void check(std::uint32_t status, const rudekpi_told &told = {}) {
+    if (status != RUDEKPI_DONE) fail(status, told);
+}
+
+/* A slot at one place in memory, emptied when it goes. */
+template <typename Slot, void (*free)(Slot *)> struct Emptied {
+    void operator()(Slot *slot) const {
+        free(slot);
+        delete slot;
+    }
+};
+
+} // namespace detail
+
+/* A network whose nodes are kept in pairs by its rules, with its transcript. One that was moved from may only be
+ * destroyed or assigned to. */
+class Network {
+  public:
+    Network(Rules rules, std::uint32_t nodes) : Network(rules, nodes, nodes) {}
+
+    Network(Rules rules, std::uint32_t nodes, std::uint32_t present) : slot_(new rudekpi_slot(RUDEKPI_NONE)) {
+        detail::check(rudekpi_session_new(static_cast<std::uint32_t>(rules), nodes, present, slot_.get()));
+    }
+
+    /* Edits and faults: each returns the number of its entry. */
+    Entry link(Node a, Node b) {
+        return done([&](auto told) { return rudekpi_link(slot(), a, b, told); });
+    }
+    Entry unlink(Node a, Node b) {
+        return done([&](auto told) { return rudekpi_unlink(slot(), a, b, told); });
+    }
+    Entry join(Node node) {
+        return done([&](auto told) { return rudekpi_join(slot(), node, told); });
+    }
+    Entry leave(Node node) {
+        return done([&](auto told) { return rudekpi_leave(slot(), node, told); });
+    }
+    Entry point(Node node, std::optional<Node> target) {
+        return done([&](auto told) { return rudekpi_point(slot(), node, target.value_or(0), told); });
+    }
+    Entry flag(Node node, bool value) {
+        return done([&](auto told) { return rudekpi_flag(slot(), node, value, told); });
+    }
+
+    /* Lets nodes move at once, and returns their moves. */
+    std::vector<Move> step(const std::vector<Item> &items) {
+        std::vector<rudekpi_item> chosen(items.size() + 1);
+        for (std::size_t at = 0; at < items.size(); at++) chosen[at] = {items[at].node, items[at].wish.value_or(0)};
+        std::vector<Move> moves;
+        for (const auto &row : rows([&](auto told) { return rudekpi_step(slot(), chosen.data(), items.size(), told); }))
+            moves.push_back({row.node, static_cast<Rule>(row.rule), detail::node_or_null(row.other)});
+        return moves;
+    }
+
+    /* Lets up to `count` steps of a seeded daemon come, until nobody is enabled. Returns the number of the last entry. */
+    Entry drive(std::uint64_t seed, std::uint32_t count) {
+        return done([&](auto told) { return rudekpi_drive(slot(), seed, count, told); });
+    }
+    /* Lets `count` seeded faults of registers come. Returns the number of the last entry. */
+    Entry scramble(std::uint64_t seed, std::uint32_t count) {
+        return done([&](auto told) { return rudekpi_scramble(slot(), seed, count, told); });
+    }
+
+    /* Questions: each is an entry of the transcript. */
+    std::optional<Node> show(Node node) {
+        rudekpi_told told{};
+        detail::check(rudekpi_show(slot(), node, &told), told);
+        return detail::node_or_null(told.target);
+    }
+    std::vector<Enabled> enabled() {
+        std::vector<Enabled> nodes;
+        for (const auto &row : rows([&](auto told) { return rudekpi_enabled(slot(), told); }))
+            nodes.push_back({row.node, static_cast<Rule>(row.rule)});
+        return nodes;
+    }
+    std::vector<Pair> matching() {
+        std::vector<Pair> pairs;
+        for (const auto &row : rows([&](auto told) { return rudekpi_pairs(slot(), told); }))
+            pairs.emplace_back(row.node, row.other);
+        return pairs;
+    }
+    Counts status() {
+        rudekpi_told told{};
+        Counts counts{};
+        detail::check(rudekpi_status(slot(), &counts, &told), told);
+        return counts;
+    }
+
+    /* Questions that add no entry. */
+    std::optional<Node> partner(Node node) {
+        return detail::node_or_null(asked<Node>([&](auto it) { return rudekpi_partner(slot(), node, it); }));
+    }
+    std::uint32_t moves_left() {
+        return asked<std::uint32_t>([&](auto it) { return rudekpi_moves_left(slot(), it); });
+    }
+    bool is_at_rest(Node node) {
+        return asked<bool>([&](auto it) { return rudekpi_is_at_rest(slot(), node, it); });
+    }
+
+    /* How many moves an edit or a fault would cost at most. */
+    std::uint32_t cost_of_link(Node a, Node b) {
+        return asked<std::uint32_t>([&](auto it) { return rudekpi_cost_of_link(slot(), a, b, it); });
+    }
+    std::uint32_t cost_of_unlink(Node a, Node b) {
+        return asked<std::uint32_t>([&](auto it) { return rudekpi_cost_of_unlink(slot(), a, b, it); });
+    }
+    std::uint32_t cost_of_join(Node node) {
+        return asked<std::uint32_t>([&](auto it) { return rudekpi_cost_of_join(slot(), node, it); });
+    }
+    std::uint32_t cost_of_leave(Node node) {
+        return asked<std::uint32_t>([&](auto it) { return rudekpi_cost_of_leave(slot(), node, it); });
+    }
+    std::uint32_t cost_of_point(Node node, std::optional<Node> target) {
+        return asked<std::uint32_t>([&](auto it) { return rudekpi_cost_of_point(slot(), node, target.value_or(0), it); });
+    }
+    std::uint32_t cost_of_flag(Node node, bool value) {
+        return asked<std::uint32_t>([&](auto it) { return rudekpi_cost_of_flag(slot(), node, value, it); });
+    }
+
+    /* Whom an edit or a fault would reach, ascending. */
+    std::vector<Node> reach_of_link(Node a, Node b) {
+        return names([&](auto... it) { return rudekpi_reach_of_link(slot(), a, b, it...); });
+    }
+    std::vector<Node> reach_of_unlink(Node a, Node b) {
+        return names([&](auto... it) { return rudekpi_reach_of_unlink(slot(), a, b, it...); });
+    }
+    std::vector<Node> reach_of_join(Node node) {
+        return names([&](auto... it) { return rudekpi_reach_of_join(slot(), node, it...); });
+    }
+    std::vector<Node> reach_of_leave(Node node) {
+        return names([&](auto... it) { return rudekpi_reach_of_leave(slot(), node, it...); });
+    }
+    std::vector<Node> reach_of_point(Node node, std::optional<Node> target) {
+        return names([&](auto... it) { return rudekpi_reach_of_point(slot(), node, target.value_or(0), it...); });
+    }
+    std::vector<Node> reach_of_flag(Node node, bool value) {
+        return names([&](auto... it) { return rudekpi_reach_of_flag(slot(), node, value, it...); });
+    }
+
+    /* Carries out a line of a script. An event that is refused throws nothing: the transcript says so. */
+    void feed(std::string_view line) {
+        std::uint64_t number = 0;
+        auto status = rudekpi_session_feed(slot(), detail::bytes_of(line), line.size(), &number);
+        if (status == RUDEKPI_BAD_LINE) throw BadLine(number);
+        detail::check(status);
+    }
+
+    /* Adds the lines of a base to the transcript, from which an audit can begin. Returns the last entry's number. */
+    Entry checkpoint() {
+        return done([&](auto told) { return rudekpi_checkpoint(slot(), told); });
+    }
+
+    /* The text of the transcript since this was last called. */
+    std::string transcript() {
+        std::string text(rudekpi_session_length(slot()), '\0');
+        rudekpi_session_read(slot(), reinterpret_cast<std::uint8_t *>(text.data()), text.size());
+        return text;
+    }
+
+    /* Whether the network keeps its text from here on. If not, what there is is dropped. */
+    void keep_transcript(bool keeps) {
+        detail::check(rudekpi_transcript(slot(), keeps));
+    }
+
+  private:
+    rudekpi_slot *slot() {
+        return slot_.get();
+    }
+
+    template <typename Call> Entry done(Call call) {
+        rudekpi_told told{};
+        detail::check(call(&told), told);
+        return told.entry;
+    }
+
+    template <typename Call> std::vector<rudekpi_row> rows(Call call) {
+        rudekpi_told told{};
+        detail::check(call(&told), told);
+        std::vector<rudekpi_row> answer(told.rows);
+        rudekpi_row none{};
+        rudekpi_rows(slot(), answer.empty() ? &none : answer.data(), answer.size());
+        return answer;
+    }
+
+    template <typename Value, typename Call> Value asked(Call call) {
+        Value value{};
+        detail::check(call(&value));
+        return value;
+    }
+
+    template <typename Call> std::vector<Node> names(Call call) {
+        std::size_t count = 0;
+        Node none = 0;
+        detail::check(call(&none, std::size_t{0}, &count));
+        std::vector<Node> reached(count);
+        if (count) detail::check(call(reached.data(), reached.size(), &count));
+        return reached;
+    }
+
+    std::unique_ptr<rudekpi_slot, detail::Emptied<rudekpi_slot, rudekpi_session_free>> slot_;
+};
+
+/* Judges a transcript that is in memory. */
+inline Verdict audit(std::string_view transcript) {
+    Verdict verdict{};
+    rudekpi_audit(detail::bytes_of(transcript), transcript.size(), &verdict);
+    if (verdict.kind == RUDEKPI_UNJUDGED) throw std::bad_alloc();
+    return verdict;
+}
+
+/* Judges a transcript that comes in pieces. */
+class Audit {
+  public:
+    Audit() : slot_(new rudekpi_audit_slot(RUDEKPI_NONE)) {
+        detail::check(rudekpi_audit_new(slot_.get()));
+    }
+
+    /* Feeds the bytes that come next, cut anywhere. Whether nothing wrong was found so far. */
+    bool feed(std::string_view piece) {
+        auto status = rudekpi_audit_feed(slot_.get(), detail::bytes_of(piece), piece.size());
+        if (status != RUDEKPI_DAMAGED) detail::check(status);
+        return status == RUDEKPI_DONE;
+    }
+
+    /* The verdict on all that was fed; ends the audit. */
+    Verdict finish() {
+        Verdict verdict{};
+        detail::check(rudekpi_audit_finish(slot_.get(), &verdict));
+        if (verdict.kind == RUDEKPI_UNJUDGED) throw std::bad_alloc();
+        return verdict;
+    }
+
+  private:
+    std::unique_ptr<rudekpi_audit_slot, detail::Emptied<rudekpi_audit_slot, rudekpi_audit_free>> slot_;
+};
+
+} // namespace rudekpi
+
+#endif
