@@ -25,6 +25,8 @@ PACKAGE = HERE / "rudekpi"
 PROGRAM, LIBRARY = "rudekpi/bin/console", "rudekpi/bin/librudekpi.so"
 GLIBC = (2, 34)
 WITH_PROGRAM, WITHOUT = "py3-none-manylinux_2_34_x86_64", "py3-none-any"
+# the processors for which release/ has the library alone
+PROCESSORS = {name: f"py3-none-manylinux_2_34_{name}" for name in ("aarch64", "riscv64")}
 METADATA = """\
 Metadata-Version: 2.1
 Name: rudekpi
@@ -82,16 +84,21 @@ def program() -> bytes:
     return found
 
 
+def recorded_library(name: str, record: str) -> dict[str, bytes]:
+    """A shared library of release/, whole, by its name in the package. Raises `ValueError` if a record of release/ has
+    other bytes of it."""
+    found, lines = beside(f"release/{name}").read_bytes(), beside(f"release/{record}").read_text()
+    if not re.search(rf"^{re.escape(name)}\.\d+ {hashlib.sha256(found).hexdigest()}$", lines, re.MULTILINE):
+        raise ValueError(f"release/{name} is not the library of which release/{record} tells")
+    return {LIBRARY: found}
+
+
 def library() -> dict[str, bytes]:
-    """The shared library of release/, whole, by its name in the package; nothing where there is none."""
+    """The shared library for x86-64, whole, by its name in the package; nothing where there is none."""
     try:
-        path, told = beside("release/librudekpi.so"), beside("release/LIBRARY_MADE_FROM").read_text()
+        return recorded_library("librudekpi.so", "LIBRARY_MADE_FROM")
     except FileNotFoundError:
         return {}
-    found = path.read_bytes()
-    if not re.search(rf"^librudekpi\.so\.\d+ {hashlib.sha256(found).hexdigest()}$", told, re.MULTILINE):
-        raise ValueError("release/librudekpi.so is not the library of which release/LIBRARY_MADE_FROM tells")
-    return {LIBRARY: found}
 
 
 def runs_here() -> bool:
@@ -144,6 +151,12 @@ def make_wheel(folder: str, has_program: bool) -> str:
     if has_program:
         return write_wheel(folder, WITH_PROGRAM, {**contents(), PROGRAM: program(), **library()})
     return write_wheel(folder, WITHOUT, contents())
+
+
+def make_library_wheel(folder: str, processor: str) -> str:
+    """Writes the wheel for another processor, with the library and without the program, and gives its name."""
+    files = recorded_library(f"{processor}/librudekpi.so", "PROCESSORS_MADE_FROM")
+    return write_wheel(folder, PROCESSORS[processor], {**contents(), **files})
 
 
 @contextlib.contextmanager

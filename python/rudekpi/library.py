@@ -6,6 +6,7 @@ import ctypes
 import functools
 import mmap
 import os
+import platform
 from typing import Callable, Optional, Union
 
 from .costs import COSTED
@@ -182,9 +183,10 @@ def paths() -> list[str]:
     given = os.environ.get("RUDEKPI_LIBRARY")
     if given:
         return [os.path.abspath(given)]
+    folders = [part for part in (platform.machine(),) if part in ("aarch64", "riscv64")]
     return [
         os.path.join(PACKAGE, "bin", "librudekpi.so"),
-        os.path.join(os.path.dirname(os.path.dirname(PACKAGE)), "release", "librudekpi.so"),
+        os.path.join(os.path.dirname(os.path.dirname(PACKAGE)), "release", *folders, "librudekpi.so"),
     ]
 
 
