@@ -94,10 +94,9 @@ FILES = "librudekpi.a", shared_name(), "rudekpi.h", "rudekpi.hpp", *TEXTS
 
 
 def link(folder: pathlib.Path) -> None:
-    """Lets librudekpi.so name the shared library beside it."""
-    name = folder / "librudekpi.so"
-    name.unlink(missing_ok=True)
-    name.symlink_to(shared_name())
+    """Puts the shared library there as librudekpi.so, too, where compilers look for it. A link would not do: `rt ci`
+    takes no links."""
+    shutil.copyfile(folder / shared_name(), folder / "librudekpi.so")
 
 
 def put_beside(folder: pathlib.Path) -> None:
