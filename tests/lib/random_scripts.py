@@ -1,4 +1,4 @@
-"""Random scripts: edits, faults, steps, questions and checkpoints, refused ones too."""
+"""Random scripts: edits, faults, steps, questions and checkpoints, refused ones too; and random damages."""
 
 from __future__ import annotations
 
@@ -35,3 +35,9 @@ def script(chance: random.Random, nodes: int) -> str:
         lambda: f"scramble {chance.randint(0, 99)} {chance.randint(0, 4)}": 2,
     }
     return "".join(f"{kind()}\n" for kind in chance.choices([*kinds], [*kinds.values()], k=LINES))
+
+
+def damaged(chance: random.Random, text: bytes) -> bytes:
+    """The bytes with one that is changed, left out or put in."""
+    at, other = chance.randrange(len(text)), bytes([chance.choice(b"0123456789 -=>:\nabe")])
+    return text[:at] + chance.choice([other + text[at + 1 :], text[at + 1 :], other + text[at:]])
