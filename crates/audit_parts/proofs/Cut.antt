@@ -1,4 +1,4 @@
--- Where a base begins in a transcript, the parts before it are one, and so are those behind it.
+-- At a base in a transcript, the parts before it are a transcript, and so are those after it.
 use Rattle.std.proofs.Common.{◌≡◌, ℕ, ◌+◌, ◌≤◌, List, [], ◌∷◌, ◌++◌, length, refl, sym, ap, subst, ◌∙◌, append_assoc, append-nil, length-append, arith}
 use Rattle.std.specs.List.{AllByRecursion}
 use Rattle.rule_machine.specs.declared.base.Base.{Base}
@@ -17,7 +17,7 @@ use Rattle.audit_parts.specs.Seams.{EndsLine}
 use Rattle.audit_parts.proofs.Lines.{skip_base, skip_other}
 use Rattle.audit_parts.proofs.Reopened.{reopens}
 
--- a run may begin at the base of a stand
+-- a run may begin at the base of this state
 abbrev pub Reopens : RuleSet → ℕ → Stand → Type 0
 Reopens rules size at = Opens rules (Based size (base_of at.count at.moment)) at
 
@@ -28,8 +28,8 @@ reopens_next rules size at next part begun step few =
 abbrev pub text_at : RuleSet → ℕ → Stand → List ℕ
 text_at rules size at = base_text rules size (base_of at.count at.moment)
 
--- The log is cut at a stand: the text before the rest and the base of that stand are what leads to it, and the rest is that base and
--- what goes on from there.
+-- The log is cut at a base: the text before the rest, with that base, leads to it, and the rest is the base
+-- and what follows from there.
 pub record Cut (rules : RuleSet) (size : ℕ) (start : Stand) (log : List Part) (end : Stand) (front x rest : List ℕ) : Type 0 where
   pub before : List Part
   pub middle : Stand
@@ -40,7 +40,7 @@ pub record Cut (rules : RuleSet) (size : ℕ) (start : Stand) (log : List Part) 
   pub text : x ++ text_at rules size middle ≡ front ++ parts_text rules size start.count before
   pub rest_is : rest ≡ text_at rules size middle ++ parts_text rules size middle.count behind
 
--- a cut behind a text that was gone past
+-- a cut after a text that was passed
 cut_behind : (rules : RuleSet) (size : ℕ) (at : Stand) (log : List Part) (end : Stand) (front text x left rest : List ℕ) → x ≡ text ++ left → front ≡ text → Cut rules size at log end [] left rest → Cut rules size at log end front x rest
 cut_behind rules size at log end front text x left rest is same c = record {
   before = c.before;
@@ -126,7 +126,7 @@ cut_parts rules size at (Kept base ∷ log) end (b ∷ x) z begun all few passes
 
 -- ---- a transcript
 
--- a text that is no header with something behind it
+-- a text that is no header with something after it
 abbrev pub IsNoHeader : List ℕ → Type 0
 IsNoHeader text = (rules : RuleSet) (size count : ℕ) (more : List ℕ) → text ≡ header_text rules size count ++ 10 ∷ more → ⊥
 

@@ -1,4 +1,5 @@
--- The damage of a text is that of a longer one that meets a further text; and behind a transcript it is that of both, so many lines on.
+-- The damage of a text is that of a longer one that meets another text; after a transcript it moves on by its
+-- lines.
 use Rattle.std.proofs.Common.{◌≡◌, ◌≢◌, ℕ, ◌+◌, ◌<◌, ◌≤◌, ◌⊎◌, inl, inr, List, [], ◌∷◌, ◌++◌, Option, None, Some, length, refl, sym, ap, subst, ◌∙◌, append_assoc, append-nil, length-append, ⊎_elim, arith}
 use Rattle.std.specs.List.{AllByRecursion}
 use Rattle.std.proofs.lemmas.Bool.{cases_lt}
@@ -168,7 +169,7 @@ module _ (own seam : List ℕ) (lines : EndsLine own) (seamed : IsSeam seam) whe
 
   -- ---- behind a transcript
 
-  -- what is left behind one is not cut off inside the base that comes there
+  -- what is left after one is not cut off inside the base that comes there
   base_cut : (rules : RuleSet) (o : Opening) (log : List Part) (end : Stand) (good rest missing : List ℕ) → IsTranscript good rules o log end → own ++ seam ≡ good ++ rest → rest ≢ [] → missing ≢ [] → text_at rules (size_of o) end ≡ rest ++ missing → ⊥
   base_cut rules o log end good rest missing is splits some lacks wanted = by (apart own seam good rest splits)
     where
@@ -181,7 +182,7 @@ module _ (own seam : List ℕ) (lines : EndsLine own) (seamed : IsSeam seam) whe
       first : (z : List ℕ) × (seam ≡ 109 ∷ z)
       first = seam_first seam seamed
 
-      -- the seam begins in front of it
+      -- the seam begins before it
       front : (g : List ℕ) → good ≡ own ++ g → seam ≡ g ++ rest → ⊥
       front [] here e =
           let begun = reopens_end good rules o log end is in

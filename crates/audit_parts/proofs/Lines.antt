@@ -49,7 +49,7 @@ ends_free (b ∷ c ∷ x) h f = absurd (no_empty c x (ends_free (c ∷ x) h f.1)
 
 -- ---- whole lines that are longer than a line
 
--- a text is gone past: the lines begin with it, and what is left of them goes on where it ends
+-- a text is passed: the lines begin with it, and what is left of them goes on at its end
 pub record Skipped (text rest x z : List ℕ) : Type 0 where
   pub left : List ℕ
   pub is : x ≡ text ++ left
@@ -73,12 +73,12 @@ skip_line (a ∷ line) rest (b ∷ c ∷ x) z free ends some e =
       behind = more.behind;
     }
 
--- where the line begins with another byte than what stands behind the lines
+-- if the line begins with another byte than what follows the lines
 pub skip_other : (line rest x z : List ℕ) → IsFree 10 line → EndsLine x → (line ++ 10 ∷ rest ≡ z → ⊥) → line ++ 10 ∷ rest ≡ x ++ z → Skipped (line ++ 10 ∷ []) rest x z
 skip_other line rest [] z free ends other e = absurd (other e)
 skip_other line rest (b ∷ x) z free ends other e = skip_line line rest (b ∷ x) z free ends (no_empty b x) e
 
--- two texts, one behind the other
+-- two texts in turn
 pub skip_both : (text more rest x z : List ℕ) (first : Skipped text (more ++ rest) x z) → Skipped more rest first.left z → Skipped (text ++ more) rest x z
 skip_both text more rest x z first second = record {
   left = second.left;
@@ -125,7 +125,7 @@ one_line : (line : BaseLine) (lines : List BaseLine) (x : List ℕ) → ended ba
 one_line line lines x =
     append_assoc (base_line_text line ++ 10 ∷ []) (ended base_line_text lines) x ∙ append_assoc (base_line_text line) (10 ∷ []) (ended base_line_text lines ++ x)
 
--- so what begins as a base does stands behind them
+-- so what begins as a base comes after them
 pub skip_lines : (lines : List BaseLine) → AllByRecursion IsBaseLine lines → AllByRecursion IsInner lines → (rest x z : List ℕ) → EndsLine x → ended base_line_text lines ++ rest ≡ x ++ 109 ∷ z → Skipped (ended base_line_text lines) rest x (109 ∷ z)
 skip_lines [] fit inner rest x z ends e = record { left = x; is = refl; lines = ends; behind = e }
 skip_lines (line ∷ lines) fit inner rest x z ends e =
@@ -140,7 +140,7 @@ pub base_fits : (base : BaseKept) → IsShaped base → AllByRecursion IsBaseLin
 base_fits base is =
     ((is.number, is.spent, is.nodes, is.edges), fit_both (map place_line base.nodes) (map (λ edge. Link edge) base.edges) (fit_places base.nodes is.places) (fit_edges base.edges is.links))
 
--- the head, and what stands behind it
+-- the head, and what follows it
 pub base_behind : (rules : RuleSet) (size : ℕ) (base : BaseKept) (rest : List ℕ) → base_text rules size base ++ rest ≡ base_head rules size ++ 10 ∷ (base_lines base ++ rest)
 base_behind rules size base rest =
     ap (λ (l : List ℕ). l ++ rest) (base_text_is rules size base)

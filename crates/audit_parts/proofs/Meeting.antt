@@ -93,7 +93,7 @@ nothing_of rules size count (Kept base ∷ log) e =
     let both = length-append (base_text rules size base) (parts_text rules size count log) in
     absurd (omega (arith, l, both))
 
--- it ends with the base of where it stands
+-- it ends with the base of its end
 pub closes : (own seam : List ℕ) → EndsLine own → IsSeam seam → (rules : RuleSet) (o : Opening) (log : List Part) (end : Stand) → IsTranscript (own ++ seam) rules o log end → seam ≡ text_at rules (size_of o) end
 closes own seam lines seamed rules o log end is =
     let first = seam_first seam seamed in
@@ -121,7 +121,7 @@ seam_transcript own seam lines seamed rules o log end is = record {
   passes = refl;
 }
 
--- What the second begins with goes on where the first ends.
+-- The run that the second begins with goes on at the end of the first.
 pub record Joined (own seam behind : List ℕ) (rules r : RuleSet) (o : Opening) (log also : List Part) (last : Stand) (left : List ℕ) (f : Follows (seam ++ behind) r also last left) : Type 0 where
   pub rules_are : r ≡ rules
   pub size_is : size_of f.opening ≡ size_of o

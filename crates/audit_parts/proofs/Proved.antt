@@ -21,7 +21,7 @@ use Rattle.audit_parts.proofs.Reopened.{others_told}
 
 -- ---- the texts of two that meet
 
--- what holds of the joined text, said of its three parts
+-- what holds of the joined text, for its three parts
 whole_of : (first second : List ℕ) (m : Meets first second) (P : List ℕ → Type 0) → P (m.own ++ (m.seam ++ m.behind)) → P (m.own ++ second)
 whole_of first second m P p = subst (λ (l : List ℕ). P (m.own ++ l)) (sym m.begins) p
 
@@ -53,7 +53,7 @@ judged_both first second m (Ok c) (Err Memory) x y = tt
 judged_both first second m (Err (Damaged d)) w x y = first_damage_stays first second m d x
 judged_both first second m (Err Memory) w x y = tt
 
--- the lines before the seam are counted only where they matter
+-- the lines before the seam count only if they matter
 pub joined_judged : (v w : Verdict) (lines : ℕ) (found : Option Verdict) → IfSome found (λ all. all ≡ joined v lines w) → (first second : List ℕ) (m : Meets first second) → AreLinesBefore lines m.own v w → IsJudged first v → IsJudged second w → IfSome found (IsJudged (m.own ++ second))
 joined_judged v w lines None is first second m before x y = tt
 joined_judged v w lines (Some all) is first second m before x y =

@@ -1,4 +1,4 @@
--- A run may begin again at the base of where it stands; and a base in a text is a seam.
+-- A run may begin again at the base of its state; and a base in a text is a seam.
 use Rattle.std.proofs.Common.{◌≡◌, ℕ, ◌+◌, ◌*◌, ◌≤◌, List, [], ◌∷◌, ◌++◌, length, refl, sym, ap, subst, ◌∙◌, append_assoc, append-nil, arith}
 use Rattle.std.specs.List.{AllByRecursion}
 use Rattle.std.specs.FinMap as finmap
@@ -55,7 +55,7 @@ light : (rules : RuleSet) (spent charge edges nodes : ℕ) → spent + charge �
 light Hh spent charge edges nodes within = omega (arith, within)
 light Manne spent charge edges nodes within = omega (arith, within)
 
--- where a run has come to, one may begin
+-- a run may begin at any state that a run has reached
 pub reopens : (rules : RuleSet) (o : Opening) (start end : Stand) (log : List Part) → Opens rules o start → Passes (table_of rules) start log end → end.count ≤ max_entries → Opens rules (Based (size_of o) (base_of end.count end.moment)) end
 reopens rules o start end log opens passes few =
     let t = table_of rules in
@@ -141,7 +141,7 @@ seam_is rules size base few shaped seam is m k e =
     ∙ ap (λ (l : List ℕ). is.head ++ 10 ∷ (is.numbers ++ 10 ∷ l)) rest
     ∙ sym is.is
 
--- and the same stands behind both
+-- and the same follows both
 pub seam_behind : (rules : RuleSet) (size : ℕ) (base : Base) → size ≤ 65535 → IsShaped base → (seam : List ℕ) → IsSeam seam → (m k : List ℕ) → base_text rules size base ++ m ≡ seam ++ k → m ≡ k
 seam_behind rules size base few shaped seam is m k e =
     append_cancel_left seam m k (ap (λ (l : List ℕ). l ++ m) (sym (seam_is rules size base few shaped seam is m k e)) ∙ e)

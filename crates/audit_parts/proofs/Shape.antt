@@ -1,4 +1,4 @@
--- The base of where a run stands is one that a transcript may begin with.
+-- A transcript may begin with the base of any state that a run has reached.
 use Rattle.std.proofs.Common.{◌≡◌, ℕ, zero, suc, ◌+◌, ◌*◌, ◌<◌, ◌≤◌, Bool, true, false, cond, not, T, List, [], ◌∷◌, filter, length, map, Option, None, Some, IfSome, IsTrue, nat_eq, nat_le, refl, sym, subst, ◌∙◌, ◌-◌, inl, inr, arith}
 use Rattle.std.specs.List.{AllByRecursion, range_with_len}
 use Rattle.std.specs.FinMap as finmap

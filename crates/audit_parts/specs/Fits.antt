@@ -1,4 +1,4 @@
--- Which verdicts the program's numbers hold, and what a joined one says of the text.
+-- The verdicts that the program's numbers can hold, and the line count that a join needs.
 use Rattle.std.specs.Prelude.{◌≡◌, ℕ, ◌<◌, ◌^◌, List, Ok, Err}
 use Rattle.auditor.specs.declared.damage.Damage.{Damage}
 use Rattle.auditor.specs.declared.damage.Damage.TheVariants.{BadHeader, NotALine, OutOfOrder, NotTheMachines, BadBase}
@@ -13,13 +13,13 @@ line_of (OutOfOrder line) = line
 line_of (NotTheMachines line) = line
 line_of (BadBase line) = line
 
--- each number has room in its field
+-- each number fits its field
 abbrev pub Fits : Verdict → Type 0
 Fits (Ok c) = (c.entries < 2 ^ 32) × (c.epochs < 2 ^ 32) × (c.moves < 2 ^ 64)
 Fits (Err (Damaged d)) = line_of d < 2 ^ 64
 Fits (Err Memory) = Unit {0}
 
--- so many lines stand before the seam; that matters only if a damage is found behind it
+-- `lines` is the number of lines before the seam; this matters only if a damage is found after it
 abbrev pub AreLinesBefore : ℕ → List ℕ → Verdict → Verdict → Type 0
 AreLinesBefore lines own (Ok c) (Err (Damaged d)) = lines ≡ line_feeds own
 AreLinesBefore lines own first second = Unit {0}

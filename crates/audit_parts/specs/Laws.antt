@@ -1,4 +1,4 @@
--- What is claimed of texts that meet at a base. The functions of src/law.rt have these as their contracts.
+-- The laws of texts that meet at a base; the functions of src/law.rt have them as contracts.
 use Rattle.std.specs.Prelude.{◌≡◌, ℕ, ◌≤◌, List, [], ◌∷◌, ◌++◌}
 use Rattle.std.specs.List.{AllByRecursion}
 use Rattle.rule_machine.specs.declared.base.Base.{Base}
@@ -14,7 +14,7 @@ use Rattle.audit_parts.specs.Seams.{IsSeam, Meets, Verdict, counted_both, furthe
 
 -- ---- two texts that meet
 
--- If both are accepted, so is the joined text: entries and moves add, and epochs less one.
+-- If both are accepted, so is the joined text: entries and moves add up, and so do epochs, less one.
 abbrev pub JoinedIsAccepted : Type 0
 JoinedIsAccepted =
     (first second : List ℕ) (m : Meets first second) (c d : Summary) → IsAccepted first c → IsAccepted second d → IsAccepted (m.own ++ second) (counted_both c d)
@@ -31,14 +31,15 @@ PartsAreAccepted = (first second : List ℕ) (m : Meets first second) → IsFine
 abbrev pub FirstDamageStays : Type 0
 FirstDamageStays = (first second : List ℕ) (m : Meets first second) (d : Damage) → IsDamage first d → IsDamage (m.own ++ second) d
 
--- If the first is accepted, the damage of the second is that of the joined text, as many lines further on as the first has before the seam.
+-- If the first is accepted, the damage of the second, moved on by the first's lines before the seam, is that
+-- of the joined text.
 abbrev pub SecondDamageMoves : Type 0
 SecondDamageMoves =
     (first second : List ℕ) (m : Meets first second) (c : Summary) (d : Damage) → IsAccepted first c → IsDamage second d → IsDamage (m.own ++ second) (further (line_feeds m.own) d)
 
 -- ---- any number of texts, each of which meets the next
 
--- the whole, in which each seam stands once
+-- the whole text, which contains each seam once
 abbrev pub AreParts : List ℕ → List (List ℕ) → List ℕ → Type 0
 AreParts first [] whole = whole ≡ first
 AreParts first (next ∷ others) whole = (m : Meets first next) × (rest : List ℕ) × AreParts next others rest × (whole ≡ m.own ++ rest)
@@ -48,14 +49,14 @@ abbrev pub AllPartsAreAccepted : Type 0
 AllPartsAreAccepted =
     (first : List ℕ) (others : List (List ℕ)) (whole : List ℕ) → AreParts first others whole → IsFine whole → IsFine first × AllByRecursion IsFine others
 
--- the whole with its verdict: that of the first part, joined with that of all behind it
+-- the whole and its verdict: that of the first part, joined with that of all later parts
 abbrev pub HasVerdict : List ℕ → Verdict → List (List ℕ × Verdict) → List ℕ → Verdict → Type 0
 HasVerdict first v [] whole all = (whole ≡ first) × (all ≡ v)
 HasVerdict first v (next ∷ others) whole all =
     (m : Meets first next.0) × (rest : List ℕ) × (sum : Verdict) × HasVerdict next.0 next.1 others rest sum × (whole ≡ m.own ++ rest) × (all ≡ joined v (line_feeds m.own) sum)
 
--- The verdicts of all parts, joined, are the verdict of the whole: accepted with the sums, or the first damage of the first part that has
--- one, so many lines further on.
+-- The joined verdicts of all parts are the verdict of the whole: accepted with the sums, or the first damage
+-- of the first damaged part, moved on by the lines before that part.
 abbrev pub PartsAreJudged : Type 0
 PartsAreJudged =
     (first : List ℕ) (v : Verdict) (others : List (List ℕ × Verdict)) (whole : List ℕ) (all : Verdict) → HasVerdict first v others whole all → IsJudged first v → AllByRecursion (λ part. IsJudged part.0 part.1) others → IsJudged whole all

@@ -1,4 +1,4 @@
--- Texts that meet at a base: the first ends with its lines, the second begins with them.
+-- Texts that meet at a base: its lines end the first and begin the second.
 use Rattle.std.specs.Prelude.{◌≡◌, ℕ, ◌+◌, ◌-◌, List, [], ◌∷◌, ◌++◌, Result, Ok, Err}
 use Rattle.byte_streams.specs.Lines.{IsLine}
 use Rattle.line_text.specs.BaseText.{base_counts}
@@ -16,8 +16,9 @@ EndsLine [] = Unit {0}
 EndsLine (b ∷ []) = b ≡ 10
 EndsLine (b ∷ c ∷ bytes) = EndsLine (c ∷ bytes)
 
--- A text that is as long as it tells: the head of a base, a second line, and whole lines behind it. If the second line has the numbers of
--- a base, there are as many lines as it tells nodes and edges, whatever these lines say.
+-- A text whose length follows from its beginning: a base's head, a second line, and whole lines after it. If
+-- the second line has the numbers of a base, there are as many more lines as it counts nodes and edges,
+-- whatever they contain.
 pub record IsSeam (text : List ℕ) : Type 0 where
   pub head : List ℕ
   pub numbers : List ℕ
@@ -29,7 +30,8 @@ pub record IsSeam (text : List ℕ) : Type 0 where
   pub whole : EndsLine rest
   pub told : (number spent nodes edges : ℕ) → AreCounts (number, spent, nodes, edges) → numbers ≡ base_counts number spent nodes edges → line_feeds rest ≡ nodes + edges
 
--- The first text ends with a seam with which the second begins. Joined, the seam stands once: the first text's own lines, and the second.
+-- The first text ends with a seam, and the second begins with it. The joined text has it once: the first's
+-- own lines, then the second.
 pub record Meets (first second : List ℕ) : Type 0 where
   pub own : List ℕ
   pub seam : List ℕ
@@ -44,11 +46,11 @@ pub record Meets (first second : List ℕ) : Type 0 where
 abbrev pub Verdict : Type 0
 Verdict = Result Summary JudgeFault
 
--- the counts of both: the second begins within the last epoch of the first
+-- the counts of both: the second begins in the last epoch of the first
 abbrev pub counted_both : Summary → Summary → Summary
 counted_both c d = record { entries = c.entries + d.entries; epochs = c.epochs + d.epochs - 1; moves = c.moves + d.moves }
 
--- the damage, so many lines further on
+-- the damage moved on by these lines
 abbrev pub further : ℕ → Damage → Damage
 further lines BadHeader = BadHeader
 further lines (NotALine line) = NotALine (lines + line)
@@ -56,7 +58,7 @@ further lines (OutOfOrder line) = OutOfOrder (lines + line)
 further lines (NotTheMachines line) = NotTheMachines (lines + line)
 further lines (BadBase line) = BadBase (lines + line)
 
--- the verdict of a text and of one that it meets behind so many lines, as one
+-- the verdict of two texts as one, if the first has this many lines before the seam
 abbrev pub joined : Verdict → ℕ → Verdict → Verdict
 joined (Err fault) lines second = Err fault
 joined (Ok c) lines (Ok d) = Ok (counted_both c d)

@@ -2,28 +2,32 @@
 
 ghost use Rattle.audit_parts.specs.Laws.{AllPartsAreAccepted, BasesAreSeams, FirstDamageStays, JoinedIsAccepted, PartsAreAccepted, PartsAreJudged, SecondDamageMoves};
 
-/// Two texts that meet at a base are both accepted exactly if the joined text is. Its entries and moves are the sums; its epochs are the
-/// sum less one, since the second text begins within the last epoch of the first.
+/// Two texts that meet at a base are both accepted exactly if the joined text is.
+///
+/// Its entries and moves are the sums. Its epochs are the sum less one: the second text begins in the last
+/// epoch of the first.
 pub fn accepted_in_two()
     ensures joined { JoinedIsAccepted }
     ensures parts { PartsAreAccepted }
 {}
 
-/// If the first text is damaged, this is the damage of the joined text. If it is accepted and the second is damaged, the joined text has
-/// that damage, as many lines further on as the first text has before the base.
+/// The damage of a joined text is that of the first damaged part.
+///
+/// If that is the second, its line moves on by the number of lines that the first has before the base.
 pub fn damaged_in_two()
     ensures first { FirstDamageStays }
     ensures second { SecondDamageMoves }
 {}
 
-/// The same of any number of texts, each of which meets the next: all are accepted exactly if the whole is, and the verdicts, joined in
-/// their order, are the verdict of the whole.
+/// Any number of texts, each meeting the next, are all accepted exactly if the whole is.
+///
+/// Their verdicts, joined in order, are the verdict of the whole.
 pub fn judged_in_parts()
     ensures judged { PartsAreJudged }
     ensures accepted { AllPartsAreAccepted }
 {}
 
-/// The text of each base is one at which texts can meet.
+/// Texts can meet at the text of any base.
 pub fn bases_are_seams()
     ensures { BasesAreSeams }
 {}

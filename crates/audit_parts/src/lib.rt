@@ -1,9 +1,10 @@
 //! Audits in parts: the verdict of a transcript from those of its parts.
 //!
-//! A transcript can be cut where a base stands: each part ends with the base with which the next begins. Its parts are accepted exactly if
-//! the whole is; their entries and moves add, and so do their epochs, less one at each seam. If some are damaged, the first damage of the
-//! whole is that of the first such part, as many lines further on as stand before that part. These are laws; `join` makes one verdict of
-//! two by them, and in their order one of any number. It sees no text: that texts meet, as `specs/Seams` says, its caller has to know.
+//! A transcript can be cut at any base: each part ends with the base that begins the next. The parts are
+//! accepted exactly if the whole is. Entries and moves add up; so do epochs, less one at each seam. If parts
+//! are damaged, the damage of the whole is that of the first such part, moved on by the number of lines
+//! before that part. These are laws; `join` uses them to make one verdict of two, and, used in order, one of
+//! any number. It sees no text: the caller ensures that the texts meet (`specs/Seams`).
 //!
 //! ```rust
 //! let first = audit_bytes(alloc, &text[..end]);      // up to the end of a base

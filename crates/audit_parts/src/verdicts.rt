@@ -1,4 +1,4 @@
-//! The verdict of two texts that meet, from the verdict of each.
+//! Joining the verdicts of two texts that meet.
 
 ghost use Rattle.std.specs.Prelude.{◌≡◌, ◌++◌, ℕ, List, IfSome, IsNone, Ok, Err};
 ghost use Rattle.auditor.specs.declared.damage.JudgeFault.TheVariants.{Damaged};
@@ -8,7 +8,7 @@ ghost use Rattle.audit_parts.specs.Fits.{AreLinesBefore, Fits};
 
 use auditor::{Damage, JudgeFault, Summary};
 
-// The counts of both, if each fits its field.
+// The sums of both, if each fits its field.
 fn count_both(first: Summary, second: Summary) -> Option<Summary>
     ensures both { IfSome result (λ both. both ≡ counted_both first second) }
     ensures fits { IsNone result → Fits (Ok (counted_both first second)) → ⊥ }
@@ -21,7 +21,7 @@ fn count_both(first: Summary, second: Summary) -> Option<Summary>
     })
 }
 
-// The damage so many lines further on, if its line fits.
+// The damage moved on by `lines` lines, if its line fits.
 fn move_on(lines: u64, damage: Damage) -> Option<Damage>
     ensures moved { IfSome result (λ moved. moved ≡ further lines damage) }
     ensures fits { IsNone result → Fits (Err (Damaged (further lines damage))) → ⊥ }
@@ -43,7 +43,6 @@ fn move_on(lines: u64, damage: Damage) -> Option<Damage>
     }
 }
 
-// The verdict of both, if each of its numbers fits its field.
 fn join_numbers(
     first: Result<Summary, JudgeFault>,
     lines: u64,
@@ -63,10 +62,13 @@ fn join_numbers(
     }
 }
 
-/// The verdict of two texts as one, from the verdict of each: the first ends with the base with which the second begins.
-/// `lines` counts the lines of the first text before that base; it is used only if the first is accepted and the second damaged.
-/// An `Err` of the first is the answer; else one of the second, a damage as many lines further on; else the sums.
-/// `None` if a number of the answer does not fit its field. Takes no memory.
+/// The verdict of two texts as one: the first ends with the base that begins the second.
+///
+/// `lines` is the number of lines of the first text before that base. It is used only if the first is
+/// accepted and the second is damaged.
+///
+/// The result is the first text's `Err`; else the second's, its damage moved on by `lines`; else the sums.
+/// `None` if a number of the result does not fit its field. Takes no memory.
 pub fn join(
     first: Result<Summary, JudgeFault>,
     lines: u64,

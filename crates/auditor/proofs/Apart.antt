@@ -16,7 +16,7 @@ use Rattle.auditor.proofs.Openings.{parts_behind}
 use Rattle.auditor.proofs.Ending.{Split, Ended, FailsFirst, FailsBehind, base_fails, begun, chain_behind, chain_same, ended_once, fails_some, failure_ends, first_good, followed, no_damage, run_once, split_at, split_of, stops_same, transcript_ends, whole}
 use Rattle.auditor.proofs.Level.{over}
 
--- no transcript goes on behind where the text ends
+-- no transcript goes beyond the end of the text
 not_beyond : (bytes : List ℕ) (r : RuleSet) (log : List Part) (end : Stand) (rest : List ℕ) (b : Split) → Follows bytes r log end rest → Ended bytes b → b.end.count < end.count → ⊥
 not_beyond bytes r log end rest b f e less =
     let g = followed bytes b e in
@@ -35,7 +35,7 @@ apart bytes (Some k) r log end rest b f ends e some before = not_beyond bytes r 
 
 -- ---- a damage that is met
 
--- it stands at the start, or behind fewer entries than were asked for
+-- it is at the start, or after fewer entries than were asked for
 pub record MetBehind (bytes : List ℕ) (stop : Option ℕ) (d : Damage) : Type 0 where
   pub behind : FailsBehind bytes d
   pub before : IsBefore stop behind.at.end.count
@@ -81,7 +81,7 @@ few_no_damage bytes stop asked entries d x damage = no_damage bytes x.rules x.op
 
 -- ---- forgotten
 
--- the run of a text goes on behind the base that it begins with
+-- the run of a text goes on after the base that it begins with
 forgotten_below : (bytes : List ℕ) (stop : Option ℕ) (asked base : ℕ) (rules : RuleSet) (log : List Part) (end : Stand) (rest : List ℕ) → HasForgotten bytes stop asked base → Follows bytes rules log end rest → asked < end.count
 forgotten_below bytes stop asked base rules log end rest x f =
     let same = begun bytes x.rules rules [] log x.end end x.rest rest x.follows f in

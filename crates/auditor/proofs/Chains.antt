@@ -1,4 +1,4 @@
--- From a stand the parts that come are determined by the text.
+-- The parts that follow are determined by the text.
 use Rattle.std.proofs.Common.{◌≡◌, ◌≢◌, ℕ, ◌+◌, ◌<◌, ◌≤◌, List, [], ◌∷◌, ◌++◌, length, refl, sym, ap, subst, ◌∙◌, append_assoc, length-append, arith}
 use Rattle.std.specs.Prelude.{codes}
 use Rattle.std.specs.List.{AllByRecursion}
@@ -74,7 +74,7 @@ told_spells rules size at rest entry next behind x =
 pub told_is : (rules : RuleSet) (size : ℕ) (at : Stand) (rest : List ℕ) (entry : Entry) (next : Stand) (behind : List ℕ) → Comes rules size at rest (Told entry) next behind → rest ≡ entry_text (at.count + 1) entry.0 entry.1 ++ 10 ∷ behind
 told_is rules size at rest entry next behind x = x.is ∙ entry_line_is (at.count + 1) entry behind
 
--- where a base comes, no entry does
+-- if a base comes, no entry does
 told_not_kept : (rules : RuleSet) (size : ℕ) (at : Stand) (rest : List ℕ) (entry : Entry) (base : Base) (next following : Stand) (behind after : List ℕ) → Comes rules size at rest (Told entry) next behind → Comes rules size at rest (Kept base) following after → ⊥
 told_not_kept rules size at rest entry base next following behind after x y =
     let spells = told_spells rules size at rest entry next behind x in
@@ -115,7 +115,7 @@ kept_once rules size at rest a b next following behind after x y =
       rests = append_cancel_left (base_text rules size b) behind after (ap (λ (z : Base). base_text rules size z ++ behind) (sym same) ∙ sym x.is ∙ y.is);
     }
 
--- one part comes, it leads to one stand, and one rest follows
+-- one part comes, it leads to one state, and one rest follows
 pub comes_once : (rules : RuleSet) (size : ℕ) (at : Stand) (rest : List ℕ) (p q : Part) (next following : Stand) (behind after : List ℕ) → Comes rules size at rest p next behind → Comes rules size at rest q following after → SameStep p q next following behind after
 comes_once rules size at rest (Told e) (Told f) next following behind after x y = told_once rules size at rest e f next following behind after x y
 comes_once rules size at rest (Told e) (Kept b) next following behind after x y = absurd (told_not_kept rules size at rest e b next following behind after x y)
@@ -128,7 +128,7 @@ part_some rules size count (Told entry) =
     let l = length-append (entry_text (count + 1) entry.0 entry.1) (10 ∷ []) in omega (arith, l)
 part_some rules size count (Kept base) = omega arith
 
--- so less is left behind it
+-- so less is left after it
 pub comes_shorter : (rules : RuleSet) (size : ℕ) (at : Stand) (rest : List ℕ) (part : Part) (next : Stand) (behind : List ℕ) → Comes rules size at rest part next behind → length behind < length rest
 comes_shorter rules size at rest part next behind comes =
     let l = ap length comes.is ∙ length-append (part_text rules size at.count part) behind in
@@ -179,7 +179,7 @@ stops_here : (rules : RuleSet) (size : ℕ) (at end : Stand) (rest left : List �
 stops_here rules size at end rest left is same stops =
     subst (λ (z : List ℕ). Stops rules size at z) (sym same) (subst (λ (x : Stand). Stops rules size x left) is stops)
 
--- a chain from the same stand over the same text
+-- a chain from the same beginning over the same text
 chain_from : (rules : RuleSet) (size : ℕ) (next following : Stand) (log : List Part) (end : Stand) (behind after left : List ℕ) → next ≡ following → behind ≡ after → Chain rules size next log end behind left → Chain rules size following log end after left
 chain_from rules size next following log end behind after left stands rests chain =
     subst (λ (z : List ℕ). Chain rules size following log end z left) rests (subst (λ (x : Stand). Chain rules size x log end behind left) stands chain)
@@ -202,7 +202,7 @@ chain_meet rules size at (p ∷ log) (q ∷ also) end last text rest left (next,
     let more = chain_meet rules size following log also end last after rest left (chain_from rules size next following log end behind after rest one.stands one.rests chain) other stops halts in
     record { logs = ap (λ (x : Part). x ∷ log) one.parts ∙ ap (λ (l : List Part). q ∷ l) more.logs; ends = more.ends; rests = more.rests }
 
--- none goes on behind one that stops
+-- none goes beyond one that stops
 pub chain_beyond : (rules : RuleSet) (size : ℕ) (at : Stand) (log also : List Part) (end last : Stand) (text rest left : List ℕ) → Chain rules size at log end text rest → Chain rules size at also last text left → Stops rules size last left → last.count < end.count → ⊥
 chain_beyond rules size at [] also end last text rest left x y halts less =
     let rises = chain_rise rules size at also last text left y in
@@ -214,7 +214,7 @@ chain_beyond rules size at (p ∷ log) (q ∷ also) end last text rest left (nex
     let one = comes_once rules size at text p q next following behind after comes came in
     chain_beyond rules size following log also end last after rest left (chain_from rules size next following log end behind after rest one.stands one.rests chain) other halts less
 
--- with no entry more a chain stays where it began
+-- without another entry a chain stays at its beginning
 chain_flat : (rules : RuleSet) (size : ℕ) (at : Stand) (log : List Part) (end : Stand) (rest left : List ℕ) → Chain rules size at log end rest left → end.count ≡ at.count → end ≡ at
 chain_flat rules size at [] end rest left x same = x.0
 chain_flat rules size at (Told entry ∷ log) end rest left (next, behind, comes, chain) same =
@@ -226,7 +226,7 @@ chain_flat rules size at (Kept base ∷ log) end rest left (next, behind, comes,
     let count = ap (λ (z : Stand). z.count) stays in
     chain_flat rules size next log end behind left chain (omega (arith, same, count)) ∙ stays
 
--- two chains of as many entries over one text end at one stand
+-- two chains of as many entries over one text have one end
 pub chain_level : (rules : RuleSet) (size : ℕ) (at : Stand) (log also : List Part) (end last : Stand) (text rest left : List ℕ) → Chain rules size at log end text rest → Chain rules size at also last text left → end.count ≡ last.count → end ≡ last
 chain_level rules size at [] also end last text rest left x y same =
     let count = ap (λ (z : Stand). z.count) x.0 in

@@ -3,7 +3,7 @@ use Rattle.std.proofs.Common.{◌≡◌, ◌≢◌, ℕ, ◌+◌, ◌<◌, ◌�
 use Rattle.std.proofs.lemmas.List.{take-append-drop, drop_more}
 use Rattle.auditor.specs.Damage.{Parting, line_feeds}
 
--- one more where the byte is a line feed
+-- one more if the byte is a line feed
 abbrev pub feed : ℕ → ℕ
 feed b = if b == 10 then 1 else 0
 

@@ -62,7 +62,7 @@ pub record Split : Type 0 where
   pub end : Stand
   pub rest : List ℕ
 
--- no part comes behind it
+-- no part follows it
 pub record Ended (bytes : List ℕ) (at : Split) : Type 0 where
   pub transcript : IsTranscript at.good at.rules at.opening at.log at.end
   pub splits : bytes ≡ at.good ++ at.rest
@@ -110,7 +110,7 @@ transcript_ends bytes rules opening log end is = record {
   stops = nothing_stops rules (size_of opening) end;
 }
 
--- what fails behind a transcript
+-- what fails after a transcript
 abbrev pub Fails : Split → Damage → Type 0
 Fails at BadHeader = ⊥
 Fails at (NotALine line) = IsLineBehind line at.good × (BeginsBase at.rest → ⊥) × HasNoEntry at.rest (first_line at.rest)
@@ -128,7 +128,7 @@ FailsFirst bytes (OutOfOrder line) = ⊥
 FailsFirst bytes (NotTheMachines line) = ⊥
 FailsFirst bytes (BadBase line) = HasBadStart bytes line
 
--- behind a transcript something fails
+-- after a transcript something fails
 pub record FailsBehind (bytes : List ℕ) (d : Damage) : Type 0 where
   pub at : Beginning bytes
   pub fails : Fails (split_of bytes at) d
@@ -171,7 +171,7 @@ comes_other rest number entry x =
     let is : rest ≡ entry_text number entry.0 entry.1 ++ 10 ∷ x.more = first_line-splits rest x.line x.more x.is ∙ ap (λ (l : List ℕ). l ++ 10 ∷ x.more) x.spells.is in
     subst BeginsOther (sym is) (entry_other number entry (10 ∷ x.more) x.spells.numbered.1)
 
--- where a base begins, no entry comes
+-- if a base begins, no entry comes
 pub comes_no_base : (rest : List ℕ) (number : ℕ) (entry : Entry) → EntryComes rest number entry → BeginsBase rest → ⊥
 comes_no_base rest number entry x begins = other_no_base rest _ (comes_other rest number entry x) begins.1
 
@@ -221,7 +221,7 @@ fails_stops at (BadBase line) (begins, (parting, line_is)) = stops
         parting_begins (base_text at.rules (size_of at.opening) (base_of at.end.count at.end.moment)) at.rest behind parting
         (kept.is ∙ ap (λ (b : Base). base_text at.rules (size_of at.opening) b ++ behind) kept.steps.0)
 
--- something is left where something fails
+-- if something fails, something is left
 pub some_rest : (rest : List ℕ) → HasNoEntry rest (first_line rest) → rest ≢ []
 some_rest rest none e = (subst (λ (l : List ℕ). HasNoEntry l (first_line l)) e none) refl
 
@@ -333,7 +333,7 @@ run_once bytes r q o p log also end last x y =
 abbrev summary : ℕ → ℕ → ℕ → Summary
 summary entries epochs moves = record { entries = entries; epochs = epochs; moves = moves }
 
--- what was counted is what stands in the log
+-- the counts are those of the log
 abbrev summary_of : List Entry → Summary
 summary_of log = record { entries = length log; epochs = epoch_count log; moves = move_count log }
 

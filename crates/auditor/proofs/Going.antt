@@ -30,7 +30,7 @@ behind_judged bytes count Memory met = tt
 
 -- ---- where a replay is
 
--- all that it has counted stands in the bytes
+-- all that it has counted is in the bytes
 pub at_few : (bytes : List ℕ) (replay : Replay) (rest : List ℕ) → IsAt bytes replay rest → replay.lines + length rest ≤ length bytes
 at_few bytes replay rest at =
     let follows = at.reached.follows in
@@ -71,7 +71,7 @@ begun_at text replay rest b =
     let o = b.opened in
     record { reached = opened_reached text replay.rules replay.size replay.audit rest o.start o.follows o.size_is o.opening; counted = b.counted }
 
--- nothing is wanted yet
+-- no base's text is there yet
 pub compared_none : (replay : Replay) (rest : List ℕ) → replay.wanted.items ≡ [] → replay.same ≡ 0 → IsCompared replay rest
 compared_none replay rest unwanted none = ∣ record { text = inl unwanted; alike = same_none replay.wanted.items rest replay.same none } ∣₁
 

@@ -22,12 +22,12 @@ use Rattle.auditor.proofs.Ending.{Split, Ended, begun, chain_behind, chain_same,
 
 -- ---- the state after so many entries
 
--- with nothing behind it, a transcript has ended
+-- with nothing after it, a transcript has ended
 pub over : (bytes : List ℕ) (rules : RuleSet) (log : List Part) (end : Stand) (rest : List ℕ) (f : Follows bytes rules log end rest) → rest ≡ [] → Ended bytes (split_at bytes rules log end rest f)
 over bytes rules log end rest f none =
     ends_here bytes rules log end rest f (subst (λ (z : List ℕ). Stops rules (size_of f.opening) end z) (sym none) (nothing_stops rules (size_of f.opening) end))
 
--- two transcripts of as many entries at the beginning of one text end at one stand
+-- two transcripts of as many entries at the beginning of one text have one end
 same_place : (bytes : List ℕ) (r q : RuleSet) (log also : List Part) (end last : Stand) (rest left : List ℕ) → Follows bytes r log end rest → Follows bytes q also last left → end.count ≡ last.count → (r ≡ q) × (end ≡ last)
 same_place bytes r q log also end last rest left f g counts =
     let same = begun bytes r q log also end last rest left f g in
@@ -49,7 +49,7 @@ state_once bytes stop r q s u x y =
 
 -- ---- the epochs
 
--- where the machine is behind one entry
+-- the machine's state after one entry
 behind_once : (t : RuleTable) (start : Moment) (entry other : Entry) (next following : State) → entry ≡ other → Answers t start.state start.spent entry.0 entry.1 next → Answers t start.state start.spent other.0 other.1 following → next ≡ following
 behind_once t start entry other next following same answers answered =
     answers_once t start.state start.spent other.0 other.1 next following (subst (λ (x : Entry). Answers t start.state start.spent x.0 x.1 next) same answers) answered

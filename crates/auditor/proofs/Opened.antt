@@ -90,7 +90,7 @@ base_opened text rest behind rules size base s found p few cut is shaped number 
       opening = opening;
     }
 
--- the lines behind the first of a base are none's, or no run may begin there
+-- the lines after the first of a base are no base's, or no run may begin there
 bad_start : (text rest : List ℕ) (rules : RuleSet) (size line : ℕ) → size ≤ 65535 → first_line text ≡ Some (base_head rules size, rest) → BreaksOff rest line ⊎ BeginsNowhere rules size rest line → IsMetFirst text (Damaged (BadBase line))
 bad_start text rest rules size line few cut bad last = record {
   is = inl (record { rules = rules; size = size; rest = rest; few = few; first = cut; bad = bad });
@@ -105,7 +105,7 @@ pub broken : (text rest : List ℕ) (rules : RuleSet) (size number : ℕ) → si
 broken text rest rules size number few cut breaks =
     bad_start text rest rules size (number + 1) few cut (inl (record { number = number; breaks = breaks; line_is = refl }))
 
--- as many lines as that stand in so many bytes
+-- this many bytes have at most as many lines
 lines_few : (lines : List BaseLine) → length lines ≤ length (ended base_line_text lines)
 lines_few [] = omega arith
 lines_few (line ∷ lines) =

@@ -1,4 +1,4 @@
--- What a transcript begins with, and where its run begins, is determined by the text.
+-- The opening of a transcript, and the beginning of its run, are determined by the text.
 use Rattle.std.proofs.Common.{◌≡◌, ℕ, ◌+◌, ◌≤◌, ◌⊎◌, inl, inr, List, [], ◌∷◌, ◌++◌, Some, get_or, refl, sym, ap, ap₂, subst, ◌∙◌, append_assoc, arith}
 use Rattle.std.proofs.lemmas.Option.{same_Some}
 use Rattle.rule_machine.specs.declared.base.Base.{Base}
@@ -29,7 +29,7 @@ abbrev pub line_in : RuleSet → Opening → List ℕ
 line_in rules (Named size count) = header_text rules size count
 line_in rules (Based size base) = base_head rules size
 
--- what stands behind it
+-- what follows it
 abbrev pub behind_in : Opening → List ℕ → List ℕ
 behind_in (Named size count) more = more
 behind_in (Based size base) more = base_lines base ++ more
@@ -75,7 +75,7 @@ text_once r q (Based m a) (Based n b) x y f g line behind =
     let lines = base_once (base_lines a ++ x) a b x y f.shaped g.shaped refl behind in
     record { rules = head.0; openings = ap₂ (λ (z : ℕ) (base : Base). Based z base) head.1 lines.0; rests = lines.1 }
 
--- with the stand where its run begins
+-- with the beginning of its run
 pub record SameOpening (r q : RuleSet) (o u : Opening) (start begin : Stand) (x y : List ℕ) : Type 0 where
   pub rules : r ≡ q
   pub openings : o ≡ u

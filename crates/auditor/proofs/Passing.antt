@@ -1,4 +1,4 @@
--- An entry or a base that comes next, of which no more than what is there is known.
+-- The next entry or base, of which only some bytes may be known.
 use Rattle.std.proofs.Common.{◌≡◌, ◌≢◌, ℕ, ◌+◌, ◌<◌, ◌≤◌, ◌⊎◌, inl, inr, List, [], ◌∷◌, ◌++◌, Option, None, Some, Err, length, take, drop, refl, sym, ap, subst, ◌∙◌, append_assoc, append-nil, arith}
 use Rattle.std.proofs.Math.Logic.{∥∥₁_elim}
 use Rattle.std.proofs.Props.{props}
@@ -37,7 +37,7 @@ pub broken_more : (text rest more : List ℕ) (rules : RuleSet) (size number : �
 broken_more text rest more rules size number few cut breaks whole =
     broken (text ++ more) (rest ++ more) rules size number few (first_line-more text more (base_head rules size) rest cut) (breaks_more rest more number breaks whole)
 
--- a base at which no run begins
+-- a base from which no run begins
 pub nowhere_more : (text rest behind : List ℕ) (rules : RuleSet) (size : ℕ) (base : Base) → size ≤ 65535 → first_line text ≡ Some (base_head rules size, rest) → IsShaped base → rest ≡ base_lines base ++ behind → ((start : Stand) → Opens rules (Based size base) start → ⊥) → (more : List ℕ) → IsMetFirst (text ++ more) (Damaged (BadBase 2))
 nowhere_more text rest behind rules size base few cut shaped is none more =
     nowhere (text ++ more) (rest ++ more) (behind ++ more) rules size base few (first_line-more text more (base_head rules size) rest cut) shaped
@@ -73,7 +73,7 @@ unwanted replay rest other compared = ∥∥₁_elim compared (search props) (λ
     by (inl none) = none
     by (inr base) = absurd (other base.0)
 
--- a text that was made is that of where the replay is
+-- a text that was made is that of the replay's base
 pub wanted_is : (replay : Replay) (rest : List ℕ) → IsCompared replay rest → (replay.wanted.items ≡ [] → ⊥) → replay.wanted.items ≡ base_wanted replay
 wanted_is replay rest compared some = ∥∥₁_elim compared (search props) (λ c. by c.text)
   where
@@ -94,7 +94,7 @@ compared_alike replay rest compared = record {
   alike = ∥∥₁_elim compared (search props) (λ c. c.alike.alike);
 }
 
--- what the check of a line finds is the damage whatever comes behind it
+-- what the check of a line finds is the damage, whatever follows it
 pub entry_damaged : (old : Replay) (q : Position) (line rest behind : List ℕ) (found : JudgeFault) (at : ℕ) → at ≡ old.lines + 1 → (BeginsBase rest → ⊥) → first_line rest ≡ Some (line, behind) → LineJudged (table_of old.rules) line at old.audit q (Err found) → IsMetAt old rest found
 entry_damaged old q line rest behind found at is other cut judged bytes more here =
     damaged bytes line (behind ++ more) old.rules old.size old.audit q (rest ++ more) found at here.reached
@@ -124,7 +124,7 @@ wants_made old new rest begins w c = by w.before_it
     by (inl none) = same_none new.wanted.items rest new.same (w.same ∙ none_same old rest c none)
     by (inr same) = subst (λ (l : List ℕ). AreSameUpTo l rest new.same) same alike
 
--- it is still the text of the base of where the replay is
+-- it is still the text of the replay's base
 pub wanted_still : (old new : Replay) → Wants old new → new.wanted.items ≡ base_wanted new
 wanted_still old new w =
     w.text

@@ -1,4 +1,4 @@
--- The costs of a run's epochs, and what was left where it begins, pay for all moves.
+-- The costs of a run's epochs, and the charge left at its beginning, pay for all moves.
 use Rattle.std.proofs.Common.{◌≡◌, ℕ, ◌+◌, ◌≤◌, List, [], ◌∷◌, sum_by, None, refl, ap, ◌∙◌, arith}
 use Rattle.std.proofs.lemmas.List.Sums.{sum_by-append, sum_by-cons}
 use Rattle.rule_machine.specs.declared.event.Event.{Event}

@@ -133,7 +133,7 @@ entry_further rules size p q line rest behind cut good =
         ∙ ap (λ (n : ℕ). record { moment = record { state = s; spent = n }; count = at.count }) moves
         ∙ ap (λ (n : ℕ). record { moment = record { state = s; spent = spent }; count = n }) number
 
--- a base is that of where the run stands
+-- a base is that of the run's state
 pub base_further : (rules : RuleSet) (size : ℕ) (p : Position) (rest behind : List ℕ) (base : Base) → p.number ≤ 16777216 → base ≡ base_of p.number (stand_of p).moment → rest ≡ base_text rules size base ++ behind → IsFurther rules size p rest p behind
 base_further rules size p rest behind base few is splits = record {
   part = Kept base;
@@ -143,7 +143,7 @@ base_further rules size p rest behind base few is splits = record {
 
 -- ---- the end, and damage
 
--- where nothing is left, all of a text is the transcript that it begins with
+-- if nothing is left, all of a text is the transcript that it begins with
 pub all_good : (bytes : List ℕ) (rules : RuleSet) (log : List Part) (end : Stand) (rest : List ℕ) (f : Follows bytes rules log end rest) → rest ≡ [] → IsTranscript bytes rules f.opening log end
 all_good bytes rules log end rest f none =
     let same : bytes ≡ f.good = f.splits ∙ ap (λ (z : List ℕ). f.good ++ z) none ∙ append-nil f.good in
@@ -213,7 +213,7 @@ damaged bytes text behind rules size p q rest (Damaged BadHeader) line r line_is
 damaged bytes text behind rules size p q rest (Damaged (BadBase at)) line r line_is other cut judged = absurd judged
 damaged bytes text behind rules size p q rest Memory line r line_is other cut judged = tt
 
--- and a base that is not the one of where the run stands
+-- and a base that is not that of the run's state
 pub damaged_base : (bytes : List ℕ) (rules : RuleSet) (size : ℕ) (p : Position) (rest wanted : List ℕ) (base : Base) (line len : ℕ) → IsReached bytes rules size p rest → BeginsBase rest → base ≡ base_of p.number (stand_of p).moment → wanted ≡ base_text rules size base → PartAt wanted rest len → ((good : List ℕ) → bytes ≡ good ++ rest → IsLineBehind line (good ++ take len rest)) → IsMetBehind bytes p.number (Damaged (BadBase line))
 damaged_base bytes rules size p rest wanted base line len r begins is text parted line_is last before =
     let whole : wanted ≡ base_text rules (size_of r.follows.opening) (base_of p.number (stand_of p).moment) =

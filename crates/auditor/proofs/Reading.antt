@@ -60,7 +60,7 @@ somewhere_less more replay rest all is somewhere = ∥∥₁_map somewhere (λ s
     let l = ap length less.1 ∙ length-append less.0 more in
     record { bytes = less.0; few = omega (arith, l, s.few); at = less.2 })
 
--- where what is made of fewer bytes holds, more of them follow
+-- if what is made of fewer bytes holds, more of them may follow
 pub at_on : (bytes more : List ℕ) (old new : Replay) (rest all behind : List ℕ) → all ≡ rest ++ more → ((read : List ℕ) → IsAt read old rest → IsAt read new behind) → IsAt bytes old all → IsAt bytes new (behind ++ more)
 at_on bytes more old new rest all behind is on at =
     let less = at_less bytes more old rest all is at in
@@ -86,7 +86,7 @@ pub read_more : (read piece : List ℕ) (run : Option Replay) (held : List ℕ) 
 read_more read piece None held is = ap (λ (l : List ℕ). l ++ piece) is
 read_more read piece (Some run) held is = (at_more read piece run held is.0, compared_more run held piece is.1)
 
--- where something was judged
+-- if something was judged
 pub held_some : (read piece : List ℕ) (found : Option Replay) (run : Replay) (held new : List ℕ) → found ≡ Some run → new ≡ held ++ piece → IsReadOf read found held → IsAt (read ++ piece) run new × IsCompared run new
 held_some read piece found run held new is grown at =
     let more = read_more read piece (Some run) held (subst (λ (o : Option Replay). IsReadOf read o held) is at) in

@@ -50,7 +50,7 @@ reached_within bytes rules size p rest r =
     (run_within (table_of rules) (weight_of rules) (is_table rules) (is_charged rules) is.start.moment (opens_in_state rules r.follows.opening is.start is.opens)
     (opens_within rules r.follows.opening is.start is.opens) (entries_in r.log) (stand_of p).moment run)
 
--- it fits where the lists of a base are short
+-- it fits if the lists of a base are short
 pub spent_fits : (b : Base) (n spent : ℕ) (m : Moment) → b ≡ base_of n m → (length b.nodes ≤ 65535) × (length b.edges ≤ 1048576) → spent ≤ 2 * edge_count m.state.network + 3 * node_count m.state.network → spent < 4294967296
 spent_fits b n spent m is few bounded =
     let net = m.state.network in

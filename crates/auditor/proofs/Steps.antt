@@ -9,7 +9,7 @@ use Rattle.auditor.specs.Parts.{StepsTo, count_after, opening_text, part_text, p
 use Rattle.auditor.specs.Transcript.{Comes, IsPart}
 use Rattle.auditor.specs.Damage.{Follows}
 
--- the first part, and the others behind it
+-- the first part, and the later ones
 pub passes_first : (t : RuleTable) (at end : Stand) (part : Part) (log : List Part) → Passes t at (part ∷ log) end → (next : Stand) × StepsTo t at part next × Passes t next log end
 passes_first t at end (Told entry) log (s, answers, rest) = (_, (s, answers, refl), rest)
 passes_first t at end (Kept base) log (is, rest) = (at, (is, refl), rest)
@@ -62,7 +62,7 @@ pub parts_add : (log : List Part) (part : Part) → AllByRecursion IsPart log �
 parts_add [] part all is = (is, tt)
 parts_add (first ∷ log) part all is = (all.0, parts_add log part all.1 is)
 
--- one part further behind a transcript
+-- one part further after a transcript
 abbrev pub follows_more : (bytes rest behind : List ℕ) (rules : RuleSet) (log : List Part) (end next : Stand) (part : Part) (f : Follows bytes rules log end rest) → Comes rules (size_of f.opening) end rest part next behind → Follows bytes rules (log ++ part ∷ []) next behind
 follows_more bytes rest behind rules log end next part f comes =
     let is = f.transcript in

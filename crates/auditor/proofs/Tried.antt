@@ -6,7 +6,7 @@ use Rattle.auditor.specs.declared.judging.Trial.{Trial}
 use Rattle.auditor.specs.Replays.{IsRead, IsTried}
 use Rattle.auditor.specs.Verdict.{IsJudged}
 
--- nothing is wrong where nothing was found
+-- if no fault was found, there is none
 pub none_by : {X : Type 0} (found : Option X) → ((x : X) → found ≡ Some x → ⊥) → found ≡ None
 none_by None other = refl
 none_by (Some x) other = absurd (other x refl)

@@ -35,7 +35,7 @@ Stage = Entry × State
 abbrev pub entries : List Stage → List Entry
 entries path = map (λ step. step.0) path
 
--- where a path ends
+-- the end of a path
 abbrev pub path_end : Moment → List Stage → Moment
 path_end start [] = start
 path_end start (step ∷ path) = path_end (record { state = step.1; spent = spent_after start.spent step.0.1 }) path
@@ -63,7 +63,7 @@ pub path_more : (t : RuleTable) (start : Moment) (path : List Stage) (step : Sta
 path_more t start [] step is answers = (answers, tt)
 path_more t start (first ∷ path) step is answers = (is.0, path_more t (record { state = first.1; spent = spent_after start.spent first.0.1 }) path step is.1 answers)
 
--- what one more entry makes of the epochs
+-- the epochs after one more entry
 pub until_more : (number last : ℕ) (epoch : Epoch) (path : List Stage) (step : Stage) → last ≡ number + length path → (past : List Epoch) (next : Epoch)
     → past ≡ (epochs_until number epoch path).0 ++ (epochs_by step.0.1 last step.1 (epochs_until number epoch path).1).0 → next ≡ (epochs_by step.0.1 last step.1 (epochs_until number epoch path).1).1
     → (past ≡ (epochs_until number epoch (path ++ step ∷ [])).0) × (next ≡ (epochs_until number epoch (path ++ step ∷ [])).1)
@@ -103,7 +103,7 @@ row_next reply number s cost row = refl
 costs_last : (past : List CostedEpoch) (row : CostedEpoch) → costs_in (past ++ row ∷ []) ≡ costs_in past ++ row.cost ∷ []
 costs_last past row = map-append (λ (x : CostedEpoch). x.cost) past (row ∷ [])
 
--- where the last epoch goes on, nothing more was paid
+-- if the last epoch goes on, nothing more was paid
 costs_same : (past : List CostedEpoch) (row next : CostedEpoch) → next.cost ≡ row.cost → costs_in ((past ++ []) ++ next ∷ []) ≡ costs_in (past ++ row ∷ []) ++ []
 costs_same past row next same =
     ap (λ (l : List CostedEpoch). costs_in (l ++ next ∷ [])) (append-nil past)
@@ -121,8 +121,8 @@ rows_cost reply number s cost paid past row told = costs_same past row (rows_by 
 
 -- ---- along a run
 
--- The bytes begin with the transcript of a run that has led to the position, its entries lead through these states, these epochs of it
--- are over, and this one has begun.
+-- The bytes begin with a transcript that leads to the position; its entries lead through these states, these
+-- epochs of it are over, and this one has begun.
 pub record IsListed (bytes : List ℕ) (rules : RuleSet) (size : ℕ) (p : Position) (rest : List ℕ) (past : List CostedEpoch) (row : CostedEpoch) : Type 0 where
   pub reached : IsReached bytes rules size p rest
   pub path : List Stage
@@ -209,7 +209,7 @@ listed_kept bytes rules size p q rest behind past next row after base l comes co
       costs_are = ap₂ (λ (x : List CostedEpoch) (r : CostedEpoch). costs_in (x ++ r ∷ [])) same after_is ∙ l.costs_are;
     }
 
--- one part further, and what it makes of the epochs
+-- one part further, and the epochs after it
 pub listed_more : (bytes : List ℕ) (rules : RuleSet) (size : ℕ) (p q : Position) (rest behind : List ℕ) (past next : List CostedEpoch) (row after : CostedEpoch) (cost : Option ℕ) → IsListed bytes rules size p rest past row → IsFurther rules size p rest q behind → IsNextCost rules p.state rest cost
     → ((part : Part) → q.counted ≡ counted_part p.counted part → (next ≡ past ++ (rows_at part q.number q.state cost row).0) × (after ≡ (rows_at part q.number q.state cost row).1))
     → IsListed bytes rules size q behind next after

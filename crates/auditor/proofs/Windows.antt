@@ -1,4 +1,5 @@
--- What stays so whatever comes behind a text: its first line, the lines of a base in it, and how far it is the same as another.
+-- What holds whatever follows a text: its first line, a base's lines in it, and how far it agrees with
+-- another.
 use Rattle.std.proofs.Common.{◌≡◌, ℕ, ◌+◌, ◌<◌, ◌≤◌, ◌==◌, Bool, true, false, if◌then◌else◌, List, [], ◌∷◌, ◌++◌, Option, None, Some, length, take, drop, refl, sym, ap, subst, ◌∙◌, append_assoc, arith, eqb-true}
 use Rattle.std.specs.Prelude.{codes}
 use Rattle.std.specs.List.{AllByRecursion}
@@ -80,7 +81,7 @@ word = codes "matching2"
 pub begins_more : (rest more : List ℕ) → BeginsBase rest → BeginsBase (rest ++ more)
 begins_more rest more (m, is) = (m ++ more, ap (λ (l : List ℕ). l ++ more) is ∙ append_assoc word m more)
 
--- the first line tells it
+-- the first line shows it
 pub begins_less : (rest more line behind : List ℕ) → first_line rest ≡ Some (line, behind) → BeginsBase (rest ++ more) → BeginsBase rest
 begins_less rest more line behind cut (m, is) =
     let splits = first_line-splits rest line behind cut in
@@ -100,7 +101,7 @@ feeds_ended (line ∷ lines) fit =
     let rest = feeds_ended lines fit.1 in
     omega (arith, both, own, none, rest)
 
--- as many lines end as stand before the break, and those behind it
+-- as many lines end as come before the break, and those after it
 pub feeds_broken : (bytes : List ℕ) (k : ℕ) (b : BreaksAt bytes k) → line_feeds bytes + 1 ≡ k + line_feeds b.rest
 feeds_broken bytes k b =
     let both = ap line_feeds b.is ∙ feeds_append (ended base_line_text b.lines) b.rest in
@@ -125,7 +126,7 @@ broken_more bytes more line behind k b cut = record {
         let same : (line, behind ++ more) ≡ (text, m) = same_Some (line, behind ++ more) (text, m) (sym (first_line-more b.rest more line behind cut) ∙ ap first_line e ∙ first_line-ended text m (line_free found fits)) in
         b.stops found behind fits follows (first_line-splits b.rest line behind cut ∙ ap (λ (p : List ℕ × List ℕ). p.0 ++ 10 ∷ behind) same)
 
--- where the line is whole, they do so in a longer text too
+-- if the line is whole, they do so in a longer text too
 pub breaks_more : (bytes more : List ℕ) (k : ℕ) → BreaksAt bytes k → k ≤ line_feeds bytes → BreaksAt (bytes ++ more) k
 breaks_more bytes more k b whole = by (first_line b.rest) refl
   where
@@ -136,7 +137,7 @@ breaks_more bytes more k b whole = by (first_line b.rest) refl
         absurd (omega (arith, none, all, whole))
     by (Some (line, behind)) cut = broken_more bytes more line behind k b cut
 
--- and where it is not, it is the last
+-- if it is not, it is the last
 pub breaks_last : (bytes : List ℕ) (k : ℕ) → BreaksAt bytes k → line_feeds bytes < k → BreaksAt bytes (line_feeds bytes + 1)
 breaks_last bytes k b cut =
     let all = feeds_broken bytes k b in

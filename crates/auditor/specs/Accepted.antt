@@ -1,4 +1,4 @@
--- What an audit says of the bytes that it accepts, and how far it is while it reads them.
+-- The bytes that an audit accepts, and how far it has read them.
 use Rattle.std.specs.Prelude.{◌≡◌, ℕ, List, length}
 use Rattle.rule_machine.specs.declared.rules.RuleSet.{RuleSet}
 use Rattle.rule_machine.specs.Base.{Part, Stand, entries_in}
@@ -24,7 +24,7 @@ pub record IsAccepted (bytes : List ℕ) (c : Summary) : Type 0 where
   pub transcript : IsTranscript bytes rules opening log end
   pub counts : Counts c (entries_in log)
 
--- the bytes begin with the transcript of a run, for so many names, that has led to the position, and the rest follows
+-- the bytes begin with a transcript, for this many names, that leads to the position; the rest follows
 pub record IsReached (bytes : List ℕ) (rules : RuleSet) (size : ℕ) (p : Position) (rest : List ℕ) : Type 0 where
   pub log : List Part
   pub follows : Follows bytes rules log (stand_of p) rest

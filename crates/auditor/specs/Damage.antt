@@ -1,4 +1,4 @@
--- What is wrong with bytes that are no transcript: the first line that fails, and its first check that does.
+-- The damages of bytes that are no transcript: the first line that fails, and its first failed check.
 use Rattle.std.specs.Prelude.{◌≡◌, ◌≢◌, ℕ, ◌+◌, ◌⊎◌, ◌≤◌, List, [], ◌∷◌, ◌++◌, ◌==◌, Option, None, Some, codes, if◌then◌else◌}
 use Rattle.rule_machine.specs.declared.base.Base.{Base}
 use Rattle.rule_machine.specs.declared.rules.RuleSet.{RuleSet}
@@ -35,23 +35,23 @@ HasBadHeader (Some found) = SpellsNoHeader found.0 × SpellsNoHead found.0
 abbrev pub SpellsNoEntry : List ℕ → Type 0
 SpellsNoEntry line = (number : ℕ) (entry : Entry) → SpellsEntry line number entry → ⊥
 
--- something follows, and it is no whole line, or the line is no entry
+-- something follows that is no whole line, or the line is no entry
 abbrev pub HasNoEntry : List ℕ → Option (List ℕ × List ℕ) → Type 0
 HasNoEntry rest None = rest ≢ []
 HasNoEntry rest (Some found) = SpellsNoEntry found.0
 
--- a base comes, whatever becomes of it
+-- a base begins here, whatever follows
 abbrev pub BeginsBase : List ℕ → Type 0
 BeginsBase rest = (more : List ℕ) × (rest ≡ codes "matching2" ++ more)
 
--- The bytes begin with a transcript, behind which there is a rest.
+-- The bytes begin with a transcript, and the rest follows.
 pub record Follows (bytes : List ℕ) (rules : RuleSet) (log : List Part) (end : Stand) (rest : List ℕ) : Type 0 where
   pub opening : Opening
   pub good : List ℕ
   pub transcript : IsTranscript good rules opening log end
   pub splits : bytes ≡ good ++ rest
 
--- a transcript that the bytes begin with, and the rest behind it
+-- a transcript that the bytes begin with, and the rest after it
 pub record Beginning (bytes : List ℕ) : Type 0 where
   pub rules : RuleSet
   pub log : List Part
@@ -59,25 +59,25 @@ pub record Beginning (bytes : List ℕ) : Type 0 where
   pub rest : List ℕ
   pub follows : Follows bytes rules log end rest
 
--- the first line behind a transcript is the entry with this number
+-- the first line after a transcript is the entry with this number
 pub record EntryComes (rest : List ℕ) (number : ℕ) (entry : Entry) : Type 0 where
   pub line : List ℕ
   pub more : List ℕ
   pub is : first_line rest ≡ Some (line, more)
   pub spells : SpellsEntry line number entry
 
--- the line that begins behind these bytes
+-- the number of the line that begins after these bytes
 abbrev pub IsLineBehind : ℕ → List ℕ → Type 0
 IsLineBehind line good = line ≡ line_feeds good + 1
 
--- the first line behind a transcript is no entry, and no base begins there
+-- the first line after a transcript is no entry, and no base begins there
 pub record EndsInNoLine (bytes : List ℕ) (line : ℕ) : Type 0 where
   pub at : Beginning bytes
   pub line_is : IsLineBehind line at.follows.good
   pub other : BeginsBase at.rest → ⊥
   pub damage : HasNoEntry at.rest (first_line at.rest)
 
--- it is an entry with another number than the next
+-- it is an entry, but its number is not the next
 pub record EndsOutOfOrder (bytes : List ℕ) (line : ℕ) : Type 0 where
   pub at : Beginning bytes
   pub line_is : IsLineBehind line at.follows.good
@@ -86,7 +86,7 @@ pub record EndsOutOfOrder (bytes : List ℕ) (line : ℕ) : Type 0 where
   pub comes : EntryComes at.rest number entry
   pub damage : number ≢ at.end.count + 1
 
--- it is the next entry, and the machine may not give its reply
+-- it is the next entry, but the machine may not give its reply
 pub record EndsNotTheMachines (bytes : List ℕ) (line : ℕ) : Type 0 where
   pub at : Beginning bytes
   pub line_is : IsLineBehind line at.follows.good
@@ -94,7 +94,7 @@ pub record EndsNotTheMachines (bytes : List ℕ) (line : ℕ) : Type 0 where
   pub comes : EntryComes at.rest (at.end.count + 1) entry
   pub damage : (s : State) → Answers (table_of at.rules) at.end.moment.state at.end.moment.spent entry.0 entry.1 s → ⊥
 
--- how far two texts are the same, where the bytes do not begin with the text
+-- how far two texts agree, if the bytes do not begin with the text
 pub record Parting (text bytes : List ℕ) : Type 0 where
   pub common : List ℕ
   pub missing : List ℕ
@@ -104,20 +104,20 @@ pub record Parting (text bytes : List ℕ) : Type 0 where
   pub some : missing ≢ []
   pub apart : (b : ℕ) (x y : List ℕ) → missing ≡ b ∷ x → more ≡ b ∷ y → ⊥
 
--- behind a transcript a base comes, which is not that of where it stands: the line is the first that differs
+-- after a transcript comes a base that is not that of the state reached: the line is the first that differs
 pub record EndsInBadBase (bytes : List ℕ) (line : ℕ) : Type 0 where
   pub at : Beginning bytes
   pub begins : BeginsBase at.rest
   pub parting : Parting (base_text at.rules (size_of at.follows.opening) (base_of at.end.count at.end.moment)) at.rest
   pub line_is : IsLineBehind line (at.follows.good ++ parting.common)
 
--- the lines behind the first are no base's, from this one of them on
+-- from this line on, the lines after the first are no base's
 pub record BreaksOff (rest : List ℕ) (line : ℕ) : Type 0 where
   pub number : ℕ
   pub breaks : BreaksAt rest number
   pub line_is : line ≡ number + 1
 
--- they are a base's, and no run may begin there: the line is that of its numbers
+-- they are a base's, but no run may begin there: the line is that of its numbers
 pub record BeginsNowhere (rules : RuleSet) (size : ℕ) (rest : List ℕ) (line : ℕ) : Type 0 where
   pub base : Base
   pub more : List ℕ
@@ -126,7 +126,7 @@ pub record BeginsNowhere (rules : RuleSet) (size : ℕ) (rest : List ℕ) (line 
   pub nowhere : (start : Stand) → Opens rules (Based size base) start → ⊥
   pub line_is : line ≡ 2
 
--- the first line is that of a base, and the others are none's, or no run may begin there
+-- the first line is that of a base, but the others are not, or no run may begin there
 pub record HasBadStart (bytes : List ℕ) (line : ℕ) : Type 0 where
   pub rules : RuleSet
   pub size : ℕ
@@ -135,7 +135,8 @@ pub record HasBadStart (bytes : List ℕ) (line : ℕ) : Type 0 where
   pub first : first_line bytes ≡ Some (base_head rules size, rest)
   pub bad : BreaksOff rest line ⊎ BeginsNowhere rules size rest line
 
--- The bytes have this damage: what stands before the line is a transcript, and the line fails this check first.
+-- The bytes have this damage: what comes before the line is a transcript, and this is the first check that
+-- the line fails.
 abbrev pub IsDamage : List ℕ → Damage → Type 0
 IsDamage bytes BadHeader = HasBadHeader (first_line bytes)
 IsDamage bytes (NotALine line) = EndsInNoLine bytes line

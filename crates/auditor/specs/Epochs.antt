@@ -15,18 +15,19 @@ use Rattle.auditor.specs.Damage.{EntryComes}
 use Rattle.auditor.specs.Parts.{Opening, base_in}
 use Rattle.auditor.specs.Transcript.{IsTranscript}
 
--- the most moves that an epoch of so many edges and nodes has
+-- the bound on the moves of an epoch with these edges and nodes
 abbrev pub bound_of : RuleSet → Epoch → ℕ
 bound_of rules epoch = 2 * epoch.edges + weight_of rules * epoch.nodes
 
 abbrev pub IsWithinItsBound : RuleSet → Epoch → Type 0
 IsWithinItsBound rules epoch = epoch.moves ≤ bound_of rules epoch
 
--- the first epoch, as far as the opening tells it
+-- the first epoch, as the opening determines it
 abbrev pub first_epoch : Opening → Stand → Epoch
 first_epoch opening start = open_at (begun_at (base_in opening)) start.moment
 
--- The bytes are the transcript of a run under these rules, with this opening, whose entries lead through these states.
+-- The bytes are the transcript of a run under these rules, with this opening, and its entries lead through
+-- these states.
 pub record GoesThrough (bytes : List ℕ) (rules : RuleSet) (opening : Opening) (path : List (Entry × State)) : Type 0 where
   pub log : List Part
   pub end : Stand
@@ -36,12 +37,12 @@ pub record GoesThrough (bytes : List ℕ) (rules : RuleSet) (opening : Opening) 
 
 -- ---- costs
 
--- the cost of an entry's event, where the entry accepts a disturbance
+-- the cost of an entry's event, if the entry accepts a disturbance
 abbrev pub costs_by : Reply → ℕ → List (Option ℕ)
 costs_by Accepted cost = Some cost ∷ []
 costs_by reply cost = []
 
--- What the accepted disturbances along a path cost, in their order, each in the state before it.
+-- The costs of the accepted disturbances along a path, in order, each in the state before it.
 abbrev pub costs_along : (State → Event → ℕ) → State → List (Entry × State) → List (Option ℕ)
 costs_along cost s [] = []
 costs_along cost s (step ∷ path) = costs_by step.0.1 (cost s step.0.0) ++ costs_along cost step.1 path
@@ -52,8 +53,8 @@ epochs_in rows = map (λ row. row.epoch) rows
 abbrev pub costs_in : List CostedEpoch → List (Option ℕ)
 costs_in rows = map (λ row. row.cost) rows
 
--- The epochs are those of the run of which the bytes are the transcript, and each but the first has the cost of the disturbance that
--- began it.
+-- The epochs are those of the run whose transcript the bytes are; each but the first has its disturbance's
+-- cost.
 pub record AreEpochs (bytes : List ℕ) (rules : RuleSet) (rows : List CostedEpoch) : Type 0 where
   pub opening : Opening
   pub path : List (Entry × State)
@@ -61,29 +62,29 @@ pub record AreEpochs (bytes : List ℕ) (rules : RuleSet) (rows : List CostedEpo
   pub epochs : epochs_in rows ≡ epochs_from (run.transcript.start.count + 1) (first_epoch opening run.transcript.start) path
   pub costs : costs_in rows ≡ None ∷ costs_along (cost_by rules) run.transcript.start.moment.state path
 
--- a cost, where there is one
+-- a cost, or 0 if there is none
 abbrev pub paid_by : Option ℕ → ℕ
 paid_by None = 0
 paid_by (Some cost) = cost
 
--- All moves are no more than what was spent and what the charge was where the run begins, and all costs.
+-- All moves are at most the moves spent and the charge at the run's beginning, plus all costs.
 abbrev pub ArePaid : RuleSet → Moment → List CostedEpoch → Type 0
 ArePaid rules start rows =
     sum_by (λ epoch. epoch.moves) (epochs_in rows) ≤ start.spent + (table_of rules).charge start.state + sum_by paid_by (costs_in rows)
 
 -- ---- part by part
 
--- the cost is that of the disturbance that the next line accepts, where it does
+-- if the next line accepts a disturbance, the cost is that disturbance's
 abbrev pub IsNextCost : RuleSet → State → List ℕ → Option ℕ → Type 0
 IsNextCost rules s rest cost =
     (number : ℕ) (entry : Entry) → EntryComes rest number entry → entry.1 ≡ Accepted → cost ≡ Some (cost_by rules s entry.0)
 
--- what an entry with this number, behind which the state is this, makes of an epoch; the next epoch has this cost
+-- what an entry with this number makes of an epoch, given the state after it; a new epoch has this cost
 abbrev pub rows_by : Reply → ℕ → State → Option ℕ → CostedEpoch → List CostedEpoch × CostedEpoch
 rows_by Accepted number s cost row = (row ∷ [], record { epoch = epoch_at number s; cost = cost })
 rows_by reply number s cost row = ([], record row { epoch = (epochs_by reply number s row.epoch).1 })
 
--- what a part does: a base nothing
+-- what a part makes of an epoch; a base does nothing
 abbrev pub rows_at : Part → ℕ → State → Option ℕ → CostedEpoch → List CostedEpoch × CostedEpoch
 rows_at (Told entry) number s cost row = rows_by entry.1 number s cost row
 rows_at (Kept base) number s cost row = ([], row)

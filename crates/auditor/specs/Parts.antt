@@ -1,4 +1,4 @@
--- What a transcript begins with, and its parts: entries, and bases among them.
+-- The opening of a transcript, and its parts: entries, and bases among them.
 use Rattle.std.specs.Prelude.{◌≡◌, ℕ, ◌+◌, ◌≤◌, List, [], ◌∷◌, ◌++◌, length, Option, None, Some}
 use Rattle.rule_machine.specs.declared.base.Base.{Base}
 use Rattle.rule_machine.specs.declared.rules.RuleSet.{RuleSet}
@@ -13,7 +13,7 @@ use Rattle.line_text.specs.BaseText.{base_text}
 use Rattle.entry_grammar.specs.Spelling.{AreSizes, max_entries}
 use Rattle.entry_grammar.specs.BaseLines.{IsShaped}
 
--- a header, which tells how many names there are and how many of them are present, or a base for so many names
+-- a header, with the number of names and of present nodes, or a base for a number of names
 pub data Opening : Type 0 where
   Named : ℕ → ℕ → Opening
   Based : ℕ → Base → Opening
@@ -36,7 +36,7 @@ abbrev pub opening_text : RuleSet → Opening → List ℕ
 opening_text rules (Named size count) = header_line rules size count
 opening_text rules (Based size base) = base_text rules size base
 
--- what a base is that a transcript begins with: its lines are some, and no log or network exceeds its limits
+-- the base of an opening: its lines are well formed, and no log or network exceeds its limits
 pub record IsFirstBase (size : ℕ) (base : Base) : Type 0 where
   pub few : size ≤ 65535
   pub shaped : IsShaped base
@@ -47,18 +47,19 @@ abbrev pub IsOpening : Opening → Type 0
 IsOpening (Named size count) = AreSizes size count
 IsOpening (Based size base) = IsFirstBase size base
 
--- where the run of a transcript begins: at the opening state, or where its base says, with the base's entries counted
+-- the beginning of a transcript's run: the opening state, or that of its base, with the base's entries
+-- counted
 pub record Opens (rules : RuleSet) (opening : Opening) (start : Stand) : Type 0 where
   pub fits : IsOpening opening
   pub begins : BeginsAt (table_of rules) (charge_bound (weight_of rules)) (size_of opening) (present_of opening) (base_in opening) start.moment
   pub count : start.count ≡ dropped (base_in opening)
 
--- how many entries there are behind a part
+-- how many entries there are after a part
 abbrev pub count_after : ℕ → Part → ℕ
 count_after count (Told entry) = count + 1
 count_after count (Kept base) = count
 
--- the text of a part behind so many entries, for so many names
+-- the text of a part after this many entries, for this many names
 abbrev pub part_text : RuleSet → ℕ → ℕ → Part → List ℕ
 part_text rules size count (Told entry) = entry_line (count + 1) entry.0 entry.1
 part_text rules size count (Kept base) = base_text rules size base
@@ -67,7 +68,7 @@ abbrev pub parts_text : RuleSet → ℕ → ℕ → List Part → List ℕ
 parts_text rules size count [] = []
 parts_text rules size count (part ∷ log) = part_text rules size count part ++ parts_text rules size (count_after count part) log
 
--- from one stand to the next: the machine may answer the event by its reply, or the base is that of where it stands
+-- from one state to the next: the machine may reply so to the event, or the base is that of the state
 abbrev pub StepsTo : RuleTable → Stand → Part → Stand → Type 0
 StepsTo t at (Told entry) next =
     (s : State) × Answers t at.moment.state at.moment.spent entry.0 entry.1 s × (next ≡ record { moment = record { state = s; spent = spent_after at.moment.spent entry.1 }; count = at.count + 1 })

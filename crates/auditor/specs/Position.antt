@@ -16,39 +16,39 @@ use Rattle.auditor.specs.declared.summary.Summary.{Summary}
 use Rattle.auditor.specs.Transcript.{Comes, disturbances_in, moves_in}
 use Rattle.auditor.specs.Damage.{SpellsNoEntry}
 
--- the state that the entries so far have led to, the moves spent there, the number of the last entry, and what was counted
+-- the state reached, the moves spent, the number of the last entry, and the counts
 pub record Position : Type 0 where
   pub state : State
   pub spent : ℕ
   pub number : ℕ
   pub counted : Summary
 
--- the stand of a position
+-- the numbered moment of a position
 abbrev pub stand_of : Position → Stand
 stand_of p = record { moment = record { state = p.state; spent = p.spent }; count = p.number }
 
--- before any entry that the transcript has
+-- the position before any entry of the transcript
 abbrev pub position_at : Stand → Position
 position_at at =
     record { state = at.moment.state; spent = at.moment.spent; number = at.count; counted = record { entries = 0; epochs = 1; moves = 0 } }
 
--- with one more entry
+-- the counts with one more entry
 abbrev pub counted_more : Summary → Reply → Summary
 counted_more c reply =
     record { entries = c.entries + 1; epochs = c.epochs + disturbances_in reply; moves = c.moves + moves_in reply }
 
--- a base counts for nothing
+-- a base adds nothing to the counts
 abbrev pub counted_part : Summary → Part → Summary
 counted_part c (Told entry) = counted_more c entry.1
 counted_part c (Kept base) = c
 
--- what may have been counted
+-- the limits of the counts
 pub record IsCounted (c : Summary) : Type 0 where
   pub entries : c.entries ≤ max_entries
   pub epochs : c.epochs ≤ c.entries + 1
   pub moves : c.moves ≤ c.entries * 65535
 
--- what an audit keeps of them: no more moves are spent than were made, beside those of a base
+-- the counts of an audit: besides a base's, at most the moves made are spent
 pub record AreCounted (spent number : ℕ) (c : Summary) : Type 0 where
   pub counted : IsCounted c
   pub numbered : number ≤ max_entries
@@ -71,7 +71,7 @@ pub record BadNumber (text : List ℕ) (before : Position) : Type 0 where
   pub spells : SpellsEntry text number entry
   pub other : number ≢ before.number + 1
 
--- the line is the next entry, and the machine may not give its reply
+-- the line is the next entry, but the machine may not give its reply
 pub record BadReply (t : RuleTable) (text : List ℕ) (before : Position) : Type 0 where
   pub entry : Entry
   pub spells : SpellsEntry text (before.number + 1) entry
@@ -85,13 +85,13 @@ LineDamaged t text line before (NotTheMachines at) = (at ≡ line) × BadReply t
 LineDamaged t text line before BadHeader = ⊥
 LineDamaged t text line before (BadBase at) = ⊥
 
--- what the check of the next line, which has this number, says of it; of want of memory nothing is said
+-- what the check of the next line says of it, given its number; nothing if memory ran out
 abbrev pub LineJudged : RuleTable → List ℕ → ℕ → Position → Position → Result Unit JudgeFault → Type 0
 LineJudged t text line before after (Ok done) = GoodLine t text before after
 LineJudged t text line before after (Err (Damaged damage)) = LineDamaged t text line before damage
 LineJudged t text line before after (Err Memory) = Unit {0}
 
--- the next part comes, it leads from one position to the other and is counted there, and the rest follows
+-- the next part comes, leads from one position to the next, and is counted; the rest follows
 pub record IsFurther (rules : RuleSet) (size : ℕ) (before : Position) (rest : List ℕ) (after : Position) (behind : List ℕ) : Type 0 where
   pub part : Part
   pub comes : Comes rules size (stand_of before) rest part (stand_of after) behind

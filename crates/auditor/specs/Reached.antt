@@ -1,4 +1,4 @@
--- What is said of a transcript of which only the first entries are looked at.
+-- Transcripts that are looked at only up to an entry.
 use Rattle.std.specs.Prelude.{◌≡◌, ℕ, ◌<◌, ◌≤◌, ◌⊎◌, Bool, true, nat_lt, List, [], Option, None, Some}
 use Rattle.std.proofs.Common.{inl, inr}
 use Rattle.rule_machine.specs.declared.rules.RuleSet.{RuleSet}
@@ -16,27 +16,27 @@ use Rattle.auditor.specs.Transcript.{IsTranscript}
 use Rattle.auditor.specs.Damage.{Follows, IsDamage}
 use Rattle.auditor.specs.Position.{Position, position_at}
 
--- where it ends: at the entry with this number, or with the bytes
+-- it ends at the entry with this number, or with the bytes
 abbrev pub EndsAt : Option ℕ → ℕ → List ℕ → Type 0
 EndsAt None count rest = rest ≡ []
 EndsAt (Some last) count rest = count ≡ last
 
--- whether so many entries end before it
+-- whether this many entries end before it
 abbrev pub falls_short : Option ℕ → ℕ → Bool
 falls_short None count = true
 falls_short (Some last) count = nat_lt count last
 
--- they don't end before it, where an entry is named
+-- if an entry is named, this many entries reach it
 abbrev pub IsLongEnough : Option ℕ → ℕ → Type 0
 IsLongEnough None count = Unit {0}
 IsLongEnough (Some last) count = last ≤ count
 
--- they don't go beyond it
+-- if an entry is named, this many entries do not go beyond it
 abbrev pub IsWithin : Option ℕ → ℕ → Type 0
 IsWithin None count = Unit {0}
 IsWithin (Some last) count = count ≤ last
 
--- The bytes begin with the transcript of a run under these rules, which ends there, and has led to this state.
+-- The bytes begin with the transcript of a run under these rules that ends there and has led to this state.
 pub record IsStateAfter (bytes : List ℕ) (last : Option ℕ) (rules : RuleSet) (s : State) : Type 0 where
   pub log : List Part
   pub end : Stand
@@ -45,7 +45,7 @@ pub record IsStateAfter (bytes : List ℕ) (last : Option ℕ) (rules : RuleSet)
   pub ends : EndsAt last end.count rest
   pub state : s ≡ end.moment.state
 
--- The bytes are the transcript of a run whose last entry has this number, and one with a greater number was asked for.
+-- The bytes are the transcript of a run whose last entry has this number, and a greater one was asked for.
 pub record HasTooFew (bytes : List ℕ) (last : Option ℕ) (asked entries : ℕ) : Type 0 where
   pub last_is : last ≡ Some asked
   pub fewer : entries < asked
@@ -56,7 +56,7 @@ pub record HasTooFew (bytes : List ℕ) (last : Option ℕ) (asked entries : ℕ
   pub transcript : IsTranscript bytes rules opening log end
   pub entries_are : entries ≡ end.count
 
--- The bytes begin with a base behind the entry that was asked for, which that base has forgotten.
+-- The bytes begin with a base after the entry that was asked for.
 pub record HasForgotten (bytes : List ℕ) (last : Option ℕ) (asked base : ℕ) : Type 0 where
   pub last_is : last ≡ Some asked
   pub fewer : asked < base
@@ -66,17 +66,17 @@ pub record HasForgotten (bytes : List ℕ) (last : Option ℕ) (asked base : ℕ
   pub follows : Follows bytes rules [] end rest
   pub base_is : base ≡ end.count
 
--- an entry is asked for behind so many
+-- the entry that was asked for comes after this many
 abbrev pub IsBefore : Option ℕ → ℕ → Type 0
 IsBefore None count = Unit {0}
 IsBefore (Some last) count = count < last
 
--- where a base is damaged
+-- a damaged base is looked at: at the start, or before the entry that was asked for
 abbrev pub base_looked_at : {X Y : Type 0} → Option ℕ → (Y → ℕ) → X ⊎ Y → Type 0
 base_looked_at last count (inl start) = Unit {0}
 base_looked_at last count (inr ends) = IsBefore last (count ends)
 
--- the damage stands in what the transcript begins with, or behind fewer entries than were asked for
+-- the damage is in the opening, or after fewer entries than were asked for
 abbrev pub IsLookedAt : (bytes : List ℕ) → Option ℕ → (d : Damage) → IsDamage bytes d → Type 0
 IsLookedAt bytes last BadHeader damage = Unit {0}
 IsLookedAt bytes last (NotALine line) damage = IsBefore last damage.at.end.count
@@ -89,14 +89,14 @@ pub record IsMetDamage (bytes : List ℕ) (last : Option ℕ) (damage : Damage) 
   pub is : IsDamage bytes damage
   pub looked_at : IsLookedAt bytes last damage is
 
--- what is wrong with the lines that are looked at; of want of memory nothing is said
+-- what is wrong with the lines looked at; nothing is said if memory ran out
 abbrev pub IsReplayFault : List ℕ → Option ℕ → ReplayFault → Type 0
 IsReplayFault bytes last (Judged (Damaged damage)) = IsMetDamage bytes last damage
 IsReplayFault bytes last (Judged Memory) = Unit {0}
 IsReplayFault bytes last (TooFew asked entries) = HasTooFew bytes last asked entries
 IsReplayFault bytes last (Forgotten asked base) = HasForgotten bytes last asked base
 
--- the bytes begin with what a transcript of these rules begins with, for so many names, and the rest follows
+-- the bytes begin with an opening for these rules and this many names, and the rest follows
 pub record IsOpened (bytes : List ℕ) (rules : RuleSet) (size : ℕ) (begun : Start) (p : Position) (rest : List ℕ) : Type 0 where
   pub start : Stand
   pub follows : Follows bytes rules [] start rest
@@ -104,12 +104,12 @@ pub record IsOpened (bytes : List ℕ) (rules : RuleSet) (size : ℕ) (begun : S
   pub begun_is : begun ≡ begun_at (base_in follows.opening)
   pub opening : p ≡ position_at start
 
--- a damage that is met behind so many entries, or in what the transcript begins with
+-- a damage in the opening, or met after this many entries
 abbrev pub IsMetBehind : List ℕ → ℕ → JudgeFault → Type 0
 IsMetBehind bytes count (Damaged damage) = (last : Option ℕ) → IsBefore last count → IsMetDamage bytes last damage
 IsMetBehind bytes count Memory = Unit {0}
 
--- a damage of what the transcript begins with
+-- a damage of the opening
 abbrev pub IsMetFirst : List ℕ → JudgeFault → Type 0
 IsMetFirst bytes (Damaged damage) = (last : Option ℕ) → IsMetDamage bytes last damage
 IsMetFirst bytes Memory = Unit {0}

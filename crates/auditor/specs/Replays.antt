@@ -1,4 +1,4 @@
--- How far the code is that goes through a transcript, of which it keeps no more than what follows.
+-- Going through a transcript, keeping only what follows.
 use Rattle.std.specs.Prelude.{◌≡◌, ◌≢◌, ℕ, ◌+◌, ◌<◌, ◌≤◌, ◌^◌, ◌⊎◌, List, [], ◌++◌, length, take, slice_index, Option, None, Some, Err}
 use Rattle.rule_machine.specs.declared.rules.RuleSet.{RuleSet}
 use Rattle.rule_machine.specs.Base.{base_of}
@@ -14,17 +14,18 @@ use Rattle.auditor.specs.Position.{IsFurther, stand_of}
 use Rattle.auditor.specs.Reached.{IsMetBehind, IsOpened}
 use Rattle.auditor.specs.Verdict.{IsJudged}
 
--- two texts are the same so far
+-- two texts agree up to this length
 pub record AreSameUpTo (text bytes : List ℕ) (len : ℕ) : Type 0 where
   pub within : len ≤ length text
   pub inside : len ≤ length bytes
   pub alike : take len text ≡ take len bytes
 
--- and if both go on, then with another byte each
+-- if both go on, their next bytes differ
 abbrev pub ArePartedAt : List ℕ → List ℕ → ℕ → Type 0
 ArePartedAt text bytes len = len < length text → len < length bytes → slice_index text len ≢ slice_index bytes len
 
--- The bytes begin with the transcript of a run that has led to where the replay is, its lines were counted, and the rest follows.
+-- The bytes begin with a transcript that leads to the replay's state, its lines were counted, and the rest
+-- follows.
 pub record IsAt (bytes : List ℕ) (replay : Replay) (rest : List ℕ) : Type 0 where
   pub reached : IsReached bytes replay.rules replay.size replay.audit rest
   pub counted : (good : List ℕ) → bytes ≡ good ++ rest → replay.lines ≡ line_feeds good
@@ -38,11 +39,11 @@ pub record Somewhere (replay : Replay) (rest : List ℕ) : Type 0 where
 abbrev pub IsSomewhere : Replay → List ℕ → Type 0
 IsSomewhere replay rest = ∥ Somewhere replay rest ∥₁
 
--- the text of the base of where a replay is
+-- the text of the base of the replay's state
 abbrev pub base_wanted : Replay → List ℕ
 base_wanted replay = base_text replay.rules replay.size (base_of replay.audit.number (stand_of replay.audit).moment)
 
--- a text is wanted only where a base comes, and as far as was compared the rest begins with it
+-- a base's text is kept only if a base comes, and the rest begins with as much of it as was compared
 pub record Compared (replay : Replay) (rest : List ℕ) : Type 0 where
   pub text : (replay.wanted.items ≡ []) ⊎ (BeginsBase rest × (replay.wanted.items ≡ base_wanted replay))
   pub alike : AreSameUpTo replay.wanted.items rest replay.same
@@ -56,7 +57,7 @@ EndsIn text rest = (front : List ℕ) × (text ≡ front ++ rest)
 
 -- ---- what the text begins with
 
--- there is no whole line in it, or it begins with the lines of a base up to one that is not whole
+-- the text has no whole line, or begins with the lines of a base up to one that is not whole
 pub record HasCutBase (text : List ℕ) : Type 0 where
   pub rules : RuleSet
   pub size : ℕ
@@ -68,7 +69,7 @@ pub record HasCutBase (text : List ℕ) : Type 0 where
 abbrev pub HasCutStart : List ℕ → Type 0
 HasCutStart text = (first_line text ≡ None) ⊎ HasCutBase text
 
--- the replay stands behind what the text begins with
+-- the replay is after the text's opening
 pub record Begins (text : List ℕ) (replay : Replay) (rest : List ℕ) : Type 0 where
   pub opened : IsOpened text replay.rules replay.size replay.begun replay.audit rest
   pub counted : (good : List ℕ) → text ≡ good ++ rest → replay.lines ≡ line_feeds good
@@ -77,7 +78,7 @@ pub record Begins (text : List ℕ) (replay : Replay) (rest : List ℕ) : Type 0
 
 -- ---- what comes next
 
--- the text of the base of where the replay is was made
+-- the text of the base of the replay's state was written
 pub record Wants (before after : Replay) : Type 0 where
   pub rules : after.rules ≡ before.rules
   pub size : after.size ≡ before.size
@@ -87,18 +88,18 @@ pub record Wants (before after : Replay) : Type 0 where
   pub text : after.wanted.items ≡ base_wanted before
   pub before_it : (before.wanted.items ≡ []) ⊎ (before.wanted.items ≡ after.wanted.items)
 
--- the rest is the beginning of the base of where the replay is
+-- the rest is a proper beginning of the base of the replay's state
 pub record BeginsWanted (replay : Replay) (rest : List ℕ) : Type 0 where
   pub begins : BeginsBase rest
   pub missing : List ℕ
   pub some : missing ≢ []
   pub is : base_wanted replay ≡ rest ++ missing
 
--- no whole part follows, and what does may become one
+-- no whole part follows, but the rest may become one
 abbrev pub IsUnended : Replay → List ℕ → Type 0
 IsUnended replay rest = ((first_line rest ≡ None) × (BeginsBase rest → ⊥)) ⊎ BeginsWanted replay rest
 
--- the replay stays where it was
+-- the replay has not moved
 pub record Waits (before after : Replay) (rest : List ℕ) : Type 0 where
   pub rules : after.rules ≡ before.rules
   pub size : after.size ≡ before.size
@@ -107,7 +108,7 @@ pub record Waits (before after : Replay) (rest : List ℕ) : Type 0 where
   pub unended : IsUnended after rest
   pub compared : IsCompared after rest
 
--- a part follows, and the replay stands behind it
+-- a part follows, and the replay is after it
 pub record IsPassed (before after : Replay) (rest behind : List ℕ) : Type 0 where
   pub rules : after.rules ≡ before.rules
   pub size : after.size ≡ before.size
@@ -116,13 +117,13 @@ pub record IsPassed (before after : Replay) (rest behind : List ℕ) : Type 0 wh
   pub unwanted : after.wanted.items ≡ []
   pub none_same : after.same ≡ 0
 
--- the fault is that of the part that follows, whatever comes behind the rest
+-- the fault is that of the next part, whatever follows the rest
 abbrev pub IsMetAt : Replay → List ℕ → JudgeFault → Type 0
 IsMetAt replay rest fault = (bytes more : List ℕ) → IsAt bytes replay (rest ++ more) → IsMetBehind bytes replay.audit.number fault
 
 -- ---- a transcript that is read
 
--- nothing was judged, or what is held stands behind what was
+-- nothing was judged yet, or what is held follows what was judged
 abbrev pub IsReadOf : List ℕ → Option Replay → List ℕ → Type 0
 IsReadOf read None held = read ≡ held
 IsReadOf read (Some run) held = IsAt read run held × IsCompared run held
@@ -131,11 +132,11 @@ IsReadOf read (Some run) held = IsAt read run held × IsCompared run held
 abbrev pub IsRead : List ℕ → Trial → Type 0
 IsRead read trial = (length read ≡ trial.len) × IsReadOf read trial.run trial.held.items
 
--- some bytes were, and they are few enough
+-- some bytes were read, and they are few enough
 abbrev pub IsUnderway : Trial → Type 0
 IsUnderway trial = (trial.len < 2 ^ 63) × ∥ ((read : List ℕ) × IsRead read trial) ∥₁
 
--- they were read, or what was wrong in them is so whatever comes behind them
+-- they were read, or their damage holds whatever follows
 abbrev pub IsTried : List ℕ → Trial → Option JudgeFault → Type 0
 IsTried bytes trial None = IsRead bytes trial
 IsTried bytes trial (Some fault) = (more : List ℕ) → IsJudged (bytes ++ more) (Err fault)

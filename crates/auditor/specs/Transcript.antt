@@ -1,4 +1,4 @@
--- Transcripts: the bytes of a header or a base, and of the parts behind it, where the log is a run of the machine.
+-- Transcripts: the bytes of an opening and of its parts, whose log is a run of the machine.
 use Rattle.std.specs.Prelude.{◌≡◌, ℕ, ◌+◌, ◌≤◌, List, ◌++◌, length, sum_by, IsTrue}
 use Rattle.std.specs.List.{AllByRecursion}
 use Rattle.rule_machine.specs.declared.reply.Reply.{Reply}
@@ -12,7 +12,7 @@ use Rattle.line_text.specs.EventText.{IsEvent}
 use Rattle.entry_grammar.specs.Spelling.{IsReply, max_entries}
 use Rattle.auditor.specs.Parts.{Opening, Opens, StepsTo, size_of, opening_text, part_text, parts_text}
 
--- what each value of the program's type of entries meets
+-- what every value of the program's type of entries satisfies
 pub record IsEntry (entry : Entry) : Type 0 where
   pub event : IsEvent entry.0
   pub reply : IsReply entry.1
@@ -22,7 +22,7 @@ abbrev pub IsPart : Part → Type 0
 IsPart (Told entry) = IsEntry entry
 IsPart (Kept base) = Unit {0}
 
--- The bytes are the text of an opening and of parts, which the machine may give from there on, and where it stands then.
+-- The bytes are the text of an opening and of parts that the machine may give from there on, up to this end.
 pub record IsTranscript (bytes : List ℕ) (rules : RuleSet) (opening : Opening) (log : List Part) (end : Stand) : Type 0 where
   pub start : Stand
   pub opens : Opens rules opening start
@@ -31,21 +31,21 @@ pub record IsTranscript (bytes : List ℕ) (rules : RuleSet) (opening : Opening)
   pub not_too_many : end.count ≤ max_entries
   pub passes : Passes (table_of rules) start log end
 
--- two runs are one: the rule set, what the transcript begins with, its parts and its end are the same
+-- two runs are equal: their rule sets, openings, parts and ends
 pub record SameRun (r q : RuleSet) (o p : Opening) (log also : List Part) (end last : Stand) : Type 0 where
   pub rules : r ≡ q
   pub openings : o ≡ p
   pub parts : log ≡ also
   pub ends : end ≡ last
 
--- From a stand the text goes on with this part, which leads to the next stand, and the rest follows.
+-- From here the text goes on with this part, which leads to the next state, and the rest follows.
 pub record Comes (rules : RuleSet) (size : ℕ) (at : Stand) (rest : List ℕ) (part : Part) (next : Stand) (behind : List ℕ) : Type 0 where
   pub fits : IsPart part
   pub within : next.count ≤ max_entries
   pub steps : StepsTo (table_of rules) at part next
   pub is : rest ≡ part_text rules size at.count part ++ behind
 
--- how many disturbances a reply says were made: only they are answered by Accepted
+-- how many disturbances a reply reports: only they have the reply Accepted
 abbrev pub disturbances_in : Reply → ℕ
 disturbances_in Accepted = 1
 disturbances_in (Refused refusal) = 0
@@ -55,7 +55,7 @@ disturbances_in (EnabledAre nodes) = 0
 disturbances_in (Pairs pairs) = 0
 disturbances_in (Counts counts) = 0
 
--- how many moves it says were made
+-- how many moves a reply reports
 abbrev pub moves_in : Reply → ℕ
 moves_in Accepted = 0
 moves_in (Refused refusal) = 0

@@ -1,4 +1,4 @@
--- What the answers of an audit say of the bytes that were judged.
+-- What the results of an audit say of the bytes.
 use Rattle.std.specs.Prelude.{◌≡◌, ℕ, List, Option, None, Some, Result, Ok, Err, ◌⊎◌}
 use Rattle.byte_streams.specs.declared.input_fault.InputFault.{InputFault}
 use Rattle.byte_streams.specs.declared.input_fault.InputFault.TheVariants as input
@@ -12,7 +12,7 @@ use Rattle.auditor.specs.declared.summary.Summary.{Summary}
 use Rattle.auditor.specs.Accepted.{IsAccepted}
 use Rattle.auditor.specs.Damage.{IsDamage}
 
--- what a damage, a fault of the judge and one of the input are called in an audit
+-- the names that an audit gives to a damage, a judge's fault and an input's fault
 abbrev pub of_damage : Damage → AuditFault
 of_damage damage.BadHeader = BadHeader
 of_damage (damage.NotALine line) = NotALine line
@@ -28,27 +28,27 @@ abbrev pub of_input : InputFault → AuditFault
 of_input input.Read = Read
 of_input input.Memory = Memory
 
--- what was judged: the transcript of a run with these counts, or a text with this damage; of want of memory nothing is
--- said
+-- what was judged: a run's transcript with these counts, or a text with this damage; nothing is said if
+-- memory ran out
 abbrev pub IsJudged : List ℕ → Result Summary JudgeFault → Type 0
 IsJudged bytes (Ok counted) = IsAccepted bytes counted
 IsJudged bytes (Err (judge.Damaged d)) = IsDamage bytes d
 IsJudged bytes (Err judge.Memory) = Unit {0}
 
--- nothing wrong was found, or this
+-- no fault was found, or this one
 abbrev pub found_by : Option JudgeFault → Result Unit JudgeFault
 found_by None = Ok tt
 found_by (Some fault) = Err fault
 
--- a transcript is accepted with its counts, if memory is there
+-- a transcript is accepted with its counts, unless memory runs out
 abbrev pub JudgesRuns : List ℕ → Result Summary JudgeFault → Type 0
 JudgesRuns bytes result = (counted : Summary) → IsAccepted bytes counted → (result ≡ Ok counted) ⊎ (result ≡ Err judge.Memory)
 
--- a damage is named, if memory is there
+-- a damage is named, unless memory runs out
 abbrev pub JudgesDamage : List ℕ → Result Summary JudgeFault → Type 0
 JudgesDamage bytes result = (d : Damage) → IsDamage bytes d → (result ≡ Err (judge.Damaged d)) ⊎ (result ≡ Err judge.Memory)
 
--- what the judge found, as an audit tells it: a failed read is none of it
+-- the judge's result as that of an audit; it is never a failed read
 abbrev pub told : Result Summary JudgeFault → Result Summary AuditFault
 told (Ok counted) = Ok counted
 told (Err fault) = Err (of_judge fault)
@@ -56,11 +56,11 @@ told (Err fault) = Err (of_judge fault)
 abbrev pub IsAudited : List ℕ → Result Summary AuditFault → Type 0
 IsAudited bytes result = (judged : Result Summary JudgeFault) × IsJudged bytes judged × (result ≡ told judged)
 
--- they were judged, or reading them failed
+-- the bytes were judged, or reading them failed
 abbrev pub IsHeard : List ℕ → Result Summary AuditFault → Type 0
 IsHeard bytes result = IsAudited bytes result ⊎ ((fault : InputFault) × (result ≡ Err (of_input fault)))
 
--- the bytes have the damage that the fault names; of a failed read and want of memory nothing is said
+-- the bytes have the damage that the fault names; nothing is said of a failed read or if memory ran out
 abbrev pub IsFault : List ℕ → AuditFault → Type 0
 IsFault bytes BadHeader = IsDamage bytes damage.BadHeader
 IsFault bytes (NotALine line) = IsDamage bytes (damage.NotALine line)
@@ -70,10 +70,10 @@ IsFault bytes (BadBase line) = IsDamage bytes (damage.BadBase line)
 IsFault bytes Read = Unit {0}
 IsFault bytes Memory = Unit {0}
 
--- a transcript is accepted with its counts, if no read fails and memory is there
+-- a transcript is accepted with its counts, unless a read fails or memory runs out
 abbrev pub AcceptsRuns : List ℕ → Result Summary AuditFault → Type 0
 AcceptsRuns bytes result = (counted : Summary) → IsAccepted bytes counted → (result ≡ Ok counted) ⊎ (result ≡ Err Read) ⊎ (result ≡ Err Memory)
 
--- a damage is named, if no read fails and memory is there
+-- a damage is named, unless a read fails or memory runs out
 abbrev pub NamesDamage : List ℕ → Result Summary AuditFault → Type 0
 NamesDamage bytes result = (d : Damage) → IsDamage bytes d → (result ≡ Err (of_damage d)) ⊎ (result ≡ Err Read) ⊎ (result ≡ Err Memory)

@@ -1,4 +1,4 @@
-//! One line of a transcript against the machine.
+//! Checking one transcript line against the machine.
 
 ghost use Rattle.std.specs.Prelude.{◌≡◌, ◌≤◌, ◌+◌, ◌*◌, IfOk, length};
 ghost use Rattle.rule_machine.specs.Base.{base_of};
@@ -14,8 +14,9 @@ use rule_machine::{Base, RuleSet, Want};
 use std::alloc::Global;
 use std::marker::Model;
 
-/// How far an audit has come: the judge in the state to which the entries so far have led, the moves since the last
-/// accepted disturbance, the number of the last entry, and what was counted.
+/// The progress of an audit.
+///
+/// The state reached, the moves since the last accepted disturbance, the last entry's number, and the counts.
 #[derive(Drop)]
 pub(crate) struct Audit {
     pub(crate) judge: Judge,
@@ -39,7 +40,7 @@ impl Model for Audit {
 }
 
 impl Audit {
-    /// An audit that begins where so many entries have led, with these moves spent.
+    /// An audit that begins in this state, after entry `number`, with `spent` moves.
     pub(crate) fn new(judge: Judge, spent: u32, number: u32) -> Audit
         requires { number ≤ 16777216 }
         ensures { result ≡ position_at (record { moment = record { state = judge; spent = spent }; count = number }) }
@@ -56,7 +57,6 @@ impl Audit {
         }
     }
 
-    /// What was counted.
     pub(crate) fn counted(&self) -> Summary
         ensures counted { result ≡ self.now.counted }
         ensures few { result.moves ≤ 1099494850560 }
@@ -64,33 +64,31 @@ impl Audit {
         self.counted
     }
 
-    /// The number of the last entry.
     pub(crate) fn number(&self) -> u32
         ensures { result ≡ self.now.number }
     {
         self.number
     }
 
-    /// The moves since the last accepted disturbance.
     pub(crate) fn spent(&self) -> u64
         ensures { result ≡ self.now.spent }
     {
         self.spent
     }
 
-    /// The base at which it stands, where what is spent is within the bound.
+    /// The base of the state reached, if the moves spent are within the bound.
     pub(crate) fn base(&self, alloc: Global) -> Result<Base, Want>
         requires bounded { self.now.spent ≤ 2 * edge_count self.now.state.network + 3 * node_count self.now.state.network }
         ensures base { IfOk result (λ base. base ≡ base_of self.now.number (stand_of self.now).moment) }
         ensures few { IfOk result (λ base. (length base.nodes ≤ 65535) × (length base.edges ≤ 1048576)) }
     {
         let base = self.judge.base(alloc, self.number, 0)?;
-        // It fits, since the base has few nodes and edges.
+        // Fits: a base has few nodes and edges.
         let spent = self.spent as u32;
         Ok(Base { spent, ..base })
     }
 
-    /// Checks that the line with this text and this number is the next entry, and that the machine may give its reply.
+    /// Checks that line `line` is the next entry and that the machine may give its reply.
     pub(crate) fn check_line(
         &mut self,
         alloc: Global,

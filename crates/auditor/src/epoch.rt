@@ -1,4 +1,4 @@
-//! The epochs of a run.
+//! An epoch of a run.
 
 ghost use Rattle.std.specs.Prelude.{◌≡◌, ◌+◌, ◌*◌, ◌<◌, ◌^◌};
 ghost use Rattle.auditor.specs.Epochs.{bound_of};
@@ -6,7 +6,7 @@ ghost use Rattle.auditor.specs.Epochs.{bound_of};
 use rule_machine::{RuleSet, Start};
 use std::marker::Model;
 
-/// The entries between two accepted disturbances, or from the start on, or to the end.
+/// An epoch: the entries from an accepted disturbance, or the start, up to the next one or the end.
 #[derive(Clone, Copy, Debug, PartialEq, Eq)]
 pub struct Epoch {
     start: Start,
@@ -15,13 +15,14 @@ pub struct Epoch {
     nodes: u32,
 }
 
-/// An epoch, and what the disturbance that began it cost.
+/// An epoch, and the cost of the disturbance that began it.
 #[derive(Clone, Copy)]
 pub struct CostedEpoch {
     /// The epoch.
     pub epoch: Epoch,
-    /// What the disturbance may have added to the charge, from the degrees of the nodes that it touched in the state before it;
-    /// none for the first epoch, which no disturbance of the transcript began.
+    /// A bound on what the disturbance added to the charge; `None` for the first epoch.
+    ///
+    /// It is computed from the state before the disturbance, by the degrees of the nodes that it touched.
     pub cost: Option<u32>,
 }
 
@@ -36,7 +37,6 @@ impl Model for Epoch {
 }
 
 impl Epoch {
-    /// An epoch with so many moves before the first that is told.
     pub(crate) fn new(start: Start, moves: u64, edges: u32, nodes: u32) -> Epoch
         ensures { result ≡ record { start = start; moves = moves; edges = edges; nodes = nodes } }
     {
@@ -48,7 +48,6 @@ impl Epoch {
         }
     }
 
-    /// The epoch with so many more moves.
     pub(crate) fn with_moves(self, moves: u64) -> Epoch
         requires { self.moves + moves < 2 ^ 64 }
         ensures { result ≡ record self { moves = self.moves + moves } }
@@ -59,37 +58,39 @@ impl Epoch {
         }
     }
 
-    /// Where it began: behind the entry with a number, an accepted disturbance, 0 for the start of the run; or before the
-    /// base that a transcript begins with, which none does.
+    /// The number of the accepted disturbance that began it, 0 for the start of the run.
+    ///
+    /// `Forgotten` if it began before the base at the transcript's start.
     pub fn start(self) -> Start
         ensures { result ≡ self.start }
     {
         self.start
     }
 
-    /// How many moves were made in it.
+    /// The moves made in it.
     pub fn moves(self) -> u64
         ensures { result ≡ self.moves }
     {
         self.moves
     }
 
-    /// How many edges the network has in it.
+    /// The edges of the network during the epoch.
     pub fn edges(self) -> u32
         ensures { result ≡ self.edges }
     {
         self.edges
     }
 
-    /// How many nodes the network has.
+    /// The nodes of the network during the epoch.
     pub fn nodes(self) -> u32
         ensures { result ≡ self.nodes }
     {
         self.nodes
     }
 
-    /// The most moves that an epoch of so many edges and nodes has: twice the edges, and 1 for each node by the rules of
-    /// Hsu and Huang, 3 by those of Manne and others.
+    /// The bound on the moves of an epoch with these edges and nodes.
+    ///
+    /// 2 for each edge, and 1 (Hsu and Huang) or 3 (Manne and others) for each node.
     pub fn bound(self, rules: RuleSet) -> u64
         ensures { result ≡ bound_of rules self }
     {

@@ -16,7 +16,7 @@ use entry_grammar::{EntryFault, read_entry};
 use rule_machine::{Event, RuleSet, Start, Want};
 use std::alloc::{AllocError, Global};
 
-/// The epochs of a run, the first and the last included, in their order.
+/// All epochs of a run, in order.
 #[derive(Drop)]
 pub struct Epochs {
     /// The rules of the run.
@@ -34,7 +34,7 @@ impl Audit {
         Epoch::new(start, 0, self.judge.edges(), self.judge.nodes())
     }
 
-    /// The epoch that began there and goes on where the audit stands.
+    /// The epoch that began at `start` and contains the state reached.
     fn open_epoch(&self, start: Start) -> Epoch
         ensures epoch { result ≡ open_at start (stand_of self.now).moment }
         ensures few { result.moves ≤ self.now.counted.moves + 4294967295 }
@@ -42,7 +42,7 @@ impl Audit {
         Epoch::new(start, self.spent(), self.judge.edges(), self.judge.nodes())
     }
 
-    /// What an event costs where the audit stands, if it is accepted there.
+    /// The cost of an event in the state reached, if it is accepted there.
     fn cost_of(&self, rules: RuleSet, event: &Event) -> u32
         ensures { result ≡ cost_by rules self.now.state event.now }
     {
@@ -51,7 +51,7 @@ impl Audit {
 }
 
 impl Replay {
-    /// What the entry that comes next costs, where its line accepts a disturbance. Other lines are not read.
+    /// The cost of the next entry, if its line accepts a disturbance. Other lines are not read.
     fn cost_ahead(&self, alloc: Global, rest: &[u8]) -> Result<Option<u32>, Want>
         ensures { IfOk result (IsNextCost self.now.rules self.now.audit.state rest.now) }
     {
@@ -79,7 +79,8 @@ fn push(list: &mut Vec<CostedEpoch>, row: CostedEpoch) -> Result<(), Want>
     Ok(())
 }
 
-// What a part, before which this was counted, makes of the epochs: the last one ends and another begins, with this cost, or it goes on.
+// The epoch after one more part. `before` holds the counts before it. An accepted disturbance ends `row` and
+// begins an epoch of this cost.
 fn turn(
     past: &mut Vec<CostedEpoch>,
     row: CostedEpoch,
@@ -104,11 +105,13 @@ fn turn(
     Ok(CostedEpoch { epoch, ..row })
 }
 
-/// The epochs of the run of which the bytes are the transcript, each with what the disturbance that began it cost in the state
-/// before it: of other bytes the first damage is named, as `audit_bytes` names it. Where the bytes begin with a base, the moves of
-/// the first epoch begin at what is spent there. Each epoch is within its bound, and all moves are within the costs, beside what
-/// the charge was at the start. Takes 32 bytes an epoch, and `Memory` is answered where memory runs out. Costs what `audit_bytes`
-/// costs, and reads the lines of accepted disturbances twice.
+/// The epochs of the run whose transcript the bytes are, each with the cost of its disturbance.
+///
+/// If the bytes begin with a base, the moves of the first epoch begin at what that base has spent. Each epoch
+/// is within its bound, and all moves are at most the costs plus the charge at the start.
+///
+/// Errors are those of `audit_bytes`: the first damage of other bytes, or `Memory`. Costs what `audit_bytes`
+/// costs, and reads the lines of accepted disturbances twice. Takes 32 bytes an epoch.
 pub fn epochs_of(alloc: Global, bytes: &[u8]) -> Result<Epochs, JudgeFault>
     ensures epochs { IfOk result (λ epochs. AreEpochs bytes.now epochs.rules epochs.list.items) }
     ensures bounded { IfOk result (λ epochs. All (IsWithinItsBound epochs.rules) (epochs_in epochs.list.items)) }

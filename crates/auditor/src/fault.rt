@@ -1,32 +1,36 @@
-//! Why bytes are no transcript.
+//! The errors of an audit.
 
 use crate::damage::{Damage, JudgeFault};
 use byte_streams::InputFault;
 use thiserror::Error;
 
-/// Why bytes were not accepted: the first line that fails, and the first check that it fails. Lines count from 1.
+/// Why bytes were not accepted: the first line that fails, and its first failed check.
+///
+/// Lines count from 1.
 #[derive(Clone, Copy, Debug, PartialEq, Eq, Error)]
 pub enum AuditFault {
-    /// The first line is missing, has no LF, or is neither a header nor the first of a base.
+    /// The first line is missing, has no LF, or is neither a header nor the first line of a base.
     #[error("line 1: bad header")]
     BadHeader,
-    /// The line has no LF, or is the text of no entry.
+    /// The line has no LF, or is no entry's text.
     #[error("line {line}: not a transcript line")]
     NotALine { line: u64 },
-    /// The line is an entry with another number than the next.
+    /// The line is an entry, but its number is not the next.
     #[error("line {line}: out of order")]
     OutOfOrder { line: u64 },
-    /// The line is the next entry, and the machine may not give this reply.
+    /// The line is the next entry, but the machine may not give this reply.
     #[error("line {line}: not the machine's reply")]
     NotTheMachines { line: u64 },
-    /// A base stands at the start, and the line is the first that is no base's, or that of its numbers where no run may begin
-    /// there; or a base comes behind entries, and the line is the first in which it is not that of the state reached.
+    /// A line of a base is wrong.
+    ///
+    /// - In a base at the start: the first line that no base has, or line 2 if no run may begin there.
+    /// - In a later base: the first line that differs from the base of the state reached.
     #[error("line {line}: bad base")]
     BadBase { line: u64 },
     /// A read failed.
     #[error("read failed")]
     Read,
-    /// A growth of memory was refused.
+    /// Memory ran out.
     #[error("out of memory")]
     Memory,
 }

@@ -1,4 +1,4 @@
-//! A transcript that is judged, in memory or as it comes.
+//! Auditing a transcript, in memory or as it comes.
 
 ghost use Rattle.std.specs.Prelude.{◌≡◌, ◌<◌, ◌≤◌, ◌+◌, ◌^◌, ◌++◌, ℕ, List, [], Err, IfErr, IfOk, None, OnOk, drop, length};
 ghost use Rattle.auditor.specs.Replays.{EndsIn, IsAt, IsCompared, IsRead, IsReadOf, IsSomewhere, IsUnderway};
@@ -9,11 +9,12 @@ use crate::{JudgeFault, Summary};
 use byte_streams::split_line;
 use std::alloc::Global;
 
-/// So many bytes a transcript may have: that many lines can be counted.
+/// The most bytes of a transcript, so that its lines can be counted.
 const MOST_BYTES: u64 = (1 << 63) - 1;
 
-/// A transcript of which a part was read: what was made of the lines that were judged, and the bytes behind these. So many bytes
-/// have to be there before it is tried again what the transcript begins with; and so many were read in all.
+/// An audit of a transcript that is partly read: the lines judged, and `held`, the bytes after them.
+///
+/// The opening is tried again once `enough` bytes are held. `len` is the number of bytes read.
 #[derive(Drop)]
 pub(crate) struct Trial {
     pub(crate) run: Option<Replay>,
@@ -22,7 +23,6 @@ pub(crate) struct Trial {
     len: u64,
 }
 
-// Takes so many bytes away from the front.
 fn drop_front(bytes: &mut Vec<u8>, count: usize)
     requires { count ≤ length bytes.old.items }
     ensures { bytes.new.items ≡ drop count bytes.old.items }
@@ -36,7 +36,7 @@ fn drop_front(bytes: &mut Vec<u8>, count: usize)
 }
 
 impl Replay {
-    // Goes past the parts that are whole, and gives what follows them.
+    // Passes the whole parts, and returns what follows.
     fn pass_parts<'a>(&mut self, alloc: Global, held: &'a [u8]) -> Result<&'a [u8], JudgeFault>
         requires at { IsSomewhere self.old held.now }
         requires compared { IsCompared self.old held.now }
@@ -52,7 +52,7 @@ impl Replay {
         Ok(rest)
     }
 
-    // Judges the rest, where nothing comes behind it.
+    // Judges the rest as the end of the text.
     fn judge_whole(self, alloc: Global, rest: &[u8]) -> Result<Summary, JudgeFault>
         requires at { IsSomewhere self rest.now }
         requires compared { IsCompared self rest.now }
@@ -70,7 +70,7 @@ impl Replay {
     }
 }
 
-/// Judges a text, one part after another.
+/// Judges a text, part by part.
 pub(crate) fn judge_text(alloc: Global, text: &[u8]) -> Result<Summary, JudgeFault>
     ensures { IsJudged text.now result }
 {
@@ -80,7 +80,7 @@ pub(crate) fn judge_text(alloc: Global, text: &[u8]) -> Result<Summary, JudgeFau
     }
 }
 
-// Judges the parts that are whole, and drops their bytes.
+// Judges the whole parts that are held, and drops their bytes.
 fn judge_parts(alloc: Global, run: &mut Replay, held: &mut Vec<u8>) -> Result<(), JudgeFault>
     requires at { IsSomewhere run.old held.old.items }
     requires compared { IsCompared run.old held.old.items }
@@ -97,8 +97,8 @@ fn judge_parts(alloc: Global, run: &mut Replay, held: &mut Vec<u8>) -> Result<()
     Ok(())
 }
 
-// Judges the parts that are whole in what is held and the bytes behind it, and holds what follows them. Where nothing is held, the
-// bytes are judged where they are.
+// Judges the whole parts of what is held and of the bytes after it, and holds the rest. If nothing is held,
+// no judged byte is copied.
 fn judge_behind(
     alloc: Global,
     run: &mut Replay,
@@ -124,7 +124,8 @@ fn judge_behind(
     }
 }
 
-// The same of a piece, whose first line ends what is held. So no more is copied than what a piece begins and does not end.
+// The same for a piece whose first line may end what is held. Only what the piece begins and does not end is
+// copied.
 fn judge_piece(
     alloc: Global,
     run: &mut Replay,
@@ -148,7 +149,7 @@ fn judge_piece(
     }
 }
 
-// Reads what the transcript begins with, if that is whole, and judges the parts behind it.
+// Reads the opening, if it is whole, and judges the parts after it.
 fn begin(alloc: Global, held: &mut Vec<u8>) -> Result<Option<Replay>, JudgeFault>
     requires { length held.old.items < 2 ^ 63 }
     ensures on { IfOk result (λ run. IsReadOf held.old.items run held.new.items) }
@@ -169,7 +170,6 @@ fn begin(alloc: Global, held: &mut Vec<u8>) -> Result<Option<Replay>, JudgeFault
 }
 
 impl Trial {
-    /// A transcript of which nothing was read.
     pub(crate) fn new(alloc: Global) -> Trial
         ensures { IsRead [] result }
     {
@@ -181,7 +181,8 @@ impl Trial {
         }
     }
 
-    // Holds a piece, and reads what the transcript begins with; where that is not whole, it is tried again once there is twice as much.
+    // Holds a piece, and tries to read the opening. If that is not whole, the next try waits for twice as
+    // many bytes.
     fn begin(&mut self, alloc: Global, piece: &[u8]) -> Result<(), JudgeFault>
         requires unbegun { self.old.run ≡ None }
         ensures on { OnOk result (IsReadOf (self.old.held.items ++ piece.now) self.new.run self.new.held.items) }
@@ -201,7 +202,7 @@ impl Trial {
         Ok(())
     }
 
-    /// Judges the lines that end in a piece, which comes behind what was read. What is wrong is so whatever comes behind it.
+    /// Judges the lines that end in a piece, which follows what was read. An error holds whatever follows.
     pub(crate) fn take(&mut self, alloc: Global, piece: &[u8]) -> Result<(), JudgeFault>
         requires { IsUnderway self.old }
         ensures on { OnOk result ((read : List ℕ) → IsRead read self.old → IsRead (read ++ piece.now) self.new) }
@@ -219,7 +220,7 @@ impl Trial {
         judge_piece(alloc, run, &mut self.held, piece)
     }
 
-    /// Judges what is left, where nothing comes behind what was read.
+    /// Judges what is left as the end of the text.
     pub(crate) fn finish(self, alloc: Global) -> Result<Summary, JudgeFault>
         requires { IsUnderway self }
         ensures { (read : List ℕ) → IsRead read self → IsJudged read result }

@@ -10,19 +10,21 @@ ghost use Rattle.auditor.specs.Transcript.{IsTranscript, SameRun};
 ghost use Rattle.auditor.specs.Damage.{IsDamage};
 ghost use Rattle.auditor.specs.Accepted.{IsAccepted};
 
-/// A text is the transcript of one run at most: the rule set, the header or the base that it begins with, the entries and the
-/// bases among them, and where the machine is at the end are determined by the bytes.
+/// A text is the transcript of at most one run.
+///
+/// The bytes determine the rule set, the header or opening base, the entries, the bases among them, and the
+/// machine's end state.
 pub fn one_run()
     ensures { (bytes : List ℕ) (r q : RuleSet) (o p : Opening) (log also : List Part) (end last : Stand)
         → IsTranscript bytes r o log end → IsTranscript bytes q p also last → SameRun r q o p log also end last }
 {}
 
-/// A text that is accepted is accepted with one summary.
+/// An accepted text has one summary.
 pub fn one_count()
     ensures { (bytes : List ℕ) (c d : Summary) → IsAccepted bytes c → IsAccepted bytes d → c ≡ d }
 {}
 
-/// A text has one damage at most: the first line that fails, and its first check that does.
+/// A text has at most one damage: its first line that fails, and that line's first failed check.
 pub fn one_damage()
     ensures { (bytes : List ℕ) (d e : Damage) → IsDamage bytes d → IsDamage bytes e → d ≡ e }
 {}
@@ -32,7 +34,7 @@ pub fn transcript_has_no_damage()
     ensures { (bytes : List ℕ) (counted : Summary) (damage : Damage) → IsAccepted bytes counted → IsDamage bytes damage → ⊥ }
 {}
 
-/// A text that has no damage cannot fail to be the transcript of a run.
+/// A text without damage cannot fail to be the transcript of a run.
 pub fn undamaged_is_a_transcript()
     ensures { (bytes : List ℕ) → ((damage : Damage) → IsDamage bytes damage → ⊥) → ((counted : Summary) → IsAccepted bytes counted → ⊥) → ⊥ }
 {}

@@ -1,14 +1,15 @@
-//! The auditor: accepts bytes that are the transcript of a run of the rule machine, and names the first damage of others.
+//! The auditor: accepts bytes that are the transcript of a run, and names the first damage of all others.
 //!
-//! It reads a text part by part, an entry through `entry_grammar` and the `judge`, a base by comparing it with where the run stands, and
-//! keeps what is not whole yet alone. It accepts exactly the texts of runs, with the counts of their entries, epochs and moves; of every
-//! other text it names the first line that fails and the first check that it fails. A text is the transcript of one run at most and has
-//! one damage at most: laws of their own. It stands on the definitions and on no guard of the engine, so it judges transcripts that other
-//! programs wrote, too.
+//! It reads a text part by part: an entry through `entry_grammar` and the `judge`, a base by comparing it
+//! with the state reached. It keeps only the part that is not whole yet. It accepts exactly the texts of runs
+//! and counts their entries, epochs and moves. For every other text it names the first line that fails, and
+//! the first check that this line fails. A text is the transcript of at most one run and has at most one
+//! damage (laws). The auditor builds on the definitions and uses no guard of the engine, so it also judges
+//! transcripts of other programs.
 //!
-//! `PieceAudit` is an audit that is fed its text in pieces, cut anywhere, by whoever has them; `audit` reads them itself.
-//! `state_after` gives the state behind an entry; `epochs_of` the moves that came after each disturbance, beside their bound, and what it
-//! cost, as the judge tells it before the entry is carried out.
+//! `PieceAudit` is fed a text in pieces, cut anywhere; `audit` reads one itself. `state_after` returns the
+//! state after an entry. `epochs_of` returns the moves after each disturbance, their bound, and what the
+//! disturbance cost.
 //!
 //! ```rust
 //! match audit(alloc, &mut Reads::new(stdin)) {

@@ -1,10 +1,10 @@
-//! Lines of a text, by their line feeds; and how far two texts are the same.
+//! The line feeds of a text, and the common beginning of two texts.
 
 ghost use Rattle.std.specs.Prelude.{◌≡◌, ◌≤◌, ℕ, List, ◌++◌, length};
 ghost use Rattle.auditor.specs.Damage.{line_feeds};
 ghost use Rattle.auditor.specs.Replays.{AreSameUpTo, ArePartedAt};
 
-/// How many lines end in the bytes. One look at each byte.
+/// How many lines end in the bytes. Looks at each byte once.
 pub(crate) fn line_feeds(bytes: &[u8]) -> u64
     ensures { result ≡ line_feeds bytes.now }
 {
@@ -17,7 +17,7 @@ pub(crate) fn line_feeds(bytes: &[u8]) -> u64
     lines
 }
 
-/// How many lines end before the rest with which a text ends.
+/// How many lines end before `rest`, the end of `text`.
 pub(crate) fn lines_before(text: &[u8], rest: &[u8]) -> u64
     requires { length rest.now ≤ length text.now }
     ensures { (good : List ℕ) → text.now ≡ good ++ rest.now → result ≡ line_feeds good }
@@ -25,7 +25,7 @@ pub(crate) fn lines_before(text: &[u8], rest: &[u8]) -> u64
     line_feeds(&text[..text.len() - rest.len()])
 }
 
-/// With how many bytes of the text these bytes begin, where so many are known to be the same.
+/// How many first bytes the two texts share, if the first `known` are known to be equal.
 pub(crate) fn common_len(text: &[u8], bytes: &[u8], known: usize) -> usize
     requires known { AreSameUpTo text.now bytes.now known }
     ensures same { AreSameUpTo text.now bytes.now result }

@@ -9,8 +9,10 @@ use crate::judging::Trial;
 use crate::{JudgeFault, Summary};
 use std::alloc::Global;
 
-/// An audit that is fed a transcript in pieces, cut anywhere. It keeps of the text what is not whole yet, a line or a base. Once
-/// something is wrong, it is so whatever is fed, and each further call answers the same.
+/// An audit that is fed a transcript in pieces, cut anywhere.
+///
+/// It keeps only the line or base that is not whole yet. An error holds whatever is fed later, and each
+/// further call returns it.
 #[derive(Drop)]
 pub struct PieceAudit {
     trial: Trial,
@@ -33,9 +35,11 @@ impl PieceAudit {
         }
     }
 
-    /// Feeds it the bytes that come next, and judges what is whole now. An `Err` holds whatever may come behind them: the damage
-    /// is that of every text that begins so. `Memory` if memory runs out, or where more than 2^63 - 1 bytes were fed. What was
-    /// answered once as an `Err`, each later call answers. Costs what `audit_bytes` costs of the lines that end in the piece.
+    /// Feeds the next bytes, and judges what is whole.
+    ///
+    /// An `Err` is final: its damage is that of every text that begins with these bytes, and each later call
+    /// returns it. `Memory` if memory runs out, or if more than 2^63 - 1 bytes were fed. Costs what
+    /// `audit_bytes` costs for the lines that end in the piece.
     pub fn feed(&mut self, alloc: Global, piece: &[u8]) -> Result<(), JudgeFault>
         ensures fed { (bytes : List ℕ) → IsFed bytes self.old → IsFed (bytes ++ piece.now) self.new }
         ensures fault { IfErr result (λ fault. (bytes more : List ℕ) → IsFed bytes self.old → IsJudged (bytes ++ piece.now ++ more) (Err fault)) }
@@ -54,7 +58,7 @@ impl PieceAudit {
         }
     }
 
-    /// Judges what it was fed as a whole text, as `audit_bytes` does.
+    /// Judges all that was fed as a whole text, as `audit_bytes` does.
     pub fn finish(self, alloc: Global) -> Result<Summary, JudgeFault>
         ensures judged { (bytes : List ℕ) → IsFed bytes self → IsJudged bytes result }
         ensures accepts_runs { (bytes : List ℕ) → IsFed bytes self → JudgesRuns bytes result }

@@ -1,4 +1,4 @@
-//! The state to which the first entries of a transcript lead.
+//! The state after the first entries of a transcript.
 
 ghost use Rattle.std.specs.Prelude.{◌≡◌, ◌<◌, ℕ, IfErr, IfOk, MatchOption, Some};
 ghost use Rattle.auditor.specs.declared.reach.ReplayFault.TheVariants.{TooFew};
@@ -10,27 +10,27 @@ use judge::Judge;
 use rule_machine::RuleSet;
 use std::alloc::Global;
 
-/// Where a run is.
+/// The state that a run has reached.
 #[derive(Drop)]
 pub struct Reached {
-    /// Its rules.
+    /// The rules of the run.
     pub rules: RuleSet,
-    /// The judge in the state that the run has reached.
+    /// The judge in that state.
     pub judge: Judge,
 }
 
 /// Why a state was not reached.
 #[derive(Clone, Copy, PartialEq, Eq)]
 pub enum ReplayFault {
-    /// A line that was looked at is damaged, or memory ran out.
+    /// A line up to the entry is damaged, or memory ran out.
     Judged(JudgeFault),
-    /// The bytes are the transcript of a run, whose last entry has a smaller number than the one that was asked for.
+    /// The bytes are the transcript of a run, but its last entry has a smaller number than was asked for.
     TooFew { asked: u32, entries: u32 },
-    /// The bytes begin with a base, behind which the entry with the number that was asked for is forgotten.
+    /// The bytes begin with a base that has a greater number than was asked for.
     Forgotten { asked: u32, base: u32 },
 }
 
-// Whether so many entries end before the one with the number `last`, where one is named.
+// Whether the entry `last` is still to come, `entries` having been read; always if none is named.
 fn falls_short(entries: u32, last: Option<u32>) -> bool
     ensures { result ≡ falls_short last entries }
 {
@@ -40,7 +40,7 @@ fn falls_short(entries: u32, last: Option<u32>) -> bool
     }
 }
 
-// Which entry was asked for, where as many as so many entries end behind it.
+// The number that was asked for, if it is below `entries`.
 fn forgotten(entries: u32, last: Option<u32>) -> Option<u32>
     ensures { MatchOption result (IsWithin last entries) (λ asked. (last ≡ Some asked) × (asked < entries)) }
 {
@@ -50,7 +50,7 @@ fn forgotten(entries: u32, last: Option<u32>) -> Option<u32>
     }
 }
 
-// The state that was reached, or how many entries there are, where there should be more.
+// The state reached, or `TooFew`.
 fn finish(replay: Replay, last: Option<u32>) -> Result<Reached, ReplayFault>
     ensures reached { IfOk result (λ reached. (reached.rules ≡ replay.rules) × (reached.judge ≡ replay.audit.state) × IsLongEnough last replay.audit.number) }
     ensures few { IfErr result (λ fault. (asked : ℕ) × (fault ≡ TooFew asked replay.audit.number) × (last ≡ Some asked) × (replay.audit.number < asked)) }
@@ -65,11 +65,16 @@ fn finish(replay: Replay, last: Option<u32>) -> Result<Reached, ReplayFault>
     }
 }
 
-/// The state after the entry with the number `last`, 0 for the opening state and the number of a base for that of the base, or
-/// after all entries; and the rules of the transcript. The line of that entry is the last one that is looked at: of the lines up
-/// to it those are good, and those damaged, that `audit_bytes` finds so. `TooFew` where all lines are good and no entry has that
-/// number or a greater one, `Forgotten` where the bytes begin with a base of a greater number; `Memory` if memory runs out. Costs
-/// what `audit_bytes` costs of these lines.
+/// The state after entry `last`, or after all entries if it is `None`, and the rules of the transcript.
+///
+/// `last` is 0 for the opening state, or the number of an opening base for its state. The line of that entry
+/// is the last one looked at. The lines up to it are good or damaged as `audit_bytes` finds them.
+///
+/// - `Judged` with the first damage of these lines, or with `Memory` if memory runs out.
+/// - `TooFew` if all lines are good and none has that number or a greater one.
+/// - `Forgotten` if the bytes begin with a base of a greater number.
+///
+/// Costs what `audit_bytes` costs for these lines.
 pub fn state_after(alloc: Global, bytes: &[u8], last: Option<u32>) -> Result<Reached, ReplayFault>
     ensures reached { IfOk result (λ reached. IsStateAfter bytes.now last reached.rules reached.judge) }
     ensures fault { IfErr result (IsReplayFault bytes.now last) }

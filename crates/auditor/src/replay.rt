@@ -1,4 +1,4 @@
-//! A transcript that is gone through part by part.
+//! Going through a transcript part by part.
 
 ghost use Rattle.std.specs.Prelude.{◌≡◌, ◌≢◌, ◌≤◌, ◌++◌, ℕ, List, [], None, Some, IfErr, IfOk, MatchOption, OnOk};
 ghost use Rattle.rule_machine.specs.declared.rules.RuleSet.{RuleSet as Rules};
@@ -22,8 +22,9 @@ use log_entry::MAX_ENTRIES;
 use rule_machine::{RuleSet, Start, Want};
 use std::alloc::Global;
 
-/// The rules of a transcript and how many names there are, where its first epoch began, how far its audit has come, and how many
-/// lines that is. While a base comes in pieces: the text that it has to have, and how many bytes of that have come.
+/// The rules and size of a transcript, the start of its first epoch, and its audit after `lines` lines.
+///
+/// While a base comes in pieces, `wanted` is its text, and `same` is how many bytes of it have come.
 #[derive(Drop)]
 pub(crate) struct Replay {
     pub(crate) rules: RuleSet,
@@ -35,7 +36,6 @@ pub(crate) struct Replay {
     pub(crate) same: usize,
 }
 
-// The rules and how many names there are, where the line is the first of a base.
 fn head_of(line: BaseLine) -> Option<(RuleSet, u32)>
     ensures { MatchOption result ((rules : Rules) (size : ℕ) → line ≡ Head rules size → ⊥) (λ head. line ≡ Head head.0 head.1) }
 {
@@ -45,7 +45,7 @@ fn head_of(line: BaseLine) -> Option<(RuleSet, u32)>
     }
 }
 
-// Reads the first line of a base.
+// Reads the first line of a base: its rules, and its number of names.
 fn read_head(line: &[u8]) -> Option<(RuleSet, u32)>
     ensures { MatchOption result (SpellsNoHead line.now) (λ head. (head.1 ≤ 65535) × (line.now ≡ base_head head.0 head.1)) }
 {
@@ -55,7 +55,7 @@ fn read_head(line: &[u8]) -> Option<(RuleSet, u32)>
     head_of(found)
 }
 
-// What is wrong with a text that ends before what it begins with does.
+// The damage of a text that ends before its opening does.
 fn cut_start(text: &[u8]) -> Damage
     requires { HasCutStart text.now }
     ensures { IsMetFirst text.now (Damaged result) }
@@ -69,7 +69,6 @@ fn cut_start(text: &[u8]) -> Damage
 }
 
 impl Audit {
-    /// The judge in the state that was reached.
     pub(crate) fn into_judge(self) -> Judge
         ensures { result ≡ self.state }
     {
@@ -78,7 +77,7 @@ impl Audit {
 }
 
 impl Replay {
-    /// Begins behind a header, at the opening state.
+    /// Begins after a header, at the opening state.
     fn at_header(
         alloc: Global,
         text: &[u8],
@@ -104,7 +103,7 @@ impl Replay {
         })
     }
 
-    /// Begins behind the base whose first line stands before the rest, if it is whole.
+    /// Begins after the base whose first line is before `rest`, if that base is whole.
     fn at_base<'a>(
         alloc: Global,
         text: &[u8],
@@ -145,8 +144,9 @@ impl Replay {
         Ok(Some((replay, behind)))
     }
 
-    /// Reads what the text begins with, a header or a base, and gives what follows it; none where it is not whole. What is
-    /// wrong is so whatever comes behind the text.
+    /// Reads the text's opening, a header or a base, and returns what follows; `None` if it is not whole.
+    ///
+    /// An error holds whatever follows the text.
     pub(crate) fn open(alloc: Global, text: &[u8]) -> Result<Option<(Replay, &[u8])>, JudgeFault>
         ensures begins { IfOk result (λ found. MatchOption found (HasCutStart text.now) (λ begun. Begins text.now begun.0 begun.1.now)) }
         ensures fault { IfErr result (λ fault. (more : List ℕ) → IsMetFirst (text.now ++ more) fault) }
@@ -164,7 +164,7 @@ impl Replay {
         }
     }
 
-    /// Reads what the text begins with, where nothing comes behind the text.
+    /// Reads the opening of a whole text.
     pub(crate) fn open_whole(alloc: Global, text: &[u8]) -> Result<(Replay, &[u8]), JudgeFault>
         ensures begins { IfOk result (λ begun. Begins text.now begun.0 begun.1.now) }
         ensures fault { IfErr result (IsMetFirst text.now) }
@@ -176,14 +176,13 @@ impl Replay {
         }
     }
 
-    /// The number of the last entry that was checked.
     pub(crate) fn number(&self) -> u32
         ensures { result ≡ self.now.audit.number }
     {
         self.audit.number()
     }
 
-    // Goes past the entry that comes next, and gives what follows it; none where its line is not whole.
+    // Passes the next entry, and returns what follows; `None` if its line is not whole.
     fn pass_entry<'a>(
         &mut self,
         alloc: Global,
@@ -205,7 +204,7 @@ impl Replay {
         }
     }
 
-    // Makes the text of the base of where the run stands, where there is none yet.
+    // Writes the text of the base of the state reached, unless it is already there.
     fn want_base(&mut self, alloc: Global) -> Result<(), Want>
         requires at { (rest : List ℕ) × IsSomewhere self.old rest }
         requires compared { (rest : List ℕ) × IsCompared self.old rest }
@@ -219,8 +218,8 @@ impl Replay {
         Ok(())
     }
 
-    // Goes past the base that comes next, which has to be that of where the run stands, and gives what follows it; none where
-    // the rest is the beginning of that one.
+    // Passes the next base, which must be that of the state reached, and returns what follows; `None` if the
+    // rest is only its beginning.
     fn pass_base<'a>(
         &mut self,
         alloc: Global,
@@ -248,8 +247,9 @@ impl Replay {
         Err(JudgeFault::Damaged(Damage::BadBase { line }))
     }
 
-    /// Goes past what comes next, an entry or a base, and gives what follows it; none where it is not whole. What is wrong is so
-    /// whatever comes behind the rest.
+    /// Passes the next entry or base, and returns what follows; `None` if it is not whole.
+    ///
+    /// An error holds whatever follows the rest.
     pub(crate) fn advance<'a>(
         &mut self,
         alloc: Global,
@@ -266,7 +266,7 @@ impl Replay {
         self.pass_entry(alloc, rest)
     }
 
-    // What is wrong with a rest that ends before what comes next does.
+    // The damage of a rest that ends before its next part does.
     fn cut_off(&self, rest: &[u8]) -> Damage
         requires at { IsSomewhere self.now rest.now }
         requires some { rest.now ≢ [] }
@@ -281,7 +281,7 @@ impl Replay {
         }
     }
 
-    /// Goes past what comes next, where nothing comes behind the rest, and gives what follows it.
+    /// Passes the next part of a whole text, and returns what follows.
     pub(crate) fn advance_whole<'a>(
         &mut self,
         alloc: Global,

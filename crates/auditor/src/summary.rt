@@ -1,4 +1,4 @@
-//! What an audit counts.
+//! The counts of an audit.
 
 ghost use Rattle.std.specs.Prelude.{◌≡◌, ◌<◌, ◌≤◌};
 ghost use Rattle.rule_machine.specs.Answer as answer;
@@ -7,8 +7,9 @@ ghost use Rattle.auditor.specs.Position.{counted_more, IsCounted};
 
 use rule_machine::Reply;
 
-/// How many entries, epochs and moves an accepted transcript has. There is one epoch at the start, and one more from
-/// each accepted disturbance on.
+/// The numbers of entries, epochs and moves of an accepted transcript.
+///
+/// One epoch begins at the start, and one at each accepted disturbance.
 #[derive(Clone, Copy, Debug, PartialEq, Eq)]
 pub struct Summary {
     /// The entries, at most 16,777,216.
@@ -20,7 +21,6 @@ pub struct Summary {
 }
 
 impl Summary {
-    /// The counts with one more entry.
     pub(crate) fn with_reply(self, reply: &Reply) -> Summary
         requires counted { IsCounted self }
         requires room { self.entries < 16777216 }
@@ -36,7 +36,6 @@ impl Summary {
     }
 }
 
-// How many disturbances a reply says were made.
 fn disturbances_in(reply: &Reply) -> u32
     ensures { result ≡ disturbances_in reply.now }
 {
@@ -46,7 +45,6 @@ fn disturbances_in(reply: &Reply) -> u32
     }
 }
 
-// How many moves a reply says were made.
 fn moves_in(reply: &Reply) -> usize
     ensures { result ≡ moves_in reply.now }
 {

@@ -1,4 +1,4 @@
-//! The audit of a transcript.
+//! The audit of a whole transcript.
 
 ghost use Rattle.std.specs.Prelude.{◌≡◌, IfOk, IfErr, IfSome, IsErrOf, OnOk};
 ghost use Rattle.std.specs.Io.KnownBytes.{IsAtEnd};
@@ -13,9 +13,10 @@ use byte_streams::{Reads, chunk_of};
 use std::alloc::Global;
 use std::io::Read;
 
-/// Reads a transcript to its end and judges it, as `audit_bytes` does, line by line as they come: it keeps no more of the text than
-/// a line, or a base, that is not whole yet, and what one read gives. A refusal comes at once, and the reader is not read further.
-/// `Read` only where a read of the reader failed, or 4,294,967,295 were made.
+/// Reads a transcript to its end and judges it as `audit_bytes` does, part by part as it comes.
+///
+/// It keeps one read's bytes and the line or base that is not whole yet. A refusal comes at once, and the
+/// reader is read no further. `Read` only if a read of the reader failed, or 4,294,967,295 were made.
 pub fn audit<In: Read>(alloc: Global, reader: &mut Reads<In>) -> Result<Summary, AuditFault>
     ensures accepted { IfSome (In.remaining reader.old.reader) (λ bytes. IfOk result (IsAccepted bytes)) }
     ensures damage { IfSome (In.remaining reader.old.reader) (λ bytes. IfErr result (IsFault bytes)) }
@@ -27,7 +28,6 @@ pub fn audit<In: Read>(alloc: Global, reader: &mut Reads<In>) -> Result<Summary,
     judge_read(alloc, reader)
 }
 
-// What was judged, as an audit tells it.
 fn tell(judged: Result<Summary, JudgeFault>) -> Result<Summary, AuditFault>
     ensures told { result ≡ told judged }
     ensures read { IsErrOf result Unread → ⊥ }
@@ -38,7 +38,7 @@ fn tell(judged: Result<Summary, JudgeFault>) -> Result<Summary, AuditFault>
     }
 }
 
-// Reads to the end, and judges the lines as they come.
+// Reads to the end, and judges the parts as they come.
 fn judge_read<In: Read>(alloc: Global, reader: &mut Reads<In>) -> Result<Summary, AuditFault>
     ensures heard { IfSome (In.remaining reader.old.reader) (λ bytes. IsHeard bytes result) }
     ensures end { OnOk result (IsAtEnd (In.remaining reader.new.reader)) }
@@ -61,13 +61,21 @@ fn judge_read<In: Read>(alloc: Global, reader: &mut Reads<In>) -> Result<Summary
     }
 }
 
-/// Judges the bytes of a transcript: accepts exactly those that are the text of a run of the rule machine, whatever
-/// allowed targets it took, and counts its entries, epochs and moves. The text may begin with a base, which a run may go on
-/// from within its bound; and where a base comes among entries, it has to be that of the state reached. Else the first line that
-/// fails is named, by the first of these that it fails: its form, its number, its reply; of a base, that it is its line. `Memory`
-/// if memory runs out. An entry costs its line and what the judge looks at: look-ups, and the neighbours of the nodes that move;
-/// `enabled`, `matching` and `status` what changed since the last of them and what they list, as `Judge::replay` says; a base a
-/// look at all names and edges and the memory of its text.
+/// Judges the bytes of a transcript and counts its entries, epochs and moves.
+///
+/// It accepts exactly the texts of runs of the rule machine, whatever allowed targets they took. The text may
+/// begin with a base that a run may go on from within its bound. A base among entries must be that of the
+/// state reached.
+///
+/// - `Damaged` for all other bytes: the first line that fails. A line fails by its form, then its number,
+///   then its reply; a line of a base fails if it is not that base's.
+/// - `Memory` if memory runs out.
+///
+/// | Part | Cost |
+/// |---|---|
+/// | an entry | its line, look-ups, and the neighbours of the nodes that move |
+/// | `enabled`, `matching`, `status` | what changed since the last of them, and what they list (`Judge::replay`) |
+/// | a base | a look at all names and edges, and the memory of its text |
 pub fn audit_bytes(alloc: Global, bytes: &[u8]) -> Result<Summary, JudgeFault>
     ensures judged { IsJudged bytes.now result }
     ensures accepts_runs { JudgesRuns bytes.now result }

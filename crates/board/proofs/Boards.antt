@@ -1,4 +1,4 @@
--- What posting and publishing make of a board.
+-- A board after posting and publishing.
 use Rattle.std.proofs.Common.{◌≡◌, ◌+◌, ◌<◌, List, [], ◌∷◌, ◌++◌, length, Option, Some, inr, ⊎_elim, refl, ap, sym, ◌∙◌, subst, arith, length-append}
 use Rattle.std.proofs.lemmas.List.Sums.{fold-append}
 use Rattle.rule_machine.specs.Run.{Entry}
@@ -15,7 +15,7 @@ pub none_pending : (pending : List Posted) → entries_of pending ≡ [] → pen
 none_pending [] is = refl
 none_pending (p ∷ pending) is = absurd (cc is)
 
--- an entry that is posted changes nothing of what is published, and is the one that is posted last
+-- an entry that is posted changes nothing published, and is the one posted last
 post_standing : (marks : List Mark) (entry : Entry) → standing (marks ++ Some entry ∷ []) ≡ (published marks, entry ∷ [])
 post_standing marks entry = fold-append marked ([], []) marks (Some entry ∷ [])
 
@@ -32,7 +32,7 @@ module _ (law : Extent → List Entry → Type 0) (x : Sight) (known : Option Si
     is_announced = b.is_announced;
   }
 
-  -- what the posted entry makes of the entries that are shown
+  -- the entries shown after the posted entry
   shows_more : (pending : List Posted) (p : Posted) → IsBoard law x known pending marks book announced → Fits x marks book p → shown p.past.seen.log ≡ shown x.marks ++ p.entry ∷ []
   shows_more pending p b f = ap shown f.past ∙ (ap (λ l. l ++ posted marks) b.list ∙ ap (λ l. shown x.marks ++ l) f.last)
 

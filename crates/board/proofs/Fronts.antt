@@ -1,4 +1,4 @@
--- Beginnings of one list, and what a longer history shows.
+-- Prefixes of one list, and what a longer history shows.
 use Rattle.std.proofs.Common.{◌≡◌, ◌+◌, ◌≤◌, List, [], ◌∷◌, ◌++◌, length, take, drop, fold, Some, None, refl, ap, sym, ◌∙◌, subst, arith, append_assoc, length-append}
 use Rattle.std.proofs.lemmas.List.{append-nil, nil_from_length, take_at, take-append-drop, take-append-le}
 use Rattle.std.proofs.lemmas.List.Sums.{fold-append}
@@ -18,13 +18,13 @@ module _ {A : Type 0} where
   pub prefix_trans : (xs ys zs : List A) → IsPrefix xs ys → IsPrefix ys zs → IsPrefix xs zs
   prefix_trans xs ys zs p q = (p.0 ++ q.0, sym (append_assoc xs p.0 q.0) ∙ (ap (λ w. w ++ q.0) p.1 ∙ q.1))
 
-  -- of two beginnings of one list the shorter begins the longer
+  -- of two prefixes of one list the shorter is a prefix of the longer
   pub prefix_shorter : (xs ys zs : List A) → IsPrefix xs zs → IsPrefix ys zs → length xs ≤ length ys → IsPrefix xs ys
   prefix_shorter xs ys zs p q le =
       let front = sym (take_at xs p.0 (length xs) refl) ∙ ap (take (length xs)) (p.1 ∙ sym q.1) ∙ take-append-le (length xs) ys q.0 le in
       (drop (length xs) ys, ap (λ w. w ++ drop (length xs) ys) front ∙ take-append-drop (length xs) ys)
 
-  -- a beginning as long as the whole is the whole
+  -- a prefix as long as the whole is the whole
   pub prefix_whole : (xs ys : List A) → IsPrefix xs ys → length ys ≤ length xs → xs ≡ ys
   prefix_whole xs ys p le =
       let none = nil_from_length p.0 (omega (arith, length-append xs p.0, ap length p.1)) in sym (append-nil xs) ∙ ap (λ w. xs ++ w) (sym none) ∙ p.1
@@ -36,7 +36,7 @@ grows (Some entry ∷ marks) s = grows marks (s.0, entry ∷ [])
 grows (None ∷ marks) s =
     prefix_trans s.0 (s.0 ++ s.1) (fold marked (s.0 ++ s.1, []) marks).0 (prefix_more s.0 s.1) (grows marks (s.0 ++ s.1, []))
 
--- what a beginning of a history published begins what the history published
+-- what a prefix of a history published is a prefix of what the history published
 pub published_grows : (xs ys : List Mark) → IsPrefix xs ys → IsPrefix (published xs) (published ys)
 published_grows xs ys p =
     let is : fold marked (standing xs) p.0 ≡ standing ys = sym (fold-append marked ([], []) xs p.0) ∙ ap standing p.1 in
@@ -53,8 +53,8 @@ one_more xs ys (None ∷ []) is le =
     (subst (λ (s : List Entry × List Entry). IsPrefix s.0 (shown xs)) (sym (fold-append marked ([], []) xs (None ∷ []))) (prefix_self (shown xs)))
 one_more xs ys (a ∷ b ∷ rest) is le = absurd (omega arith)
 
--- Of two beginnings of one history, what the one published begins what the other shows, if the other lacks one mark of
--- the one at most.
+-- Of two prefixes of one history, what the one published is a prefix of what the other shows, if the other
+-- lacks at most one mark of the first.
 pub is_shown : (xs ys all : List Mark) → IsPrefix xs all → IsPrefix ys all → length xs ≤ length ys + 1 → IsPrefix (published xs) (shown ys)
 is_shown xs ys all p q le =
     dite (dec_le (length xs) (length ys))

@@ -1,4 +1,4 @@
--- What a run makes of the pointers, and of who is present.
+-- The pointers and present nodes after a run.
 use Rattle.std.proofs.Common.{◌≡◌, ℕ, Bool, true, false, List, [], ◌∷◌, ◌++◌, fold, Option, Some, None, refl, ap, sym, ◌∙◌, subst}
 use Rattle.std.specs.Prelude.{slice_set, if◌then◌else◌}
 use mathlib.Core.List.{IsPrefix}
@@ -71,7 +71,7 @@ module _ (t : RuleTable) (s : State) (spent : ℕ) (s' : State) where
       (ap pointers_of h.1 ∙ sym (ap (effect_of s.registers.pointers event) h.0), ap names_of h.1 ∙ sym (ap (λ (r : Reply). (s.network.size, here_of s.network.here event r)) h.0))
   by_refusal event reply None h = does event reply h
 
-  -- an answer changes the pointers and who is present as its entry says
+  -- an answer changes the pointers and the present nodes as its entry says
   pub answered : (event : Event) (reply : Reply) → Answers t s spent event reply s' → IsLeft event reply
   answered event reply h = by_refusal event reply (refusal_of t s event) h
 

@@ -1,4 +1,4 @@
--- Of two beginnings of one history, what was told of the one and what the other shows are of one log.
+-- Of two prefixes of one history, what the one published and what the other shows are of one log.
 use Rattle.std.proofs.Common.{ℕ, ◌-◌, ◌≤◌, ◌⊎◌, ⊎_elim, List, [], ◌∷◌, ◌++◌, length, take, fold, Some, None, inl, inr, arith, length-append}
 use Rattle.std.proofs.lemmas.List.{length-take, take-append-drop}
 use Rattle.std.specs.Prelude.{drop}

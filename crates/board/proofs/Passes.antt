@@ -1,7 +1,7 @@
 -- A pass over a list that writes each element anew.
 use Rattle.std.proofs.Common.{◌≡◌, ℕ, zero, suc, ◌+◌, ◌<◌, List, [], ◌∷◌, ◌++◌, length, map, take, drop, get_or, set, refl, ap, arith, add-one}
 
--- the list after so many of its elements are written
+-- the list after the first elements are written
 abbrev pub passed : {X : Type 0} → (X → X) → List X → ℕ → List X
 passed f xs k = map f (take k xs) ++ drop k xs
 

@@ -1,4 +1,4 @@
--- What entries do to the pointers.
+-- The effect of entries on the pointers.
 use Rattle.std.proofs.Common.{◌≡◌, ℕ, Bool, true, false, List, [], ◌∷◌, length, map, fold, Option, None, refl, ◌∙◌}
 use Rattle.std.proofs.lemmas.List.{length-set, length-map}
 use Rattle.std.specs.Prelude.{slice_set, if◌then◌else◌}

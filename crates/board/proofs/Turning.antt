@@ -27,7 +27,7 @@ abbrev with_places : Sight → ℕ → Extent
 with_places x places = record { places = places; present = x.present }
 
 module _ (law : Extent → List Entry → Type 0) where
-  -- a copy that goes on from the one before may be shown
+  -- a copy that continues the one before may be shown
   pub turns : (seat : ℕ) (v : Option Sight) (x y : Sight) → (IsSound law x → IsSound law y) → Follows (Some x) y → TurnsAt (Publishes law) seat v x y (Sees law)
   turns seat v x y sound on views h at = (
     Some y,
@@ -70,7 +70,7 @@ module _ (law : Extent → List Entry → Type 0) where
             (at_set (set views seat w) other j None u e),
       )
 
-  -- a copy one entry later is in step
+  -- a copy one entry later agrees with its entries
   pub later : (x : Sight) (entry : Entry) (front : ℕ) (marks : List Mark) (book : Book) → shown marks ≡ shown x.marks ++ entry ∷ []
       → front ≡ length (shown x.marks) + 1 → law (extent_of x) (shown x.marks ++ entry ∷ []) → IsSound law x → IsSound law (after x entry front marks book)
   later x entry front marks book is number holds sound =
@@ -89,7 +89,7 @@ module _ (law : Extent → List Entry → Type 0) where
   pub goes_on : (x : Sight) (entry : Entry) (front : ℕ) (marks : List Mark) → shown marks ≡ shown x.marks ++ entry ∷ [] → Follows (Some x) (after x entry front marks x.book)
   goes_on x entry front marks is = (refl, ap (λ (n : ℕ). with_places x n) (effect_length x.row entry), rw is (prefix_more (shown x.marks) (entry ∷ [])))
 
-  -- a look shows what begins the copy that was known
+  -- a look shows a copy that continues the known one
   pub goes_on_from : (list : List Entry) (v : Option Sight) (x : Sight) (w : Option Sight) (s : Sight) → v ≡ Some s → Sees law v x x w → IsPrefix list (shown s.marks)
       → IsPrefix list (shown x.marks)
   goes_on_from list v x w s is sees begins =

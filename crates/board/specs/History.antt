@@ -1,16 +1,15 @@
--- The history of a board: the entries that were posted, which of them were published, what two beginnings of it have to do with each
--- other, and what adding a mark tells.
+-- The history of a board: its posted and published entries, how two of its prefixes compare, and adding a
+-- mark.
 use Rattle.std.specs.Prelude.{ℕ, ◌≡◌, ◌⊎◌, ◌-◌, ◌==◌, true, List, [], ◌∷◌, ◌++◌, length, take, Option, None, Some, MatchBool, fold}
 use mathlib.Core.List.{IsPrefix}
 use Rattle.logbook.specs.Pages.{Cell, Step, View, Book, Named}
 use Rattle.rule_machine.specs.Run.{Entry}
 
--- an entry that is posted, in place of the one before if that was not published; or none, where what was posted last is
--- published
+-- an entry that is posted, replacing one not yet published; or none: the last posted entry is published
 abbrev pub Mark : Type 0
 Mark = Option Entry
 
--- the entries that are published, and the one that is posted, if any is
+-- the published entries, and the posted one, if any
 abbrev pub marked : List Entry × List Entry → Mark → List Entry × List Entry
 marked s (Some entry) = (s.0, entry ∷ [])
 marked s None = (s.0 ++ s.1, [])
@@ -28,13 +27,13 @@ posted marks = (standing marks).1
 abbrev pub shown : List Mark → List Entry
 shown marks = published marks ++ posted marks
 
--- ---- what two beginnings of one history have to do with each other
+-- ---- two prefixes of one history
 
 abbrev pub but_last : List Entry → List Entry
 but_last log = take (length log - 1) log
 
--- Of what was told and of a view: one begins the other. A copy carries the history as it was before the copy's last entry was published, so
--- where more was told than the view has, nothing is said of the view's last entry.
+-- Of a note's log and a view, one is a prefix of the other. A copy carries the history as it was before its
+-- last entry was published: if the note has more than the view, the view's last entry is not compared.
 abbrev pub IsOneLog : List Entry → List Entry → Type 0
 IsOneLog told view = IsPrefix told view ⊎ IsPrefix (but_last view) told
 
@@ -42,13 +41,13 @@ IsOneLog told view = IsPrefix told view ⊎ IsPrefix (but_last view) told
 abbrev pub AreOneLog : List Entry → List Entry → Type 0
 AreOneLog one other = IsPrefix (but_last one) other ⊎ IsPrefix (but_last other) one
 
--- of what two readers learnt one begins the other
+-- of what two readers learnt, one is a prefix of the other
 abbrev pub AreComparable : List Entry → List Entry → Type 0
 AreComparable one other = IsPrefix one other ⊎ IsPrefix other one
 
 -- ---- the rule of the history
 
--- The first word is the number of marks. A book has two words, of which this one leaves the second at 0.
+-- The first word is the number of marks. A book has two words; the second stays 0.
 abbrev pub IsKept : List Cell → List Mark → Type 0
 IsKept cells marks = cells ≡ (length marks, true) ∷ (0, true) ∷ []
 
@@ -60,6 +59,6 @@ max_marks = 18446744073709551615
 abbrev pub head_of : Book → Named
 head_of b = record { tracked = true; key = 0; book = b }
 
--- where the number that was expected is found, the mark was added to all that had been seen
+-- if the expected number is found, the mark was added to all that had been seen
 abbrev pub Adds : Step Mark → View Mark ℕ → ℕ → View Mark ℕ → Type 0
 Adds s v found w = MatchBool (found == s.old) (w.0 ≡ v.0 ++ s.ask ∷ []) (Unit {0})

@@ -1,4 +1,5 @@
--- The pointer registers, and who is present, as a log of events and replies changes them. A name is its own place, and place 0 is nobody's.
+-- The pointers and present nodes as a log of events and replies changes them. A name is its own place; place
+-- 0 is unused.
 use Rattle.std.specs.Prelude.{◌≡◌, ℕ, ◌+◌, Bool, true, false, ◌&&◌, List, Option, None, Some, fold, map, replicate, nat_le, slice_index_or, slice_set, if◌then◌else◌}
 use Rattle.std.specs.List.{range_with_len}
 use Rattle.rule_machine.specs.declared.act.Act.{Act}
@@ -16,7 +17,7 @@ use Rattle.rule_machine.specs.Run.{Entry, Moment, Run, beginning_with}
 abbrev pub Row : Type 0
 Row = List (Option ℕ)
 
--- where v points, if anywhere
+-- the target of v, if any
 abbrev pub pointer_in : Row → ℕ → Option ℕ
 pointer_in row v = slice_index_or row v None
 
@@ -24,7 +25,7 @@ abbrev pub returned : Row → ℕ → Option ℕ → Option ℕ
 returned row v None = None
 returned row v (Some w) = if is_at (pointer_in row w) v then Some w else None
 
--- the node at which v points, if that points at v
+-- the target of v, if that points at v
 abbrev pub partner_in : Row → ℕ → Option ℕ
 partner_in row v = returned row v (pointer_in row v)
 
@@ -55,7 +56,7 @@ disturbed row Enabled = row
 disturbed row Matching = row
 disturbed row Status = row
 
--- only what was accepted and the moves of a step change a pointer
+-- only accepted events and the moves of a step change a pointer
 abbrev pub effect_of : Row → Event → Reply → Row
 effect_of row event Accepted = disturbed row event
 effect_of row event (Moves moves) = fold moved row moves
@@ -72,16 +73,16 @@ effect row entry = effect_of row entry.0 entry.1
 abbrev pub pointers_after : ℕ → List Entry → Row
 pointers_after places log = fold effect (replicate places None) log
 
--- how many places there are, and how many nodes were present before any entry: those with the names from 1 on
+-- how many places there are, and how many nodes, named from 1, before any entry
 pub record Extent : Type 0 where
   pub places : ℕ
   pub present : ℕ
 
--- at which places there was a node before any entry
+-- for each place, whether its node is present before any entry
 abbrev pub here_at_start : Extent → List Bool
 here_at_start extent = map (λ v. nat_le 1 v && nat_le v extent.present) (range_with_len 0 extent.places)
 
--- what an accepted edit or fault does to who is present
+-- what an accepted edit or fault does to the present nodes
 abbrev pub turned : List Bool → Event → List Bool
 turned here (Link a b) = here
 turned here (Unlink a b) = here
@@ -95,7 +96,7 @@ turned here Enabled = here
 turned here Matching = here
 turned here Status = here
 
--- only who joined and who left make a difference
+-- only an accepted join or leave changes them
 abbrev pub here_of : List Bool → Event → Reply → List Bool
 here_of here event Accepted = turned here event
 here_of here event (Moves moves) = here
@@ -108,10 +109,11 @@ here_of here event (Counts counts) = here
 abbrev pub here_by : List Bool → Entry → List Bool
 here_by here entry = here_of here entry.0 entry.1
 
--- at which places there is a node after a log
+-- for each place, whether its node is present after a log
 abbrev pub here_after : Extent → List Entry → List Bool
 here_after extent log = fold here_by (here_at_start extent) log
 
--- The logs that are runs of a rule table: from the opening state of so many names, of which each has a place, and place 0 is nobody's; so many of the first are present
+-- The logs that are runs of a rule table from an opening state with one name fewer than places, since place 0
+-- is unused, and with the extent's nodes present.
 abbrev pub IsRun : RuleTable → Extent → List Entry → Type 0
 IsRun t extent log = (size : ℕ) × (end : Moment) × (extent.places ≡ size + 1) × Run t (beginning_with size extent.present) log end

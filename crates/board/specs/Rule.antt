@@ -1,4 +1,4 @@
--- The rule of the copies: what each reader knows is a beginning of what is published.
+-- The rule of the copies: what each reader knows is a prefix of what is published.
 use Rattle.std.specs.Prelude.{◌≡◌, ℕ, List, length, Option, None, Some}
 use mathlib.Core.List.{IsPrefix}
 use mathlib.Core.Option.{some}
@@ -8,12 +8,12 @@ use Rattle.board.specs.History.{shown}
 use Rattle.board.specs.Row.{Extent, pointers_after, here_after}
 use Rattle.board.specs.Sight.{Sight, extent_of}
 
--- what was known, if anything, is of the same history and board, and begins what is shown
+-- what was known, if anything, is of the same history and board, and is a prefix of what is shown
 abbrev pub Follows : Option Sight → Sight → Type 0
 Follows None x = Unit {0}
 Follows (Some s) x = (x.book ≡ s.book) × (extent_of x ≡ extent_of s) × IsPrefix (shown s.marks) (shown x.marks)
 
--- a copy that is in step with the entries that it shows, which keep the law
+-- a copy that agrees with the entries that it shows, which keep the law
 pub record IsSound (law : Extent → List Entry → Type 0) (x : Sight) : Type 0 where
   pub row : x.row ≡ pointers_after (length x.row) (shown x.marks)
   pub here : x.here ≡ here_after (extent_of x) (shown x.marks)
@@ -21,10 +21,10 @@ pub record IsSound (law : Extent → List Entry → Type 0) (x : Sight) : Type 0
   pub lawful : law (extent_of x) (shown x.marks)
 
 module _ (law : Extent → List Entry → Type 0) where
-  -- between any two steps, of the copy that readers take and of what each of them and the writer know
+  -- between any two steps, of the readers' copy and of what each reader and the writer know
   abbrev pub Publishes : Sight → List (Option Sight) → Type 0
   Publishes x views = IsSound law x × ((seat : ℕ) (v : Option Sight) → get_elem? views seat ≡ some v → Follows v x)
 
-  -- who reads a copy, or publishes it, knows it then; it goes on from what was known
+  -- after a read or a publication of a copy the copy is known, and continues what was known
   abbrev pub Sees : Option Sight → Sight → Sight → Option Sight → Type 0
   Sees v x y w = (w ≡ Some y) × Follows v y × IsSound law y

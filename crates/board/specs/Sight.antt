@@ -1,12 +1,12 @@
--- What one copy holds, as contracts see it.
+-- One copy as contracts see it.
 use Rattle.std.specs.Prelude.{ℕ, Bool, false, List, Option, None, Some, length, replicate, if◌then◌else◌, nat_lt, slice_index_or}
 use Rattle.rule_machine.specs.Run.{Entry}
 use Rattle.logbook.specs.Pages.{Book}
 use Rattle.board.specs.History.{Mark}
 use Rattle.board.specs.Row.{Row, Extent, pointer_in, partner_in, effect, here_at_start, here_by, pointers_after, here_after}
 
--- the pointers, and at which places there is a node; how many nodes there were before any entry; the number of entries that made both,
--- and the beginning of the history that shows these entries
+-- the pointers and, for each place, whether its node is present; the number of nodes before any entry; the
+-- number of entries, and the prefix of the history that shows them
 pub record Sight : Type 0 where
   pub row : Row
   pub here : List Bool
@@ -20,7 +20,7 @@ abbrev pub blank : Extent → List Mark → Book → Sight
 blank extent marks book =
     record { row = replicate extent.places None; here = here_at_start extent; present = extent.present; front = 0; marks = marks; book = book }
 
--- how many places it has, and how many nodes there were before any entry
+-- how many places it has, and how many nodes before any entry
 abbrev pub extent_of : Sight → Extent
 extent_of x = record { places = length x.row; present = x.present }
 
@@ -29,11 +29,11 @@ abbrev pub after : Sight → Entry → ℕ → List Mark → Book → Sight
 after x entry front marks book =
     record { row = effect x.row entry; here = here_by x.here entry; present = x.present; front = front; marks = marks; book = book }
 
--- a pointer, and the node at which it is if that one points back; none where there is no such place
+-- a pointer, and its target if that points back; none if there is no such place
 abbrev pub held_in : Row → ℕ → Option (Option ℕ × Option ℕ)
 held_in row place = if nat_lt place (length row) then Some (pointer_in row place, partner_in row place) else None
 
--- the same where there is a node at the place, and none elsewhere
+-- the same if the place's node is present, otherwise none
 abbrev pub found_in : Row → List Bool → ℕ → Option (Option ℕ × Option ℕ)
 found_in row here place = if slice_index_or here place false then held_in row place else None
 

@@ -5,12 +5,12 @@ use Rattle.logbook.specs.Pages.{Book}
 use Rattle.board.specs.Row.{Extent}
 use Rattle.board.specs.Sight.{Sight, extent_of}
 
--- which history a board's entries are of, how many places it has, and how many nodes there were before any entry
+-- the history of a board's entries, the number of places, and the number of nodes before any entry
 pub record Name : Type 0 where
   pub book : Book
   pub extent : Extent
 
--- the entries that are published, and the one that is posted and not published yet, if any is
+-- the published entries, and the posted one not yet published, if any
 pub record Standing : Type 0 where
   pub list : List Entry
   pub posted : List Entry

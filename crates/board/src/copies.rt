@@ -1,4 +1,4 @@
-//! The board: what publishes entries.
+//! The board, which publishes entries.
 
 ghost use Rattle.std.specs.Prelude.{◌≡◌, ◌^◌, ◌<◌, ◌∷◌, ◌++◌, [], length, drop, fold, IfOk, OnOk, OnErr};
 ghost use Rattle.left_right.specs.Sides.{view as known};
@@ -20,17 +20,19 @@ use std::marker::Model;
 use std::sync::Wait;
 use thiserror::Error;
 
-/// The board found no place for another reader: each was taken, or memory for it ran out.
+/// The board has no place for another reader: each is taken, or memory for it ran out.
 #[derive(Clone, Copy, Debug, PartialEq, Eq, Error)]
 #[error("the board has no place for another reader")]
 pub struct NoPlace;
 
-/// The two copies and what one of them lacks.
+/// The two copies and the changes that one of them lacks.
 pub(crate) type Copies<L> = Writer<Image, Posted, Option<Image>, Published<L>>;
 
-/// Publishes the pointers of a network and who is present, entry by entry, for readers that wait for nobody. Contracts see the entries that
-/// are published, the one that is posted and not published yet, if any is, and a name: the history that the entries are
-/// of, how many places there are, and how many nodes there were before any entry. Every log that it publishes keeps the law `L`. It can't be dropped: `end` ends it.
+/// Publishes a network's pointers and present nodes, entry by entry, for wait-free readers.
+///
+/// Contracts see the published entries, the entry that is posted but not published, if any, and a name: the
+/// entries' history, the number of places, and the number of nodes before any entry. Every log that it
+/// publishes keeps the law `L`. A board cannot be dropped: `end` ends it.
 pub struct Board<L: Law> {
     writer: Copies<L>,
     history: History,
@@ -72,7 +74,7 @@ fn copied(entry: &Entry) -> Result<Entry, AllocError>
     Ok(copy)
 }
 
-/// Whether there was memory for one more entry to be pending.
+/// Adds one more pending entry; false if memory runs out.
 fn append<L: Law>(writer: &mut Copies<L>, posted: Posted) -> bool
     ensures desk { writer.new.desk ≡ writer.old.desk }
     ensures pending { Appends result posted (drop writer.old.behind writer.old.log.items) (drop writer.new.behind writer.new.log.items) }
@@ -83,7 +85,7 @@ fn append<L: Law>(writer: &mut Copies<L>, posted: Posted) -> bool
     }
 }
 
-/// Shows readers a copy that has all that is pending. It waits for those that still read the other copy.
+/// Shows readers a copy with all pending entries. It waits for those that still read the other copy.
 fn show<L: Law, R: Wait>(writer: Copies<L>, rt: &R) -> (Copies<L>, ())
     requires { IsReady L.holds writer.desk.shown.value (drop writer.behind writer.log.items) }
     ensures copy { result.0.desk.shown.value ≡ fold absorbed writer.desk.shown.value (drop writer.behind writer.log.items) }
@@ -95,7 +97,6 @@ fn show<L: Law, R: Wait>(writer: Copies<L>, rt: &R) -> (Copies<L>, ())
     (writer, ())
 }
 
-/// The board over copies that were just made.
 fn opened<L: Law, R: Wait>(rt: &R, writer: Copies<L>, history: History) -> Board<L>
     requires copy { writer.desk.shown.value ≡ blank (extent_of writer.desk.shown.value) [] history.front.seen.book }
     requires pending { drop writer.behind writer.log.items ≡ [] }
@@ -113,8 +114,9 @@ fn opened<L: Law, R: Wait>(rt: &R, writer: Copies<L>, history: History) -> Board
 }
 
 impl<L: Law> Board<L> {
-    /// A board without entries, all its pointers null, with the nodes present whose names are 1 to `present`, for at most so many readers
-    /// at once. It takes 9 bytes a place and copy, and 256 bytes a reader.
+    /// A board without entries, for at most `readers` readers at once.
+    /// All pointers are null, and the names 1 to `present` are nodes.
+    /// `AllocError` if memory runs out. Takes 9 bytes a place and copy, and 256 a reader.
     pub fn new<R: Wait>(
         alloc: Global,
         rt: &R,
@@ -133,8 +135,8 @@ impl<L: Law> Board<L> {
         Ok(opened(rt, writer, history))
     }
 
-    /// Takes the memory that the entry needs, and publishes nothing: `publish` does, and then it can't fail. At `Err`
-    /// memory ran out, and nothing is posted.
+    /// Takes all the memory that the entry needs. `publish` then publishes it and cannot fail.
+    /// `AllocError` if memory runs out; it posts nothing then.
     pub fn post(&mut self, entry: &Entry) -> Result<(), AllocError>
         requires one { self.old.posted ≡ [] }
         requires room { length self.old.list < 2 ^ 24 }
@@ -159,8 +161,8 @@ impl<L: Law> Board<L> {
         Ok(())
     }
 
-    /// Publishes the posted entry, if there is one, whole and at once, and tells what is published then. It takes no
-    /// memory, and waits for readers that still look at the copy of before.
+    /// Publishes the posted entry, if any, whole and at once, and returns a note of what is published.
+    /// Takes no memory. It waits for readers that still look at the previous copy.
     pub fn publish<R: Wait>(&mut self, rt: &R) -> Note
         requires { L.holds self.old.name.extent (self.old.list ++ self.old.posted) }
         ensures published { self.new ≡ record self.old { list = self.old.list ++ self.old.posted; posted = [] } }
@@ -168,8 +170,9 @@ impl<L: Law> Board<L> {
     {
         if self.writer.has_pending_operations() {
             replace_with(&mut self.writer, rt, show::<L, R>);
-            // `post` left room for the mark. It is refused where another was added: nobody else has the word, but it is
-            // stepped through `&`, and no contract of `logbook` knows its value between two steps.
+            // `post` left room for the mark. It would be refused only if another had been added. No one else
+            // has the word, but it is stepped through `&`, so no contract of `logbook` fixes its value
+            // between steps.
             if !self.history.add::<(), Publishes>(&()) {
                 for _ in rt.forever() {}
                 unreachable!()
@@ -179,7 +182,7 @@ impl<L: Law> Board<L> {
         self.note()
     }
 
-    /// Tells what is published.
+    /// A note of what is published.
     pub fn note(&self) -> Note
         ensures { (result.log ≡ self.now.list) × (result.book ≡ self.now.name.book) }
     {
@@ -188,8 +191,8 @@ impl<L: Law> Board<L> {
         }
     }
 
-    /// A reader that sees at least what is published now. It keeps its place until it is dropped. Nothing is said of when
-    /// no place is found.
+    /// A reader that sees at least what is published now. It keeps its place until it is dropped.
+    /// `NoPlace` if no place is found; when that happens is unspecified.
     pub fn reader(&mut self) -> Result<Reader<L>, NoPlace>
         ensures kept { self.new ≡ self.old }
         ensures seen { IfOk result (λ r. (r.list ≡ self.old.list) × (r.learnt ≡ self.old.list) × (r.name ≡ self.old.name)) }
@@ -202,7 +205,7 @@ impl<L: Law> Board<L> {
         Ok(Reader::over(seat, seen, self.announced.again()))
     }
 
-    /// Ends the board. It waits for readers that are looking; after it each reader sees nothing.
+    /// Ends the board. It waits for readers that are looking; afterwards each reader sees nothing.
     pub fn end<R: Wait>(self, rt: &R) {
         let Self {
             writer,

@@ -1,4 +1,4 @@
-//! What an entry does to the pointers, and to who is present.
+//! The effect of an entry on the pointers and on the present nodes.
 
 ghost use Rattle.std.specs.Prelude.{◌≡◌, None, fold, map, slice_set};
 ghost use Rattle.rule_machine.specs.State.{is_at};
@@ -8,7 +8,6 @@ ghost use Rattle.board.specs.Row.{pointer_in, cleared, moved, disturbed, effect,
 use log_entry::Entry;
 use rule_machine::{Act, Event, Moved, Node, Reply};
 
-/// Writes a node's pointer. A node that has no place is left out.
 fn write(row: &mut [Option<Node>], v: Node, target: Option<Node>)
     ensures { row.new ≡ slice_set row.old v target }
 {
@@ -18,7 +17,6 @@ fn write(row: &mut [Option<Node>], v: Node, target: Option<Node>)
     }
 }
 
-/// Whether a node points at another. A node that has no place points nowhere.
 fn points_at(row: &[Option<Node>], v: Node, w: Node) -> bool
     ensures { result ≡ is_at (pointer_in row.now v) w }
 {
@@ -28,7 +26,6 @@ fn points_at(row: &[Option<Node>], v: Node, w: Node) -> bool
     }
 }
 
-/// Makes a node's pointer null if it is at the other.
 fn clear(row: &mut [Option<Node>], v: Node, w: Node)
     ensures { row.new ≡ cleared row.old v w }
 {
@@ -37,7 +34,7 @@ fn clear(row: &mut [Option<Node>], v: Node, w: Node)
     }
 }
 
-/// A pointer, or null where it is at this node.
+/// A pointer, or null if it is at `v`.
 fn unless_at(pointer: Option<Node>, v: Node) -> Option<Node>
     ensures { result ≡ unless_at v pointer }
 {
@@ -93,7 +90,7 @@ fn disturb(row: &mut [Option<Node>], event: &Event)
     }
 }
 
-/// Changes the pointers as an entry says.
+/// Changes the pointers by an entry.
 pub(crate) fn take_in(row: &mut [Option<Node>], entry: &Entry)
     ensures { row.new ≡ effect row.old entry.now }
 {
@@ -104,7 +101,6 @@ pub(crate) fn take_in(row: &mut [Option<Node>], entry: &Entry)
     }
 }
 
-/// Writes whether a node is present. A node that has no place is left out.
 fn mark(here: &mut [bool], v: Node, there: bool)
     ensures { here.new ≡ slice_set here.old v there }
 {
@@ -124,7 +120,7 @@ fn turn(here: &mut [bool], event: &Event)
     }
 }
 
-/// Changes who is present as an entry says.
+/// Changes the present nodes by an entry.
 pub(crate) fn take_presence(here: &mut [bool], entry: &Entry)
     ensures { here.new ≡ here_by here.old entry.now }
 {

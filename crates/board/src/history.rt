@@ -1,4 +1,4 @@
-//! The history of a board, which exists in contracts alone, and the beginnings of it that were seen.
+//! The history of a board, which exists in contracts only, and the seen prefixes of it.
 
 ghost use Rattle.std.specs.Prelude.{◌≡◌, ◌+◌, ◌<◌, ◌∷◌, ◌++◌, [], false, None, length, IsTrue, MatchBool};
 ghost use mathlib.Core.List.{IsPrefix};
@@ -28,7 +28,7 @@ impl Rule<Option<Entry>, u64> for Numbered {
     ghost moves = { λ ask before after answer. Unit {0} };
 }
 
-/// Nobody trades anything for a mark.
+/// The gain of a mark: none.
 pub(crate) struct Nothing;
 
 impl Gain<Option<Entry>, u64> for Nothing {
@@ -57,7 +57,7 @@ impl Plain<Entry, Option<Entry>, u64> for Posts {
     ghost state = { λ entry. None };
 }
 
-/// The mark that what was posted last is published.
+/// The mark that the last posted entry is published.
 pub(crate) struct Publishes;
 
 impl Plain<(), Option<Entry>, u64> for Publishes {
@@ -68,7 +68,7 @@ impl Plain<(), Option<Entry>, u64> for Publishes {
     ghost state = { λ nothing. None };
 }
 
-/// A beginning of a history that was seen, with its number of marks.
+/// A prefix of a history that was seen, with its number of marks.
 #[derive(Drop)]
 pub struct Front {
     count: u64,
@@ -77,7 +77,6 @@ pub struct Front {
 }
 
 impl Front {
-    /// A copy. It takes no memory.
     pub(crate) fn again(&self) -> Front
         ensures { result.seen ≡ self.now.seen }
     {
@@ -103,7 +102,7 @@ impl Front {
         }
     }
 
-    /// Whether all that was published here is seen to be shown there.
+    /// Whether all that is published here is known to be shown at `other`.
     pub(crate) fn is_shown_at(&self, other: &Front) -> bool
         requires { other.now.seen.book ≡ self.now.seen.book }
         ensures { IsTrue result → IsPrefix (published self.now.seen.log) (shown other.now.seen.log) }
@@ -113,8 +112,8 @@ impl Front {
         self.count.saturating_sub(1) <= other.count
     }
 
-    /// Whether this front has no more marks than the other. Where it has not, what it published begins what the other published, and
-    /// else it is the other way round.
+    /// Whether what this front published is known to be a prefix of what the other published.
+    /// If not, the reverse holds. It compares the numbers of marks.
     pub(crate) fn begins(&self, other: &Front) -> bool
         requires { other.now.seen.book ≡ self.now.seen.book }
         ensures yes { IsTrue result → IsPrefix (published self.now.seen.log) (published other.now.seen.log) }
@@ -125,8 +124,7 @@ impl Front {
         self.count <= other.count
     }
 
-    /// What was published here and what is shown there are of one log, and so are what both published and what both
-    /// show. Nothing runs.
+    /// What two fronts of one history published and show is of one log. Nothing runs.
     pub(crate) fn meets(&self, other: &Front)
         requires { other.now.seen.book ≡ self.now.seen.book }
         ensures published { AreComparable (published self.now.seen.log) (published other.now.seen.log) }
@@ -147,7 +145,6 @@ pub(crate) struct History {
 }
 
 impl History {
-    /// A history without marks.
     pub(crate) fn new() -> History
         ensures { result.front.seen.log ≡ [] }
     {
@@ -158,14 +155,14 @@ impl History {
         }
     }
 
-    /// Whether a `u64` can count two marks more.
+    /// Whether a `u64` can count two more marks.
     pub(crate) fn has_room(&self) -> bool
         ensures { IsTrue result → length self.now.front.seen.log + 1 < max_marks }
     {
         self.front.count < u64::MAX - 1
     }
 
-    /// Adds a mark, and says whether it did. It did not where another added one, which never comes.
+    /// Adds a mark; false if another had added one, which never happens.
     pub(crate) fn add<X, M: Plain<X, Option<Entry>, u64>>(&mut self, about: &X) -> bool
         requires state { M.state about.now ≡ None }
         requires room { length self.old.front.seen.log < max_marks }

@@ -1,4 +1,4 @@
-//! One copy of the pointers and of who is present, and what is done to it.
+//! One copy of the pointers and of the present nodes, and what is done to it.
 
 ghost use Rattle.std.specs.Prelude.{◌≡◌, ◌<◌, ◌&&◌, false, IfOk, nat_le, slice_index_or};
 ghost use Rattle.rule_machine.specs.State.{is_at};
@@ -13,8 +13,8 @@ use rule_machine::Node;
 use std::alloc::{AllocError, Global};
 use std::marker::Model;
 
-/// The pointers and who is present after so many entries, a place for each name, beside the beginning of the history that shows them. It
-/// knows how many nodes were present before any entry.
+/// The pointers and present nodes after `front` entries, with a place for each name.
+/// It has the prefix of the history that shows them, and the number of nodes before any entry.
 #[derive(Drop)]
 pub struct Image {
     row: Vec<Option<Node>>,
@@ -36,7 +36,7 @@ impl Model for Image {
     ghost view = { λ i. record { row = i.row.items; here = i.here.items; present = i.present; front = i.front; marks = i.past.seen.log; book = i.past.seen.book } };
 }
 
-/// One entry for a copy to take in: the entry, its number, and the beginning of the history in which it is posted last.
+/// One entry for a copy to take in: the entry, its number, and its history up to its posting.
 #[derive(Drop)]
 pub struct Posted {
     pub(crate) entry: Entry,
@@ -45,7 +45,7 @@ pub struct Posted {
 }
 
 impl Image {
-    /// All pointers null, and the nodes with the names from 1 to `present` present.
+    /// All pointers null, and the names 1 to `present` present.
     pub(crate) fn blank(
         alloc: Global,
         places: usize,
@@ -63,21 +63,21 @@ impl Image {
         })
     }
 
-    /// How many entries made it.
+    /// How many entries this copy includes.
     pub(crate) fn front(&self) -> u32
         ensures { result ≡ self.now.front }
     {
         self.front
     }
 
-    /// The beginning of the history that shows these entries.
+    /// The prefix of the history that shows these entries.
     pub(crate) fn past(&self) -> Front
         ensures { (result.seen.log ≡ self.now.marks) × (result.seen.book ≡ self.now.book) }
     {
         self.past.again()
     }
 
-    /// The pointer at a place, and the node at which it is if that one points back. `None` where there is no node at the place.
+    /// The pointer at a place, and its target if that points back; `None` if no node has the place.
     pub(crate) fn find(&self, place: usize) -> Option<(Option<Node>, Option<Node>)>
         ensures { result ≡ found_in self.now.row self.now.here place }
     {
@@ -88,8 +88,7 @@ impl Image {
         }
     }
 
-    /// The pointer that is held at a place, and the node at which it is if that one points back, whether or not there is a node.
-    /// `None` where there is no such place.
+    /// As `find`, whether or not a node is present; `None` if there is no such place.
     fn held(&self, place: usize) -> Option<(Option<Node>, Option<Node>)>
         ensures { result ≡ held_in self.now.row place }
     {
@@ -102,14 +101,12 @@ impl Image {
     }
 }
 
-/// Whether the node of a place is present before any entry.
 fn is_present(place: usize, present: u32) -> bool
     ensures { result ≡ (nat_le 1 place && nat_le place present) }
 {
     1 <= place && place <= present as usize
 }
 
-/// The places at which there is a node before any entry.
 fn here_at_start(alloc: Global, places: usize, present: u32) -> Result<Vec<bool>, AllocError>
     ensures { IfOk result (λ here. here.items ≡ here_at_start (record { places = places; present = present })) }
 {
@@ -120,7 +117,6 @@ fn here_at_start(alloc: Global, places: usize, present: u32) -> Result<Vec<bool>
     Ok(here)
 }
 
-/// Whether there is a node at a place.
 fn is_here(here: &[bool], place: usize) -> bool
     ensures { result ≡ slice_index_or here.now place false }
 {
@@ -130,7 +126,6 @@ fn is_here(here: &[bool], place: usize) -> bool
     }
 }
 
-/// Whether a node points at the one with this place.
 fn points_back(row: &[Option<Node>], w: Node, place: usize) -> bool
     ensures { result ≡ is_at (pointer_in row.now w) place }
 {

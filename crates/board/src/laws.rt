@@ -1,4 +1,4 @@
-//! What the pointers and the presence of nodes on a board have to do with runs of the machine.
+//! How the pointers and present nodes on a board correspond to runs of the machine.
 
 ghost use Rattle.std.specs.Prelude.{◌≡◌, ℕ, ◌+◌, List};
 ghost use mathlib.Core.List.{IsPrefix};
@@ -19,13 +19,13 @@ impl<R: Rules> Law for Runs<R> {
     ghost holds = { IsRun R.table };
 }
 
-/// The pointers that a log of a run makes are those of the state where the run ends, whatever targets it took.
+/// The pointers after a run's log are those of the run's last state, for any targets it took.
 pub fn pointers_are_those_of_the_run()
     ensures { (t : RuleTable) (size count : ℕ) (log : List Entry) (end : Moment) → Run t (beginning_with size count) log end
         → end.state.registers.pointers ≡ pointers_after (size + 1) log }
 {}
 
-/// So are the names, and the nodes that are present.
+/// The same for the names and for the present nodes.
 pub fn presence_is_that_of_the_run()
     ensures here { (t : RuleTable) (size count : ℕ) (log : List Entry) (end : Moment) → Run t (beginning_with size count) log end
         → end.state.network.here ≡ here_after (record { places = size + 1; present = count }) log }
@@ -33,7 +33,7 @@ pub fn presence_is_that_of_the_run()
         → end.state.network.size ≡ size }
 {}
 
-/// Each beginning of a run is a run.
+/// Each prefix of a run is a run.
 pub fn beginnings_are_runs()
     ensures { (t : RuleTable) (extent : Extent) (some all : List Entry) → IsPrefix some all → IsRun t extent all → IsRun t extent some }
 {}

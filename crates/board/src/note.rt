@@ -1,4 +1,4 @@
-//! What a board tells of what it has published.
+//! Notes of what a board has published.
 
 ghost use Rattle.std.specs.Prelude.{◌≡◌, false, IsTrue};
 ghost use mathlib.Core.List.{IsPrefix};
@@ -7,8 +7,8 @@ ghost use Rattle.board.specs.History.{AreComparable};
 use crate::history::Front;
 use std::marker::Model;
 
-/// A note of what a board had published when it gave the note: seen in contracts as these entries and the history that
-/// they are of. It has no entries in it, and may go to any thread.
+/// A note of the entries that a board had published when it gave the note. It may go to any thread.
+/// Contracts see the entries and their history; the note holds none.
 #[derive(Drop)]
 pub struct Note {
     pub(crate) front: Front,
@@ -28,7 +28,7 @@ impl Model for Note {
 }
 
 impl Note {
-    /// A copy. It takes no memory.
+    /// A copy. Takes no memory.
     pub fn again(&self) -> Note
         ensures { result ≡ self.now }
     {
@@ -37,7 +37,8 @@ impl Note {
         }
     }
 
-    /// Whether what this note tells is seen to begin what another note of its board tells; where it is not, that begins what this one tells.
+    /// Whether this note's entries are known to be a prefix of those of another note of its board.
+    /// If not, the reverse holds.
     pub fn begins(&self, other: &Note) -> bool
         requires { other.now.book ≡ self.now.book }
         ensures yes { IsTrue result → IsPrefix self.now.log other.now.log }
@@ -46,7 +47,7 @@ impl Note {
         self.front.begins(&other.front)
     }
 
-    /// Of what two notes of one board tell, one begins the other. Nothing runs.
+    /// Of the entries of two notes of one board, one list is a prefix of the other. Nothing runs.
     pub fn meets(&self, other: &Note)
         requires { other.now.book ≡ self.now.book }
         ensures { AreComparable self.now.log other.now.log }

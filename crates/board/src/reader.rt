@@ -1,4 +1,4 @@
-//! What looks at a board.
+//! Readers of a board.
 
 ghost use Rattle.std.specs.Prelude.{◌≡◌, ◌<◌, length, IfSome, IfNone};
 ghost use mathlib.Core.List.{IsPrefix};
@@ -26,19 +26,19 @@ pub(crate) type SeatAt<L> = Seat<Image, Option<Image>, Published<L>>;
 pub struct Look {
     /// How many entries were published.
     pub front: u32,
-    /// The pointer of the place, and the node at which it is if that one points back; `None` where there is no node at
-    /// the place.
+    /// The pointer of the place, and its target if that points back; `None` if no node has the place.
     pub found: Option<(Option<Node>, Option<Node>)>,
 }
 
-/// What a look found, with the beginning of the history that it shows.
+/// What a look found, with the prefix of the history that it shows.
 struct Glance {
     look: Look,
     past: Front,
 }
 
-/// A reader of a board. Contracts see the entries that it saw last, the entries that its later looks show at least, and
-/// the board's name. It waits for nobody, and takes no memory.
+/// A wait-free reader of a board. It takes no memory.
+/// Contracts see the entries that it saw last, those that its later looks show at least, and the board's
+/// name.
 #[derive(Drop)]
 pub struct Reader<L: Law> {
     seat: SeatAt<L>,
@@ -67,7 +67,7 @@ impl<L: Law> Model for Reader<L> {
     ghost invariant = { λ r. IsReader (known r.seat.place) r.seen.seen.log r.seen.seen.book r.learnt.seen.book };
 }
 
-/// Looks at the copy that is published.
+/// Looks at the published copy.
 fn peek<L: Law>(seat: SeatAt<L>, place: usize) -> (SeatAt<L>, Option<Glance>)
     ensures none { IfNone result.1 (known result.0.place ≡ known seat.place) }
     ensures some { IfSome result.1 (λ g. (x : Sight) × Sees L.holds (known seat.place) x x (known result.0.place)
@@ -96,10 +96,11 @@ impl<L: Law> Reader<L> {
         Reader { seat, seen, learnt }
     }
 
-    /// Looks at a place: its pointer and its partner at one moment, with the number of entries then. They are those
-    /// after all the entries of the view, which has all that this reader saw before and all that it learnt. It costs a
-    /// few steps, whatever the size of the board. `None` where the board has ended, or where what is published lacks a
-    /// part of what was learnt, which never comes.
+    /// Looks at a place: its pointer and its partner at one moment, with the number of entries then.
+    /// The view, which is these entries, includes all that this reader saw or learnt before.
+    /// `None` if the board has ended, or if what is published lacks a part of what was learnt, which never
+    /// happens.
+    /// Costs a few steps, whatever the size of the board.
     pub fn look(&mut self, place: usize) -> Option<Look>
         ensures view { IsPrefix self.old.list self.new.list }
         ensures kept { (self.new.learnt ≡ self.old.learnt) × (self.new.name ≡ self.old.name) }
@@ -117,7 +118,7 @@ impl<L: Law> Reader<L> {
         Some(look)
     }
 
-    /// How many entries are published, of a view that this reader may know, as `look` does.
+    /// How many entries are published, with a view as in `look`; `None` as there.
     pub fn front(&mut self) -> Option<u32>
         ensures view { IsPrefix self.old.list self.new.list }
         ensures kept { (self.new.learnt ≡ self.old.learnt) × (self.new.name ≡ self.old.name) }
@@ -142,8 +143,8 @@ impl<L: Law> Reader<L> {
         self.learnt.meets(&other.seen);
     }
 
-    /// Takes in a note of the reader's own board: from now on a look shows at least what the note tells. What it saw
-    /// last and what the note tells are of one log.
+    /// Takes in a note of the reader's own board: later looks show at least the note's entries.
+    /// What the reader saw last and the note's entries are of one log.
     pub fn learn(&mut self, note: &Note)
         requires { note.now.book ≡ self.old.name.book }
         ensures one_log { IsOneLog note.now.log self.old.list }

@@ -10,7 +10,7 @@ use atomic_table::{Join, Split};
 use crossbeam_utils::rule::{Outcome, Protocol};
 use std::marker::PhantomData;
 
-/// What holds of every log that a board publishes, by the number of its places and of the nodes that were present before any entry. It is a fact for contracts alone.
+/// What holds of every log that a board publishes; a fact for contracts only.
 pub trait Law {
     ghost holds: { Extent → List Entry → Type 0 };
 }
@@ -26,7 +26,7 @@ impl<L: Law> Protocol<Image, Option<Image>> for Published<L> {
     ghost first = { None };
 }
 
-/// The step of a read, and of a publish.
+/// The step of a read, and of a publication.
 pub(crate) struct Look<L> {
     law: PhantomData<L>,
 }
@@ -35,7 +35,7 @@ impl<L: Law> Outcome<Image, Option<Image>> for Look<L> {
     ghost then = { Sees L.holds };
 }
 
-/// Telling: a new seat knows what the writer knows.
+/// A new seat knows what the writer knows.
 pub(crate) struct Tell;
 
 impl Split<Option<Image>> for Tell {
@@ -44,7 +44,7 @@ impl Split<Option<Image>> for Tell {
     ghost right = { λ v. v };
 }
 
-/// Learning: a seat that knew nothing knows what it was told.
+/// A seat that knew nothing knows what it was given.
 pub(crate) struct Learn;
 
 impl Join<Option<Image>> for Learn {

@@ -9,7 +9,7 @@ use Rattle.byte_streams.specs.Lines.{IsLine, first_line, onto_line}
 abbrev LineThen : List ℕ → List ℕ → List ℕ → Type 0
 LineThen bytes line rest = IsLine line × (bytes ≡ line ++ 10 ∷ rest)
 
--- ---- where the first LF stands
+-- ---- the place of the first LF
 
 no_feed : (b : ℕ) → ((b == 10) ≡ true → ⊥) → b ≡ 10 → ⊥
 no_feed b other e = other (ap (λ n. n == 10) e)
@@ -34,7 +34,7 @@ line_found bs k (first, here) =
 
 -- ---- the first line as a value
 
--- a byte that is no LF goes onto what was found behind it
+-- a byte that is not an LF comes before what was found after it
 onto_front : (b : ℕ) (bs : List ℕ) (found : Option (List ℕ × List ℕ)) → (b ≡ 10 → ⊥) → first_line bs ≡ found → first_line (b ∷ bs) ≡ onto_line b found
 onto_front b bs found other e =
     let P : Bool → Type 0 = λ v. ((b == 10) ≡ v → (if v then Some ([], bs) else onto_line b (first_line bs)) ≡ onto_line b found) in
@@ -53,7 +53,7 @@ pub first_line-none : (bs : List ℕ) → IsLine bs → first_line bs ≡ None
 first_line-none [] free = refl
 first_line-none (b ∷ bs) free = onto_front b bs None free.0 (first_line-none bs free.1)
 
--- what is found is a line, its LF, and the rest; and where nothing is, there is no LF
+-- what is found is a line, its LF, and the rest; if none is found, there is no LF
 abbrev Finds : List ℕ → Option (List ℕ × List ℕ) → Type 0
 Finds bytes None = IsLine bytes
 Finds bytes (Some found) = LineThen bytes found.0 found.1

@@ -24,7 +24,7 @@ Handed-more old new newer all rest n h wrote = record {
 pub Handed-all : (old new : Option (List ℕ)) (all rest : List ℕ) → Handed old new all rest → rest ≡ [] → Appends old new all
 Handed-all old new all rest h none = rw (h.splits ∙ ap (λ l. h.done ++ l) none ∙ append-nil h.done) h.wrote
 
--- where a rest is left, less than all was written
+-- if a rest is left, not all was written
 pub Handed-less : (old new newer : Option (List ℕ)) (all rest : List ℕ) → Handed old new all rest → 0 < length rest → Keeps new newer → AppendsLess old newer all
 Handed-less old new newer all rest h left kept = (
   length h.done,

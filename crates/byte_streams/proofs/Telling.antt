@@ -25,7 +25,7 @@ less_begins old new front text (n, few, wrote) =
     let le : n ≤ length front = omega (arith, few) in
     (n, subst P (sym (take-append-le n front text le)) wrote)
 
--- a result that is told either way
+-- a result known in either case
 pub either_begins : {E : Type 0} (old new : Option (List ℕ)) (text : List ℕ) (result : Result Unit E) → OnOk result (Appends old new text) → OnErr result (AppendsBeginning old new text) → AppendsBeginning old new text
 either_begins old new text (Ok done) ok fault = whole_begins old new text ok
 either_begins old new text (Err failed) ok fault = fault

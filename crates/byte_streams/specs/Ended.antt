@@ -1,6 +1,6 @@
--- When no more reads are made of a reader.
+-- When a reader is read no more.
 use Rattle.std.specs.Prelude.{◌≡◌, ◌⊎◌, ℕ, Bool, true}
 
--- a read failed, or as many were made as there may be
+-- a read failed, or the greatest number of reads was made
 abbrev pub IsEnded : Bool → ℕ → Type 0
 IsEnded failed count = (failed ≡ true) ⊎ (count ≡ 4294967295)

@@ -6,12 +6,12 @@ use Rattle.std.specs.List.{AllByRecursion}
 abbrev pub IsLine : List ℕ → Type 0
 IsLine bytes = AllByRecursion (λ b. b ≢ 10) bytes
 
--- a byte in front of the first line, where there is one
+-- a byte before the first line, if there is one
 abbrev pub onto_line : ℕ → Option (List ℕ × List ℕ) → Option (List ℕ × List ℕ)
 onto_line b None = None
 onto_line b (Some found) = Some (b ∷ found.0, found.1)
 
--- the first line without the LF that ends it, and what follows; None where there is no LF
+-- the first line without its LF, and the rest; None if there is no LF
 abbrev pub first_line : List ℕ → Option (List ℕ × List ℕ)
 first_line [] = None
 first_line (b ∷ bytes) = if b == 10 then Some ([], bytes) else onto_line b (first_line bytes)

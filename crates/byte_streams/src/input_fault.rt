@@ -1,4 +1,4 @@
-//! Why input was not had.
+//! Errors of readers.
 
 use std::alloc::AllocError;
 use thiserror::Error;
@@ -6,10 +6,10 @@ use thiserror::Error;
 /// Why a reader was not read to its end.
 #[derive(Clone, Copy, Debug, PartialEq, Eq, Error)]
 pub enum InputFault {
-    /// A read failed, or there were 4,294,967,295 of them.
+    /// A read failed, or the limit of 4,294,967,295 reads was reached.
     #[error("read failed")]
     Read,
-    /// A growth of memory was refused.
+    /// Memory ran out.
     #[error("out of memory")]
     Memory,
 }

@@ -1,11 +1,11 @@
-//! Bytes in and out: the whole of what a reader gives, and bytes for a writer, of which nothing is tried twice.
+//! Byte streams that never retry: all that a reader gives, and bytes for a writer.
 //!
-//! All that the program writes goes through `Writes`: the writer has got exactly the bytes, or at the first write that fails a beginning
-//! of them, and none is written again. So it can be said of each fault what stands in the file. A write that was interrupted is a failed
-//! one: std's `write_all` would try it once more.
+//! The writer of a `Writes` gets exactly the bytes or, up to the first failed write, a prefix of them; no
+//! byte is written twice. So the contract says for each error what the file contains. An interrupted write
+//! counts as failed, whereas std's `write_all` would retry it.
 //!
-//! `Reads` and `Writes` keep whether a read or a write failed: so whoever answers that one did has one to show. `read_whole` reads to the
-//! end in pieces of 65,536 bytes and keeps them all; who reads line by line, as a run and an audit do, reads `Reads` itself.
+//! `Reads` and `Writes` record a failed read or write, as evidence for their errors. `read_whole` reads to
+//! the end in chunks of 65,536 bytes and keeps them all. A run and an audit read line by line, from `Reads`.
 //!
 //! ```rust
 //! let bytes = read_whole(alloc, &mut Reads::new(stdin))?;      // `InputFault`: `Read` or `Memory`

@@ -5,7 +5,8 @@ ghost use Rattle.byte_streams.specs.Lines.{IsLine, first_line};
 
 use memchr::memchr;
 
-/// The first line, without the LF that ends it, and what follows that LF; `None` exactly where there is no LF. One look at the line.
+/// The first line without its LF, and the rest after the LF; `None` if there is no LF.
+/// One look at the line.
 pub fn split_line(bytes: &[u8]) -> Option<(&[u8], &[u8])>
     ensures line { MatchOption result
         (IsLine bytes.now)

@@ -1,4 +1,4 @@
-//! That output was not had.
+//! Errors of writers.
 
 use thiserror::Error;
 

@@ -12,7 +12,7 @@ use std::io::Read;
 /// How many bytes a read asks for.
 const CHUNK: usize = 65_536;
 
-/// A reader, with how many reads were made of it, and whether one failed. Then no more are made: nothing is tried twice.
+/// A reader that counts its reads and stops after a failed one. It never retries.
 #[derive(Drop)]
 pub struct Reads<In> {
     reader: In,
@@ -20,7 +20,7 @@ pub struct Reads<In> {
     failed: bool,
 }
 
-/// Room for what one read gives.
+/// A buffer of 65,536 bytes for one read. Error: out of memory.
 pub fn chunk_of(alloc: Global) -> Result<Vec<u8>, AllocError>
     ensures { IfOk result (λ chunk. length chunk.items ≡ 65536) }
 {
@@ -28,7 +28,7 @@ pub fn chunk_of(alloc: Global) -> Result<Vec<u8>, AllocError>
 }
 
 impl<In: Read> Reads<In> {
-    /// A reader of which no read was made.
+    /// A fresh reader: no read, no failure.
     pub fn new(reader: In) -> Reads<In>
         ensures reader { result.reader ≡ reader }
         ensures count { result.count ≡ 0 }
@@ -41,8 +41,8 @@ impl<In: Read> Reads<In> {
         }
     }
 
-    /// Reads into the buffer once. How many bytes the reader gave, which are the first of the buffer; none only at its end. `Read`
-    /// where the read fails, and without a read behind one that failed or behind 4,294,967,295 of them.
+    /// Reads once into the buffer; returns how many bytes at its front were read. 0 only at the end.
+    /// Error: `Read` if the read fails. After a failed read, and after 4,294,967,295 reads, it does not read.
     pub fn read(&mut self, buf: &mut [u8]) -> Result<usize, InputFault>
         requires room { 0 < length buf.old }
         ensures bytes { IfOk result (λ len. Consumes (In.remaining self.old.reader) (In.remaining self.new.reader) (take len buf.new)) }

@@ -9,8 +9,8 @@ use crate::{InputFault, Reads, chunk_of};
 use std::alloc::Global;
 use std::io::Read;
 
-/// All that the reader has left. `Read` only where a read failed, which is not tried again, or 4,294,967,295 were made;
-/// `Memory` if memory runs out.
+/// All that the reader has left.
+/// Errors: `Read` if a read failed (no retry) or at 4,294,967,295 reads; `Memory` if memory runs out.
 pub fn read_whole<In: Read>(alloc: Global, reader: &mut Reads<In>) -> Result<Vec<u8>, InputFault>
     ensures bytes { IfOk result (λ bytes. Consumes (In.remaining reader.old.reader) (In.remaining reader.new.reader) bytes.items) }
     ensures end { OnOk result (IsAtEnd (In.remaining reader.new.reader)) }

@@ -1,4 +1,4 @@
-//! A writer of which nothing is tried twice.
+//! A writer that never retries.
 
 ghost use Rattle.std.specs.Prelude.{◌≡◌, ◌<◌, ◌≤◌, false, true, length, take, IfOk, OnErr, OnOk};
 ghost use Rattle.std.specs.Io.KnownBytes.{Appends, Keeps};
@@ -7,7 +7,7 @@ ghost use Rattle.byte_streams.specs.Beginning.{AppendsBeginning, AppendsLess};
 use crate::OutputFault;
 use std::io::Write;
 
-/// A writer, with whether a write or a flush of it failed. Then no more are made: nothing is tried twice.
+/// A writer that records a failed write or flush, and does not write or flush after one.
 #[derive(Drop)]
 pub struct Writes<Out> {
     writer: Out,
@@ -15,7 +15,7 @@ pub struct Writes<Out> {
 }
 
 impl<Out: Write> Writes<Out> {
-    /// A writer of which no write was made.
+    /// A fresh writer.
     pub fn new(writer: Out) -> Writes<Out>
         ensures writer { result.writer ≡ writer }
         ensures failed { result.failed ≡ false }
@@ -26,8 +26,8 @@ impl<Out: Write> Writes<Out> {
         }
     }
 
-    // Writes once: how many of the bytes the writer took, one at the least. A fault where the write fails or takes none, and without a
-    // write behind one that failed.
+    // Writes once; returns how many bytes the writer took, at least one.
+    // Error: the write fails or takes no byte. After a failure it does not write.
     fn write(&mut self, bytes: &[u8]) -> Result<usize, OutputFault>
         requires some { 0 < length bytes.now }
         ensures bytes { IfOk result (λ len. Appends (Out.contents self.old.writer) (Out.contents self.new.writer) (take len bytes.now)) }
@@ -49,8 +49,9 @@ impl<Out: Write> Writes<Out> {
         }
     }
 
-    /// Writes all the bytes. A fault at the first write that fails or takes no byte, and nothing is tried again, not even
-    /// an interrupted write: the writer has got less than all the bytes then.
+    /// Writes all the bytes.
+    /// Error: at the first write that fails or takes no byte, without a retry even if it was interrupted.
+    /// The writer has then got only a proper prefix of the bytes.
     pub fn write_whole(&mut self, bytes: &[u8]) -> Result<(), OutputFault>
         ensures ok { OnOk result (Appends (Out.contents self.old.writer) (Out.contents self.new.writer) bytes.now) }
         ensures good { OnOk result (self.new.failed ≡ self.old.failed) }
@@ -65,7 +66,8 @@ impl<Out: Write> Writes<Out> {
         Ok(())
     }
 
-    /// Flushes the writer. A fault where that fails, and it is not tried again; and without a flush behind a write that failed.
+    /// Flushes the writer.
+    /// Error: the flush fails, without a retry. After a failure it does not flush.
     pub fn flush_once(&mut self) -> Result<(), OutputFault>
         ensures bytes { Keeps (Out.contents self.old.writer) (Out.contents self.new.writer) }
         ensures good { OnOk result (self.new.failed ≡ self.old.failed) }
@@ -83,7 +85,7 @@ impl<Out: Write> Writes<Out> {
         }
     }
 
-    /// Writes all the bytes and flushes the writer, each as `write_whole` and `flush_once` do.
+    /// Writes all the bytes and flushes. Errors: those of `write_whole` and `flush_once`.
     pub fn finish(&mut self, bytes: &[u8]) -> Result<(), OutputFault>
         ensures ok { OnOk result (Appends (Out.contents self.old.writer) (Out.contents self.new.writer) bytes.now) }
         ensures good { OnOk result (self.new.failed ≡ self.old.failed) }

@@ -1,4 +1,4 @@
--- Runs that begin at a base: each moment of a run may be kept as one, and whoever goes on from it keeps within the bound.
+-- Runs that begin at a base: each moment of a run is a valid base, and runs from it stay within the bound.
 use Rattle.std.proofs.Common.{◌≡◌, ℕ, List, Option, None, Some, refl, sym, ◌∙◌, subst}
 use Rattle.rule_machine.specs.declared.base.Base.{Base}
 use Rattle.rule_machine.specs.Network.{Network}

@@ -1,4 +1,4 @@
--- What it means that the charge pays for moves, and the words for what it says of runs.
+-- What it means that the charge pays for moves, and the definitions for its bounds on runs.
 use Rattle.std.specs.Prelude.{◌≡◌, ◌≢◌, ℕ, ◌+◌, ◌*◌, ◌≤◌, List, length, sum_by, All}
 use Rattle.rule_machine.specs.declared.choice.Item.{Item}
 use Rattle.rule_machine.specs.declared.act.Moved.{Moved}
@@ -15,14 +15,14 @@ use Rattle.rule_machine.specs.Run.{Entry, Moment}
 abbrev pub charge_bound : ℕ → Network → ℕ
 charge_bound weight net = 2 * edge_count net + weight * node_count net
 
--- the charge of a rule set falls by the moves of each step, is bounded by edges and nodes, and is zero only where the
--- network is stable
+-- The charge falls by the moves of each step, edges and nodes bound it, and if it is zero the network is
+-- stable.
 pub record IsCharged (t : RuleTable) (weight : ℕ) : Type 0 where
   pub falls : (s : State) (items : List Item) (moves : List Moved) (s' : State) → IsState s → IsStep t s items moves s' → t.charge s' + length moves ≤ t.charge s
   pub bounded : (s : State) → IsState s → t.charge s ≤ charge_bound weight s.network
   pub zero_is_stable : (s : State) → IsState s → t.charge s ≡ 0 → IsStable t.flags s
 
--- the moves that a reply tells of
+-- the moves of a reply
 abbrev pub moves_of : Reply → ℕ
 moves_of (Moves moves) = length moves
 moves_of reply = 0
@@ -44,6 +44,6 @@ steps_in log = sum_by (λ entry. steps_of entry.1) log
 abbrev pub IsUndisturbed : List Entry → Type 0
 IsUndisturbed log = All (λ entry. entry.1 ≢ Accepted) log
 
--- what is spent and the charge that is left are within the bound of the network
+-- moves spent plus the charge left are within the bound of the network
 abbrev pub IsWithinBound : RuleTable → ℕ → Moment → Type 0
 IsWithinBound t weight m = m.spent + t.charge m.state ≤ charge_bound weight m.state.network

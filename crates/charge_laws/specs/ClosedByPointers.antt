@@ -1,4 +1,4 @@
--- The open edges, counted as the edges that are open by what their ends are, less those that a pointer closes.
+-- The open edges: those open by the stances of their ends, less those that a pointer closes.
 use Rattle.std.proofs.Common.{◌≡◌, ℕ, ◌+◌, Bool, true, false, cond, not, ◌&&◌, ◌||◌, List, count_by, sum_by, Option, None, Some, is_none, IfSome, IsTrue, nat_eq, nat_lt, refl, sym, ap, ◌∙◌, ⊎_elim, arith}
 use Rattle.std.proofs.lemmas.Bool.{and_parts, and_left, cases_eq, ne_eqb, true≢false}
 use Rattle.std.proofs.Math.Bool.{and-false}
@@ -15,7 +15,7 @@ use Rattle.charge_laws.specs.EdgesByNodes.{zeros, marked_once, count_filter, edg
 use Rattle.charge_laws.specs.EdgesByEnds.{by_both}
 use Rattle.charge_laws.specs.Stances.{null_from}
 
--- Hsu and Huang: an edge is open by what its ends are, whoever points at whom
+-- Hsu and Huang: whether an edge is open by the stances of its ends, whatever the pointers' targets
 abbrev pub hsu_huang_apart : State → ℕ × ℕ → Bool
 hsu_huang_apart s e = not (married s e.0) && not (married s e.1) && not (is_courted s e.0 && is_courted s e.1)
 

@@ -1,4 +1,4 @@
--- What a disturbance may add to the charge: a word for the degrees of the nodes that it touches.
+-- What a disturbance may add to the charge, by the degrees of the nodes that it touches.
 use Rattle.std.specs.Prelude.{ℕ, ◌+◌, ◌-◌, ◌*◌, Bool, true, false, cond, ◌&&◌, Option, None, Some, List, [], ◌∷◌, map}
 use Rattle.rule_machine.specs.declared.event.Event.{Event}
 use Rattle.rule_machine.specs.declared.event.Event.TheVariants.{Link, Unlink, Point, Flag, Join, Leave}
@@ -9,17 +9,20 @@ use Rattle.rule_machine.specs.State.{State, points, pointer, is_mutual, has_suit
 use Rattle.rule_machine.specs.Run.{Entry}
 use Rattle.charge_laws.specs.Degrees.{degree, degree_at}
 
--- where a pointer is written: whether it was unanswered, whether its node has a suitor, and where it was
+-- cost of writing a pointer, by whether it was unanswered, whether its node has a suitor, and its old target
 abbrev pub hsu_huang_point_cost : Network → ℕ → Bool → Bool → Option ℕ → ℕ
 hsu_huang_point_cost net v unanswered false None = 1
 hsu_huang_point_cost net v unanswered true None = 2 * degree net v
 hsu_huang_point_cost net v true suited (Some u) = 2 * degree net u
 hsu_huang_point_cost net v false suited (Some u) = 2 * (degree net v + degree net u)
 
--- Hsu and Huang: 2 for a new edge; where an edge goes, 2 for each other edge at the head of a pointer that crossed it; where a pointer of
--- a pair is written, 2 for each edge at one of the two, where an unanswered one is, 2 for each edge at the node that it was at, and where
--- a null one is, 2 for each edge of its node if that has a suitor, and else 1; where a node goes, 2 for each other edge at the node that
--- its pointer was at
+-- Hsu and Huang:
+-- - link: 2
+-- - unlink: 2 for each other edge at the head of a pointer that crossed the edge
+-- - point, if the pointer was answered: 2 for each edge at one of the two nodes
+-- - point, if it was unanswered: 2 for each edge at its old target
+-- - point, if it was null: 2 for each edge of its node if that has a suitor, else 1
+-- - leave: 2 for each other edge at the pointer's target
 abbrev pub hsu_huang_cost : State → Event → ℕ
 hsu_huang_cost s (Link a b) = 2
 hsu_huang_cost s (Unlink a b) =
@@ -29,9 +32,11 @@ hsu_huang_cost s (Point v target) =
 hsu_huang_cost s (Leave v) = 2 * (degree_at s.network (pointer s v) - 1)
 hsu_huang_cost s event = 0
 
--- Manne and others: 2 for a new edge, 1 for a new node; where a pair is parted, 2 for each edge that is left at one of the two, and 2 for
--- each of them that is left; else 1 where a null pointer is written, and 2 where an unanswered one is; 1 for a flag, and where it is set
--- at a node that has a suitor 2 for each edge there
+-- Manne and others:
+-- - link: 2; join: 1
+-- - parting a pair: 2 for each edge left at one of the two nodes, and 2 for each of the nodes that is left
+-- - point without parting a pair: 1 if the pointer was null, 2 if it was unanswered
+-- - flag: 1, and 2 for each edge of the node if the flag is set there and it has a suitor
 abbrev pub manne_point_cost : Network → ℕ → Bool → Option ℕ → ℕ
 manne_point_cost net v unanswered None = 1
 manne_point_cost net v true (Some u) = 2
@@ -57,7 +62,8 @@ abbrev pub cost_of : ℕ → Reply → ℕ
 cost_of cost Accepted = cost
 cost_of cost reply = 0
 
--- what the disturbances among these entries may add, the first of which come from this state, and each stands with the state after it
+-- what the disturbances of a path may add: the path begins at this state, and pairs each entry with the state
+-- after it
 abbrev pub costs_of : (State → Event → ℕ) → State → List (Entry × State) → ℕ
 costs_of cost s [] = 0
 costs_of cost s (step ∷ path) = cost_of (cost s step.0.0) step.0.1 + costs_of cost step.1 path

@@ -1,4 +1,5 @@
--- What the moves of a run cost, disturbances included: they are paid by the charge at its start and by what the disturbances add.
+-- What the moves of a run cost, with disturbances: the charge at its start and the costs of the disturbances
+-- bound them.
 use Rattle.std.proofs.Common.{◌≡◌, ℕ, ◌+◌, ◌*◌, ◌≤◌, true, false, cond, not, ◌&&◌, List, [], ◌∷◌, length, map, nat_eq, nat_le, Option, None, Some, IsTrue, refl, sym, ap, ap₂, ◌∙◌, subst, ⊎_elim, arith, leb-true, eq-eqb}
 use Rattle.std.proofs.lemmas.Bool.{true≢false, and_parts}
 use Rattle.std.proofs.lemmas.Option.{same_Some, none-some}
@@ -76,7 +77,7 @@ leave_has t s v e = none_cond (present s.network v) UnknownNode e
 
 -- ---- one answer
 
--- the moves of an answer and the charge that is left are paid by the charge before it and what a disturbance adds
+-- the moves of an answer plus the charge left are at most the charge before plus the disturbance's cost
 pub answer_costs : (t : RuleTable) (weight : ℕ) (cost : State → Event → ℕ) → IsCharged t weight → IsCosted t cost → (s : State) → IsState s → (n : ℕ) (event : Event) (reply : Reply) (s' : State) → Answers t s n event reply s' → moves_of reply + t.charge s' ≤ t.charge s + cost_of (cost s event) reply
 answer_costs t weight cost charged costed s good n event Accepted s' answers = let more = accepted (refusal_of t s event) refl answers in omega (arith, more)
   where
@@ -92,7 +93,8 @@ answer_costs t weight cost charged costed s good n event (Counts counts) s' answ
 
 -- ---- a run
 
--- From any state: the moves of a run, and the charge that is left, are paid by the charge at its start and what its disturbances add.
+-- From any state: a run's moves plus the charge left are at most its first charge plus the disturbances'
+-- costs.
 pub path_costs : (t : RuleTable) (weight : ℕ) (cost : State → Event → ℕ) → IsTable t → IsCharged t weight → IsCosted t cost → (start : Moment) → IsState start.state → (path : List (Entry × State)) → IsPath t start path → moves_in (log_of path) + t.charge (end_of start.state path) ≤ t.charge start.state + costs_of cost start.state path
 path_costs t weight cost table charged costed start good [] is = omega arith
 path_costs t weight cost table charged costed start good (((event, reply), s) ∷ path) (answers, is) =
@@ -211,7 +213,7 @@ path_keeps t table start good [] is = good
 path_keeps t table start good (((event, reply), s) ∷ path) (answers, is) =
     path_keeps t table (record { state = s; spent = spent_after start.spent reply }) (answers_keep t table start.state good start.spent event reply s answers) path is
 
--- From a stable state the disturbances, the pairs that were gained and the nodes that were lost pay for all moves.
+-- From a stable state disturbances, pairs gained and nodes lost pay for all moves.
 pub manne_stable_costs : (start : Moment) → IsState start.state → IsStable true start.state → (path : List (Entry × State)) → IsPath manne start path → moves_in (log_of path) + 2 * length (mutual_pairs start.state) + node_count (end_of start.state path).network ≤ costs_of manne_cost start.state path + 2 * length (mutual_pairs (end_of start.state path)) + node_count start.state.network
 manne_stable_costs start good stable path is =
     let paid = manne_path_costs start good path is in

@@ -1,5 +1,4 @@
--- Counting and summing over a list: counts that are compared element by element, or by taking each element of one list to
--- its own element of another.
+-- Counts and sums over a list, compared element by element, or by an injection of one list into another.
 use Rattle.std.proofs.Common.{◌≡◌, ℕ, ◌+◌, ◌*◌, ◌≤◌, Bool, true, false, cond, not, ◌&&◌, List, [], ◌∷◌, length, count_by, sum_by, IsTrue, refl, sym, ap, ap₂, ◌∙◌, subst, inl, inr, ⊎_elim, ◌⊎◌, arith}
 use Rattle.std.proofs.lemmas.Bool.{cases_Bool, cond-true, cond-false, true≢false}
 use Rattle.std.proofs.lemmas.List.Sums.{sum_by-cons}
@@ -9,7 +8,7 @@ abbrev pub IsIn : {X : Type 0} → X → List X → Type 0
 IsIn y [] = ⊥
 IsIn y (x ∷ xs) = (x ≡ y) ⊎ IsIn y xs
 
--- nothing stands twice in the list
+-- no element is in the list twice
 abbrev pub IsWithoutRepeats : {X : Type 0} → List X → Type 0
 IsWithoutRepeats [] = Unit {0}
 IsWithoutRepeats (x ∷ xs) = (IsIn x xs → ⊥) × IsWithoutRepeats xs
@@ -24,7 +23,7 @@ sum_add f g (x ∷ xs) =
     let rest = sum_add f g xs in
     omega (arith, both, left, right, rest)
 
--- a sum of terms each of which is no larger
+-- a sum whose terms are no larger is no larger
 pub sum_le : {X : Type 0} (f g : X → ℕ) (xs : List X) → ((x : X) → IsIn x xs → f x ≤ g x) → sum_by f xs ≤ sum_by g xs
 sum_le f g [] h = omega arith
 sum_le f g (x ∷ xs) h =
@@ -82,7 +81,7 @@ sum_agree f g same (x ∷ xs) = sum_by-cons f x xs ∙ ap₂ ◌+◌ (same x) (s
 pub count_agree : {X : Type 0} (p q : X → Bool) → ((x : X) → p x ≡ q x) → (xs : List X) → count_by p xs ≡ count_by q xs
 count_agree p q same xs = sum_agree (λ x. cond (p x) 1 0) (λ x. cond (q x) 1 0) (λ x. ap (λ b. cond b 1 0) (same x)) xs
 
--- Where what is closed stays closed, what is open falls by the number of those that close.
+-- If closed elements stay closed, the number of open ones falls by the number that close.
 pub open_falls : {X : Type 0} (closed closed' : X → Bool) (xs : List X) → ((x : X) → IsIn x xs → IsTrue (closed x) → IsTrue (closed' x)) → count_by (λ x. not (closed' x)) xs + count_by (λ x. not (closed x) && closed' x) xs ≤ count_by (λ x. not (closed x)) xs
 open_falls closed closed' xs stays =
     let sum = sum_add (λ x. cond (not (closed' x)) 1 0) (λ x. cond (not (closed x) && closed' x) 1 0) xs in
@@ -124,8 +123,8 @@ pub record IsInjection {X Y : Type 0} (p : X → Bool) (xs : List X) (f : X → 
   pub passes : (x : X) → IsIn x xs → IsTrue (p x) → IsTrue (q (f x))
   pub apart : (x y : X) → IsIn x xs → IsIn y xs → IsTrue (p x) → IsTrue (p y) → f x ≡ f y → x ≡ y
 
--- Then there are no more of the former. The first that passes takes its image out of the other list; the rest lands in
--- what is left.
+-- Then the first list has at most as many. The first element that passes removes its image from the other
+-- list; the rest maps into the remainder.
 pub count_into : {X Y : Type 0} (p : X → Bool) (xs : List X) (f : X → Y) (q : Y → Bool) (ys : List Y) → IsWithoutRepeats xs → IsInjection p xs f q ys → count_by p xs ≤ count_by q ys
 count_into p [] f q ys single into = omega arith
 count_into p (x ∷ xs) f q ys single into =

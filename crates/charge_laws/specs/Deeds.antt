@@ -1,4 +1,4 @@
--- What each node does in a step, in the words of its rules, with what its registers hold before and after.
+-- What each node does in a step, by its rules, with its registers before and after.
 use Rattle.std.proofs.Common.{◌≡◌, ℕ, ◌+◌, ◌<◌, ◌≤◌, false, List, [], ◌∷◌, length, map, count_by, Any, Option, None, Some, IsSomeAnd, IsTrue, refl, sym, ap, ◌∙◌, subst, inl, inr, arith}
 use Rattle.std.specs.List.{AllByRecursion}
 use Rattle.std.proofs.lemmas.List.Elements.{recursion_from_All}
@@ -31,7 +31,7 @@ pub data Deed (t : RuleTable) (s : State) (s' : State) (moves : List Moved) (v :
   seduces : (w : ℕ) → IsTrue (is_moved moves v) → IsTrue (t.guard s v Seduce) → IsTrue (t.allowed s v Seduce w) → pointer s' v ≡ Some w → flag s' v ≡ flag s v → Deed t s s' moves v
   abandons : IsTrue (is_moved moves v) → IsTrue (t.guard s v Abandon) → pointer s' v ≡ None → flag s' v ≡ flag s v → Deed t s s' moves v
 
--- a step by what it does: to a state of the same network, at each node a deed, with no more moves than nodes that move
+-- a step by its deeds: a state of the same network, a deed at each node, and at most as many moves as movers
 pub record IsDone (t : RuleTable) (s : State) (s' : State) (moves : List Moved) : Type 0 where
   pub is_state : IsState s'
   pub network : s'.network ≡ s.network

@@ -11,7 +11,7 @@ use Rattle.charge_laws.specs.EdgesByEnds.{turned}
 abbrev pub degree : Network → ℕ → ℕ
 degree net v = length (neighbours net v)
 
--- and the node at which a pointer is, if it is anywhere
+-- the degree of a pointer's target; 0 for null
 abbrev pub degree_at : Network → Option ℕ → ℕ
 degree_at net None = 0
 degree_at net (Some v) = degree net v
@@ -30,7 +30,7 @@ pub one_count : {X : Type 0} (p : X → Bool) (xs : List X) (x : X) → IsIn x x
 one_count p xs x there passes =
     ⊎_elim (λ (none : count_by p xs ≡ 0). absurd (true≢false (sym passes ∙ count_none p xs none x there))) (λ some. omega (arith, some)) (cases_eq (count_by p xs) 0)
 
--- in a list without repeats a number stands once at most
+-- in a list without repeats a number occurs at most once
 pub once : (v : ℕ) (xs : List ℕ) → IsWithoutRepeats xs → count_by (nat_eq v) xs ≤ 1
 once v xs single =
     let into = count_into (nat_eq v) xs (λ (x : ℕ). x) (λ x. true) (v ∷ []) single (record {
@@ -41,7 +41,7 @@ once v xs single =
     let one : count_by {X = ℕ} (λ x. true) (v ∷ []) ≡ 1 = count_all (v ∷ []) in
     omega (arith, into, one)
 
--- What passes a test passed another or is marked: then there are no more than before and the marked.
+-- If whatever passes a test passed another or is marked, the count grows by at most the marked.
 pub count_grows : {X : Type 0} (p p' marked : X → Bool) (xs xs' : List X) → IsWithoutRepeats xs' → ((x : X) → IsIn x xs' → IsIn x xs) → ((x : X) → IsIn x xs' → IsTrue (p' x) → IsTrue (p x) ⊎ IsTrue (marked x)) → count_by p' xs' ≤ count_by p xs + count_by marked xs'
 count_grows {X = X} p p' marked xs xs' single was passes =
     let le = sum_le (λ x. cond (p' x) 1 0) (λ x. cond (p x) 1 0 + cond (marked x) 1 0) xs' (λ x there. one (p' x) (p x) (marked x) (passes x there)) in
@@ -88,7 +88,7 @@ joins net v w near =
     (and_from (is_end v (v, w)) (is_end w (v, w)) (or_left (nat_eq v v) (nat_eq w v) (eq-eqb v v refl)) (or_right (nat_eq v w) (nat_eq w w) (eq-eqb w w refl)))
     (and_from (is_end v (w, v)) (is_end w (w, v)) (or_right (nat_eq w v) (nat_eq v v) (eq-eqb v v refl)) (or_left (nat_eq w w) (nat_eq v w) (eq-eqb w w refl))))
 
--- Two nodes have no more edges than both have, and one less where there is an edge between them.
+-- Two nodes together have as many edges as their degrees sum to, less one if they are linked.
 pub at_either : (net : Network) → IsNetwork net → (v w : ℕ) → count_by (λ e. is_end v e || is_end w e) (edge_list net) + count_by (λ e. is_end v e && is_end w e) (edge_list net) ≡ degree net v + degree net w
 at_either net good v w =
     let le = sum_add (λ e. cond (is_end v e || is_end w e) 1 0) (λ e. cond (is_end v e && is_end w e) 1 0) (edge_list net) in

@@ -55,7 +55,7 @@ degree_without_node s v u good has near =
         (λ free. free)
         (cases_Bool (is_end v e))
 
--- the same at the node where the pointer of the one that goes was, if it was anywhere
+-- the same at the target of the leaving node's pointer
 pub degree_left_at : (s : State) (v : ℕ) → IsState s → IsTrue (present s.network v) → degree_at (after_leave s v).network (pointer s v) ≤ degree_at s.network (pointer s v) - 1
 degree_left_at s v good has = go (pointer s v) refl
   where

@@ -1,4 +1,4 @@
--- The edges that pass a test are counted at their higher ends, at both ends, and where only one node changes.
+-- Counts of edges that pass a test: at their higher ends, at both ends, and if a single node changes.
 use Rattle.std.proofs.Common.{◌≡◌, ℕ, ◌+◌, ◌<◌, min, max, Bool, true, false, cond, not, ◌&&◌, List, [], ◌∷◌, count_by, sum_by, nat_eq, nat_lt, IsTrue, refl, sym, ap, ap₂, ◌∙◌, inl, inr, ⊎_elim, arith}
 use Rattle.std.proofs.lemmas.Bool.{ne_eqb, eqb-false, lt-ltb, le-ltb, ltb-true, cases_order}
 use Rattle.std.proofs.lemmas.List.Sums.{sum_by-cons}
@@ -80,7 +80,8 @@ count_split s p xs =
 abbrev elsewhere : ℕ → (ℕ → ℕ → Bool) → ℕ × ℕ → Bool
 elsewhere v p e = not (nat_eq e.1 v) && (not (nat_eq e.0 v) && p e.0 e.1)
 
--- the other end of an edge to a node from below it is another node, and a symmetric test does not mind which end is first
+-- a symmetric test does not depend on the order of the ends, and the other end of a lower edge is another
+-- node
 from_below : (p : ℕ → ℕ → Bool) (v : ℕ) → ((a b : ℕ) → p a b ≡ p b a) → (w : ℕ) → (nat_lt w v && (not (nat_eq w v) && p w v)) ≡ (nat_lt w v && p v w)
 from_below p v symmetric w = go (nat_lt w v) refl
   where
@@ -88,7 +89,7 @@ from_below p v symmetric w = go (nat_lt w v) refl
     go true below = let under = ltb-true w v below in ap (λ t. not t && p w v) (ne_eqb w v (λ same. omega arith)) ∙ symmetric w v
     go false above = refl
 
--- The edges that pass a symmetric test are those that pass it at a node's neighbours, and those that pass it elsewhere.
+-- Edges that pass a symmetric test pass it at a node's neighbours or away from the node.
 around : (net : Network) → IsNetwork net → (p : ℕ → ℕ → Bool) (v : ℕ) → ((a b : ℕ) → p a b ≡ p b a) → count_by (λ e. p e.0 e.1) (edge_list net) ≡ count_by (p v) (neighbours net v) + count_by (elsewhere v p) (edge_list net)
 around net good p v symmetric =
     let leaving = count_split (λ e. nat_eq e.0 v) (λ e. p e.0 e.1) (edge_list net) in
@@ -99,7 +100,7 @@ around net good p v symmetric =
     let sides = two_sides net good (p v) v in
     omega (arith, leaving, entering, above, below, turn, sides)
 
--- Where two symmetric tests differ only at one node, so do their counts only at its neighbours.
+-- If two symmetric tests differ only at one node, their counts differ only at its neighbours.
 pub turned : (net : Network) → IsNetwork net → (p q : ℕ → ℕ → Bool) (v : ℕ) → ((a b : ℕ) → p a b ≡ p b a) → ((a b : ℕ) → q a b ≡ q b a) → ((a b : ℕ) → (a ≡ v → ⊥) → (b ≡ v → ⊥) → q a b ≡ p a b) → count_by (λ e. q e.0 e.1) (edge_list net) + count_by (p v) (neighbours net v) ≡ count_by (λ e. p e.0 e.1) (edge_list net) + count_by (q v) (neighbours net v)
 turned net good p q v p_symmetric q_symmetric same =
     let before = around net good p v p_symmetric in

@@ -97,7 +97,7 @@ edge_up v w below =
     let high : max v w ≡ w = omega arith in
     ap₂ (λ (a b : ℕ). (a, b)) low high
 
--- The edges with the node v at one end are told by their other end, which is beside v to that side.
+-- An edge with the node v at one end is determined by its other end, which is on that side of v.
 pub record IsEnd (net : Network) (v : ℕ) (end other : ℕ × ℕ → ℕ) (pair : ℕ → ℕ × ℕ) (beside : ℕ → Bool) : Type 0 where
   pub whole : (e : ℕ × ℕ) → end e ≡ v → e ≡ pair (other e)
   pub ended : (w : ℕ) → (end (pair w) ≡ v) × (other (pair w) ≡ w)

@@ -1,4 +1,4 @@
--- How many pairs of a set pass a test after a pair is put in or taken out.
+-- How many pairs of a set pass a test after a pair is added or removed.
 use Rattle.std.proofs.Common.{◌≡◌, ℕ, ◌+◌, ◌≤◌, Bool, true, false, cond, not, ◌&&◌, Option, None, Some, is_some, List, [], ◌∷◌, map as list_map, count_by, refl, sym, ap, ◌∙◌, arith}
 use Rattle.std.specs.Ordering.{is_eq, eq_by_cmp}
 use Rattle.std.specs.declared.cmp.Ordering.{Ordering}
@@ -16,7 +16,7 @@ use Rattle.machine_laws.specs.Edges.{pair_total, pair_exact, contains-remove}
 abbrev pairs_of : List ((ℕ × ℕ) × Unit {0}) → List (ℕ × ℕ)
 pairs_of es = list_map (λ e. e.0) es
 
--- an entry that is put in at a new pair is counted once, and the others as before
+-- an entry added at a new pair is counted once, and the others as before
 count_put : (p : ℕ × ℕ → Bool) (k : ℕ × ℕ) (es : List ((ℕ × ℕ) × Unit {0})) → is_some (find pair_cmp k es) ≡ false → count_by p (pairs_of (put pair_cmp k tt es)) ≡ count_by p (pairs_of es) + cond (p k) 1 0
 count_put p k [] new = sum_by-cons (λ x. cond (p x) 1 0) k [] ∙ omega arith
 count_put p k (e ∷ es) new = go (pair_cmp k e.0) (count_put p k es) new
@@ -36,11 +36,11 @@ count_with p s k absent =
     ap (λ es. count_by p (pairs_of es)) (map.entries-insert pair_total s k tt)
     ∙ count_put p k (map.entries s) (ap is_some (sym (map.get-entries s k)) ∙ absent)
 
--- a pair that is taken out is there no longer
+-- a removed pair is absent
 pub taken_out : (s : PairSet) (k : ℕ × ℕ) → map.contains_key (map.remove s k) k ≡ false
 taken_out s k = contains-remove s k k ∙ ap (λ b. not b && map.contains_key s k) ((eq_by_cmp_equiv pair_total).refl k)
 
--- what is taken out and put in again was there before
+-- a pair that is removed and added again was there before
 put_back : (s : PairSet) (k : ℕ × ℕ) → map.contains_key s k ≡ true → map.insert (map.remove s k) k tt ≡ s
 put_back s k there =
     map.same_map pair_total pair_exact (map.insert (map.remove s k) k tt) s

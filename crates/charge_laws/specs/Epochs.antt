@@ -1,4 +1,4 @@
--- The epochs of a run: none has more moves than twice its edges and the weight for each of its nodes.
+-- The epochs of a run: the moves of each are at most twice its edges plus the weight for each of its nodes.
 use Rattle.std.proofs.Common.{◌≡◌, ◌≢◌, ℕ, ◌+◌, ◌*◌, ◌≤◌, List, [], ◌∷◌, length, All, refl, sym, ap, ◌∙◌, arith}
 use Rattle.std.proofs.lemmas.List.Elements.{All-nil, All-cons, All-append}
 use Rattle.rule_machine.specs.declared.reply.Reply.{Reply}
@@ -21,13 +21,13 @@ IsPath t start [] = Unit {0}
 IsPath t start (step ∷ path) =
     Answers t start.state start.spent step.0.0 step.0.1 step.1 × IsPath t (record { state = step.1; spent = spent_after start.spent step.0.1 }) path
 
--- the epoch that has come to this moment
+-- the epoch that contains this moment
 pub record IsEpochAt (m : Moment) (epoch : Epoch) : Type 0 where
   pub moves : epoch.moves ≡ m.spent
   pub edges : epoch.edges ≡ edge_count m.state.network
   pub nodes : epoch.nodes ≡ node_count m.state.network
 
--- an epoch with no more moves than its bound
+-- an epoch with at most as many moves as its bound
 abbrev pub IsBounded : ℕ → Epoch → Type 0
 IsBounded weight epoch = epoch.moves ≤ 2 * epoch.edges + weight * epoch.nodes
 
@@ -35,7 +35,7 @@ bounded_at : (t : RuleTable) (weight : ℕ) (m : Moment) (epoch : Epoch) → IsE
 bounded_at t weight m epoch at within =
     let weights = ap (λ n. weight * n) at.nodes in omega (arith, at.moves, at.edges, weights, within)
 
--- the same epoch goes on where the network is the same
+-- the epoch continues if the network is the same
 goes_on : (m : Moment) (epoch : Epoch) (s : State) (moved : ℕ) → IsEpochAt m epoch → s.network ≡ m.state.network → IsEpochAt (record { state = s; spent = m.spent + moved }) (record epoch { moves = epoch.moves + moved })
 goes_on m epoch s moved at same = record {
   moves = ap (λ n. n + moved) at.moves;
@@ -46,7 +46,7 @@ goes_on m epoch s moved at same = record {
 keeps_on : (m : Moment) (epoch : Epoch) (s : State) → IsEpochAt m epoch → s.network ≡ m.state.network → IsEpochAt (record { state = s; spent = m.spent }) epoch
 keeps_on m epoch s at same = record { moves = at.moves; edges = at.edges ∙ sym (ap edge_count same); nodes = at.nodes ∙ sym (ap node_count same) }
 
--- An answer ends a bounded epoch and begins one, or goes on in the one that there is.
+-- An answer ends a bounded epoch and begins one, or continues it.
 epoch_turns : (t : RuleTable) (weight : ℕ) (m : Moment) (epoch : Epoch) (number : ℕ) (reply : Reply) (s : State) → IsEpochAt m epoch → IsWithinBound t weight m → (reply ≢ Accepted → s.network ≡ m.state.network) → All (IsBounded weight) (epochs_by reply number s epoch).0 × IsEpochAt (record { state = s; spent = spent_after m.spent reply }) (epochs_by reply number s epoch).1
 epoch_turns t weight m epoch number Accepted s at within same =
     (All-cons (IsBounded weight) epoch [] (bounded_at t weight m epoch at within) (All-nil (IsBounded weight)), record { moves = refl; edges = refl; nodes = refl })

@@ -33,7 +33,7 @@ written_at s v target good has = record {
   others = λ x apart. pointer-with_pointer_other s.registers v target x apart;
 }
 
--- the node that is written and the one at which its pointer was
+-- the node written and the old target of its pointer
 abbrev pub either_node : ℕ → ℕ → ℕ → Bool
 either_node v u x = nat_eq v x || nat_eq u x
 
@@ -49,7 +49,7 @@ apart_either v u x not_v not_u =
     (λ no. no)
     (cases_Bool (either_node v u x))
 
--- where the node pointed at u, it and u are touched
+-- if the node pointed at u, the node and u are touched
 pub point_touches : (p p' : ℕ → Option ℕ) (v u : ℕ) (target : Option ℕ) → IsWritten p p' v target → p v ≡ Some u → IsTouching p p' (either_node v u)
 point_touches p p' v u target it was = record {
   nulls = λ x clear null. it.others x (either_apart v u x clear).0 ∙ null;
@@ -74,7 +74,7 @@ two_marked net v u =
     let second = once u (names net) (names_without_repeats net) in
     omega (arith, some, first, second)
 
--- Where the pointer was at u: twice the edges of both nodes.
+-- The pointer was at u: twice the edges of both nodes.
 point_from_some : (s : State) (v u : ℕ) (target : Option ℕ) → IsState s → IsState (after_point s v target) → pointer s v ≡ Some u → hsu_huang_charge (after_point s v target) ≤ hsu_huang_charge s + 2 * (degree s.network v + degree s.network u)
 point_from_some s v u target good good' was =
     let near = pointer_linked s v u good was in
@@ -92,7 +92,7 @@ point_from_some s v u target good good' was =
 
 -- ---- a null pointer is written
 
--- where the node pointed nowhere, it alone is touched
+-- if the pointer was null, its node alone is touched
 null_touches : (p p' : ℕ → Option ℕ) (v : ℕ) (target : Option ℕ) → IsWritten p p' v target → p v ≡ None → IsTouching p p' (nat_eq v)
 null_touches p p' v target it null = record {
   nulls = λ x clear none. it.others x (apart x clear) ∙ none;
@@ -118,7 +118,7 @@ aimed_closed p p' v w it null apart (low_awaits at void) = absurd (none-some w (
 aimed_closed p p' v w it null apart (high_awaits at void) = low_paired (ap is_paired (paired_from p' v w it.here (it.others w apart ∙ at)))
 aimed_closed p p' v w it null apart (courted void other u x at also) = low_awaits it.here (it.others w apart ∙ other)
 
--- Where the pointer was null: less than twice the edges of the node.
+-- The pointer was null: less than twice the edges of the node.
 pub point_from_null : (s : State) (v w : ℕ) → IsState s → IsTrue (linked s.network v w) → pointer s v ≡ None → hsu_huang_charge (after_point s v (Some w)) + 1 ≤ hsu_huang_charge s + 2 * degree s.network v
 point_from_null s v w good near null =
     let good' = point_keeps s v (Some w) good (λ x same. subst (λ y. IsTrue (linked s.network v y)) (same_Some w x same) near) in
@@ -160,7 +160,7 @@ point_from_null s v w good near null =
         differs : (x : ℕ) → (x ≡ v → ⊥) → nat_eq v x ≡ false
         differs x other = ne_eqb v x (λ same. other (sym same))
 
--- where nobody points at the node its closed edges have a paired end each, at the other node
+-- if no pointer is at the node, each of its closed edges has a paired end, the other node
 alone_closed : (p p' : ℕ → Option ℕ) (v : ℕ) (target : Option ℕ) → IsWritten p p' v target → p v ≡ None → ((u : ℕ) → p u ≡ Some v → ⊥) → (b : ℕ) → (b ≡ v → ⊥) → IsClosed p v b → IsClosed p' v b
 alone_closed p p' v target it null alone b apart (low_paired h) = let pair = paired_is p v h in absurd (none-some pair.0 (sym null ∙ pair.1))
 alone_closed p p' v target it null alone b apart (high_paired h) = high_paired (still_paired p p' (nat_eq v) (null_touches p p' v target it null) b (ne_eqb v b (λ same. apart (sym same))) h)
@@ -168,7 +168,7 @@ alone_closed p p' v target it null alone b apart (low_awaits at void) = absurd (
 alone_closed p p' v target it null alone b apart (high_awaits at void) = absurd (alone b at)
 alone_closed p p' v target it null alone b apart (courted void other u x at also) = absurd (alone u at)
 
--- Where the pointer was null and nobody points at the node: it may be unanswered.
+-- The pointer was null and no pointer is at the node: it may become unanswered.
 pub point_alone : (s : State) (v : ℕ) (target : Option ℕ) → IsState s → IsState (after_point s v target) → IsTrue (present s.network v) → pointer s v ≡ None → has_suitor s v ≡ false → hsu_huang_charge (after_point s v target) ≤ hsu_huang_charge s + 1
 point_alone s v target good good' has null single =
     let it = written_at s v target good has in
@@ -211,7 +211,7 @@ null_again s v good good' null has =
 
 -- ---- an unanswered pointer is written
 
--- where the node waited for u, u alone is touched
+-- if the node waited for u, u alone is touched
 waiting_touches : (p p' : ℕ → Option ℕ) (v u : ℕ) (target : Option ℕ) → IsWritten p p' v target → p v ≡ Some u → p u ≢ Some v → IsTouching p p' (nat_eq u)
 waiting_touches p p' v u target it was alone = record {
   nulls = λ x clear null. it.others x (λ same. none-some u (sym null ∙ ap p same ∙ was)) ∙ null;
@@ -231,7 +231,7 @@ waiting_waits p p' v u target it was alone x w at unanswered =
     (cases_eq w v))))
     (cases_eq x v)
 
--- Where the pointer was at u, which did not answer: twice the edges of u.
+-- The pointer was at u, which did not answer: twice the edges of u.
 point_from_waiting : (s : State) (v u : ℕ) (target : Option ℕ) → IsState s → IsState (after_point s v target) → pointer s v ≡ Some u → pointer s u ≢ Some v → hsu_huang_charge (after_point s v target) ≤ hsu_huang_charge s + 2 * degree s.network u
 point_from_waiting s v u target good good' was alone =
     let it = written_at s v target good (linked_present s.network v u good.is_network (pointer_linked s v u good was)) in

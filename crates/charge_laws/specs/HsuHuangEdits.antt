@@ -1,4 +1,4 @@
--- By how much the charge grows under Hsu and Huang's rules where edges and nodes come and go.
+-- By how much the charge grows under Hsu and Huang's rules when edges and nodes come and go.
 use Rattle.std.proofs.Common.{◌≡◌, ℕ, ◌+◌, ◌*◌, ◌≤◌, Bool, true, false, cond, not, ◌&&◌, ◌||◌, map, count_by, nat_eq, Option, None, Some, IsTrue, refl, sym, ap, ◌∙◌, subst, inl, ⊎_elim, arith}
 use Rattle.std.specs.Cmp.{both_ways}
 use Rattle.std.proofs.Math.ListN.{get_or-map}
@@ -88,7 +88,7 @@ module _ (s : State) (a b : ℕ) where
   unlink_gone_back : (x w : ℕ) → pointer (after_unlink s a b) x ≡ Some w → (x ≡ b) × (w ≡ a) → ⊥
   unlink_gone_back x w e is = without_pointer_gone half b a (ap (pointer (after_unlink s a b)) (sym is.0) ∙ e ∙ ap Some is.1)
 
-  -- who is at the head of a pointer that crosses the edge
+  -- the heads of pointers that cross the edge
   abbrev pub crossed : ℕ → Bool
   crossed x = (points s.registers a b && nat_eq x b) || (points s.registers b a && nat_eq x a)
 
@@ -137,12 +137,12 @@ at_crossed_free s a b x y free =
     halves true c d h = or_parts c d h
     halves false c d h = (refl, refl)
 
--- where a test holds, the edges at a node, and else none
+-- the edges at a node if the test holds, else none
 edges_if : (net : Network) → IsNetwork net → (t : Bool) (v : ℕ) → count_by (λ e. t && is_end v e) (edge_list net) ≡ cond t (degree net v) 0
 edges_if net good true v = edges_at net good v
 edges_if net good false v = none_count (λ (e : ℕ × ℕ). false) (edge_list net) (λ e there. refl)
 
--- Where an edge goes, the edges that are left at the head of each pointer that crosses it may open.
+-- After an unlink the edges left at the head of each pointer that crossed the edge may open.
 pub unlink_costs : (s : State) (a b : ℕ) → IsState s → hsu_huang_charge (after_unlink s a b) ≤ hsu_huang_charge s + 2 * (cond (points s.registers a b) (degree (after_unlink s a b).network b) 0 + cond (points s.registers b a) (degree (after_unlink s a b).network a) 0)
 unlink_costs s a b good =
     let good' = unlink_keeps s a b good in
@@ -160,7 +160,7 @@ unlink_costs s a b good =
 
 -- ---- a node goes
 
--- the node that leaves and the one at which its pointer is
+-- the node that leaves and the target of its pointer
 abbrev pub leaver_or : ℕ → Option ℕ → ℕ → Bool
 leaver_or v o x = nat_eq v x || is_at o x
 
@@ -176,7 +176,7 @@ apart_leaver v o x not_v not_at =
     (λ free. free)
     (cases_Bool (leaver_or v o x))
 
--- an edge has an end at the node where a pointer is
+-- an edge has an end at the pointer's target
 abbrev pub is_end_at : Option ℕ → ℕ × ℕ → Bool
 is_end_at None e = false
 is_end_at (Some u) e = is_end u e
@@ -224,7 +224,7 @@ module _ (s : State) (v : ℕ) where
     nodes = λ x there. in_names s.network x (⊎_elim (λ same. subst (λ y. IsTrue (present s.network y)) (sym same) has) (λ apart. sym (present_other s.network v false x apart) ∙ names_present (after_leave s v).network x there) (cases_eq x v));
   }
 
--- Where a node goes, the edges that are left at the node at which its pointer was may open.
+-- After a leave the edges left at the pointer's target may open.
 pub leave_costs : (s : State) (v : ℕ) → IsState s → IsTrue (present s.network v) → hsu_huang_charge (after_leave s v) ≤ hsu_huang_charge s + 2 * degree_at (after_leave s v).network (pointer s v)
 leave_costs s v good has =
     let good' = leave_keeps s v good in

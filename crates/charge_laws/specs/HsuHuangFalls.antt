@@ -113,7 +113,7 @@ closed_from s a b good closed = by_reason closed
 
 -- ---- the charge
 
--- one step by the mover x: where the states are, and their pointers
+-- one step by the mover x: both states and their pointers
 record IsSoloStep (s s' : State) (moves : List Moved) (x : ℕ) : Type 0 where
   before : IsState s
   done : IsDone hsu_huang s s' moves

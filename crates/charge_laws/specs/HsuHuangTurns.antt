@@ -1,16 +1,17 @@
--- A step of Hsu and Huang's rules in pointers alone: one node moves, closed edges stay closed, and who climbs closes one.
+-- A step of Hsu and Huang's rules in pointers alone: one node moves, closed edges stay closed, and a climber
+-- closes one.
 --
--- A null node with a suitor moves only by taking one, and then the two are paired, since nobody else moves; and its suitor,
--- whose target is null, can't move. So an edge that is closed by such nodes stays so. Who climbs is the mover; it has no
--- suitor, since one that it took would answer, and points at a null node: the edge between them was open, and is closed by
--- this pointer.
+-- A null node with a suitor moves only to take a suitor, and then the two are paired, since no other node
+-- moves. Its suitor's target is null, so the suitor can't move. So an edge closed by such nodes stays closed.
+-- The climber is the mover. It has no suitor, since a suitor that it took would answer, and it points at a
+-- null node. The edge between them was open, and this pointer closes it.
 use Rattle.std.proofs.Common.{◌≡◌, ◌≢◌, ℕ, Option, None, Some, IsTrue, refl, sym, ap, ◌∙◌, subst, inl, inr, ⊎_elim, ◌⊎◌}
 use Rattle.std.proofs.lemmas.Bool.{cases_eq}
 use Rattle.std.proofs.lemmas.Option.{none-some, same_Some}
 use Rattle.charge_laws.specs.Stances.{stance, is_paired, paired_from, paired_is}
 use Rattle.charge_laws.specs.Turns.{Turn, stays, marries, seduces, abandons, written_by, paired_stays, climbs, climber_aims}
 
--- what the mover does: it takes a suitor; with no suitor, it courts a null node; or it leaves one that points at a third
+-- the mover takes a suitor; or has none and courts a null node; or leaves one that points at a third
 pub data SoloTurn (p p' : ℕ → Option ℕ) (x : ℕ) : Type 0 where
   takes : (w : ℕ) → p x ≡ None → p w ≡ Some x → p' x ≡ Some w → SoloTurn p p' x
   courts : (w : ℕ) → p x ≡ None → ((u : ℕ) → p u ≡ Some x → ⊥) → p w ≡ None → (x ≡ w → ⊥) → p' x ≡ Some w → SoloTurn p p' x
@@ -21,7 +22,7 @@ pub record IsSolo (p p' : ℕ → Option ℕ) (x : ℕ) : Type 0 where
   pub others : (v : ℕ) → (v ≡ x → ⊥) → p' v ≡ p v
   pub turn : SoloTurn p p' x
 
--- v's turn, which writes a pointer where v is the mover
+-- v's turn, which writes a pointer if v is the mover
 pub record MoverTurn (p p' : ℕ → Option ℕ) (x v : ℕ) : Type 0 where
   pub turn : Turn p p' v
   pub writes : v ≡ x → written_by turn ≡ 1
@@ -38,7 +39,7 @@ solo_turn p p' x solo v =
     (λ apart. record { turn = stays (solo.others v apart); writes = λ same. absurd (apart same) })
     (cases_eq v x)
 
--- who points anew from null is the mover
+-- a node that points anew from null is the mover
 from_null : (p p' : ℕ → Option ℕ) (x : ℕ) → IsSolo p p' x → (v w : ℕ) → p v ≡ None → p' v ≡ Some w → v ≡ x
 from_null p p' x solo v w null now =
     ⊎_elim (λ same. same) (λ apart. absurd (none-some w (sym null ∙ sym (solo.others v apart) ∙ now))) (cases_eq v x)
@@ -83,7 +84,8 @@ courted_stays p p' x solo v u null suitor =
     by_suitor at (courts w free none other apart now) = none-some v (sym free ∙ at)
     by_suitor at (leaves w was alone busy now) = busy (ap p (same_Some w v (sym was ∙ at)) ∙ null)
 
--- Closed: an end is paired, or one end points at the other, which is null, or both are null with a suitor each.
+-- Closed: an end is paired, or one end points at the other, which is null, or both are null with a suitor
+-- each.
 pub data IsClosed (p : ℕ → Option ℕ) (a b : ℕ) : Type 0 where
   low_paired : IsTrue (is_paired (stance p a)) → IsClosed p a b
   high_paired : IsTrue (is_paired (stance p b)) → IsClosed p a b
@@ -117,7 +119,7 @@ pub record Courts (p p' : ℕ → Option ℕ) (v w : ℕ) : Type 0 where
   pub now : p' v ≡ Some w
   pub kept : p' w ≡ None
 
--- who climbs is the mover, and courts: a taken suitor answers
+-- a climber is the mover, and courts: a taken suitor answers
 pub climber_courts : (p p' : ℕ → Option ℕ) (x : ℕ) → IsSolo p p' x → (v : ℕ) → IsTrue (climbs (stance p v) (stance p' v)) → (v ≡ x) × ((w : ℕ) × Courts p p' v w)
 climber_courts p p' x solo v h = (here, subst (λ y. (w : ℕ) × Courts p p' y w) (sym here) (by_turn solo.turn))
   where

@@ -1,4 +1,4 @@
--- Only present nodes have an enabled rule: one that is not present has no neighbour, points nowhere and is not flagged.
+-- Only present nodes have an enabled rule: an absent one has no neighbour, a null pointer and no flag.
 use Rattle.std.proofs.Common.{◌≡◌, ℕ, Bool, true, false, cond, not, List, Option, None, Some, is_some, find, IsTrue, refl, sym, subst}
 use Rattle.std.proofs.lemmas.Bool.{and_parts, true≢false}
 use Rattle.rule_machine.specs.declared.act.Act.{Act}

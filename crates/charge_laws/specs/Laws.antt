@@ -1,7 +1,8 @@
--- The charge pays for moves, under both tables of rules: each move lowers it by one at least, twice the edges and a weight
--- for each node bound it, and where it is zero the network is stable. So between two disturbances no more moves come than
--- the charge was, whatever the daemon chooses and whatever allowed targets are taken; and when as many have come, the
--- network is stable. Why a step's moves are paid is told in Turns; Epochs has the bound for each epoch of a run.
+-- The charge pays for moves, under both tables of rules. Each move lowers it by at least one. Twice the edges
+-- and a weight for each node bound it. If it is zero the network is stable. So between two disturbances at
+-- most as many moves come as the charge was, whatever the daemon chooses and whatever allowed targets are
+-- taken. After as many moves the network is stable. Turns shows why a step's moves are paid; Epochs has the
+-- bound for each epoch of a run.
 use Rattle.std.proofs.Common.{◌≡◌, ℕ, ◌+◌, ◌*◌, ◌≤◌, true, false, List, arith}
 use Rattle.rule_machine.specs.Network.{node_count, edge_count}
 use Rattle.rule_machine.specs.State.{IsState, opening_with}
@@ -43,7 +44,7 @@ manne_charged = record {
 pub moves_are_paid : (t : RuleTable) (weight : ℕ) → IsTable t → IsCharged t weight → (start : Moment) → IsState start.state → (log : List Entry) (end : Moment) → Run t start log end → IsUndisturbed log → moves_in log + t.charge end.state ≤ t.charge start.state
 moves_are_paid t weight table charged start good log end run calm = (run_lowers t weight table charged start good log end run calm).0
 
--- There are no more of them than twice the edges and the weight for each node.
+-- They are at most twice the edges plus the weight for each node.
 pub moves_are_bounded : (t : RuleTable) (weight : ℕ) → IsTable t → IsCharged t weight → (start : Moment) → IsState start.state → (log : List Entry) (end : Moment) → Run t start log end → IsUndisturbed log → moves_in log ≤ 2 * edge_count start.state.network + weight * node_count start.state.network
 moves_are_bounded t weight table charged start good log end run calm =
     let paid = moves_are_paid t weight table charged start good log end run calm in
@@ -57,12 +58,12 @@ enough_moves_settle t weight table charged start good log end run calm enough =
     let zero : t.charge end.state ≡ 0 = omega (arith, paid, enough) in
     (zero, charged.zero_is_stable end.state (runs_end_in_states t table start good log end run) zero)
 
--- where every journal begins nothing is spent, and the charge is within the bound
+-- at the start of a journal no moves are spent, and the charge is within the bound
 pub beginning_is_within : (t : RuleTable) (weight : ℕ) → IsCharged t weight → (size count : ℕ) → IsWithinBound t weight (beginning_with size count)
 beginning_is_within t weight charged size count = let most = charged.bounded (opening_with size count) (opening_is_state size count) in omega (arith, most)
 
--- From the opening state, disturbances included: the moves since the last accepted one, with the charge, are within the
--- bound of the network as it is now.
+-- From the opening state, with disturbances: the moves since the last accepted one plus the charge are within
+-- the bound of the network as it is.
 pub opening_runs_are_bounded : (t : RuleTable) (weight : ℕ) → IsTable t → IsCharged t weight → (size count : ℕ) (log : List Entry) (end : Moment) → Run t (beginning_with size count) log end → end.spent + t.charge end.state ≤ 2 * edge_count end.state.network + weight * node_count end.state.network
 opening_runs_are_bounded t weight table charged size count log end run =
     run_within t weight table charged (beginning_with size count) (opening_is_state size count) (beginning_is_within t weight charged size count) log end run

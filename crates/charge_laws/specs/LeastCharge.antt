@@ -1,5 +1,5 @@
--- Under the rules of Manne and others the charge is at least the number of unmarried nodes; where it is no more the network
--- is stable. Each unmarried node adds one, so that no edge is open, no pointer unanswered and no flag wrong.
+-- By Manne's rules the charge is at least the number of unmarried nodes; if it is equal, the network is
+-- stable. Each unmarried node adds one, so that no edge is open, no pointer unanswered and no flag wrong.
 use Rattle.std.proofs.Common.{◌≡◌, ℕ, ◌+◌, ◌*◌, ◌≤◌, Bool, true, false, cond, not, ◌&&◌, ◌||◌, List, length, count_by, sum_by, None, Some, IsTrue, refl, sym, ap, arith}
 use Rattle.std.proofs.lemmas.Bool.{not-false, true≢false}
 use Rattle.rule_machine.specs.Network.{edge, names, edge_list, node_count}
@@ -32,7 +32,7 @@ right_flag true false e = absurd (omega (arith, e))
 right_flag false true e = absurd (omega (arith, e))
 right_flag false false e = refl
 
--- 1 where a flag is wrong
+-- 1 for a wrong flag
 abbrev wrong_flag : State → ℕ → ℕ
 wrong_flag s v = cond (married s v) (cond (flag s v) 0 1) (cond (flag s v) 1 0)
 
@@ -62,7 +62,7 @@ manne_least_is_stable s good least = record {
     open_ends : (a b : ℕ) → pointer s a ≡ None → pointer s b ≡ None → IsTrue (manne_closed s (a, b)) → ⊥
     open_ends a b null other h = none_of (married s a) (married s b) (points s.registers a b) (not (flag s b)) (null_unmarried s a null) (null_unmarried s b other) (ap (λ o. is_at o b) null) h
 
--- so a state is stable exactly where nodes in pairs and the charge are all nodes
+-- so a state is stable exactly if its paired nodes and its charge sum to all nodes
 pub least_charge_is_stable : (s : State) → IsState s → manne_charge s + 2 * length (mutual_pairs s) ≤ node_count s.network → IsStable true s
 least_charge_is_stable s good least =
     let pairs = married_are_pairs s good in manne_least_is_stable s good (omega (arith, pairs, least))

@@ -48,7 +48,7 @@ sum_within f (x ∷ xs') xs single was =
     let rest = sum_within f xs' (without xs x at) single.1 (λ y there. in_without xs x at y (was y (inr there)) (λ same. single.0 (subst (λ z. IsIn z xs') (sym same) there))) in
     omega (arith, whole, less, rest)
 
--- terms that grow by two at most where they are marked
+-- terms that grow by at most two if marked
 sum_grows : (f f' : ℕ → ℕ) (marked : ℕ → Bool) (xs xs' : List ℕ) → IsWithoutRepeats xs' → ((x : ℕ) → IsIn x xs' → IsIn x xs) → ((x : ℕ) → IsIn x xs' → f' x ≤ f x + 2 * cond (marked x) 1 0) → sum_by f' xs' ≤ sum_by f xs + 2 * count_by marked xs'
 sum_grows f f' marked xs xs' single was le =
     let grow = sum_le f' (λ x. f x + 2 * cond (marked x) 1 0) xs' le in
@@ -72,7 +72,8 @@ still_married s s' good good' touched it x clear h =
     let pair = paired_is (pointer s) x (sym (married_is s x good) ∙ h) in
     married_is s' x good' ∙ ap is_paired (paired_from (pointer s') x pair.0 (it.pairs x pair.0 clear pair.1 pair.2) (it.kept pair.0 x clear pair.2))
 
--- a closed edge stays closed where its ends stay married, the pointer that crosses it upwards stays, and no flag is set at its higher end
+-- a closed edge stays closed if its ends stay married, its upward pointer stays, and no flag is set at its
+-- higher end
 closed_by : (s s' : State) (a b : ℕ) → (married s a ≡ true → married s' a ≡ true) → (married s b ≡ true → married s' b ≡ true) → (pointer s a ≡ Some b → pointer s' a ≡ Some b) → (pointer s a ≡ Some b → flag s b ≡ false → flag s' b ≡ false) → IsTrue (manne_closed s (a, b)) → IsTrue (manne_closed s' (a, b))
 closed_by s s' a b low high aims flags h =
     ⊎_elim
@@ -91,13 +92,13 @@ still_closed : (s s' : State) → IsState s → IsState s' → (touched : ℕ �
 still_closed s s' good good' touched it a b low high flags h =
     closed_by s s' a b (still_married s s' good good' touched it a low) (still_married s s' good good' touched it b high) (λ at. it.kept a b high at) flags h
 
--- whoever is married stays so where the pointers of pairs stay
+-- married nodes stay married if the pointers of pairs stay
 pairs_stay : (s s' : State) → IsState s → IsState s' → ((x w : ℕ) → pointer s x ≡ Some w → pointer s w ≡ Some x → pointer s' x ≡ Some w) → (x : ℕ) → married s x ≡ true → married s' x ≡ true
 pairs_stay s s' good good' stay x h =
     let pair = paired_is (pointer s) x (sym (married_is s x good) ∙ h) in
     married_is s' x good' ∙ ap is_paired (paired_from (pointer s') x pair.0 (stay x pair.0 pair.1 pair.2) (stay pair.0 x pair.2 pair.1))
 
--- what a node adds does not grow where it stays married and its flag stays, and else by two at most
+-- a node's part does not grow if it stays married and its flag stays; else it grows by at most two
 node_grows : (m f m' f' marked : Bool) → (marked ≡ false → (m ≡ true → m' ≡ true) × (f' ≡ f)) → ◌≤◌ (cond m' (cond f' 0 1) (cond f' 2 1)) (cond m (cond f 0 1) (cond f 2 1) + 2 * cond marked 1 0)
 node_grows m f true true true h = omega arith
 node_grows m f true false true h = omega arith
@@ -120,8 +121,8 @@ open_grow s s' within touched closed =
     one e there h (inr is) (inl was) = absurd (true≢false (sym (closed e.0 e.1 there is was) ∙ not-true (manne_closed s' e) h))
     one e there h (inr is) (inr was) = inl (not_from_false (manne_closed s e) was)
 
--- Where edges that are not touched stay closed, the charge grows by two for each touched edge, one for each node that is marked as
--- waiting and two for each that is marked as changed.
+-- If untouched edges stay closed, the charge grows by at most two for each touched edge, one for each node
+-- marked as waiting and two for each marked as changed.
 pub manne_grows : (s s' : State) → IsWithin s.network s'.network → (touched : ℕ × ℕ → Bool) (marked changed : ℕ → Bool) → ((a b : ℕ) → IsIn (a, b) (edge_list s'.network) → touched (a, b) ≡ false → IsTrue (manne_closed s (a, b)) → IsTrue (manne_closed s' (a, b))) → WaitsOnly (pointer s) (pointer s') marked → ((x : ℕ) → IsIn x (names s'.network) → changed x ≡ false → (married s x ≡ true → married s' x ≡ true) × (flag s' x ≡ flag s x)) → manne_charge s' ≤ manne_charge s + 2 * count_by touched (edge_list s'.network) + count_by marked (names s'.network) + 2 * count_by changed (names s'.network)
 manne_grows s s' within touched marked changed closed waits stays =
     let open_edges = open_grow s s' within touched closed in
@@ -244,7 +245,7 @@ point_costs s v target good has near = by_stance (standing (pointer s) v)
 unlink_flags : (s : State) (a b x : ℕ) → flag (after_unlink s a b) x ≡ flag s x
 unlink_flags s a b x = ap (λ l. get_or l x false) (without_pointer_flags (without_pointer s.registers a b) b a ∙ without_pointer_flags s.registers a b)
 
--- where the ends are no pair nothing opens
+-- if the ends are no pair, no edge opens
 unlink_unpaired : (s : State) (a b : ℕ) → IsState s → is_mutual s a b ≡ false → manne_charge (after_unlink s a b) ≤ manne_charge s
 unlink_unpaired s a b good apart =
     let good' = unlink_keeps s a b good in
@@ -297,7 +298,7 @@ unlink_any s a b good =
     let nodes = two_marked s.network a b in
     omega (arith, grows, edges, none, nodes)
 
--- Where a pair is parted the edges that are left at both may open, and their flags are wrong.
+-- If a pair is parted, the edges left at both nodes may open, and their flags are wrong.
 pub unlink_costs : (s : State) (a b : ℕ) → IsState s → manne_charge (after_unlink s a b) ≤ manne_charge s + cond (is_mutual s a b) (2 * (degree (after_unlink s a b).network a + degree (after_unlink s a b).network b) + 4) 0
 unlink_costs s a b good =
     ⊎_elim
@@ -323,15 +324,15 @@ lowered row v =
     (λ (past : length row ≤ v). get_or_past (set row v false) v false (let same = length-set row v false in omega (arith, same)))
     (cases_lt v (length row))
 
--- the node is present no longer
+-- the node is absent
 left_out : (s : State) (v : ℕ) → IsTrue (present (after_leave s v).network v) → ⊥
 left_out s v h = true≢false (sym (and_parts _ _ (and_parts _ _ h).1).1 ∙ lowered s.network.here v)
 
--- who is left is another node
+-- each node that is left is another one
 left_apart : (s : State) (v x : ℕ) → IsIn x (names (after_leave s v).network) → x ≡ v → ⊥
 left_apart s v x there same = left_out s v (names_present (after_leave s v).network v (subst (λ y. IsIn y (names (after_leave s v).network)) same there))
 
--- Where the node was in a pair, the edges that are left at the other one may open, and its flag is wrong.
+-- If the node was in a pair, the edges left at its partner may open, and the partner's flag is wrong.
 leave_paired : (s : State) (v u : ℕ) → IsState s → IsTrue (present s.network v) → pointer s v ≡ Some u → manne_charge (after_leave s v) ≤ manne_charge s + (2 * degree (after_leave s v).network u + 2)
 leave_paired s v u good has was =
     let good' = leave_keeps s v good in
@@ -368,7 +369,7 @@ leave_unpaired s v good has alone =
     let edges = none_count (λ (e : ℕ × ℕ). false) (edge_list (after_leave s v).network) (λ e there. refl) in
     omega (arith, grows, none, edges)
 
--- where a node of a pair goes, its partner lets go of the edges that are left to it
+-- after a node of a pair leaves, the edges left to its partner may open
 abbrev pub parted_cost : Network → Option ℕ → ℕ
 parted_cost net None = 0
 parted_cost net (Some u) = 2 * degree net u + 2
@@ -394,7 +395,7 @@ flag_elsewhere s v x value apart = flag-with_flag_other s.registers v value x ap
 flag_here : (s : State) (v : ℕ) (value : Bool) → IsState s → IsTrue (present s.network v) → flag (after_flag s v value) v ≡ value
 flag_here s v value good has = flag-with_flag_same s.registers v value (let most = (present_range s.network v has).1 in let len = good.flags_len in omega (arith, most, len))
 
--- what a node adds grows by one at most where its flag turns
+-- a node's part grows by at most one if its flag changes
 flag_grows : (m f f' marked : Bool) → (marked ≡ false → f' ≡ f) → ◌≤◌ (cond m (cond f' 0 1) (cond f' 2 1)) (cond m (cond f 0 1) (cond f 2 1) + cond marked 1 0)
 flag_grows true true true true h = omega arith
 flag_grows true true false true h = omega arith
@@ -423,7 +424,7 @@ lower_costs s v good has =
     let edges = none_count (λ (e : ℕ × ℕ). false) (edge_list s.network) (λ e there. refl) in
     omega (arith, adds, edges)
 
--- nor does one that is set where nobody points
+-- nor does a flag set at a node without a suitor
 raise_alone : (s : State) (v : ℕ) → IsState s → IsTrue (present s.network v) → has_suitor s v ≡ false → manne_charge (after_flag s v true) ≤ manne_charge s + 1
 raise_alone s v good has alone =
     let adds = flag_adds s v true good has (λ e. false) (λ a b clear at was. flag_elsewhere s v b true (λ same. no_suitor s v a good alone (at ∙ ap Some same)) ∙ was) in

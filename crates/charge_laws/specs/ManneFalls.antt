@@ -1,4 +1,4 @@
--- Under the rules of Manne and others the charge falls by the moves of a step, however many nodes move at once.
+-- By Manne's rules the charge falls by the moves of a step, however many nodes move at once.
 use Rattle.std.proofs.Common.{◌≡◌, ◌≢◌, ℕ, ◌+◌, ◌*◌, ◌≤◌, Bool, true, false, cond, not, ◌&&◌, ◌||◌, List, length, count_by, sum_by, Some, is_none, unwrap_or, IsTrue, nat_lt, nat_le, refl, sym, ap, ◌∙◌, subst, inl, inr, ⊎_elim, arith}
 use Rattle.std.proofs.lemmas.Bool.{and_parts, and_from, or_cases, or_left, or_right, not-true, not_from_false, false_from_ne_true, true≢false, ltb-true, leb-true}
 use Rattle.rule_machine.specs.declared.choice.Item.{Item}
@@ -111,7 +111,7 @@ joint_names s s' moves step =
     (flags_pay (pointer s) (pointer s') (flag s) (flag s') (is_moved moves) (turns_of s s' moves step)) in
     omega (arith, after, before, cost_after, cost_before, paid, step.done.counted)
 
--- each climber closes the edge to its target, of which it is the lower end
+-- each climber closes the edge to its target, and is the lower end of that edge
 joint_closes : (s s' : State) (moves : List Moved) → IsJointStep s s' moves → count_by (λ v. climbs (stance (pointer s) v) (stance (pointer s') v)) (names s.network) ≤ count_by (λ e. not (manne_closed s e) && manne_closed s' e) (edge_list s.network)
 joint_closes s s' moves step =
     count_into (λ v. climbs (stance (pointer s) v) (stance (pointer s') v)) (names s.network) crossed (λ e. not (manne_closed s e) && manne_closed s' e) (edge_list s.network) (names_without_repeats s.network) (record {

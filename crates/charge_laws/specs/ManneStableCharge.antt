@@ -1,4 +1,4 @@
--- What is left of Manne's charge where the network is stable: one for each node that is in no pair.
+-- The rest of Manne's charge in a stable network: one for each node that is in no pair.
 use Rattle.std.proofs.Common.{◌≡◌, ℕ, ◌+◌, ◌*◌, ◌<◌, ◌≤◌, Bool, true, false, cond, not, ◌&&◌, ◌||◌, List, [], ◌∷◌, length, filter_map, count_by, sum_by, nat_lt, Option, None, Some, is_some, unwrap_or, IsTrue, refl, sym, ap, ◌∙◌, subst, ⊎_elim, arith, lt-ltb, ltb-true, le-ltb}
 use Rattle.std.specs.List.{cons_option}
 use Rattle.std.proofs.lemmas.Bool.{cases_order, and_parts, and_from, not_from_true, not-true, true≢false}
@@ -16,7 +16,7 @@ use Rattle.charge_laws.specs.Stances.{married_is}
 use Rattle.charge_laws.specs.Degrees.{none_count}
 use Rattle.charge_laws.specs.StableCharge.{none_unanswered, an_end_paired}
 
--- sums of terms that agree on what is there
+-- sums of terms that agree on the list's elements
 sum_agree_in : {X : Type 0} (f g : X → ℕ) (xs : List X) → ((x : X) → IsIn x xs → f x ≡ g x) → sum_by f xs ≡ sum_by g xs
 sum_agree_in f g xs same =
     let less = sum_le f g xs (λ x there. let e = same x there in omega (arith, e)) in
@@ -162,7 +162,7 @@ married_are_pairs s good =
     one v None = omega arith
     one v (Some w) = tests (is_some (pair_above v (Some w)))
 
--- So nodes in pairs and what is left of the charge are all nodes.
+-- So nodes in pairs plus the rest of the charge are all nodes.
 pub manne_stable_charge : (s : State) → IsState s → IsStable true s → manne_charge s + 2 * length (mutual_pairs s) ≡ node_count s.network
 manne_stable_charge s good stable =
     let left = manne_stable_leaves s good stable in

@@ -1,19 +1,21 @@
--- A step of the rules of Manne and others in pointers and flags alone: any nodes move at once, closed edges stay closed,
--- who climbs closes one, and each update is paid by its own node.
+-- A step of Manne's rules in pointers and flags alone: any nodes move at once, closed edges stay closed, a
+-- climber closes one, and each update is paid by its own node.
 --
--- Who moves its pointer has a right flag, and is in no pair: its flag is false. So a pointer up to an unflagged node is not
--- given up, and a flag becomes true only at a node that was paired: a closed edge stays closed. Who climbs points up: it
--- courts a node above it, or it takes a suitor that leaves it in the same step, and an unflagged node is left only by one
--- above it. The target is in no pair, so its flag stays false in that step: the edge was open, and is closed.
--- An update lowers what its node adds by one at least, whether or not its pointer is answered in the same step.
+-- A node that moves its pointer has a right flag and is in no pair, so its flag is false. So no node gives up
+-- a pointer up to an unflagged node. A flag becomes true only at a node that was paired, so a closed edge
+-- stays closed. A climber points up: it courts a node above it, or takes a suitor that leaves it in the same
+-- step; only a node above leaves an unflagged node. The target is in no pair, so its flag stays false in that
+-- step. The edge was open, and is closed. An update lowers its node's part by at least one, whether or not
+-- its pointer is answered in the same step.
 use Rattle.std.proofs.Common.{◌≡◌, ◌≢◌, ℕ, ◌+◌, ◌<◌, ◌≤◌, Bool, true, false, cond, not, Option, None, Some, IsTrue, refl, sym, ap, ◌∙◌, subst, inl, inr, ⊎_elim, ◌⊎◌, arith}
 use Rattle.std.proofs.lemmas.Bool.{cases_Bool, true≢false}
 use Rattle.std.proofs.lemmas.Option.{none-some, same_Some}
 use Rattle.charge_laws.specs.Stances.{stance, is_paired, paired_is}
 use Rattle.charge_laws.specs.Turns.{Turn, stays, marries, seduces, abandons, written_by, paired_stays, climbs, climber_aims, bit}
 
--- What v does. Who updates has a wrong flag; who writes its pointer has a right one, which is false, since it is in no pair.
--- It takes a suitor; courts a null, unflagged node above it; or leaves one that is flagged or not above it.
+-- What v does. A node that updates has a wrong flag. A node that writes its pointer has a right flag, which
+-- is false, since it is in no pair: it takes a suitor; courts a null, unflagged node above it; or leaves one
+-- that is flagged or not above it.
 pub data FlagTurn (p p' : ℕ → Option ℕ) (m m' moved : ℕ → Bool) (v : ℕ) : Type 0 where
   idles : moved v ≡ false → p' v ≡ p v → m' v ≡ m v → FlagTurn p p' m m' moved v
   updates : p' v ≡ p v → m v ≡ not (is_paired (stance p v)) → m' v ≡ is_paired (stance p v) → FlagTurn p p' m m' moved v
@@ -71,7 +73,7 @@ bit_le : (b : Bool) → bit b ≤ 1
 bit_le true = omega arith
 bit_le false = omega arith
 
--- An update lowers what its node adds by one; who writes its pointer adds one before and after.
+-- An update lowers its node's part by one; a node that writes its pointer adds one before and after.
 pub flags_pay : (p p' : ℕ → Option ℕ) (m m' moved : ℕ → Bool) (turns : (v : ℕ) → FlagTurn p p' m m' moved v) (v : ℕ) → bit (moved v) + node_cost (is_paired (stance p' v)) (m' v) ≤ written_by (pointer_turn (turns v)) + node_cost (is_paired (stance p v)) (m v)
 flags_pay p p' m m' moved turns v = by_turn (turns v)
   where
@@ -109,7 +111,7 @@ pub data IsClosed (p : ℕ → Option ℕ) (m : ℕ → Bool) (a b : ℕ) : Type
   high_paired : IsTrue (is_paired (stance p b)) → IsClosed p m a b
   points_up : p a ≡ Some b → m b ≡ false → IsClosed p m a b
 
--- a flag that is false is true afterwards only where its node was paired
+-- a false flag becomes true only if its node was paired
 flag_stays : (p p' : ℕ → Option ℕ) (m m' moved : ℕ → Bool) (v : ℕ) → FlagTurn p p' m m' moved v → m v ≡ false → IsTrue (is_paired (stance p v)) ⊎ (m' v ≡ false)
 flag_stays p p' m m' moved v (idles none now kept) plain = inr (kept ∙ plain)
 flag_stays p p' m m' moved v (updates now wrong right) plain = ⊎_elim (λ h. inl h) (λ no. inr (right ∙ no)) (cases_Bool (is_paired (stance p v)))
@@ -147,8 +149,8 @@ pub record Reaches (p p' : ℕ → Option ℕ) (m' : ℕ → Bool) (v w : ℕ) :
 null_alone : (p : ℕ → Option ℕ) (v w : ℕ) → p v ≡ None → p w ≡ Some v → IsTrue (is_paired (stance p w)) → ⊥
 null_alone p v w null at h = let pair = paired_is p w h in none-some w (sym null ∙ ap p (same_Some v pair.0 (sym at ∙ pair.1)) ∙ pair.2)
 
--- Who climbs reaches up: it courts a node above it, or takes a suitor that leaves it in the same step, and a node leaves
--- only one that is flagged or not above it.
+-- A climber reaches up: it courts a node above it, or takes a suitor that leaves it in the same step. A node
+-- leaves only one that is flagged or not above it.
 pub climber_reaches : (p p' : ℕ → Option ℕ) (m m' moved : ℕ → Bool) → ((v : ℕ) → FlagTurn p p' m m' moved v) → (v : ℕ) → IsTrue (climbs (stance p v) (stance p' v)) → (w : ℕ) × Reaches p p' m' v w
 climber_reaches p p' m m' moved turns v h = by_turn (turns v)
   where

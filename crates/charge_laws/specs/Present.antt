@@ -1,4 +1,4 @@
--- Which nodes are there where an event is not refused.
+-- Which nodes are present if an event is not refused.
 use Rattle.std.proofs.Common.{◌≡◌, ℕ, Bool, not, cond, Option, None, Some, IsTrue, ◌∙◌}
 use Rattle.rule_machine.specs.declared.event.Event.TheVariants.{Unlink, Point, Flag, Leave}
 use Rattle.rule_machine.specs.declared.refusal.Refusal.TheVariants.{UnknownNode, NoFlag}

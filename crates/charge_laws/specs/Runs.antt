@@ -1,4 +1,4 @@
--- What the charge says of runs, for any rule set whose steps lower it.
+-- Bounds on runs from the charge, for any rule set whose steps lower it.
 use Rattle.std.proofs.Common.{◌≡◌, ◌≢◌, ℕ, ◌+◌, ◌≤◌, List, [], ◌∷◌, Option, None, Some, refl, sym, ap, ◌∙◌, subst, arith}
 use Rattle.std.proofs.lemmas.List.Elements.{All-head, All-tail}
 use Rattle.std.proofs.lemmas.List.Sums.{sum_by-cons}
@@ -63,7 +63,7 @@ answer_lowers t weight charged s good n event reply s' answers calm = by_effect 
         (omega (arith, count, less), step_network t s items moves s' step)
     by_effect (disturbs is) = absurd (calm is)
 
--- every answer keeps what is spent and the charge within the bound: a disturbance begins anew
+-- every answer keeps moves spent plus the charge within the bound: a disturbance resets them
 pub answer_within : (t : RuleTable) (weight : ℕ) → IsTable t → IsCharged t weight → (m : Moment) → IsState m.state → IsWithinBound t weight m → (event : Event) (reply : Reply) (s : State) → Answers t m.state m.spent event reply s → IsWithinBound t weight (record { state = s; spent = spent_after m.spent reply })
 answer_within t weight table charged m good within event reply s answers = by_effect (effect t m.state m.spent event reply s answers)
   where
@@ -96,7 +96,7 @@ run_lowers t weight table charged start good (entry ∷ log) end (next, answers,
     let rest_falls = rest.0 in
     (omega (arith, first_falls, rest_falls, whole), rest.1 ∙ first.1)
 
--- Every run keeps what is spent and the charge within the bound.
+-- Every run keeps moves spent plus the charge within the bound.
 pub run_within : (t : RuleTable) (weight : ℕ) → IsTable t → IsCharged t weight → (start : Moment) → IsState start.state → IsWithinBound t weight start → (log : List Entry) (end : Moment) → Run t start log end → IsWithinBound t weight end
 run_within t weight table charged start good within [] end run = subst (IsWithinBound t weight) (sym run) within
 run_within t weight table charged start good within (entry ∷ log) end (next, answers, run) =

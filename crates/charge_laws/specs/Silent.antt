@@ -1,5 +1,5 @@
--- A run that is long enough ends silent: where each turn moves someone or nobody is enabled, as many turns as what is left
--- to spend end where nobody is enabled. What may be spent is a budget: any bound that moves use up.
+-- A run that is long enough ends silent. If each turn moves a node or comes in a silent network, as many
+-- turns as the budget lead to silence. A budget is any bound that moves use up.
 use Rattle.std.proofs.Common.{◌≡◌, ◌≢◌, ℕ, suc, ◌-◌, ◌≤◌, List, [], ◌∷◌, length, All, Any, None, Some, IsTrue, refl, sym, ap, ◌∙◌, subst, ⊎_elim, ◌⊎◌, arith}
 use Rattle.std.proofs.lemmas.Bool.{true≢false}
 use Rattle.std.proofs.lemmas.List.Elements.{All-head, All-tail, All-cons, All-nil}
@@ -26,12 +26,12 @@ use Rattle.charge_laws.specs.Deeds.{IsInside}
 use Rattle.charge_laws.specs.Epochs.{IsPath}
 use Rattle.charge_laws.specs.Runs.{Effect, rests, steps, disturbs, effect}
 
--- each entry tells of a move, or nobody is enabled when it comes
+-- each entry has a move, or comes in a silent network
 abbrev pub IsDriven : RuleTable → State → List (Entry × State) → Type 0
 IsDriven t s [] = Unit {0}
 IsDriven t s (turn ∷ path) = ((1 ≤ moves_of turn.0.1) ⊎ (enabled_names t s ≡ [])) × IsDriven t turn.1 path
 
--- from a state within n no more than n moves can be spent, and a step spends its own
+-- from a state within n at most n moves can be spent, and a step spends its own
 pub record IsBudget (t : RuleTable) (within : State → ℕ → Type 0) : Type 0 where
   pub spends : (s : State) (n : ℕ) (items : List Item) (moves : List Moved) (s' : State) → IsState s → within s n → IsStep t s items moves s' → (length moves ≤ n) × within s' (n - length moves)
   pub more : (s : State) (n m : ℕ) → within s n → n ≤ m → within s m
@@ -74,7 +74,7 @@ lone_step t table s good v act has rule = (
     is : IsMoveOf t s item m
     is = makes_move_of t table s good item m (record { has = has; node = refl; rule = rule; target = refl })
 
--- where nothing can be spent nobody is enabled
+-- a state with no budget left is silent
 pub spent_is_quiet : (t : RuleTable) (within : State → ℕ → Type 0) → IsTable t → IsBudget t within → (s : State) → IsState s → within s 0 → enabled_names t s ≡ []
 spent_is_quiet t within table budget s good none =
     quiet_from t s (λ v has act. ⊎_elim
@@ -87,7 +87,7 @@ spent_is_quiet t within table budget s good none =
 
 -- ---- silence lasts
 
--- where nobody is enabled there is no step
+-- in a silent network there is no step
 no_step : (t : RuleTable) → IsInside t → (s : State) → IsState s → enabled_names t s ≡ [] → (items : List Item) (moves : List Moved) → moves ≢ [] → All (λ m. Any (λ item. IsMoveOf t s item m) items) moves → ⊥
 no_step t inside s good quiet items [] some each = some refl
 no_step t inside s good quiet items (m ∷ moves) some each = by_item (All-head (λ m. Any (λ item. IsMoveOf t s item m) items) m moves each)
@@ -105,7 +105,7 @@ quiet_answer t inside s good quiet n event reply s' answers calm = by_effect (ef
     by_effect (steps items moves is step) = absurd (no_step t inside s good quiet items moves step.some step.each)
     by_effect (disturbs is) = absurd (calm is)
 
--- who is silent stays so while nothing disturbs
+-- a silent network stays silent without a disturbance
 pub quiet_stays : (t : RuleTable) → IsTable t → IsInside t → (start : Moment) → IsState start.state → enabled_names t start.state ≡ [] → (path : List (Entry × State)) → IsPath t start path → IsUndisturbed (log_of path) → enabled_names t (end_of start.state path) ≡ []
 quiet_stays t table inside start good quiet [] is calm = quiet
 quiet_stays t table inside start good quiet (turn ∷ path) (answers, is) calm =

@@ -1,4 +1,4 @@
--- What the charge is where the network is stable.
+-- The charge of a stable network.
 use Rattle.std.proofs.Common.{◌≡◌, ℕ, Bool, false, not, count_by, Some, IsTrue, ap, ◌∙◌, ⊎_elim, arith}
 use Rattle.std.proofs.lemmas.Bool.{not_from_true}
 use Rattle.rule_machine.specs.Network.{linked, names, edge_list}
@@ -39,7 +39,7 @@ an_end_paired uses_flags s good stable e there P low high =
     (λ some. low (ap is_paired (paired_from (pointer s) e.0 some.0 some.1 (answer_of uses_flags s stable e.0 some.0 some.1))))
     (option_cases (pointer s e.0))
 
--- Hsu and Huang: nothing is left
+-- Hsu and Huang: 0
 pub hsu_huang_stable_is_zero : (s : State) → IsState s → IsStable false s → hsu_huang_charge s ≡ 0
 hsu_huang_stable_is_zero s good stable =
     let unanswered = none_unanswered false s stable in

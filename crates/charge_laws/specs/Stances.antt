@@ -1,4 +1,4 @@
--- How a node stands to its neighbours: its pointer is null, or at a node that does not point back, or at one that does.
+-- The stance of a node: its pointer is null, or at a node that does not point back, or at one that does.
 use Rattle.std.proofs.Common.{◌≡◌, ◌≢◌, ℕ, Bool, true, false, cond, not, Option, None, Some, is_some, is_none, IsTrue, refl, sym, ap, ◌∙◌, true≢false}
 use Rattle.std.proofs.lemmas.Bool.{cond-true, cond-false, false_from_ne_true}
 use Rattle.rule_machine.specs.State.{State, IsState, is_at, holds_at, pointer, is_unanswered, married}
@@ -14,7 +14,7 @@ abbrev pub stance_by : (ℕ → Option ℕ) → ℕ → Option ℕ → Stance
 stance_by p v None = Free
 stance_by p v (Some w) = cond (is_at (p w) v) Paired Waiting
 
--- how v stands where the pointers are p
+-- v's stance if the pointers are p
 abbrev pub stance : (ℕ → Option ℕ) → ℕ → Stance
 stance p v = stance_by p v (p v)
 
@@ -44,7 +44,7 @@ null_is o e = ap is_none e
 pub not_null : (o : Option ℕ) → IsTrue (is_some o) → o ≢ None
 not_null o h e = true≢false (sym h ∙ ap is_some e)
 
--- how a node stands whose pointers are these
+-- the stance of a node with these pointers
 pub free_from : (p : ℕ → Option ℕ) (v : ℕ) → p v ≡ None → stance p v ≡ Free
 free_from p v e = ap (stance_by p v) e
 
@@ -55,7 +55,7 @@ waiting_from p v w e apart =
 pub paired_from : (p : ℕ → Option ℕ) (v w : ℕ) → p v ≡ Some w → p w ≡ Some v → stance p v ≡ Paired
 paired_from p v w e back = ap (stance_by p v) e ∙ cond-true (is_at (p w) v) Paired Waiting (is_at_from_some (p w) v back)
 
--- where a node points that stands so
+-- v's pointer, for each stance
 pub data Standing (p : ℕ → Option ℕ) (v : ℕ) : Type 0 where
   free : p v ≡ None → stance p v ≡ Free → Standing p v
   waiting : (w : ℕ) → p v ≡ Some w → p w ≢ Some v → stance p v ≡ Waiting → Standing p v
@@ -94,7 +94,7 @@ married_is s v good = by_stance (standing (pointer s) v)
     by_stance (waiting w e apart is) = unanswered_unmarried s v w e apart ∙ ap is_paired (sym is)
     by_stance (paired w e back is) = married_from s v w good e back ∙ ap is_paired (sym is)
 
--- what a test of a stance says of the pointers
+-- what a test of a stance implies for the pointers
 pub free_is : (p : ℕ → Option ℕ) (v : ℕ) → IsTrue (is_free (stance p v)) → p v ≡ None
 free_is p v h = by_stance (standing p v)
   where

@@ -1,4 +1,4 @@
--- An accepted step has a move at least, so a run has no more accepted steps than moves.
+-- An accepted step has at least one move, so a run has at most as many accepted steps as moves.
 use Rattle.std.proofs.Common.{◌≢◌, ℕ, ◌≤◌, List, [], ◌∷◌, length, Option, None, Some, refl, arith}
 use Rattle.std.proofs.lemmas.List.Sums.{sum_by-cons}
 use Rattle.rule_machine.specs.declared.event.Event.{Event}

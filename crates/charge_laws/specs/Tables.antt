@@ -1,5 +1,5 @@
--- Both tables have the laws that a run needs: targets are neighbours, of rules that take one, and are there where such a
--- rule is enabled.
+-- Both tables have the laws that a run needs: targets are neighbours, of rules that take one, and an enabled
+-- rule that takes a target has one.
 use Rattle.std.proofs.Common.{◌≡◌, ℕ, zero, suc, ◌<◌, ◌≤◌, Bool, false, not, ◌&&◌, is_some, IsSome, find, nat_lt, IsTrue, refl, sym, ap, ◌∙◌, subst, ⊎_elim, arith}
 use Rattle.std.proofs.lemmas.Bool.{and_parts, and_from, cases_Bool, cases_eq, true≢false, ltb-true, false_from_ne_true}
 use Rattle.rule_machine.specs.declared.act.Act.{Act}
@@ -16,7 +16,7 @@ use Rattle.machine_laws.specs.LeastMoves.{IsTable}
 use Rattle.machine_laws.specs.Unflagged.{IsFlagless}
 use Rattle.charge_laws.specs.Inside.{hsu_huang_inside, manne_inside}
 
--- where some neighbour passes a test, and the test is what is allowed there, a target is there
+-- if a neighbour passes a test, and the test is what is allowed, there is a target
 target_found : (t : RuleTable) (s : State) (v : ℕ) (act : Act) (test : ℕ → Bool) → IsState s → IsTrue (is_some (find test (neighbours s.network v))) → ((w : ℕ) → IsTrue (linked s.network v w) → IsTrue (test w) → IsTrue (t.allowed s v act w)) → IsSome (least_target t s v act)
 target_found t s v act test good h allowed =
     let found = some_is (find test (neighbours s.network v)) h in
@@ -33,7 +33,7 @@ greatest_up_to q (suc n) x le h =
     (rest.0, rest.1, λ y above below. ⊎_elim (λ same. ap q same ∙ fails) (λ apart. rest.2 y above (omega arith)) (cases_eq y (suc n))))
     (cases_Bool (q (suc n)))
 
--- a neighbour that v may court is allowed where none above it is one
+-- a neighbour that v may court is allowed if it may court none above it
 greatest_allowed : (s : State) (v g : ℕ) → IsTrue (linked s.network v g && may_court s v g) → ((x : ℕ) → g < x → IsTrue (linked s.network v x) → may_court s v x ≡ false) → IsTrue (manne.allowed s v Seduce g)
 greatest_allowed s v g h none =
     and_from (linked s.network v g && may_court s v g) (not (is_some (find (λ x. may_court s v x && nat_lt g x) (neighbours s.network v)))) h
@@ -48,7 +48,7 @@ greatest_allowed s v g h none =
 neighbour_within : (s : State) (v x : ℕ) → IsState s → IsTrue (linked s.network v x) → x ≤ s.network.size
 neighbour_within s v x good near = (present_range s.network x (linked_present s.network x v good.is_network (linked_back s.network x v ∙ near))).1
 
--- v's greatest neighbour that it may court, which is there where one is
+-- v's greatest neighbour that it may court exists if there is any
 court_found : (s : State) (v : ℕ) → IsState s → IsTrue (is_some (find (may_court s v) (neighbours s.network v))) → IsSome (least_target manne s v Seduce)
 court_found s v good h =
     let found = some_is (find (may_court s v) (neighbours s.network v)) h in
@@ -70,7 +70,7 @@ with_target allowed none_up none_away Marry h = refl
 with_target allowed none_up none_away Seduce h = refl
 with_target allowed none_up none_away Abandon h = absurd (true≢false (sym h ∙ none_away))
 
--- so a target is there where these two find one
+-- so there is a target if these two find one
 has_by : (t : RuleTable) (s : State) (v : ℕ) → (IsTrue (t.guard s v Marry) → IsSome (least_target t s v Marry)) → (IsTrue (t.guard s v Seduce) → IsSome (least_target t s v Seduce)) → (act : Act) → IsTrue (t.guard s v act) → IsTrue (takes_target act) → IsSome (least_target t s v act)
 has_by t s v marry seduce Update h taken = absurd (true≢false (sym taken))
 has_by t s v marry seduce Marry h taken = marry h
@@ -97,7 +97,7 @@ manne_table = record {
       act h taken;
 }
 
--- where no flags are used none is written
+-- a table without flags writes none
 pub hsu_huang_flagless : IsFlagless hsu_huang
 hsu_huang_flagless unused s v = refl
 

@@ -1,5 +1,5 @@
--- What a disturbance leaves of pairs, closed edges and waiting nodes: where it lets a pointer go it touches the node that the pointer
--- was at, and where that was a pair, the node that pointed too.
+-- What a disturbance leaves of pairs, closed edges and waiting nodes. It touches the old target of a pointer
+-- that it changes, and, if the two were a pair, the node that pointed too.
 use Rattle.std.proofs.Common.{◌≡◌, ◌≢◌, ℕ, ◌+◌, ◌*◌, ◌≤◌, Bool, true, false, not, count_by, nat_eq, Option, None, Some, IsTrue, sym, ap, ◌∙◌, inl, inr, ⊎_elim, ◌⊎◌, arith}
 use Rattle.std.proofs.lemmas.Bool.{cases_Bool, not-true, not_from_false, or_parts, true≢false, eqb-false}
 use Rattle.rule_machine.specs.Network.{Network, is_end, names, edge_list}
@@ -38,12 +38,12 @@ still_closed p p' touched it a b low high (courted null other u v at also) =
 
 -- ---- the charge
 
--- the edges and nodes are among those that there were
+-- the edges and nodes are among the earlier ones
 pub record IsWithin (net net' : Network) : Type 0 where
   pub edges : (e : ℕ × ℕ) → IsIn e (edge_list net') → IsIn e (edge_list net)
   pub nodes : (v : ℕ) → IsIn v (names net') → IsIn v (names net)
 
--- who waits did so before or is marked
+-- a node that waits did so before or is marked
 abbrev pub WaitsOnly : (ℕ → Option ℕ) → (ℕ → Option ℕ) → (ℕ → Bool) → Type 0
 WaitsOnly p p' marked = (x w : ℕ) → p' x ≡ Some w → p' w ≢ Some x → IsTrue (is_waiting (stance p x)) ⊎ IsTrue (marked x)
 
@@ -56,7 +56,8 @@ unanswered_grow s s' marked within waits =
     (λ is. inr is)
     (waits x aim.0 aim.1 aim.2))
 
--- Where edges that are not touched stay closed, the charge grows by two for each touched edge and one for each marked node.
+-- If untouched edges stay closed, the charge grows by at most two for each touched edge and one for each
+-- marked node.
 pub hsu_huang_grows : (s s' : State) → IsState s → IsState s' → IsWithin s.network s'.network → (touched : ℕ × ℕ → Bool) (marked : ℕ → Bool) → ((a b : ℕ) → IsIn (a, b) (edge_list s'.network) → touched (a, b) ≡ false → IsClosed (pointer s) a b → IsClosed (pointer s') a b) → WaitsOnly (pointer s) (pointer s') marked → hsu_huang_charge s' ≤ hsu_huang_charge s + 2 * count_by touched (edge_list s'.network) + count_by marked (names s'.network)
 hsu_huang_grows s s' good good' within touched marked closed waits =
     let open_edges = count_grows (λ e. not (hsu_huang_closed s e)) (λ e. not (hsu_huang_closed s' e)) touched (edge_list s.network) (edge_list s'.network) (edges_without_repeats s'.network) within.edges (λ e there h. one e there h (cases_Bool (touched e)) (cases_Bool (hsu_huang_closed s e))) in

@@ -1,28 +1,30 @@
--- Why a step's moves are paid by the charge, as far as it is the same under all rules.
+-- Why a step's moves are paid by the charge: the part that is the same under all rules.
 --
--- A node is free (its pointer is null), waits (its pointer is not answered) or is paired (it is). In a step it stays,
--- marries, seduces or abandons. A pair stays a pair, since only a pointer that is not answered is given up. So besides by
--- an abandonment a stance changes in three ways: a free node comes to wait (it climbs) or to be paired (it answers), and a
--- waiting one comes to be paired (it wins), without a move of its own.
+-- A node is free (its pointer is null), waits (its pointer is not answered) or is paired (it is). In a step
+-- it stays, marries, seduces or abandons. A pair stays a pair, since only an unanswered pointer is given up.
+-- Apart from an abandonment a stance changes in three ways: a free node comes to wait (it climbs) or to be
+-- paired (it answers), and a waiting one comes to be paired without a move of its own (it wins).
 --
--- For each node: waits after + wins + writes its pointer <= waits before + answers + 2 * climbs. An abandonment pays with
--- the pointer that it gives up, and who wins stops waiting. Who points from null and is answered at once is paid by the
--- one that wins by it; who climbs has to be paid two, one for the move and one for its waiting afterwards.
+-- For each node: waits after + wins + writes its pointer <= waits before + answers + 2 * climbs. An
+-- abandonment pays with the pointer that it gives up, and a winner stops waiting. A node that points from
+-- null and is answered at once is paid by the winner; a climber has to be paid two, one for the move and one
+-- for its waiting afterwards.
 --
--- Over all names no more nodes answer than win: who answers has taken a suitor, which waited for it and is now paired with
--- it, and a suitor waits for one node only. So what waits after and the pointers written are paid by what waited before
--- and by two for each climb.
+-- Over all names at most as many nodes answer as win: an answerer has taken a suitor that waited for it and
+-- is then paired with it, and a suitor waits for one node only. So the waiting after and the pointers written
+-- are paid by the waiting before and by two for each climb.
 --
--- The open edges pay these two: a closed edge stays closed, and each node that climbs closes an open edge of its own. That
--- is shown for each table of rules: HsuHuangTurns, ManneTurns. There too an update is paid, by its own node's part.
+-- The open edges pay these two: a closed edge stays closed, and each climber closes an open edge of its own.
+-- HsuHuangTurns and ManneTurns show that for each table of rules. They also show that an update is paid by
+-- its own node's part.
 use Rattle.std.proofs.Common.{◌≡◌, ◌≢◌, ℕ, ◌+◌, ◌*◌, ◌≤◌, Bool, cond, ◌&&◌, List, Option, None, Some, count_by, sum_by, unwrap_or, IsTrue, sym, ap, ◌∙◌, subst, subst₂, arith}
 use Rattle.std.proofs.lemmas.Bool.{and_parts, and_from}
 use Rattle.std.proofs.lemmas.Option.{none-some, same_Some}
 use Rattle.charge_laws.specs.Counting.{IsIn, IsWithoutRepeats, sum_four_le, sum_twice, count_into}
 use Rattle.charge_laws.specs.Stances.{Stance, Free, Waiting, Paired, stance, is_free, is_waiting, is_paired, Standing, standing, free, waiting, paired, free_from, waiting_from, paired_from, free_is, waiting_is, paired_is}
 
--- What v does where the pointers p become p': nothing, or it takes a suitor, or points from null at a null one, or gives up
--- a node that does not point back.
+-- What v does when the pointers p become p': nothing, or it takes a suitor, or points from null at a null
+-- one, or gives up a node that does not point back.
 pub data Turn (p p' : ℕ → Option ℕ) (v : ℕ) : Type 0 where
   stays : p' v ≡ p v → Turn p p' v
   marries : (w : ℕ) → p v ≡ None → p w ≡ Some v → p' v ≡ Some w → Turn p p' v
@@ -36,8 +38,8 @@ written_by (marries w null suitor now) = 1
 written_by (seduces w null other now) = 1
 written_by (abandons w at alone now) = 1
 
--- the changes of a stance that pay or have to be paid: from null to unanswered, from null to answered, from unanswered to
--- answered
+-- the changes of a stance that pay or cost: from null to unanswered, from null to answered, from unanswered
+-- to answered
 abbrev pub climbs : Stance → Stance → Bool
 climbs before after = is_free before && is_waiting after
 
@@ -47,7 +49,7 @@ answers before after = is_free before && is_paired after
 abbrev pub wins : Stance → Stance → Bool
 wins before after = is_waiting before && is_paired after
 
--- who climbs was null, and points at one that does not answer
+-- a climber was null, and points at one that does not answer
 pub climber_aims : (p p' : ℕ → Option ℕ) (v : ℕ) → IsTrue (climbs (stance p v) (stance p' v)) → (p v ≡ None) × ((w : ℕ) × (p' v ≡ Some w) × (p' w ≢ Some v))
 climber_aims p p' v h =
     let both = and_parts (is_free (stance p v)) (is_waiting (stance p' v)) h in (free_is p v both.0, waiting_is p' v both.1)
@@ -72,8 +74,8 @@ paired_stays p p' turns v h =
     let pair = paired_is p v h in
     paired_from p' v pair.0 (pair_stays p p' v pair.0 (turns v) pair.1 pair.2) (pair_stays p p' pair.0 v (turns pair.0) pair.2 pair.1)
 
--- The inequality of one name, by what it does. Who points from null either is answered or climbs; who gives up a node was
--- unanswered; and who stays is as before, unless it is answered now.
+-- The inequality of one name, by what it does. A node that points from null is answered or climbs; one that
+-- gives up a node was unanswered; and one that stays is as before, unless it is answered.
 pub turn_pays : (p p' : ℕ → Option ℕ) (turns : (v : ℕ) → Turn p p' v) (v : ℕ) → Pays (stance p v) (stance p' v) (written_by (turns v))
 turn_pays p p' turns v = by_turn (turns v)
   where
@@ -98,14 +100,14 @@ turn_pays p p' turns v = by_turn (turns v)
     by_turn (seduces w null other now) = points null w now (standing p' v)
     by_turn (abandons w at alone now) = pays Waiting Free 1 (waiting_from p v w at alone) (free_from p' v now) (omega arith)
 
--- the turns of one step among these names, where no two seduce each other
+-- the turns of one step among these names, if no two seduce each other
 pub record IsRound (p p' : ℕ → Option ℕ) (xs : List ℕ) : Type 0 where
   pub turns : (v : ℕ) → Turn p p' v
   pub no_mutual_seduction : (v w : ℕ) → p v ≡ None → p w ≡ None → p' v ≡ Some w → p' w ≡ Some v → ⊥
   pub near : (v w : ℕ) → p' v ≡ Some w → IsIn w xs
   pub single : IsWithoutRepeats xs
 
--- who points from null at a node that points back has taken a suitor
+-- a node that points from null at one that points back has taken a suitor
 suitor_answered : (p p' : ℕ → Option ℕ) (xs : List ℕ) → IsRound p p' xs → (v w : ℕ) → p v ≡ None → p' v ≡ Some w → p' w ≡ Some v → p w ≡ Some v
 suitor_answered p p' xs round v w null now back = by_turn (round.turns w)
   where
@@ -146,8 +148,8 @@ answers_win p p' xs round =
         let pair = paired_is p' v both.1 in
         (pair.0, null, pair.1, pair.2, suitor_answered p p' xs round v pair.0 null pair.1 pair.2)
 
--- Over all names: the unanswered pointers afterwards and what else was done are paid by those before, by what each name
--- has to pay with, and twice by those that climb.
+-- Over all names: the unanswered pointers afterwards and the other deeds are paid by those before, by each
+-- name's own part, and twice by the climbers.
 pub round_pays : (p p' : ℕ → Option ℕ) (xs : List ℕ) (round : IsRound p p' xs) (moved : ℕ → Bool) (had has : ℕ → ℕ) → ((v : ℕ) → bit (moved v) + has v ≤ written_by (round.turns v) + had v) → count_by (λ v. is_waiting (stance p' v)) xs + count_by moved xs + sum_by has xs ≤ count_by (λ v. is_waiting (stance p v)) xs + sum_by had xs + 2 * count_by (λ v. climbs (stance p v) (stance p' v)) xs
 round_pays p p' xs round moved had has pays =
     let names = sum_four_le

@@ -69,7 +69,7 @@ flags_kept before r v Abandon target = refl
 abbrev pub is_moved : List Moved → ℕ → Bool
 is_moved moves v = list_any (λ m. nat_eq m.node v) moves
 
--- v's registers after the moves: as before where none is v's, else what its move leaves
+-- v's registers after the moves: as before if none is v's, else what its move leaves
 pub data Left (before : State) (r r' : Registers) (moves : List Moved) (v : ℕ) : Type 0 where
   still : is_moved moves v ≡ false → pointer_of r' v ≡ pointer_of r v → flag_of r' v ≡ flag_of r v → Left before r r' moves v
   moved : (m : Moved) → IsIn m moves → m.node ≡ v → pointer_of r' v ≡ pointer_by m.act m.target (pointer_of r v) → flag_of r' v ≡ flag_by m.act (married before v) (flag_of r v) → Left before r r' moves v
@@ -79,7 +79,7 @@ in_nodes [] m h = absurd h
 in_nodes (x ∷ moves) m (inl same) = inl (ap (λ m. m.node) same)
 in_nodes (x ∷ moves) m (inr there) = inr (in_nodes moves m there)
 
--- One move after another: each is of another node, so that a later one leaves alone what an earlier one wrote.
+-- One move after another: each is of another node, so a later one leaves what an earlier one wrote.
 pub moves_leave : (before : State) (r : Registers) (moves : List Moved) (n v : ℕ) → length r.pointers ≡ n → length r.flags ≡ n → AllByRecursion (λ m. m.node < n) moves → IsWithoutRepeats (map (λ m. m.node) moves) → Left before r (fold (after_move before) r moves) moves v
 moves_leave before r [] n v pointers flags within single = still refl refl refl
 moves_leave before r (m ∷ moves) n v pointers flags within single =
@@ -128,7 +128,7 @@ node_is_moved [] v h = absurd h
 node_is_moved (m ∷ moves) v (inl same) = or_left (nat_eq m.node v) (is_moved moves v) (eq-eqb m.node v same)
 node_is_moved (m ∷ moves) v (inr there) = or_right (nat_eq m.node v) (is_moved moves v) (node_is_moved moves v there)
 
--- there are no more moves than names that move
+-- there are at most as many moves as names that move
 pub moves_counted : (moves : List Moved) (xs : List ℕ) → IsWithoutRepeats (map (λ m. m.node) moves) → ((v : ℕ) → IsIn v (map (λ m. m.node) moves) → IsIn v xs) → length moves ≤ count_by (is_moved moves) xs
 moves_counted moves xs single within =
     let nodes = map (λ (m : Moved). m.node) moves in

@@ -1,4 +1,4 @@
--- Where the charge is zero the network is stable.
+-- If the charge is zero the network is stable.
 use Rattle.std.proofs.Common.{◌≡◌, ℕ, Bool, true, false, cond, not, count_by, sum_by, None, Some, IsTrue, refl, sym, ap, ◌∙◌, arith}
 use Rattle.std.proofs.lemmas.Bool.{not-false, true≢false}
 use Rattle.std.proofs.lemmas.Option.{none-some, same_Some}

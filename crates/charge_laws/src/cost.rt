@@ -14,14 +14,15 @@ ghost use Rattle.charge_laws.specs.Charged.{moves_in, IsUndisturbed};
 ghost use Rattle.charge_laws.specs.Epochs.{IsPath};
 ghost use Rattle.charge_laws.specs.Costs.{hsu_huang_cost, manne_cost, costs_of, end_of, log_of};
 
-/// Where a network is stable nothing is left of the charge by the rules of Hsu and Huang, and by those of Manne and others one for each
-/// node that is in no mutual pair.
+/// The charge of a stable network is 0 (Hsu and Huang) or its number of unmarried nodes (Manne).
 pub fn stable_charge()
     ensures hsu_huang { (s : State) → IsState s → IsStable false s → hsu_huang.charge s ≡ 0 }
     ensures manne { (s : State) → IsState s → IsStable true s → manne.charge s + 2 * length (mutual_pairs s) ≡ node_count s.network }
 {}
 
-/// An accepted disturbance adds to the charge no more than its cost, which is a sum of degrees of the nodes that it touches.
+/// An accepted disturbance adds at most its cost to the charge.
+///
+/// The cost is a sum of degrees of the nodes that it touches (`specs/Costs`).
 pub fn disturbances_cost()
     ensures hsu_huang { (s : State) → IsState s → (spent : ℕ) (event : Event) (after : State) → Answers hsu_huang s spent event Accepted after
         → hsu_huang.charge after ≤ hsu_huang.charge s + hsu_huang_cost s event }
@@ -29,8 +30,9 @@ pub fn disturbances_cost()
         → manne.charge after ≤ manne.charge s + manne_cost s event }
 {}
 
-/// The moves of a run with disturbances, and the charge that is left, are no more than the charge was at its start and what the accepted
-/// disturbances cost, from whatever state and whatever the daemon chooses.
+/// The moves of a run and the charge left are at most the first charge plus the costs of disturbances.
+///
+/// Holds from any state, whatever the daemon chooses.
 pub fn disturbed_moves_are_paid()
     ensures hsu_huang { (start : Moment) → IsState start.state → (path : List (Entry × State)) → IsPath hsu_huang start path
         → moves_in (log_of path) + hsu_huang.charge (end_of start.state path) ≤ hsu_huang.charge start.state + costs_of hsu_huang_cost start.state path }
@@ -38,8 +40,10 @@ pub fn disturbed_moves_are_paid()
         → moves_in (log_of path) + manne.charge (end_of start.state path) ≤ manne.charge start.state + costs_of manne_cost start.state path }
 {}
 
-/// From a stable state, however large its network, the disturbances alone pay for all moves by the rules of Hsu and Huang; by those of
-/// Manne and others they do with two more for each mutual pair that was gained, and one for each node that went.
+/// From a stable state the costs of the disturbances alone bound all moves.
+///
+/// This is for Hsu and Huang's rules, whatever the size of the network. By Manne's rules add two for each
+/// mutual pair that was gained and one for each node that went.
 pub fn stable_moves_are_paid()
     ensures hsu_huang { (start : Moment) → IsState start.state → IsStable false start.state → (path : List (Entry × State)) → IsPath hsu_huang start path
         → moves_in (log_of path) ≤ costs_of hsu_huang_cost start.state path }
@@ -48,9 +52,10 @@ pub fn stable_moves_are_paid()
         ≤ costs_of manne_cost start.state path + 2 * length (mutual_pairs (end_of start.state path)) + node_count start.state.network }
 {}
 
-/// After one accepted disturbance of a stable state, however large its network, there are no more moves up to the next one than it
-/// costs, by the rules of Hsu and Huang; by those of Manne and others two more for each mutual pair that was gained, and one for a node
-/// that went.
+/// After one disturbance of a stable state, its cost bounds the moves up to the next disturbance.
+///
+/// This is for Hsu and Huang's rules, whatever the size of the network. By Manne's rules add two for each
+/// mutual pair that was gained and one for a node that went.
 pub fn one_disturbance_pays()
     ensures hsu_huang { (s : State) → IsState s → IsStable false s → (spent : ℕ) (event : Event) (after : State) → Answers hsu_huang s spent event Accepted after
         → (log : List Entry) (end : Moment) → Run hsu_huang (record { state = after; spent = 0 }) log end → IsUndisturbed log

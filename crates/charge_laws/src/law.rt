@@ -13,8 +13,9 @@ ghost use Rattle.machine_laws.specs.Half.{IsMatching};
 ghost use Rattle.charge_laws.specs.Charged.{charge_bound, moves_in, steps_in, IsUndisturbed};
 ghost use Rattle.charge_laws.specs.Epochs.{IsPath, IsBounded};
 
-/// Between two disturbances, from whatever state and whatever the daemon chooses: at most 2m + n moves by the rules of Hsu and
-/// Huang, and at most 2m + 3n by those of Manne and others, however many nodes move at once.
+/// Between two disturbances: at most 2m + n moves (Hsu and Huang) or 2m + 3n (Manne and others).
+///
+/// Holds from any state, whatever the daemon chooses and however many nodes move at once.
 pub fn moves_are_bounded()
     ensures hsu_huang { (start : Moment) → IsState start.state → (log : List Entry) (end : Moment) → Run hsu_huang start log end → IsUndisturbed log
         → moves_in log ≤ 2 * edge_count start.state.network + node_count start.state.network }
@@ -22,9 +23,10 @@ pub fn moves_are_bounded()
         → moves_in log ≤ 2 * edge_count start.state.network + 3 * node_count start.state.network }
 {}
 
-/// What each moment of a run without a disturbance has cost: the moves so far and the charge that is left are no more than the charge
-/// was at its start, from whatever state and whatever the daemon chooses; and that is at most 2m + n by the rules of Hsu and Huang, at
-/// most 2m + 3n by those of Manne and others.
+/// Without a disturbance, the moves so far plus the charge left are at most the charge at the start.
+///
+/// That charge is at most 2m + n (Hsu and Huang) or 2m + 3n (Manne and others). Holds from any state,
+/// whatever the daemon chooses.
 pub fn moves_are_paid()
     ensures hsu_huang { (start : Moment) → IsState start.state → (log : List Entry) (end : Moment) → Run hsu_huang start log end → IsUndisturbed log
         → (moves_in log + hsu_huang.charge end.state ≤ hsu_huang.charge start.state)
@@ -34,7 +36,7 @@ pub fn moves_are_paid()
         × (manne.charge start.state ≤ 2 * edge_count start.state.network + 3 * node_count start.state.network) }
 {}
 
-/// A run without a disturbance that has as many moves as the charge was at its start ends in a stable state.
+/// A run without a disturbance is stable after as many moves as the charge was at its start.
 pub fn enough_moves_settle()
     ensures hsu_huang { (start : Moment) → IsState start.state → (log : List Entry) (end : Moment) → Run hsu_huang start log end → IsUndisturbed log
         → hsu_huang.charge start.state ≤ moves_in log → IsStable false end.state }
@@ -42,7 +44,9 @@ pub fn enough_moves_settle()
         → manne.charge start.state ≤ moves_in log → IsStable true end.state }
 {}
 
-/// So does one that has as many accepted steps: each of them makes a move at least.
+/// A run without a disturbance is stable after as many accepted steps as the charge was at its start.
+///
+/// Each step makes at least one move.
 pub fn enough_steps_settle()
     ensures hsu_huang { (start : Moment) → IsState start.state → (log : List Entry) (end : Moment) → Run hsu_huang start log end → IsUndisturbed log
         → hsu_huang.charge start.state ≤ steps_in log → IsStable false end.state }
@@ -50,8 +54,9 @@ pub fn enough_steps_settle()
         → manne.charge start.state ≤ steps_in log → IsStable true end.state }
 {}
 
-/// A run without a disturbance that has as many moves as the charge was at its start ends with at least half as many mutual pairs as
-/// any matching has edges.
+/// After as many moves as the charge at the start, pairs are at least half of any matching's edges.
+///
+/// The run has no disturbance.
 pub fn enough_moves_give_half()
     ensures hsu_huang { (start : Moment) → IsState start.state → (log : List Entry) (end : Moment) → Run hsu_huang start log end → IsUndisturbed log
         → hsu_huang.charge start.state ≤ moves_in log → (other : List (ℕ × ℕ)) → IsMatching end.state.network other → length other ≤ 2 * length (mutual_pairs end.state) }
@@ -59,8 +64,10 @@ pub fn enough_moves_give_half()
         → manne.charge start.state ≤ moves_in log → (other : List (ℕ × ℕ)) → IsMatching end.state.network other → length other ≤ 2 * length (mutual_pairs end.state) }
 {}
 
-/// At the end of every run from the opening state, disturbances included: the moves since the last accepted one and the charge
-/// that is left are together within the bound of the network as it is.
+/// From the opening state, the moves since the last disturbance plus the charge are within the bound.
+///
+/// The bound is that of the network as it is: 2m + n or 2m + 3n. The run may have disturbances; only accepted
+/// ones count as the last.
 pub fn spending_is_bounded()
     ensures hsu_huang { (size count : ℕ) (log : List Entry) (end : Moment) → Run hsu_huang (beginning_with size count) log end
         → end.spent + hsu_huang.charge end.state ≤ 2 * edge_count end.state.network + node_count end.state.network }
@@ -68,8 +75,9 @@ pub fn spending_is_bounded()
         → end.spent + manne.charge end.state ≤ 2 * edge_count end.state.network + 3 * node_count end.state.network }
 {}
 
-/// Every epoch of a run from the opening state has at most 2m + n moves by the rules of Hsu and Huang, and at most 2m + 3n by those
-/// of Manne and others, where m and n are the edges and nodes that it began with.
+/// Each epoch from the opening state has at most 2m + n moves (Hsu and Huang) or 2m + 3n (Manne).
+///
+/// m and n are the edges and nodes that the epoch began with.
 pub fn epochs_are_bounded()
     ensures hsu_huang { (size count : ℕ) (path : List (Entry × State)) → IsPath hsu_huang (beginning_with size count) path
         → All (IsBounded 1) (epochs_from 1 (epoch_at 0 (opening_with size count)) path) }
@@ -77,8 +85,10 @@ pub fn epochs_are_bounded()
         → All (IsBounded 3) (epochs_from 1 (epoch_at 0 (opening_with size count)) path) }
 {}
 
-/// Each moment of a run from the opening state may be kept as a base from which runs begin: it is a state of the same names, without
-/// a flag where none are used, in which what is spent and the charge are within the bound.
+/// Each moment of a run from the opening state is a valid base: a run may begin there.
+///
+/// It is a state for the same names, without a flag if flags are not used, and its spent moves and charge are
+/// within the bound.
 pub fn runs_may_begin()
     ensures hsu_huang { (size count number : ℕ) (log : List Entry) (end : Moment) → Run hsu_huang (beginning_with size count) log end
         → IsBegun hsu_huang (charge_bound 1) size (base_of number end) end }
@@ -86,7 +96,7 @@ pub fn runs_may_begin()
         → IsBegun manne (charge_bound 3) size (base_of number end) end }
 {}
 
-/// So may each moment of a run that began at a base: the bound holds from there on.
+/// Each moment of a run that began at a base is a valid base too.
 pub fn runs_may_go_on()
     ensures hsu_huang { (size number : ℕ) (base : Base) (start : Moment) → IsBegun hsu_huang (charge_bound 1) size base start
         → (log : List Entry) (end : Moment) → Run hsu_huang start log end → IsBegun hsu_huang (charge_bound 1) size (base_of number end) end }

@@ -1,11 +1,17 @@
-//! Laws of the charge: every move lowers it, edges and nodes bound it, where there is none the network is stable, and what a disturbance
-//! adds to it.
+//! Laws of the charge (the potential of convergence): moves lower it, the network's size bounds it,
+//! disturbances raise it.
 //!
-//! Nothing of this crate runs: each public function has an empty body and its contract is the law, for any run of the rule machine, from
-//! whatever state and whatever the daemon chooses. With m edges and n nodes, between two disturbances come at most 2m + n moves by Hsu
-//! and Huang's rules and at most 2m + 3n by Manne's (`moves_are_bounded`); what was spent and the charge that is left are no more than
-//! the charge was at the start (`moves_are_paid`). From a stable state all moves are no more than what the edits and faults cost, each a
-//! sum of degrees of the nodes that it touches (`stable_moves_are_paid`). docs/BOUNDS.md has them on one page.
+//! Laws only: each public function is empty and its contract is the law. The laws hold for any run of the
+//! rule machine, from any state, whatever the daemon chooses. With m edges and n nodes:
+//!
+//! - Between two disturbances come at most 2m + n moves by Hsu and Huang's rules and 2m + 3n by Manne's
+//!   (`moves_are_bounded`).
+//! - Moves spent plus the charge left are at most the charge at the start (`moves_are_paid`).
+//! - From a stable state the costs of edits and faults bound all moves (`stable_moves_are_paid`). Each cost
+//!   is a sum of degrees of the nodes that it touches. By Manne's rules two for each pair gained and one for
+//!   each node gone are added.
+//!
+//! docs/BOUNDS.md has the bounds on one page.
 //!
 //! ```rust
 //! moves_are_bounded();                              // from here on the prover knows the law

@@ -13,21 +13,24 @@ ghost use Rattle.charge_laws.specs.Costs.{end_of, log_of};
 ghost use Rattle.charge_laws.specs.Epochs.{IsPath};
 ghost use Rattle.charge_laws.specs.Silent.{IsDriven};
 
-/// By the rules of Manne and others a network is stable exactly where its charge is the number of its nodes that are in no mutual pair;
-/// elsewhere it is more.
+/// By Manne's rules a network is stable exactly if its charge is the number of its unmarried nodes.
+///
+/// In any other state the charge is greater.
 pub fn least_charge_is_stable()
     ensures exactly { (s : State) → IsState s → IsStable true s ↔ (manne.charge s + 2 * length (mutual_pairs s) ≡ node_count s.network) }
     ensures least { (s : State) → IsState s → node_count s.network ≤ manne.charge s + 2 * length (mutual_pairs s) }
 {}
 
-/// So a run without a disturbance by these rules ends in a stable state where it has as many moves as the charge was at its start, less
-/// one for each node that is in no mutual pair at its end.
+/// By Manne's rules a run without a disturbance settles sooner: unmarried nodes count off.
+///
+/// It is stable once its moves reach the charge at its start less one for each node that is in no mutual pair
+/// at its end.
 pub fn fewer_moves_settle()
     ensures { (start : Moment) → IsState start.state → (log : List Entry) (end : Moment) → Run manne start log end → IsUndisturbed log
         → manne.charge start.state + 2 * length (mutual_pairs end.state) ≤ moves_in log + node_count start.state.network → IsStable true end.state }
 {}
 
-/// Where nobody is enabled nobody is after a run without a disturbance.
+/// A silent network stays silent without a disturbance.
 pub fn silence_lasts()
     ensures hsu_huang { (start : Moment) → IsState start.state → enabled_names hsu_huang start.state ≡ [] → (path : List (Entry × State)) → IsPath hsu_huang start path
         → IsUndisturbed (log_of path) → enabled_names hsu_huang (end_of start.state path) ≡ [] }
@@ -35,8 +38,9 @@ pub fn silence_lasts()
         → IsUndisturbed (log_of path) → enabled_names manne (end_of start.state path) ≡ [] }
 {}
 
-/// A run without a disturbance in which each entry moves someone or comes where nobody is enabled, and that has as many entries as the
-/// charge was at its start, ends where nobody is enabled.
+/// A driven run without a disturbance is silent after as many entries as the charge was at its start.
+///
+/// Driven: each entry moves a node, or comes when no rule is enabled.
 pub fn long_runs_end_silent()
     ensures hsu_huang { (start : Moment) → IsState start.state → (path : List (Entry × State)) → IsPath hsu_huang start path → IsUndisturbed (log_of path)
         → IsDriven hsu_huang start.state path → hsu_huang.charge start.state ≤ length path → enabled_names hsu_huang (end_of start.state path) ≡ [] }

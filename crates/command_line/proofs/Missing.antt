@@ -1,4 +1,4 @@
--- How it ends where there is no such entry.
+-- The end if there is no such entry.
 use Rattle.std.proofs.Common.{◌≡◌, ℕ, List, Result, Ok, Err, OnErr, IfOk, inl, inr, subst}
 use Rattle.std.proofs.KnownBytes.{Keeps-refl}
 use Rattle.script_run.specs.declared.fault.RunFault.TheVariants as run
@@ -6,7 +6,7 @@ use Rattle.command_line.specs.FaultText.{fault_line}
 use Rattle.command_line.specs.Heard.{Heard, Tells}
 use Rattle.command_line.specs.Viewed.{Known, TellsMissing}
 
--- it is told in a line, if there was memory for it
+-- it is reported in a line, unless memory ran out for it
 pub missed : {V E : Type 0} (items : V → List ℕ) (line : Result V E) (text : List ℕ) (old before : Known) (after : Heard) (status : ℕ)
     → IfOk line (λ v. items v ≡ text) → IfOk line (λ v. (status ≡ 2) × Tells before after (items v)) → OnErr line ((status ≡ 4) × Tells before after (fault_line run.Memory))
     → TellsMissing text old old before after status

@@ -12,7 +12,7 @@ use Rattle.command_line.specs.declared.verdict.CheckEnd.{CheckEnd}
 use Rattle.command_line.specs.declared.verdict.CheckEnd.TheVariants.{Accepted, Refused}
 use Rattle.command_line.specs.Checked.{IsVerdict}
 
--- a refused text has the damage that is told
+-- a refused text has the damage that is named
 record IsRefused (bytes : List ℕ) (fault : AuditFault) : Type 0 where
   damage : Damage
   is : fault ≡ of_damage damage

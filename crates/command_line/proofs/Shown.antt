@@ -1,4 +1,4 @@
--- How it ends where a text is shown.
+-- The end if a text is shown.
 use Rattle.std.proofs.Common.{ℕ, List, Option, None, Some, IfSome, Result, Ok, Err, OnErr, IfOk, inl, inr}
 use Rattle.script_run.specs.declared.fault.RunFault.TheVariants as run
 use Rattle.command_line.specs.Heard.{Heard}

@@ -8,7 +8,7 @@ use Rattle.storm_call.specs.declared.fault.StormFault.TheVariants.{TooManyScript
 use Rattle.command_line.specs.Viewed.{Known}
 use Rattle.command_line.specs.Played.{EndsStorm, FailsToOpen}
 
--- where a file could not be opened, as it ends where one could not be read
+-- a file that could not be opened counts as one that could not be read
 pub unopened : (asked : Asked) (files : ℕ) (old : Known) (fault : StormFault) → FailsToOpen files fault → EndsStorm asked files old old (Err fault)
 unopened asked files old Read some =
     let none : Known = None in

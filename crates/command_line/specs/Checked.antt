@@ -1,4 +1,4 @@
--- What a check of a transcript says.
+-- The check of a transcript.
 use Rattle.std.specs.Prelude.{◌≢◌, ℕ, List, Option, Result, Ok, Err}
 use Rattle.std.specs.Io.KnownBytes.{Appends, Keeps}
 use Rattle.byte_streams.specs.Beginning.{AppendsBeginning}
@@ -13,20 +13,20 @@ use Rattle.command_line.specs.declared.verdict.CheckEnd.{CheckEnd}
 use Rattle.command_line.specs.declared.verdict.CheckEnd.TheVariants.{Accepted, Refused}
 use Rattle.command_line.specs.VerdictText.{verdict_line}
 
--- the bytes are the transcript of a run with these counts, or they are damaged so: a failed read and want of memory are
--- no verdict
+-- the bytes are the transcript of a run with these counts, or have this damage; a failed read or no memory
+-- gives no verdict
 abbrev pub IsVerdict : List ℕ → CheckEnd → Type 0
 IsVerdict bytes (Accepted counted) = IsAccepted bytes counted
 IsVerdict bytes (Refused f) = IsFault bytes f × (f ≢ fault.Read) × (f ≢ fault.Memory)
 
--- an audit as a check takes it
+-- the verdict of an audit's result
 abbrev pub verdict_of : Result Summary AuditFault → Result CheckEnd RunFault
 verdict_of (Ok counted) = Ok (Accepted counted)
 verdict_of (Err fault.Read) = Err Read
 verdict_of (Err fault.Memory) = Err Memory
 verdict_of (Err f) = Ok (Refused f)
 
--- what a writer has got: the one line of the verdict, a beginning of one where a write failed, else nothing
+-- what the writer has: the verdict's line, a beginning of one if a write failed, else nothing
 abbrev pub TellsVerdict : Option (List ℕ) → Option (List ℕ) → Result CheckEnd RunFault → Type 0
 TellsVerdict old new (Ok end) = Appends old new (verdict_line end)
 TellsVerdict old new (Err Write) = (end : CheckEnd) × AppendsBeginning old new (verdict_line end)

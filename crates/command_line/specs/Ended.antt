@@ -1,4 +1,4 @@
--- How the program ends: what the writers have got, and the exit status.
+-- How the program ends: what the writers have, and the exit status.
 use Rattle.std.specs.Prelude.{◌≡◌, ℕ, List, length, Option, None, Some, Result, Ok, Err, IfOk}
 use Rattle.std.specs.Io.KnownBytes.{Keeps}
 use Rattle.clap.specs.Words.{kind_of}
@@ -23,12 +23,12 @@ use Rattle.command_line.specs.Network.{asked_storm}
 use Rattle.command_line.specs.Played.{PlaysStorm}
 use Rattle.command_line.specs.Checked.{IsVerdict, TellsVerdict, verdict_status}
 
--- the line of the fault, or a beginning of it where a write failed; nothing where there is no fault
+-- the line of the fault, or a beginning of it if a write failed; nothing without a fault
 abbrev pub TellsFault : {X : Type 0} → Known → Heard → Result X RunFault → Type 0
 TellsFault before after (Ok _) = Keeps before after.got
 TellsFault before after (Err fault) = Tells before after (fault_line fault)
 
--- the exit status of a run that ended so
+-- the exit status of a run
 abbrev pub ended_status : Result Unit RunFault → ℕ
 ended_status (Ok _) = 0
 ended_status (Err fault) = status_of fault
@@ -38,32 +38,33 @@ abbrev pub checked_status : Result CheckEnd RunFault → ℕ
 checked_status (Ok end) = verdict_status end
 checked_status (Err fault) = status_of fault
 
--- the script was run, the writer has its transcript, a fault was told, and the status tells how it ended
+-- the script was run, the writer has its transcript, a fault was reported, and the status fits
 abbrev pub TellsOutcome : RuleSet → ℕ → ℕ → ℕ → List ℕ → Known → Known → Known → Heard → ℕ → Type 0
 TellsOutcome rules nodes present limit script old new before after status =
     (ended : Result Unit RunFault) × IsOutcome rules nodes present limit script old new ended × TellsFault before after ended × (status ≡ ended_status ended)
 
--- it is told that more nodes would be present at the start than there may be, and nothing is read or written
+-- too many nodes for the start are reported, and nothing is read or written
 abbrev pub TellsBadPresent : Known → Known → Known → Heard → ℕ → Type 0
 TellsBadPresent old new before after status = (status ≡ 2) × Keeps old new × Tells before after bad_present_line
 
--- what is done for a run: where there can be so many nodes at the start, it is run with them
+-- a run: if that many nodes can be present at the start, it is run with them
 abbrev pub DoesRun : RuleSet → ℕ → Option ℕ → List ℕ → Known → Known → Known → Heard → ℕ → Type 0
 DoesRun rules nodes None input old new before after status = TellsBadPresent old new before after status
 DoesRun rules nodes (Some present) input old new before after status = TellsOutcome rules nodes present 16777216 input old new before after status
 
--- the transcript was judged, the writer has the line of its verdict, a fault was told, and the status tells how it ended
+-- the transcript was judged, the writer has the line of its verdict, a fault was reported, and the status
+-- fits
 abbrev pub TellsCheck : List ℕ → Known → Known → Known → Heard → ℕ → Type 0
 TellsCheck bytes old new before after status =
     (ended : Result CheckEnd RunFault) × IfOk ended (IsVerdict bytes) × TellsVerdict old new ended × TellsFault before after ended × (status ≡ checked_status ended)
 
--- what is done for a storm: where there can be so many nodes at the start, its scripts are played on them
+-- a storm: if that many nodes can be present at the start, its scripts are played on them
 abbrev pub DoesStorm : Storm → Option ℕ → Known → Known → Known → Heard → ℕ → Type 0
 DoesStorm storm None old new before after status = TellsBadPresent old new before after status
 DoesStorm storm (Some present) old new before after status = PlaysStorm (asked_storm storm present) (length storm.scripts) old new before after status
 
--- what is done for a task: a run's bytes and status are the same for each number of workers; where the help or the version is
--- asked for, a text is shown
+-- each task: the bytes and status of a run are the same for any number of workers; for the help or the
+-- version a text is shown
 abbrev pub DoesTask : Task → List ℕ → Known → Known → Known → Heard → ℕ → Type 0
 DoesTask (Run rules nodes present workers) input old new before after status = DoesRun rules nodes (present_at_start nodes present) input old new before after status
 DoesTask Audit input old new before after status = TellsCheck input old new before after status
@@ -73,12 +74,13 @@ DoesTask (variants.Storm words) input old new before after status =
     DoesStorm (storm_of words) (present_at_start words.nodes words.present) old new before after status
 DoesTask (Show text) input old new before after status = ShowsSome old new before after status
 
--- what is told of words that can't be followed: that memory ran out, where it did, else a text of which nothing is said, or a beginning
+-- what is written about bad words: that memory ran out, if it did, else an unspecified text, or its beginning
 abbrev pub TellsMistake : ErrorKind → Known → Heard → Type 0
 TellsMistake kind before after =
     (kind ≡ OutOfMemory → Tells before after (fault_line Memory)) × ((text : List ℕ) × Tells before after text)
 
--- the task is done; for bad words, or where memory ran out as they were read, that is told and the writer gets nothing
+-- the task is done; bad words, or memory that ran out for reading them, are reported, and the writer gets
+-- nothing
 abbrev pub Does : Result Task Error → List ℕ → Known → Known → Known → Heard → ℕ → Type 0
 Does (Ok task) input old new before after status = DoesTask task input old new before after status
 Does (Err e) input old new before after status = Keeps old new × TellsMistake (kind_of e) before after × (status ≡ words_status (kind_of e))

@@ -1,4 +1,4 @@
--- The lines that tell why the program ended early.
+-- The lines that report why the program ended early.
 use Rattle.std.specs.Prelude.{ℕ, List, ◌++◌, codes}
 use Rattle.std.specs.declared.io.ErrorKind as io
 use Rattle.std.specs.declared.io.ErrorKind.TheVariants.{InvalidData}
@@ -8,17 +8,17 @@ use Rattle.script_run.specs.declared.fault.RunFault.TheVariants.{BadLine, LogFul
 use Rattle.steal_pool.specs.declared.fault.PoolFault.{PoolFault}
 use Rattle.steal_pool.specs.declared.fault.PoolFault.TheVariants as pool
 
--- a fault of the workers, with the LF that ends its line
+-- the line of a fault of the workers, with its LF
 abbrev pub pool_line : PoolFault → List ℕ
 pool_line pool.ZeroWorkers = codes "! no workers\n"
 pool_line pool.Thread = codes "! no thread\n"
 pool_line pool.Memory = codes "! out of memory\n"
 
--- a line of a script that is no command, with its number, and the LF that ends the line
+-- a line of a script that is no command, with its number and the LF
 abbrev pub bad_line : ℕ → List ℕ
 bad_line line = codes "! line " ++ (number_text line ++ codes ": not a command\n")
 
--- a fault of a run, with the LF that ends its line
+-- the line of a fault of a run, with its LF
 abbrev pub fault_line : RunFault → List ℕ
 fault_line (BadLine line) = bad_line line
 fault_line LogFull = codes "! log full\n"
@@ -32,11 +32,11 @@ abbrev pub IsPlain : RunFault → Type 0
 IsPlain (BadLine line) = ⊥
 IsPlain fault = Unit {0}
 
--- more nodes would be present at the start than there may be
+-- too many nodes for the start
 abbrev pub bad_present_line : List ℕ
 bad_present_line = codes "! bad present\n"
 
--- words that could not be had
+-- words that could not be read
 abbrev pub no_words_line : io.ErrorKind → List ℕ
 no_words_line InvalidData = codes "! a word is not UTF-8\n"
 no_words_line _ = fault_line Memory

@@ -1,5 +1,5 @@
--- The exit statuses: 0 done, 1 a transcript refused, 2 bad words or a bad line, 3 a read or a write failed, 4 want of memory, a full log, or workers that
--- failed.
+-- The exit statuses: 0 done, 1 a transcript refused, 2 bad words or a bad line, 3 a failed read or write, 4
+-- no memory, a full log, or failed workers.
 use Rattle.std.specs.Prelude.{ℕ, ◌≢◌, ◌≤◌}
 use Rattle.clap.specs.declared.error.kind.ErrorKind.{ErrorKind}
 use Rattle.clap.specs.declared.error.kind.ErrorKind.TheVariants.{OutOfMemory}
@@ -8,7 +8,7 @@ use Rattle.std.specs.declared.io.ErrorKind.TheVariants.{InvalidData}
 use Rattle.script_run.specs.declared.fault.RunFault.{RunFault}
 use Rattle.script_run.specs.declared.fault.RunFault.TheVariants.{BadLine, LogFull, Read, Write, Memory, Pool}
 
--- what a fault of a run ends the program with
+-- the status of a run's fault
 abbrev pub status_of : RunFault → ℕ
 status_of (BadLine _) = 2
 status_of Read = 3
@@ -17,12 +17,12 @@ status_of LogFull = 4
 status_of Memory = 4
 status_of (Pool _) = 4
 
--- what words that cannot be followed end the program with
+-- the status of bad words
 abbrev pub words_status : ErrorKind → ℕ
 words_status OutOfMemory = 4
 words_status _ = 2
 
--- what words that could not be had end the program with
+-- the status of words that could not be read
 abbrev pub no_words_status : io.ErrorKind → ℕ
 no_words_status InvalidData = 2
 no_words_status _ = 4
@@ -31,6 +31,6 @@ no_words_status _ = 4
 abbrev pub IsStatus : ℕ → Type 0
 IsStatus n = n ≤ 4
 
--- one of these but 1, which is a refused transcript's
+-- one of these but 1, the status of a refused transcript
 abbrev pub IsRunStatus : ℕ → Type 0
 IsRunStatus n = (n ≤ 4) × (n ≢ 1)

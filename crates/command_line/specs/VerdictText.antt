@@ -7,12 +7,12 @@ use Rattle.auditor.specs.declared.summary.Summary.{Summary}
 use Rattle.command_line.specs.declared.verdict.CheckEnd.{CheckEnd}
 use Rattle.command_line.specs.declared.verdict.CheckEnd.TheVariants.{Accepted, Refused}
 
--- what was counted
+-- the counts
 abbrev pub counts_text : Summary → List ℕ
 counts_text c =
     codes "accepted: " ++ (number_text c.entries ++ codes " entries, ") ++ (number_text c.epochs ++ codes " epochs, ") ++ (number_text c.moves ++ codes " moves")
 
--- the line that fails, and what it fails
+-- the line that fails, and its failed check
 abbrev pub place_text : ℕ → List ℕ → List ℕ
 place_text line text = codes "line " ++ (number_text line ++ text)
 
@@ -29,6 +29,6 @@ abbrev pub verdict_text : CheckEnd → List ℕ
 verdict_text (Accepted counted) = counts_text counted
 verdict_text (Refused fault) = fault_text fault
 
--- the verdict and the LF that ends its line
+-- the verdict and its LF
 abbrev pub verdict_line : CheckEnd → List ℕ
 verdict_line end = verdict_text end ++ 10 ∷ []

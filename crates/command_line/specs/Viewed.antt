@@ -1,4 +1,4 @@
--- How it ends where a transcript is shown: what the writers have got, and the exit status.
+-- How a view of a transcript ends: what the writers have, and the exit status.
 use Rattle.std.specs.Prelude.{◌≡◌, ◌⊎◌, ℕ, List, ◌++◌, Option, Result, Ok, Err, IfOk, codes}
 use Rattle.std.specs.Io.KnownBytes.{Appends, Keeps}
 use Rattle.byte_streams.specs.declared.input_fault.InputFault.{InputFault}
@@ -18,7 +18,7 @@ use Rattle.command_line.specs.Heard.{Heard, Tells}
 use Rattle.command_line.specs.Status.{status_of}
 use Rattle.command_line.specs.VerdictText.{verdict_line}
 
--- that there is no such entry, and what there is, with the LF that ends the line
+-- that the entry is missing, and what there is, with the LF
 abbrev pub missing_line : ℕ → List ℕ → ℕ → List ℕ → List ℕ
 missing_line asked told number end = codes "! no entry " ++ (number_text asked ++ told) ++ (number_text number ++ end)
 
@@ -28,35 +28,35 @@ too_few_line asked entries = missing_line asked (codes ": the transcript has ") 
 abbrev pub forgotten_line : ℕ → ℕ → List ℕ
 forgotten_line asked base = missing_line asked (codes ": the transcript begins behind entry ") base (codes "\n")
 
--- a fault is told, and nothing is written
+-- a fault is reported, and nothing is written
 abbrev pub TellsEarly : RunFault → Known → Known → Known → Heard → ℕ → Type 0
 TellsEarly fault old new before after status = (status ≡ status_of fault) × Keeps old new × Tells before after (fault_line fault)
 
--- the text is written, or a beginning of it where a write failed, and that is told
+-- the text is written, or a beginning of it if a write failed, which is reported
 abbrev pub ShowsText : List ℕ → ℕ → Known → Known → Known → Heard → ℕ → Type 0
 ShowsText text good old new before after status =
     ((status ≡ good) × Appends old new text × Keeps before after.got)
     ⊎ ((status ≡ 3) × AppendsBeginning old new text × Tells before after (fault_line run.Write))
 
--- some text is shown, of which nothing is said; or memory ran out as it was made, and nothing is written
+-- some unspecified text is shown; or memory ran out for it, and nothing is written
 abbrev pub ShowsSome : Known → Known → Known → Heard → ℕ → Type 0
 ShowsSome old new before after status =
     ((text : List ℕ) × ShowsText text 0 old new before after status)
     ⊎ TellsEarly run.Memory old new before after status
 
--- the verdict that an audit gives is written, or memory ran out
+-- the verdict of an audit is written, or memory ran out
 abbrev pub ShowsRefusal : Damage → Known → Known → Known → Heard → ℕ → Type 0
 ShowsRefusal damage old new before after status =
     ShowsText (verdict_line (verdict.Refused (of_damage damage))) 1 old new before after status
     ⊎ TellsEarly run.Memory old new before after status
 
--- it is told in this line that there is no such entry, or memory ran out; and nothing is written
+-- this line reports that there is no such entry, or memory ran out; nothing is written
 abbrev pub TellsMissing : List ℕ → Known → Known → Known → Heard → ℕ → Type 0
 TellsMissing line old new before after status =
     ((status ≡ 2) × Keeps old new × Tells before after line)
     ⊎ TellsEarly run.Memory old new before after status
 
--- what is done with a view: the text is written, or the verdict that an audit gives, which is a text that may want memory
+-- what is done with a view: its text is written, or an audit's verdict, for which memory may run out
 abbrev pub TellsView : Result View InputFault → Known → Known → Known → Heard → ℕ → Type 0
 TellsView (Ok (Text text)) old new before after status = ShowsText text.items 0 old new before after status
 TellsView (Ok (Refused damage)) old new before after status = ShowsRefusal damage old new before after status
@@ -65,7 +65,7 @@ TellsView (Ok (Forgotten asked base)) old new before after status = TellsMissing
 TellsView (Err input.Read) old new before after status = TellsEarly run.Read old new before after status
 TellsView (Err input.Memory) old new before after status = TellsEarly run.Memory old new before after status
 
--- the view was made of the input, or that was not read or memory ran out, and it is told so
+-- the view of the input was made, or the input was not read, or memory ran out; each is reported
 abbrev pub Views : (View → Type 0) → Known → Known → Known → Heard → ℕ → Type 0
 Views is old new before after status =
     (viewed : Result View InputFault) × IfOk viewed is × TellsView viewed old new before after status

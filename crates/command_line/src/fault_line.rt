@@ -1,4 +1,4 @@
-//! The lines that tell why the program ended early. They take no memory.
+//! The lines that report why the program ended early, which take no memory.
 
 ghost use Rattle.std.specs.Prelude.{◌≡◌, ◌++◌, codes, true, OnOk, OnErr};
 ghost use Rattle.std.specs.Io.KnownBytes.{Appends};
@@ -23,7 +23,7 @@ fn write_bad_line<Faults: Write>(line: u64, faults: &mut Writes<Faults>) -> Resu
     faults.finish(b": not a command\n")
 }
 
-/// Writes the line of a fault and flushes the writer.
+/// Writes the line of a fault, and flushes the writer.
 pub fn write_fault<Faults: Write>(
     fault: RunFault,
     faults: &mut Writes<Faults>,
@@ -38,7 +38,7 @@ pub fn write_fault<Faults: Write>(
     }
 }
 
-// The line of a fault that has no number.
+// The line of a fault without numbers.
 fn plain_line(fault: RunFault) -> &'static [u8]
     requires { IsPlain fault }
     ensures { result.now ≡ fault_line fault }

@@ -1,10 +1,10 @@
-//! What holds of all verdicts.
+//! Laws of all verdicts.
 
 ghost use Rattle.std.specs.Prelude.{◌≡◌, ℕ, List};
 ghost use Rattle.command_line.specs.declared.verdict.CheckEnd.{CheckEnd};
 ghost use Rattle.command_line.specs.Checked.{IsVerdict};
 
-/// A text has one verdict at most.
+/// A text has at most one verdict.
 pub fn one_verdict()
     ensures { (bytes : List ℕ) (end also : CheckEnd) → IsVerdict bytes end → IsVerdict bytes also → end ≡ also }
 {}

@@ -1,4 +1,4 @@
-//! What the words for a network make of the options of a run.
+//! The options of a run, from its words.
 
 ghost use Rattle.std.specs.Prelude.{◌≡◌, MatchOption, None, Some};
 ghost use Rattle.command_words.specs.Wanted.{present_at_start};
@@ -9,9 +9,10 @@ use command_words::present_at_start;
 use rule_machine::RuleSet;
 use script_run::Options;
 
-/// The options of a run under this rule set on the names 1 to `nodes`, of which as many are present at the start as were named, or
-/// all where no number was, with so many workers for each step, and all else as it is where nothing is said; `None` where more
-/// would be present than there may be.
+/// The options of a run on the names 1 to `nodes`; `None` if `named` is above `nodes`.
+///
+/// `named` nodes are present at the start, or all if it is `None`; `workers` workers evaluate each step. All
+/// other options have their defaults.
 pub fn network_options(
     rules: RuleSet,
     nodes: u16,

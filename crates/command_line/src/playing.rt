@@ -1,4 +1,4 @@
-//! Scripts of files, played at once.
+//! Playing the scripts of files at once.
 
 ghost use Rattle.std.specs.Prelude.{◌≡◌, length, IfErr, IfOk};
 ghost use Rattle.script_run.specs.Asked.{asked_of};
@@ -22,7 +22,7 @@ use std::thread::Threads;
 use steal_pool::NoGate;
 use storm_call::{StormFault, storm, storm_end};
 
-// Opens the files with these names, in their order: `Read` at the first that can't be opened.
+// Opens these files in order: `Read` at the first that cannot be opened.
 fn open_all<T: Files>(rt: &T, alloc: Global, names: &[&str]) -> Result<Vec<T::File>, StormFault>
     ensures count { IfOk result (λ files. length files.items ≡ length names.now) }
     ensures fault { IfErr result (FailsToOpen (length names.now)) }
@@ -39,7 +39,6 @@ fn open_all<T: Files>(rt: &T, alloc: Global, names: &[&str]) -> Result<Vec<T::Fi
     Ok(files)
 }
 
-// Plays the scripts of the files with these names.
 fn play_files<Out: Write, T: Threads + Wait + Sync + Files>(
     rt: &T,
     alloc: Global,
@@ -55,8 +54,9 @@ fn play_files<Out: Write, T: Threads + Wait + Sync + Files>(
     }
 }
 
-/// Plays the scripts that the words of a storm name, or tells that more nodes would be present at the start than there may be, and
-/// gives the exit status.
+/// Plays the scripts of a storm's words, and returns the exit status.
+///
+/// If more nodes are named for the start than there are names, it reports that instead.
 pub fn play_storm<Out: Write, Faults: Write, T: Threads + Wait + Sync + Files>(
     rt: &T,
     alloc: Global,

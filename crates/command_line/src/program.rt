@@ -1,4 +1,4 @@
-//! From the words to the exit status.
+//! The program from its words to its exit status.
 
 ghost use Rattle.std.specs.Prelude.{◌≡◌, ◌≢◌, ◌⊎◌, false, true, IfErr, IfOk, IfSome, MatchOption, OnErr, Result, map, string_bytes};
 ghost use Rattle.std.specs.Io.KnownBytes.{Appends};
@@ -33,8 +33,9 @@ use std::rt::Files;
 use std::sync::Wait;
 use std::thread::Threads;
 
-/// The exit status of a run that ended early: 2 for a bad line, 3 where a read or a write failed, 4 for a full log,
-/// want of memory, or workers that failed.
+/// The exit status of a run that ended early.
+///
+/// 2 for a bad line; 3 for a failed read or write; 4 for a full log, no memory, or failed workers.
 pub fn status(fault: RunFault) -> u8
     ensures { result ≡ status_of fault }
 {
@@ -45,8 +46,9 @@ pub fn status(fault: RunFault) -> u8
     }
 }
 
-/// Tells why a run ended early, in one line, and gives the exit status. The status is the same where the line cannot
-/// be written, or only a beginning of it, which comes only where a write failed.
+/// Writes why a run ended early, as one line, and returns the exit status.
+///
+/// If a write fails, only a beginning of the line is written; the status is the same.
 pub fn tell<Faults: Write>(fault: RunFault, faults: &mut Writes<Faults>) -> u8
     ensures status { result ≡ status_of fault }
     ensures told { AppendsBeginning (Faults.contents faults.old.writer) (Faults.contents faults.new.writer) (fault_line fault) }
@@ -56,7 +58,9 @@ pub fn tell<Faults: Write>(fault: RunFault, faults: &mut Writes<Faults>) -> u8
     status(fault)
 }
 
-/// Tells why the words could not be had, in one line, and gives the exit status: 2 for a word that is not UTF-8, else 4.
+/// Writes why the words could not be read, as one line, and returns the exit status.
+///
+/// 2 for a word that is not UTF-8, else 4.
 pub fn tell_no_words<Faults: Write>(kind: io::ErrorKind, faults: &mut Writes<Faults>) -> u8
     ensures status { result ≡ no_words_status kind }
     ensures told { AppendsBeginning (Faults.contents faults.old.writer) (Faults.contents faults.new.writer) (no_words_line kind) }
@@ -69,7 +73,7 @@ pub fn tell_no_words<Faults: Write>(kind: io::ErrorKind, faults: &mut Writes<Fau
     tell(RunFault::Memory, faults)
 }
 
-/// Tells that more nodes would be present at the start than there may be, in one line, and gives the exit status, 2.
+/// Writes that more nodes are to be present than there are names, as one line, and returns 2.
 pub fn tell_bad_present<Faults: Write>(faults: &mut Writes<Faults>) -> u8
     ensures status { result ≡ 2 }
     ensures told { AppendsBeginning (Faults.contents faults.old.writer) (Faults.contents faults.new.writer) bad_present_line }
@@ -79,8 +83,8 @@ pub fn tell_bad_present<Faults: Write>(faults: &mut Writes<Faults>) -> u8
     2
 }
 
-// Tells what is wrong with the words, in clap's text, and gives the exit status: 2, or 4 for want of memory. Where there is no memory
-// for the text, that is told in its place.
+// Writes clap's text about bad words, and returns 2, or 4 if memory ran out for reading them. If memory runs
+// out for the text, it writes that instead.
 fn refuse<Faults: Write>(alloc: Global, error: Error, faults: &mut Writes<Faults>) -> u8
     ensures status { result ≡ words_status (kind_of error) }
     ensures device { result ≢ 3 }
@@ -97,7 +101,7 @@ fn refuse<Faults: Write>(alloc: Global, error: Error, faults: &mut Writes<Faults
     2
 }
 
-// Writes a text that was made, or tells that there was no memory for it, and gives the exit status.
+// Writes a text, or that memory ran out for it, and returns the exit status.
 fn show_made<Out: Write, Faults: Write>(
     made: Result<String, AllocError>,
     writer: &mut Writes<Out>,
@@ -116,7 +120,7 @@ fn show_made<Out: Write, Faults: Write>(
     }
 }
 
-// Shows the help or the version, in clap's text. Whatever keeps that from being made is told as want of memory.
+// Writes clap's text of the help or the version. Any failure to make it is reported as memory.
 fn show<Out: Write, Faults: Write>(
     alloc: Global,
     text: Error,
@@ -131,7 +135,6 @@ fn show<Out: Write, Faults: Write>(
     show_made(format!(in alloc; "{text}"), writer, faults)
 }
 
-// Runs the script, tells a fault, and gives the exit status.
 fn run_script<In: Read, Out: Write, Faults: Write, T: Threads + Wait + Sync>(
     rt: &T,
     alloc: Global,
@@ -153,7 +156,7 @@ fn run_script<In: Read, Out: Write, Faults: Write, T: Threads + Wait + Sync>(
     }
 }
 
-// Runs the script as the options say, or tells that there are none, and gives the exit status.
+// Runs the script under the options, or reports that there are none, and returns the exit status.
 fn run_network<In: Read, Out: Write, Faults: Write, T: Threads + Wait + Sync>(
     rt: &T,
     alloc: Global,
@@ -177,7 +180,6 @@ fn run_network<In: Read, Out: Write, Faults: Write, T: Threads + Wait + Sync>(
     }
 }
 
-// Judges the transcript, tells the verdict or a fault, and gives the exit status.
 fn check_transcript<In: Read, Out: Write, Faults: Write>(
     alloc: Global,
     reader: &mut Reads<In>,
@@ -196,12 +198,18 @@ fn check_transcript<In: Read, Out: Write, Faults: Write>(
     }
 }
 
-/// Does what the words ask for, of which the first is the program's name, and gives the exit status: 0 for a whole run or storm
-/// or an accepted transcript, or where a transcript, the help or the version was shown; 1 for a refused transcript or settle; 2 for
-/// bad words, more nodes at the start than there may be, a bad line, too many scripts, or an entry that is not there; 3 where a read
-/// or a write failed, or, of a storm, a script could not be opened; 4 for want of memory, a full log or a clerk that is behind.
-/// Faults are told on `faults`, and with bad words nothing goes to `writer`. Only a run and a storm may wait: for the workers and
-/// scripts to which `rt` gives their threads.
+/// Does the task of the words, the program's name first, and returns the exit status.
+///
+/// | Status | When |
+/// |---|---|
+/// | 0 | a whole run or storm, an accepted transcript, or a view, the help or the version shown |
+/// | 1 | a refused transcript or settle |
+/// | 2 | bad words, too many nodes at the start, a bad line, too many scripts, or a missing entry |
+/// | 3 | a failed read or write, or a storm's script that could not be opened |
+/// | 4 | no memory, a full log, or a clerk that is behind |
+///
+/// Faults are written to `faults`; with bad words nothing goes to `writer`. Only a run and a storm may wait,
+/// for the workers and scripts that have threads from `rt`.
 pub fn start<S: AsStr, In: Read, Out: Write, Faults: Write, T: Threads + Wait + Sync + Files>(
     rt: &T,
     alloc: Global,

@@ -1,4 +1,4 @@
-//! The audit of a transcript, told in one line.
+//! The audit of a transcript, reported in one line.
 
 ghost use Rattle.std.specs.Prelude.{◌≡◌, true, IfOk, IfSome, IsErrOf};
 ghost use Rattle.byte_streams.specs.Ended.{IsEnded};
@@ -11,12 +11,12 @@ use script_run::RunFault;
 use std::alloc::Global;
 use std::io::{Read, Write};
 
-/// What an audit found.
+/// The verdict of an audit.
 #[derive(Clone, Copy, Debug, PartialEq, Eq)]
 pub enum CheckEnd {
-    /// The bytes are the transcript of a run, which has these counts.
+    /// The bytes are the transcript of a run with these counts.
     Accepted(Summary),
-    /// The bytes are none, and this is their first damage.
+    /// The bytes are no transcript; this is their first damage.
     Refused(AuditFault),
 }
 
@@ -32,7 +32,7 @@ impl CheckEnd {
     }
 }
 
-// What an audit found, or why it found nothing.
+// The verdict, or why there is none.
 fn verdict_of(audited: Result<Summary, AuditFault>) -> Result<CheckEnd, RunFault>
     ensures verdict { result ≡ verdict_of audited }
     ensures unread { IsErrOf result RunFault.Read → IsErrOf audited AuditFault.Read }
@@ -46,7 +46,6 @@ fn verdict_of(audited: Result<Summary, AuditFault>) -> Result<CheckEnd, RunFault
     }
 }
 
-// Writes the line of a verdict.
 fn tell_verdict<Out: Write>(
     alloc: Global,
     end: CheckEnd,
@@ -66,8 +65,13 @@ fn tell_verdict<Out: Write>(
     Ok(end)
 }
 
-/// Judges a transcript and tells the verdict in one line, which is written once. `Read` only where a read failed, or 4,294,967,295
-/// were made, `Write` only where a write failed, and `Memory` if memory runs out; but for `Write`, nothing is written then.
+/// Judges a transcript and writes the verdict as one line, once.
+///
+/// - `Read` only if a read failed, or 4,294,967,295 were made.
+/// - `Write` only if a write failed.
+/// - `Memory` if memory runs out.
+///
+/// After `Read` or `Memory` nothing was written.
 pub fn check<In: Read, Out: Write>(
     alloc: Global,
     reader: &mut Reads<In>,

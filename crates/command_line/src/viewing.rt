@@ -1,4 +1,4 @@
-//! What a transcript is shown as, told on the writers.
+//! Showing views of a transcript.
 
 ghost use Rattle.std.specs.Prelude.{◌≡◌, ◌⊎◌, true, Err, IfErr, IfOk, IfSome, IsErrOf, OnErr};
 ghost use Rattle.byte_streams.specs.Ended.{IsEnded};
@@ -18,7 +18,7 @@ use std::alloc::{AllocError, Global};
 use std::io::{Read, Write};
 use transcript_view::{View, view_epochs, view_picture};
 
-// The line that tells that there is no such entry, and what there is, with its LF.
+// The line, with its LF, that reports a missing entry, and the number that there is.
 fn missing_line(
     alloc: Global,
     asked: u32,
@@ -35,7 +35,7 @@ fn missing_line(
     Ok(line)
 }
 
-/// Writes the text, and gives the exit status, which is `good` where it was written.
+/// Writes the text, and returns the exit status: `good` if it was written.
 pub fn show_text<Out: Write, Faults: Write>(
     text: &[u8],
     good: u8,
@@ -54,7 +54,7 @@ pub fn show_text<Out: Write, Faults: Write>(
     }
 }
 
-// Writes the verdict that an audit gives, and gives the exit status.
+// Writes an audit's verdict of damage, and returns the exit status.
 fn show_refusal<Out: Write, Faults: Write>(
     alloc: Global,
     damage: Damage,
@@ -72,7 +72,7 @@ fn show_refusal<Out: Write, Faults: Write>(
     }
 }
 
-// Tells that there is no such entry, in this line if there was memory for it, and gives the exit status.
+// Writes the line of a missing entry, or that memory ran out for it, and returns the exit status.
 fn tell_missing<Faults: Write>(line: Result<Vec<u8>, AllocError>, faults: &mut Writes<Faults>) -> u8
     ensures told { IfOk line (λ text. (result ≡ 2) × Tells (Faults.contents faults.old.writer) (heard Faults.contents faults.new)
         text.items) }
@@ -88,7 +88,7 @@ fn tell_missing<Faults: Write>(line: Result<Vec<u8>, AllocError>, faults: &mut W
     }
 }
 
-// Writes what is shown, or tells why nothing is, and gives the exit status.
+// Writes a view, or why there is none, and returns the exit status.
 fn tell_view<Out: Write, Faults: Write>(
     alloc: Global,
     viewed: Result<View, InputFault>,
@@ -119,7 +119,6 @@ fn tell_view<Out: Write, Faults: Write>(
     }
 }
 
-// The picture of what was read.
 fn view_picture_of(
     alloc: Global,
     read: Result<Vec<u8>, InputFault>,
@@ -138,7 +137,6 @@ fn view_picture_of(
     }
 }
 
-// The epochs of what was read.
 fn view_epochs_of(alloc: Global, read: Result<Vec<u8>, InputFault>) -> Result<View, InputFault>
     ensures read { IfOk read (λ bytes. IfOk result (IsTable bytes.items)) }
     ensures unread { IfErr read (λ fault. result ≡ Err fault) }
@@ -153,9 +151,15 @@ fn view_epochs_of(alloc: Global, read: Result<Vec<u8>, InputFault>) -> Result<Vi
     }
 }
 
-/// Writes the picture of the state after an entry of the transcript, or after its last one, and gives the exit status: 0
-/// where it was written, 1 where a line up to that entry is refused, in an audit's words; 2 where there is no such entry, or
-/// the transcript begins behind it; 3 where a read or a write failed, 4 for want of memory.
+/// Writes the picture of the state after an entry, or after the last, and returns the exit status.
+///
+/// | Status | When |
+/// |---|---|
+/// | 0 | it was written |
+/// | 1 | a line up to the entry is refused; the audit's verdict was written |
+/// | 2 | there is no such entry, or the transcript begins after it |
+/// | 3 | a read or a write failed |
+/// | 4 | memory ran out |
 pub fn draw<In: Read, Out: Write, Faults: Write>(
     alloc: Global,
     entry: Option<u32>,
@@ -172,8 +176,14 @@ pub fn draw<In: Read, Out: Write, Faults: Write>(
     tell_view(alloc, viewed, writer, faults)
 }
 
-/// Writes the table of the transcript's epochs, and gives the exit status: 0 where it was written, 1 where the transcript
-/// is refused, in an audit's words; 3 where a read or a write failed, 4 for want of memory.
+/// Writes the table of the transcript's epochs, and returns the exit status.
+///
+/// | Status | When |
+/// |---|---|
+/// | 0 | it was written |
+/// | 1 | the transcript is refused; the audit's verdict was written |
+/// | 3 | a read or a write failed |
+/// | 4 | memory ran out |
 pub fn list_epochs<In: Read, Out: Write, Faults: Write>(
     alloc: Global,
     reader: &mut Reads<In>,

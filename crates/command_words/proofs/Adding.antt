@@ -14,7 +14,7 @@ pub last_added : {E : Type 0} (old : Command) (a : Arg) (made : Result Command E
 last_added old a (Ok new) app r adds before rule local = added old a new app r adds before rule local
 last_added old a (Err e) app r adds before rule local = tt
 
--- it has no global argument where it had none, and this is none
+-- it has no global argument if it had none, and this is none
 pub local : (old : Command) (a : Arg) (new : Command) → AddsArg old a new → (fields_of old).has_globals ≡ false → a.global ≡ false → (fields_of new).has_globals ≡ false
 local old a new adds before here = adds.globals ∙ ap₂ ◌||◌ before here
 

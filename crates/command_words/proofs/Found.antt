@@ -12,7 +12,7 @@ use Rattle.command_words.specs.declared.task.Task.TheVariants as variants
 use Rattle.command_words.specs.declared.task.Task.TheVariants.{Run, Audit, Picture, Epochs, Show}
 use Rattle.command_words.specs.Wanted.{GivesNumber, Holds, HoldsNothing, HoldsPicture, HoldsRun, IsNumber, IsStorm, MayGive}
 
--- no run is held where no rule set was given
+-- there is no run if no rule set was given
 pub no_rules : (f : Found) (r : RuleSet) (n : ℕ) (p : Option ℕ) (k : ℕ) → None ≡ first_value f (codes "rules") → HoldsRun (rows_of f) r n p k → ⊥
 no_rules f r n p k e h =
     let a = first_value-rows f (codes "rules") in
@@ -26,7 +26,7 @@ rules_are f word r n p k e h =
     let b = h.rules_is in
     cc
 
--- a number was read where one was given
+-- a number was read if one was given
 pub number_read : {E : Type 0} (gives : Text → Result ℕ E → Type 0) (limit : ℕ) (id : Text) (f : Found) (o : Option ℕ) (text : Option Text)
     → one_text f id ≡ text → (text ≡ None → o ≡ None) → ((t : Text) → text ≡ Some t → ReadsOne gives t o)
     → ((t : Text) (v : ℕ) → gives t (Ok v) → IsNumber limit t v) → ((t : Text) (v : ℕ) (e : E) → gives t (Err e) → IsNumber limit t v → ⊥)
@@ -49,7 +49,7 @@ maybe_read gives limit id f None (Some v) e none value read =
 maybe_read gives limit id f (Some t) None e none value read = absurd (value t refl)
 maybe_read gives limit id f (Some t) (Some v) e none value read = (t, sym (one_text-rows f id) ∙ e, read t v (value t refl))
 
--- nothing may be given where what was given is no number
+-- nothing is given if what was given is no number
 pub none_given : {E : Type 0} (gives : Text → Result ℕ E → Type 0) (limit : ℕ) (id : Text) (f : Found) (error : E) (o : Option ℕ) → (one_text f id ≡ None → ◌≡◌ {A = Result (Option ℕ) E} (Err error) (Ok None)) → ((t : Text) → one_text f id ≡ Some t → TriesOne gives t (Err error)) → ((t : Text) (v : ℕ) → gives t (Err error) → IsNumber limit t v → ⊥) → MayGive limit id (rows_of f) o → ⊥
 none_given gives limit id f error None none value read h =
     let k = none (one_text-rows f id ∙ h) in
@@ -85,7 +85,7 @@ run_epochs e = omega (arith, ap (λ (z : Text). get_or z 0 0) e)
 run_storm : codes "run" ≡ codes "storm" → ⊥
 run_storm e = omega (arith, ap (λ (z : Text). get_or z 0 0) e)
 
--- no task is held where no run is
+-- there is no task if there is no run
 no_task : (rows : List Row) → ((r : RuleSet) (n : ℕ) (p : Option ℕ) (k : ℕ) → HoldsRun rows r n p k → ⊥) → (task : Task) → Holds (Some (codes "run", rows)) task → ⊥
 no_task rows none (Run r n p k) h = none r n p k h.1
 no_task rows none Audit h = run_audit h

@@ -1,4 +1,4 @@
--- What the command makes of the usual words.
+-- What the command reads in the usual words.
 use Rattle.std.proofs.Common.{◌≡◌, ℕ, ◌≤◌, ◌<◌, true, false, [], ◌∷◌, ◌++◌, ◌==◌, Option, None, Some, refl, sym, ap, ◌∙◌, arith, rules}
 use Rattle.std.specs.Prelude.{◌^◌, IfSome, codes, pos, unwrap_or}
 use Rattle.std.specs.List.{list_any}
@@ -31,7 +31,7 @@ accepted low high (d ∷ ds) n h e l k m =
     let plus : (d == 43) ≡ false = ne_eqb _ _ (λ m. omega (arith, digit_from_value d h.1.0)) in
     rw (minus, plus) (h, record { sfits = omega arith }, omega (arith, ints), omega (arith, ints))
 
--- digits are the number that they say
+-- digits are the number that they represent
 numbered : (limit : ℕ) (t : Text) (n : ℕ) → IsNumeral 10 t → digits_value 10 t ≡ n → n < limit → IsNumber limit (without_minus t) n
 numbered limit [] n h e k = absurd (omega (arith, h.0))
 numbered limit (d ∷ ds) n h e k =

@@ -10,7 +10,7 @@ use Rattle.command_words.specs.declared.task.Task.TheVariants as variants
 use Rattle.command_words.specs.declared.task.Task.TheVariants.{Run, Audit, Picture, Epochs, Show}
 use Rattle.command_words.specs.Wanted.{Holds, HoldsNothing, HoldsStorm, IsStorm, Storm, storm_of}
 
--- no storm is held where no script was given
+-- there is no storm if no script was given
 pub no_scripts : (f : Found) (s : Storm) → None ≡ option_map raw_values (matched_of f (codes "SCRIPT")) → HoldsStorm (rows_of f) s → ⊥
 no_scripts f s e h =
     let a = raw_values-rows f (codes "SCRIPT") in
@@ -34,7 +34,7 @@ storm_picture e = omega (arith, ap (λ (z : Text). get_or z 0 0) e)
 storm_epochs : codes "storm" ≡ codes "epochs" → ⊥
 storm_epochs e = omega (arith, ap (λ (z : Text). get_or z 0 0) e)
 
--- no task is held where no storm is
+-- there is no task if there is no storm
 no_task : (rows : List Row) → ((s : Storm) → HoldsStorm rows s → ⊥) → (task : Task) → Holds (Some (codes "storm", rows)) task → ⊥
 no_task rows none (Run r n p k) h = storm_run h.0
 no_task rows none Audit h = storm_audit h

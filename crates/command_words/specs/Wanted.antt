@@ -1,4 +1,4 @@
--- What the words of the command line ask for, by clap's account of what a command makes of words.
+-- The tasks of command line words, by clap's definition of what a command reads in words.
 use Rattle.std.specs.Prelude.{◌≡◌, ◌⊎◌, ℕ, ◌<◌, ◌≤◌, ◌^◌, List, [], ◌∷◌, ◌++◌, map, Option, None, Some, pos, true, codes, if◌then◌else◌, nat_le}
 use Rattle.std.specs.Borrow.{Bor}
 use Rattle.std.specs.Fmt.{decimal}
@@ -14,7 +14,7 @@ use Rattle.command_words.specs.declared.task.Task.{Task}
 use Rattle.command_words.specs.declared.task.Task.TheVariants as variants
 use Rattle.command_words.specs.declared.task.Task.TheVariants.{Run, Audit, Picture, Epochs, Show}
 
--- texts, as a parser of values refers to them
+-- texts, as a value parser refers to them
 abbrev pub Names : Type 0
 Names = Bor (List (Bor Text))
 
@@ -26,23 +26,23 @@ AreRules names = map (λ s. s.now) names.now ≡ codes "hh" ∷ codes "manne" �
 abbrev pub valued_rule : Text → Rule
 valued_rule name = record (new_rule name) { long = Some name; value_names = 1 }
 
--- `--rules` and one of the names, which is required
+-- `--rules` and one of the names; required
 abbrev pub rules_rule : Names → Rule
 rules_rule names = record (valued_rule (codes "rules")) { parser = Some (vp.Names names); required = true }
 
--- `--nodes` and a number from 0 to 65,535, which is required
+-- `--nodes` and a number from 0 to 65,535; required
 abbrev pub nodes_rule : Rule
 nodes_rule = record (valued_rule (codes "nodes")) { parser = Some (vp.Signed (pos 0) (pos 65535)); required = true }
 
--- `--present` and a number from 0 to 65,535, which may be left out
+-- `--present` and a number from 0 to 65,535; optional
 abbrev pub present_rule : Rule
 present_rule = record (valued_rule (codes "present")) { parser = Some (vp.Signed (pos 0) (pos 65535)) }
 
--- `--workers` and a number from 1 to 64, which is 1 where it is left out
+-- `--workers` and a number from 1 to 64; 1 by default
 abbrev pub workers_rule : Rule
 workers_rule = record (valued_rule (codes "workers")) { defaults = codes "1" ∷ []; parser = Some (vp.Signed (pos 1) (pos 64)) }
 
--- a subcommand and these four
+-- a subcommand with these four
 abbrev pub network_app : App → Names → App
 network_app app names = with_rule (with_rule (with_rule (with_rule app (rules_rule names)) nodes_rule) present_rule) workers_rule
 
@@ -50,7 +50,7 @@ network_app app names = with_rule (with_rule (with_rule (with_rule app (rules_ru
 abbrev pub run_app : Names → App
 run_app names = network_app (new_app (codes "run")) names
 
--- `--entry` and a number from 0 to 16,777,216, which may be left out
+-- `--entry` and a number from 0 to 16,777,216; optional
 abbrev pub entry_rule : Rule
 entry_rule = record (valued_rule (codes "entry")) { parser = Some (vp.Signed (pos 0) (pos 16777216)) }
 
@@ -58,25 +58,25 @@ entry_rule = record (valued_rule (codes "entry")) { parser = Some (vp.Signed (po
 abbrev pub picture_app : App
 picture_app = with_rule (new_app (codes "picture")) entry_rule
 
--- a command with a version, which needs a subcommand, and shows its help where there is none
+-- a command with a version, which requires a subcommand and otherwise shows its help
 abbrev pub top_app : App
 top_app = record (new_app (codes "console")) {
   top = record (new_app (codes "console")).top { has_version = true; subcommand_required = true; arg_required_else_help = true };
 }
 
--- the command with the subcommands that run and judge
+-- the command with `run` and `audit`
 abbrev pub judging_app : Names → App
 judging_app names = with_subcommand (with_subcommand top_app (run_app names).top) (new_app (codes "audit")).top
 
--- `--roam` and a number from 0 to 64, which is 0 where it is left out
+-- `--roam` and a number from 0 to 64; 0 by default
 abbrev pub roam_rule : Rule
 roam_rule = record (valued_rule (codes "roam")) { defaults = codes "0" ∷ []; parser = Some (vp.Signed (pos 0) (pos 64)) }
 
--- `--turns` and a number from 0 to 1,000,000, which is 1,000 where it is left out
+-- `--turns` and a number from 0 to 1,000,000; 1,000 by default
 abbrev pub turns_rule : Rule
 turns_rule = record (valued_rule (codes "turns")) { defaults = codes "1000" ∷ []; parser = Some (vp.Signed (pos 0) (pos 1000000)) }
 
--- the names of files, one or more
+-- the names of one or more files
 abbrev pub script_rule : Rule
 script_rule = record (new_rule (codes "SCRIPT")) { range = Some (record { start_inclusive = 1; end_inclusive = usize_max }); required = true }
 
@@ -84,7 +84,7 @@ script_rule = record (new_rule (codes "SCRIPT")) { range = Some (record { start_
 abbrev pub storm_app : Names → App
 storm_app names = with_rule (with_rule (with_rule (network_app (new_app (codes "storm")) names) roam_rule) turns_rule) script_rule
 
--- the command with these, and with the subcommands that show
+-- the command with these, `picture` and `epochs`
 abbrev pub showing_app : Names → App
 showing_app names = with_subcommand (with_subcommand (judging_app names) picture_app.top) (new_app (codes "epochs")).top
 
@@ -92,34 +92,34 @@ showing_app names = with_subcommand (with_subcommand (judging_app names) picture
 abbrev pub console_app : Names → App
 console_app names = with_subcommand (showing_app names) (storm_app names).top
 
--- the text is a number below the limit in decimal; a plus and zeros may stand in front
+-- the text is a number below the limit in decimal, perhaps with a plus and zeros in front
 abbrev pub IsNumber : ℕ → Text → ℕ → Type 0
 IsNumber limit text n = (IsNumeral 10 (without_leading_plus text) × (digits_value 10 (without_leading_plus text) < limit)) × (n ≡ digits_value 10 (without_leading_plus text))
 
--- what was found for an argument is this number
+-- the argument's value is this number
 pub record GivesNumber (limit : ℕ) (id : Text) (found : List Row) (n : ℕ) : Type 0 where
   pub text : Text
   pub given : one_of id found ≡ Some text
   pub is : IsNumber limit text n
 
--- what was found for an argument that may be left out is this number, or nothing
+-- the optional argument's value is this number, or it has none
 abbrev pub MayGive : ℕ → Text → List Row → Option ℕ → Type 0
 MayGive limit id found None = one_of id found ≡ None
 MayGive limit id found (Some n) = (text : Text) × (one_of id found ≡ Some text) × IsNumber limit text n
 
--- what was found for `run` are this rule set, this number of nodes, this one of those at the start, and this one of workers
+-- the values of `run` are this rule set, and these numbers of names, of nodes at the start, and of workers
 pub record HoldsRun (found : List Row) (rules : RuleSet) (nodes : ℕ) (present : Option ℕ) (workers : ℕ) : Type 0 where
   pub rules_is : first_of (codes "rules") found ≡ Some (rules_word rules)
   pub nodes_is : GivesNumber (2 ^ 16) (codes "nodes") found nodes
   pub present_is : MayGive (2 ^ 16) (codes "present") found present
   pub workers_is : GivesNumber (2 ^ 16) (codes "workers") found workers
 
--- what was found for `picture` is this entry, or none
+-- the value of `picture` is this entry, or none
 abbrev pub HoldsPicture : List Row → Option ℕ → Type 0
 HoldsPicture found entry = MayGive (2 ^ 32) (codes "entry") found entry
 
--- a storm: its rule set, how many nodes there may be, how many there are at the start where it is named, how many workers evaluate a step, how many roam and for how many turns, and the
--- names of the scripts' files
+-- a storm: its rule set, names, nodes at the start (if given), step workers, roaming workers and their turns,
+-- and script files
 pub record Storm : Type 0 where
   pub rules : RuleSet
   pub nodes : ℕ
@@ -140,19 +140,19 @@ storm_of words = record {
   scripts = map (λ s. s.now) words.scripts.items;
 }
 
--- what was found for `storm` is this one
+-- the values of `storm` are these
 pub record HoldsStorm (found : List Row) (storm : Storm) : Type 0 where
   pub run_is : HoldsRun found storm.rules storm.nodes storm.present storm.workers
   pub roamers_is : GivesNumber (2 ^ 16) (codes "roam") found storm.roamers
   pub turns_is : GivesNumber (2 ^ 32) (codes "turns") found storm.turns
   pub scripts_is : all_of (codes "SCRIPT") found ≡ Some storm.scripts
 
--- the subcommand is `storm`, and this was found for it
+-- the subcommand is `storm`, with these values
 abbrev pub IsStorm : Option (Text × List Row) → Storm → Type 0
 IsStorm None storm = ⊥
 IsStorm (Some p) storm = (p.0 ≡ codes "storm") × HoldsStorm p.1 storm
 
--- the subcommand, and what was found for it, are the task's
+-- the subcommand and its values are the task's
 abbrev pub Holds : Option (Text × List Row) → Task → Type 0
 Holds (Some p) (Run rules nodes present workers) = (p.0 ≡ codes "run") × HoldsRun p.1 rules nodes present workers
 Holds (Some p) Audit = p.0 ≡ codes "audit"
@@ -169,7 +169,7 @@ HoldsNothing found = ((task : Task) → Holds found task → ⊥) × ((storm : S
 abbrev pub Asks : List Text → Task → Type 0
 Asks words task = (names : Names) × AreRules names × Holds (subcommand_of (console_app names) words) task
 
--- what is answered for the words: the help or the version where that is asked for, or what they are read as
+-- the result for the words: the help or the version if asked for, or their task
 abbrev pub Answers : List Text → Task → Type 0
 Answers words (Show text) = (kind_of text ≡ DisplayHelp) ⊎ (kind_of text ≡ DisplayVersion)
 Answers words task = Asks words task
@@ -184,23 +184,23 @@ abbrev pub WantsStorm : List Text → Storm → Type 0
 WantsStorm words storm =
     (names : Names) → AreRules names → (takes (console_app names) words ≡ true) × IsStorm (subcommand_of (console_app names) words) storm
 
--- how many nodes there are at the start, of so many that there may be: as many as were named, or all where no number was; none
--- where that is more
+-- how many nodes are present at the start: as many as given, or all names; none if more are given than there
+-- are names
 abbrev pub present_at_start : ℕ → Option ℕ → Option ℕ
 present_at_start nodes None = Some nodes
 present_at_start nodes (Some present) = if nat_le present nodes then Some present else None
 
--- `--present`, where a number is named
+-- `--present`, if a number is given
 abbrev pub present_words : Option ℕ → List Text
 present_words None = []
 present_words (Some p) = (codes "--present=" ++ decimal p) ∷ []
 
--- `--workers`, where a number is named
+-- `--workers`, if a number is given
 abbrev pub workers_words : Option ℕ → List Text
 workers_words None = []
 workers_words (Some k) = (codes "--workers=" ++ decimal k) ∷ []
 
--- a number of workers, where one is named
+-- a valid number of workers, if one is given
 abbrev pub AreWorkers : Option ℕ → Type 0
 AreWorkers None = Unit {0}
 AreWorkers (Some k) = (1 ≤ k) × (k ≤ 64)

@@ -1,4 +1,4 @@
-//! The command that words are read by.
+//! The clap command that reads the words.
 
 ghost use Rattle.std.specs.Prelude.{◌≡◌, false, IfOk, codes};
 ghost use Rattle.clap.specs.Words.{app_of, new_app, rule_of};
@@ -27,7 +27,7 @@ fn valued_arg<'a>(alloc: Global, name: &'a str, value: &'a str, help: &'a str) -
         .help(help)
 }
 
-// `--rules`, whose value is one of the words.
+// `--rules`, one of the given words.
 fn rules_arg<'a>(alloc: Global, names: &'a [&'a str]) -> Arg<'a>
     ensures rule { rule_of result ≡ rules_rule names.entry }
     ensures local { result.global ≡ false }
@@ -37,7 +37,7 @@ fn rules_arg<'a>(alloc: Global, names: &'a [&'a str]) -> Arg<'a>
         .value_parser(names)
 }
 
-// `--nodes`, whose value is a number from 0 to 65,535.
+// `--nodes`, a number from 0 to 65,535.
 fn nodes_arg<'a>(alloc: Global) -> Arg<'a>
     ensures rule { rule_of result ≡ nodes_rule }
     ensures local { result.global ≡ false }
@@ -47,7 +47,7 @@ fn nodes_arg<'a>(alloc: Global) -> Arg<'a>
         .value_parser(value_parser!(u16))
 }
 
-// `--present`, whose value is a number from 0 to 65,535.
+// `--present`, a number from 0 to 65,535.
 fn present_arg<'a>(alloc: Global) -> Arg<'a>
     ensures rule { rule_of result ≡ present_rule }
     ensures local { result.global ≡ false }
@@ -55,7 +55,7 @@ fn present_arg<'a>(alloc: Global) -> Arg<'a>
     valued_arg(alloc, "present", "P", PRESENT_HELP).value_parser(value_parser!(u16))
 }
 
-// `--workers`, whose value is a number from 1 to 64.
+// `--workers`, a number from 1 to 64.
 fn workers_arg<'a>(alloc: Global) -> Arg<'a>
     ensures rule { rule_of result ≡ workers_rule }
     ensures local { result.global ≡ false }
@@ -65,7 +65,7 @@ fn workers_arg<'a>(alloc: Global) -> Arg<'a>
         .value_parser(value_parser!(u16).range(1..=64))
 }
 
-// A subcommand that is told all but its arguments.
+// A subcommand without its arguments.
 fn told_command<'a>(alloc: Global, name: &'a str, about: &'a str, notes: &'a str) -> Command<'a>
     ensures app { app_of result ≡ new_app name.entry.now }
     ensures local { (fields_of result).has_globals ≡ false }
@@ -73,7 +73,7 @@ fn told_command<'a>(alloc: Global, name: &'a str, about: &'a str, notes: &'a str
     Command::new(alloc, name).about(about).after_help(notes)
 }
 
-// A subcommand that reads a transcript, as its usage says.
+// A subcommand that reads a transcript.
 fn reading_command<'a>(
     alloc: Global,
     name: &'a str,
@@ -87,7 +87,7 @@ fn reading_command<'a>(
     told_command(alloc, name, about, notes).override_usage(usage)
 }
 
-// A subcommand that has a network: a rule set, a number of nodes, one of those present at the start, and one of workers.
+// Adds the arguments of a network: the rules, the names, the nodes at the start, and the workers.
 fn network_command<'a>(
     alloc: Global,
     command: Command<'a>,
@@ -104,7 +104,6 @@ fn network_command<'a>(
         .arg(workers_arg(alloc))
 }
 
-// The subcommand `run`.
 fn run_command<'a>(alloc: Global, names: &'a [&'a str]) -> Result<Command<'a>, AllocError>
     ensures app { IfOk result (λ run. app_of run ≡ run_app names.entry) }
     ensures local { IfOk result (λ run. (fields_of run).has_globals ≡ false) }
@@ -113,7 +112,7 @@ fn run_command<'a>(alloc: Global, names: &'a [&'a str]) -> Result<Command<'a>, A
     network_command(alloc, run, names)
 }
 
-// `--entry`, whose value is a number from 0 to 16,777,216.
+// `--entry`, a number from 0 to 16,777,216.
 fn entry_arg<'a>(alloc: Global) -> Arg<'a>
     ensures rule { rule_of result ≡ entry_rule }
     ensures local { result.global ≡ false }
@@ -123,7 +122,6 @@ fn entry_arg<'a>(alloc: Global) -> Arg<'a>
     ))
 }
 
-// The subcommand `picture`.
 fn picture_command<'a>(alloc: Global) -> Result<Command<'a>, AllocError>
     ensures app { IfOk result (λ picture. app_of picture ≡ picture_app) }
     ensures local { IfOk result (λ picture. (fields_of picture).has_globals ≡ false) }
@@ -138,7 +136,7 @@ fn picture_command<'a>(alloc: Global) -> Result<Command<'a>, AllocError>
     .arg(entry_arg(alloc))
 }
 
-// `--roam`, whose value is a number from 0 to 64.
+// `--roam`, a number from 0 to 64.
 fn roam_arg<'a>(alloc: Global) -> Arg<'a>
     ensures rule { rule_of result ≡ roam_rule }
     ensures local { result.global ≡ false }
@@ -148,7 +146,7 @@ fn roam_arg<'a>(alloc: Global) -> Arg<'a>
         .value_parser(value_parser!(u16).range(..=64))
 }
 
-// `--turns`, whose value is a number from 0 to 1,000,000.
+// `--turns`, a number from 0 to 1,000,000.
 fn turns_arg<'a>(alloc: Global) -> Arg<'a>
     ensures rule { rule_of result ≡ turns_rule }
     ensures local { result.global ≡ false }
@@ -158,7 +156,7 @@ fn turns_arg<'a>(alloc: Global) -> Arg<'a>
         .value_parser(value_parser!(u32).range(..=1_000_000))
 }
 
-// The names of the scripts' files, one or more.
+// The names of one or more script files.
 fn script_arg<'a>(alloc: Global) -> Arg<'a>
     ensures rule { rule_of result ≡ script_rule }
     ensures local { result.global ≡ false }
@@ -169,7 +167,6 @@ fn script_arg<'a>(alloc: Global) -> Arg<'a>
         .help("The file of a script; at most 64 of them")
 }
 
-// The subcommand `storm`.
 fn storm_command<'a>(alloc: Global, names: &'a [&'a str]) -> Result<Command<'a>, AllocError>
     ensures app { IfOk result (λ storm. app_of storm ≡ storm_app names.entry) }
     ensures local { IfOk result (λ storm. (fields_of storm).has_globals ≡ false) }
@@ -181,7 +178,7 @@ fn storm_command<'a>(alloc: Global, names: &'a [&'a str]) -> Result<Command<'a>,
         .arg(script_arg(alloc))
 }
 
-// What stands above the subcommands.
+// The command without its subcommands.
 fn top_command<'a>(alloc: Global) -> Command<'a>
     ensures { app_of result ≡ top_app }
 {
@@ -193,7 +190,7 @@ fn top_command<'a>(alloc: Global) -> Command<'a>
         .arg_required_else_help(true)
 }
 
-// The command with the subcommands that run and judge.
+// The command with `run` and `audit`.
 fn judging_command<'a>(alloc: Global, names: &'a [&'a str]) -> Result<Command<'a>, AllocError>
     ensures { IfOk result (λ command. app_of command ≡ judging_app names.entry) }
 {
@@ -202,7 +199,7 @@ fn judging_command<'a>(alloc: Global, names: &'a [&'a str]) -> Result<Command<'a
         .subcommand(reading_command(alloc, "audit", AUDIT_ABOUT, AUDIT_NOTES, AUDIT_USAGE))
 }
 
-// The command with these, and with the subcommands that show.
+// The command with these, `picture` and `epochs`.
 fn showing_command<'a>(alloc: Global, names: &'a [&'a str]) -> Result<Command<'a>, AllocError>
     ensures { IfOk result (λ command. app_of command ≡ showing_app names.entry) }
 {
@@ -211,8 +208,14 @@ fn showing_command<'a>(alloc: Global, names: &'a [&'a str]) -> Result<Command<'a
         .subcommand(reading_command(alloc, "epochs", EPOCHS_ABOUT, EPOCHS_NOTES, EPOCHS_USAGE))
 }
 
-/// The command: `run` with `--rules`, `--nodes`, `--present` and `--workers`, `audit`, `picture` with `--entry`, `epochs`, and
-/// `storm` with these four of `run`, `--roam`, `--turns` and scripts.
+/// The command with all subcommands.
+///
+/// | Subcommand | Arguments |
+/// |---|---|
+/// | `run` | `--rules`, `--nodes`, `--present`, `--workers` |
+/// | `audit`, `epochs` | none |
+/// | `picture` | `--entry` |
+/// | `storm` | those of `run`, `--roam`, `--turns`, and scripts |
 pub(crate) fn command<'a>(alloc: Global) -> Result<Command<'a>, AllocError>
     ensures { IfOk result (λ command. (names : Names) × AreRules names × (app_of command ≡ console_app names)) }
 {

@@ -1,4 +1,4 @@
-//! The texts of the help, in lines of at most 80 columns as clap sets them.
+//! The texts of the help, in lines of at most 80 columns, as clap sets them.
 
 pub(crate) const ABOUT: &str =
     "Pairs up the nodes of a changing network by local rules that mend every

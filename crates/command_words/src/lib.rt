@@ -1,14 +1,15 @@
-//! The words of the command line, and what they ask for.
+//! The words of the command line, and the tasks that they ask for.
 //!
-//! `read_words` gives the task, or clap's error with its text. Which words are good is clap's account of the one command that `command`
-//! builds, and contracts say: what is read is what that account makes of the words, each number in its range, each default where a word
-//! is left out. The help's text stands in `help`, as plain bytes, and is tested, not proved.
+//! `read_words` returns the task, or clap's error with its text. Clap's definition of the one command that
+//! `command` builds says which words are good. By contract, the task is what that definition gives for the
+//! words: each number is in its range, and a left-out word has its default. The help texts in `help` are
+//! plain bytes; they are tested, not proved.
 //!
-//! The crate stands apart since clap's contracts are wide and dear to prove: it stands on `rule_machine` and clap alone, and only
-//! `command_line` stands on it.
+//! This is a crate of its own since clap's contracts are wide and costly to prove. It depends on
+//! `rule_machine` and clap alone, and only `command_line` depends on it.
 //!
 //! ```rust
-//! match read_words(alloc, &words)? {                // of which the first is the program's name
+//! match read_words(alloc, &words)? {                // the first word is the program's name
 //!     Task::Run { rules, nodes, present, workers } => ..,
 //!     Task::Audit => ..,
 //!     _ => ..,

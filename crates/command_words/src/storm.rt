@@ -1,4 +1,4 @@
-//! What the words of a storm ask for.
+//! The words of a storm.
 
 ghost use Rattle.std.specs.Prelude.{◌≡◌, ◌^◌, ℕ, IfErr, IfOk, MatchOption, codes};
 ghost use Rattle.clap.specs.Words.{found_of, kind_of, rows_of};
@@ -10,26 +10,25 @@ use clap::{ArgMatches, Error};
 use rule_machine::RuleSet;
 use std::alloc::Global;
 
-/// What good words for a storm ask for.
+/// The arguments of a storm.
 #[derive(Debug, Drop)]
 pub struct StormWords<'a> {
-    /// Whose rules.
+    /// The rule set.
     pub rules: RuleSet,
-    /// How many nodes there may be, named from 1.
+    /// How many names there are, from 1 on.
     pub nodes: u16,
-    /// How many of them there are at the start, where a number is named; else all.
+    /// How many nodes are present at the start; all if `None`.
     pub present: Option<u16>,
-    /// How many workers evaluate a step, from 1 to 64.
+    /// How many workers evaluate a step, 1 to 64.
     pub workers: u16,
-    /// How many workers roam beside the scripts, at most 64.
+    /// How many workers roam during the scripts, at most 64.
     pub roamers: u16,
-    /// How many turns each of these has, at most 1,000,000.
+    /// How many turns each roaming worker takes, at most 1,000,000.
     pub turns: u32,
-    /// The names of the scripts' files, as they stand; there is one at least.
+    /// The names of the script files as given, at least one.
     pub scripts: Vec<&'a str>,
 }
 
-// The turns that were found for `storm`.
 fn turns(storm: &ArgMatches<'_>) -> Option<u32>
     ensures { MatchOption result
         ((n : ℕ) → GivesNumber (2 ^ 32) (codes "turns") (rows_of (found_of storm.now)) n → ⊥)
@@ -38,7 +37,9 @@ fn turns(storm: &ArgMatches<'_>) -> Option<u32>
     storm.get_one::<u32>("turns")
 }
 
-/// What was found for `storm`; `None` where a value is missing, or is none of its argument's.
+/// The task of `storm`; `None` if a value is missing or not one of its argument's.
+///
+/// Fails only if memory runs out.
 pub(crate) fn storm_task<'a>(
     alloc: Global,
     storm: &ArgMatches<'a>,

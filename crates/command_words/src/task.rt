@@ -1,4 +1,4 @@
-//! What words ask for.
+//! The tasks of the command line.
 
 ghost use Rattle.std.specs.Prelude.{◌≡◌, ◌≤◌, ◌^◌, ℕ, Option, Some, IfErr, IfOk, IfSome, MatchOption, codes};
 ghost use Rattle.clap.specs.Words.{found_of, kind_of, rows_of, subcommand_rows_of};
@@ -12,32 +12,32 @@ use clap::{ArgMatches, Error};
 use rule_machine::RuleSet;
 use std::alloc::Global;
 
-/// What good words ask for.
+/// The task that good words ask for.
 #[derive(Debug, Drop)]
 pub enum Task<'a> {
-    /// To run a script under a rule set, on a network of the names 1 to `nodes`, of which 1 to `present` are nodes at the start,
-    /// or all where no number is named, with so many workers for each step.
+    /// Run a script under a rule set, with these names and this many workers for each step.
+    ///
+    /// The nodes 1 to `present` are there at the start, or all names if it is `None`.
     Run {
         rules: RuleSet,
         nodes: u16,
         present: Option<u16>,
         workers: u16,
     },
-    /// To judge a transcript.
+    /// Judge a transcript.
     Audit,
-    /// To draw the network behind this entry of a transcript, or behind the last.
+    /// Draw the network after this entry of a transcript, or after the last.
     Picture {
         entry: Option<u32>,
     },
-    /// To list the epochs of a transcript.
+    /// List the epochs of a transcript.
     Epochs,
-    /// To play scripts at once.
+    /// Play scripts at once.
     Storm(StormWords<'a>),
-    /// To show the help or the version, of which this is the text.
+    /// Show this text: the help or the version.
     Show(Error),
 }
 
-// The rule set with this word.
 fn rules_named(word: &str) -> Option<RuleSet>
     ensures { MatchOption result
         ((rules : RuleSet) → word.now ≡ rules_word rules → ⊥)
@@ -52,7 +52,7 @@ fn rules_named(word: &str) -> Option<RuleSet>
     None
 }
 
-/// The number that was found for an argument; `None` where there is none below 65,536.
+/// The number of an argument; `None` if there is none below 65,536.
 pub(crate) fn number(found: &ArgMatches<'_>, id: &str) -> Option<u16>
     ensures { MatchOption result
         ((n : ℕ) → GivesNumber (2 ^ 16) id.now (rows_of (found_of found.now)) n → ⊥)
@@ -61,8 +61,9 @@ pub(crate) fn number(found: &ArgMatches<'_>, id: &str) -> Option<u16>
     found.get_one::<u16>(id)
 }
 
-/// The rule set, the number of nodes, that of those present at the start where one was named, and that of workers that were
-/// found; `None` where a value is missing, or is none of its argument's.
+/// The rule set, names, nodes at the start (if given) and workers.
+///
+/// `None` if a value is missing or not one of its argument's.
 pub(crate) fn network(found: &ArgMatches<'_>) -> Option<(RuleSet, u16, Option<u16>, u16)>
     ensures { MatchOption result
         ((rules : RuleSet) (nodes : ℕ) (present : Option ℕ) (workers : ℕ) → HoldsRun (rows_of (found_of found.now)) rules nodes present workers → ⊥)
@@ -86,7 +87,7 @@ pub(crate) fn network(found: &ArgMatches<'_>) -> Option<(RuleSet, u16, Option<u1
     Some((rules, nodes, present, workers))
 }
 
-// What was found for `run`; `None` where a value is missing, or is none of its argument's.
+// The task of `run`; `None` if a value is missing or not one of its argument's.
 fn run_task<'a>(run: &ArgMatches<'a>) -> Option<Task<'a>>
     ensures { MatchOption result
         ((rules : RuleSet) (nodes : ℕ) (present : Option ℕ) (workers : ℕ) → HoldsRun (rows_of (found_of run.now)) rules nodes present workers → ⊥)
@@ -103,7 +104,7 @@ fn run_task<'a>(run: &ArgMatches<'a>) -> Option<Task<'a>>
     })
 }
 
-// What was found for `picture`; `None` where the value is no number.
+// The task of `picture`; `None` if the value is no number.
 fn picture_task<'a>(picture: &ArgMatches<'a>) -> Option<Task<'a>>
     ensures { MatchOption result
         ((entry : Option ℕ) → HoldsPicture (rows_of (found_of picture.now)) entry → ⊥)
@@ -115,7 +116,7 @@ fn picture_task<'a>(picture: &ArgMatches<'a>) -> Option<Task<'a>>
     }
 }
 
-/// What was found in the words; `None` where it is no task. The error is want of memory.
+/// The task of the parsed words; `None` if they are none. Fails only if memory runs out.
 pub(crate) fn asked<'a>(alloc: Global, found: &ArgMatches<'a>) -> Result<Option<Task<'a>>, Error>
     ensures read { IfOk result (λ read. MatchOption read
         (HoldsNothing (subcommand_rows_of found.now))
@@ -143,8 +144,9 @@ pub(crate) fn asked<'a>(alloc: Global, found: &ArgMatches<'a>) -> Result<Option<
     Ok(None)
 }
 
-/// How many nodes there are at the start, of `nodes` that there may be: as many as were named, or all where no number was;
-/// `None` where that is more than there may be.
+/// How many of `nodes` names are present at the start: `named`, or all if it is `None`.
+///
+/// `None` if `named` is above `nodes`.
 pub fn present_at_start(nodes: u16, named: Option<u16>) -> Option<u16>
     ensures number { result ≡ present_at_start nodes named }
     ensures within { IfSome result (λ present. present ≤ nodes) }

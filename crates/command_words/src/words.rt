@@ -1,4 +1,4 @@
-//! The command line.
+//! Reading the words of the command line.
 
 ghost use Rattle.std.specs.Prelude.{◌≡◌, ◌≤◌, ℕ, List, Option, IfOk, IfErr, IfSome, map, unwrap_or};
 ghost use Rattle.clap.specs.Words.{Text, kind_of};
@@ -16,9 +16,10 @@ use clap::error::ErrorKind;
 use std::alloc::Global;
 use std::convert::AsStr;
 
-/// Reads the words of the command line, of which the first is the program's name: the answer is what clap's account of
-/// the command makes of them. The error is clap's, for bad words or for want of memory; words that are good and ask for
-/// a task are refused for want of memory alone.
+/// Reads the words of the command line, the program's name first, as clap defines the command.
+///
+/// The error is clap's: bad words, or memory ran out. Good words that ask for a task fail only if memory runs
+/// out.
 pub fn read_words<'a, S: AsStr>(alloc: Global, words: &'a [S]) -> Result<Task<'a>, Error>
     ensures answers { IfOk result (λ task. Answers (map S.text words.entry.now) task) }
     ensures mistake { IfErr result (λ e. IsMistake (kind_of e)) }
@@ -37,7 +38,7 @@ pub fn read_words<'a, S: AsStr>(alloc: Global, words: &'a [S]) -> Result<Task<'a
     }
 }
 
-/// The usual words are good, and ask for what they say; a run has one worker where no number is named.
+/// The usual words are good and ask for their task; a run has one worker by default.
 pub fn usual_words()
     ensures run { (program : Text) (rules : RuleSet) (nodes : ℕ) (present workers : Option ℕ)
         → nodes ≤ 65535 → IfSome present (λ p. p ≤ 65535) → AreWorkers workers

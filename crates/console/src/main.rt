@@ -1,11 +1,11 @@
-//! Runs the script on standard input and writes its transcript to standard output, judges or shows a transcript, or plays scripts from
-//! files at once.
+//! The program: runs a script, judges or shows a transcript, or plays the scripts of files at once.
 //!
-//! The program is this crate's `main` alone, which hands the process's words and streams to `command_line::start`, and exits with the
-//! status that it is told. All that can be said of what is written is said there: `main` has no contract but that it is safe and
-//! returns.
+//! `main` passes the process's words and streams to `command_line::start`, and exits with the status that it
+//! returns. The contracts of `start` say all about what is written; `main` is proved to be safe and to
+//! return.
 //!
-//! It is one small crate since a check of a program links the code of all libraries below it before it proves anything.
+//! The crate is small since the check of a program links the code of all its libraries before it proves
+//! anything.
 //!
 //! ```text
 //! ./console run --rules hh --nodes 2 < examples/pair.script

@@ -1,4 +1,4 @@
--- Where a name is absent, and where it stands alone.
+-- A name that is absent, and one without neighbours.
 use Rattle.std.proofs.Common.{◌≡◌, ℕ, suc, ◌<◌, Bool, true, false, List, [], ◌∷◌, filter, nat_eq, None, Some, is_some, find, refl, sym, ap, ap₂, ◌∙◌, inl, inr, ⊎_elim, arith}
 use Rattle.std.proofs.lemmas.Bool.{true≢false, false_from_ne_true, cases_eq, eq-eqb, ne_eqb, cond-true, cond-false}
 use Rattle.rule_machine.specs.Network.{Network, names, linked, neighbours, present}
@@ -28,7 +28,7 @@ pub absent_near : (s : State) (v : ℕ) → IsState s → present s.network v �
 absent_near s v good gone =
     sym (empty_from_find (linked s.network v) (names s.network) (names_fails s.network (linked s.network v) (λ w has. false_from_ne_true (linked s.network v w) (λ near. true≢false (sym (linked_present s.network v w good.is_network near) ∙ gone)))))
 
--- who is not answered is not married
+-- a node that is not answered is not married
 pub lone : (s : State) (v w : ℕ) → pointer s v ≡ Some w → points s.registers w v ≡ false → None ≡ partner s v
 lone s v w at other = sym (none_is (partner s v) (unanswered_unmarried s v w at (λ back. true≢false (sym (points_from s w v back) ∙ other))))
 

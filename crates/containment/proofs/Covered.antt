@@ -1,4 +1,4 @@
--- Who is in reach, told from lists that cover the reach, without a look at a node's neighbours.
+-- The reach from lists that cover it, without a look at a node's neighbours.
 use Rattle.std.proofs.Common.{◌≡◌, ℕ, Bool, true, false, cond, not, ◌&&◌, ◌||◌, List, [], ◌∷◌, filter, nat_eq, Option, None, Some, is_some, find, IsTrue, refl, sym, ap, ◌∙◌, subst, inl, inr, ◌⊎◌, ⊎_elim}
 use Rattle.std.proofs.lemmas.Bool.{true≢false, and_parts, and_from, or_cases, or_left, or_right, eqb-true, eq-eqb, not-true, not_from_false}
 use Rattle.std.proofs.lemmas.List.Elements.{filter_agree}
@@ -14,8 +14,8 @@ use Rattle.containment_laws.specs.Edits.{mutual_is}
 use Rattle.containment_laws.specs.Small.{reach_cases}
 use Rattle.containment.specs.Candidates.{is_touched, is_kept}
 
--- The test covers the reach of the event: whoever is hit or parted passes it, and so does each neighbour of one that is parted; and who
--- passes it while a pair is parted, and is not married, has such a neighbour.
+-- The test covers the reach of the event: each node that is hit or parted passes it, and so does each
+-- neighbour of a parted one. If a pair is parted, each unmarried node that passes has such a neighbour.
 pub record Covers (s : State) (event : Event) (covers : ℕ → Bool) : Type 0 where
   pub hits : (x : ℕ) → is_hit s event x ≡ true → covers x ≡ true
   pub parts : (x : ℕ) → is_parted s event x ≡ true → (covers x ≡ true) × (parts_a_pair s event ≡ true)
@@ -103,7 +103,7 @@ same_eq a = eq-eqb a a refl
 mutual_from : (s : State) (v w : ℕ) → pointer s v ≡ Some w → pointer s w ≡ Some v → is_mutual s v w ≡ true
 mutual_from s v w at back = and_from (points s.registers v w) (points s.registers w v) (points_from s v w at) (points_from s w v back)
 
--- the neighbours of both, where their edge goes
+-- the neighbours of both, if their edge goes
 pub unlink_listed : (s : State) (a b : ℕ) → IsState s → is_mutual s a b ≡ true → filter (is_kept (linked s.network a) (linked s.network b) (is_touched s (Unlink a b))) (names s.network) ≡ filter (is_in_reach s (Unlink a b)) (names s.network)
 unlink_listed s a b good pair =
     let at = mutual_is s a b pair in
@@ -114,7 +114,7 @@ unlink_listed s a b good pair =
     (and_from (is_mutual s a b) (nat_eq b a || nat_eq b b) pair (or_right (nat_eq b a) (nat_eq b b) (same_eq b)))
     pair)
 
--- those of a node and its partner, where its pointer is written anew
+-- those of a node and its partner, if its pointer changes
 point_parts : (s : State) (v u : ℕ) (target : Option ℕ) → pointer s v ≡ Some u → (x : ℕ) → (is_mutual s v x || (nat_eq x v && married s v)) ≡ true → (x ≡ v) ⊎ (x ≡ u)
 point_parts s v u target at x h =
     ⊎_elim
@@ -164,7 +164,7 @@ leave_listed s v u good paired = reach_listed s (Leave v) (linked s.network u) (
 
 -- ---- where none is
 
--- whom the write of a pointer may part is of a pair
+-- a node that the write of a pointer may part is in a pair
 own_pair : (s : State) (a x : ℕ) → IsState s → (is_mutual s a x || (nat_eq x a && married s a)) ≡ true → married s a ≡ true
 own_pair s a x good h =
     ⊎_elim
@@ -172,7 +172,7 @@ own_pair s a x good h =
     (λ own. (and_parts (nat_eq x a) (married s a) own).1)
     (or_cases (is_mutual s a x) (nat_eq x a && married s a) h)
 
--- who is parted belongs to a pair that is
+-- a parted node belongs to a parted pair
 parting : (s : State) (event : Event) (x : ℕ) → IsState s → is_parted s event x ≡ true → parts_a_pair s event ≡ true
 parting s (Unlink a b) x good h = (and_parts (is_mutual s a b) (nat_eq x a || nat_eq x b) h).0
 parting s (Point a None) x good h = own_pair s a x good h
@@ -222,13 +222,13 @@ kept_of_none : (test : ℕ → Bool) (xs : List ℕ) → filter (is_kept (λ x. 
 kept_of_none test [] = refl
 kept_of_none test (x ∷ xs) = kept_of_none test xs
 
--- nobody
+-- none
 pub none_listed : (s : State) (event : Event) → IsState s → parts_a_pair s event ≡ false → ((x : ℕ) → is_hit s event x ≡ false) → [] ≡ filter (is_in_reach s event) (names s.network)
 none_listed s event good calm none =
     sym (kept_of_none (is_touched s event) (names s.network))
     ∙ reach_listed s event (λ x. false) (λ x. false) good (calm_covers s event (λ x. false) good calm (λ x h. absurd (never (none x) h)))
 
--- an event of no other kind hits nobody
+-- an event of another kind hits no node
 pub unhit : (s : State) (event : Event) → ((a b : ℕ) → event ≡ Link a b → ⊥) → ((v : ℕ) (target : Option ℕ) → event ≡ Point v target → ⊥) → ((v : ℕ) (value : Bool) → event ≡ Flag v value → ⊥) → (x : ℕ) → is_hit s event x ≡ false
 unhit s (Link a b) no_link no_point no_flag x = absurd (no_link a b refl)
 unhit s (Point v target) no_link no_point no_flag x = absurd (no_point v target refl)

@@ -49,7 +49,7 @@ head_stays : (n : ℕ) (xs : List ℕ) → Rises (suc n) xs → without_head n x
 head_stays n [] up = refl
 head_stays n (x ∷ xs) up = cond-false (nat_eq x n) xs (x ∷ xs) (ne_eqb x n (λ same. let le = up.0 in omega (arith, le, same)))
 
--- what is left of the names behind the head
+-- what is left of the names after the head
 pub record IsBehind (p q test : ℕ → Bool) (xs ys all : List ℕ) (v : ℕ) : Type 0 where
   pub low : ℕ
   pub rest : List ℕ
@@ -142,7 +142,7 @@ taken all p q test xs ys list list' v remains head grown =
     joined true later = append_assoc list (v ∷ []) later
     joined false later = refl
 
--- where neither has a head all that is kept is listed
+-- if neither has a head all that is kept is listed
 pub all_taken : (all : List ℕ) (p q test : ℕ → Bool) (xs ys list : List ℕ) → Remains all p q test xs ys list → least_head xs ys ≡ None → list ≡ filter (is_kept p q test) all
 all_taken all p q test xs ys list remains none =
     let empty = ended xs ys none in

@@ -1,4 +1,4 @@
--- Who may be in the reach of a disturbance, from two ascending lists.
+-- The candidates for the reach of a disturbance, from two ascending lists.
 use Rattle.std.specs.Prelude.{ℕ, min, Bool, cond, not, ◌&&◌, ◌||◌, List, [], ◌∷◌, Option, None, Some, nat_eq}
 use Rattle.rule_machine.specs.declared.event.Event.{Event}
 use Rattle.rule_machine.specs.State.{State, married}
@@ -16,7 +16,7 @@ abbrev pub without_head : ℕ → List ℕ → List ℕ
 without_head v [] = []
 without_head v (x ∷ xs) = cond (nat_eq x v) xs (x ∷ xs)
 
--- v is hit or parted, or a pair is parted and v is not married: told without a look at v's neighbours
+-- v is hit or parted, or a pair is parted and v is unmarried: needs no look at v's neighbours
 abbrev pub is_touched : State → Event → ℕ → Bool
 is_touched s event v = is_hit s event v || is_parted s event v || (parts_a_pair s event && not (married s v))
 

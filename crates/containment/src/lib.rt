@@ -1,10 +1,12 @@
-//! Who can move: nodes at rest, and the reach of a disturbance before it comes.
+//! Which nodes can move: nodes at rest, and the reach of a disturbance before it comes.
 //!
-//! `is_at_rest` tells of a node that it has nothing to do, and that nothing that other nodes do gives it something to do. `is_in_reach`
-//! tells of an event whether it may end that, were it carried out. Both look at the node, at its neighbours and at the nodes that the
-//! event names, whatever the size of the network, take no memory and change nothing. `list_reach` lists all who are in reach, by one look
-//! through the neighbours of at most two nodes. The laws of `containment_laws` say what follows:
-//! whoever is at rest, and in the reach of no disturbance that comes, never moves.
+//! At a node at rest no rule is enabled, and no step of other nodes enables one (`is_at_rest`). The reach of
+//! an event is the set of nodes whose rest it may end (`is_in_reach`). By the laws of `containment_laws` a
+//! node at rest that is in the reach of no disturbance never moves.
+//!
+//! `is_at_rest` and `is_in_reach` look at the node, its neighbours and the nodes that the event names,
+//! whatever the size of the network. They take no memory and change nothing. `list_reach` lists the reach by
+//! one pass over the neighbours of at most two nodes.
 //!
 //! ```rust
 //! let still = is_at_rest(&net, true, v);            // whatever the daemon chooses, v does not move

@@ -1,4 +1,4 @@
-//! Whom a disturbance can reach, as a list.
+//! The reach of a disturbance, as a list.
 
 ghost use Rattle.std.specs.Prelude.{◌≡◌, ℕ, Bool, [], ◌∷◌, IfOk, IsTrue, filter, nat_eq};
 ghost use Rattle.rule_machine.specs.Network.{names, neighbours};
@@ -12,7 +12,7 @@ use net_state::NetState;
 use rule_machine::{Event, Node, Want};
 use std::alloc::Global;
 
-/// The lesser of the first nodes of two lists.
+/// Returns the lesser of the first nodes of two lists.
 fn least_head(xs: &[Node], ys: &[Node]) -> Option<Node>
     ensures { result ≡ among.least_head xs.now ys.now }
 {
@@ -24,7 +24,6 @@ fn least_head(xs: &[Node], ys: &[Node]) -> Option<Node>
     }
 }
 
-/// The list without its first node, if that is `v`.
 fn without_head(nodes: &[Node], v: Node) -> &[Node]
     ensures { result.now ≡ among.without_head v nodes.now }
 {
@@ -34,11 +33,11 @@ fn without_head(nodes: &[Node], v: Node) -> &[Node]
     }
 }
 
-/// The neighbours of a node; an absent one has none.
+/// Returns the neighbours of a node; an absent one has none.
 fn near(net: &NetState, v: Node) -> &[Node]
     ensures { result.now ≡ neighbours net.now.state.network v }
 {
-    // By its contract the state is sound.
+    // Gives the prover `IsState`.
     let _ = net.registers();
     if !net.has(v) {
         return &[];
@@ -46,11 +45,10 @@ fn near(net: &NetState, v: Node) -> &[Node]
     net.neighbours(v)
 }
 
-/// The node with which a node is paired.
 fn partner(net: &NetState, v: Node) -> Option<Node>
     ensures { result ≡ state.partner net.now.state v }
 {
-    // By its contract the state is sound.
+    // Gives the prover `IsState`.
     let _ = net.registers();
     if !net.has(v) {
         return None;
@@ -64,7 +62,6 @@ fn partner(net: &NetState, v: Node) -> Option<Node>
     None
 }
 
-/// Whether the event parts a pair.
 fn parts_a_pair(net: &NetState, event: &Event) -> bool
     ensures { result ≡ of.parts_a_pair net.now.state event.now }
 {
@@ -77,7 +74,9 @@ fn parts_a_pair(net: &NetState, event: &Event) -> bool
     }
 }
 
-/// Whether the event touches a node: a few looks, and none at the node's neighbours. `parts` is whether it parts a pair.
+/// Whether the event touches a node, if `parts` is whether it parts a pair.
+///
+/// Cost: a few looks, none at the node's neighbours.
 fn is_touched(net: &NetState, event: &Event, parts: bool, v: Node) -> bool
     requires { parts ≡ of.parts_a_pair net.now.state event.now }
     ensures { result ≡ among.is_touched net.now.state event.now v }
@@ -85,7 +84,7 @@ fn is_touched(net: &NetState, event: &Event, parts: bool, v: Node) -> bool
     is_hit(net, event, v) || is_parted(net, event, v) || (parts && !is_married(net, v))
 }
 
-/// Those of two lists, each ascending, whom the event touches: one look through both.
+/// Returns the nodes of two ascending lists that the event touches, in one pass over both.
 fn touched(
     alloc: Global,
     net: &NetState,
@@ -110,7 +109,7 @@ fn touched(
     Ok(list)
 }
 
-/// The name alone, if a node has it. `one` is the list of it.
+/// Returns `one`, the list of `v` alone, if a node has that name, else the empty list.
 fn only<'a>(net: &NetState, v: Node, one: &'a [Node]) -> &'a [Node]
     requires { one.now ≡ v ∷ [] }
     ensures { result.now ≡ filter (λ x. nat_eq x v) (names net.now.state.network) }
@@ -121,12 +120,12 @@ fn only<'a>(net: &NetState, v: Node, one: &'a [Node]) -> &'a [Node]
     &[]
 }
 
-/// The reach of an event that parts a pair: who is parted, and their neighbours that are not married.
+/// Returns the reach of an event that parts a pair: those parted, and their unmarried neighbours.
 fn list_beside(alloc: Global, net: &NetState, event: &Event) -> Result<Vec<Node>, Want>
     requires { IsTrue (of.parts_a_pair net.now.state event.now) }
     ensures { IfOk result (λ list. list.items ≡ filter (of.is_in_reach net.now.state event.now) (names net.now.state.network)) }
 {
-    // By its contract the state is sound.
+    // Gives the prover `IsState`.
     let _ = net.registers();
     match event {
         Event::Unlink(a, b) => touched(alloc, net, event, near(net, *a), near(net, *b)),
@@ -142,12 +141,15 @@ fn list_beside(alloc: Global, net: &NetState, event: &Event) -> Result<Vec<Node>
     }
 }
 
-/// The nodes, ascending, that an event that is not refused would reach if it came now. It goes through the neighbours of the nodes that the
-/// event names and of their partners, and through each only once. `AllocError` if memory runs out.
+/// Returns the nodes, ascending, that an event would reach in this state, if it is not refused.
+///
+/// `AllocError` if memory runs out.
+///
+/// Cost: one pass over the neighbours of the nodes that the event names and of their partners.
 pub fn list_reach(alloc: Global, net: &NetState, event: &Event) -> Result<Vec<Node>, Want>
     ensures { IfOk result (λ list. list.items ≡ filter (of.is_in_reach net.now.state event.now) (names net.now.state.network)) }
 {
-    // By its contract the state is sound.
+    // Gives the prover `IsState`.
     let _ = net.registers();
     if parts_a_pair(net, event) {
         return list_beside(alloc, net, event);

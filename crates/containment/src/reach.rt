@@ -9,21 +9,20 @@ use crate::rest::is_married;
 use net_state::NetState;
 use rule_machine::{Event, Node};
 
-/// Whether two names point at each other.
 fn is_mutual(net: &NetState, v: Node, w: Node) -> bool
     ensures { result ≡ state.is_mutual net.now.state v w }
 {
     net.points(v, w) && net.points(w, v)
 }
 
-/// Whether a node is a, and married, or a's partner.
+/// Whether a node is `a`, and married, or `a`'s partner.
 fn is_of_pair(net: &NetState, a: Node, v: Node) -> bool
     ensures { result ≡ (state.is_mutual net.now.state a v || (nat_eq v a && state.married net.now.state a)) }
 {
     is_mutual(net, a, v) || (v == a && is_married(net, a))
 }
 
-/// Whether the event takes a node's partner from it.
+/// Whether the event parts a node from its partner.
 pub(crate) fn is_parted(net: &NetState, event: &Event, v: Node) -> bool
     ensures { result ≡ of.is_parted net.now.state event.now v }
 {
@@ -36,7 +35,7 @@ pub(crate) fn is_parted(net: &NetState, event: &Event, v: Node) -> bool
     }
 }
 
-/// Whether the event itself hits a node.
+/// Whether the event hits the node itself.
 pub(crate) fn is_hit(net: &NetState, event: &Event, v: Node) -> bool
     ensures { result ≡ of.is_hit net.now.state event.now v }
 {
@@ -48,11 +47,10 @@ pub(crate) fn is_hit(net: &NetState, event: &Event, v: Node) -> bool
     }
 }
 
-/// Whether a neighbour of a node is parted from its partner.
 fn is_beside_parted(net: &NetState, event: &Event, v: Node) -> bool
     ensures { result ≡ is_some (find (of.is_parted net.now.state event.now) (neighbours net.now.state.network v)) }
 {
-    // By its contract the state is sound.
+    // Gives the prover `IsState`.
     let _ = net.registers();
     if !net.has(v) {
         return false;
@@ -65,9 +63,12 @@ fn is_beside_parted(net: &NetState, event: &Event, v: Node) -> bool
     false
 }
 
-/// Whether an event that is not refused would reach a node, if it came now: the event hits it, or parts it from its partner, or it is
-/// not married and a neighbour of one that is parted. Whoever is at rest and not in reach stays at rest. It goes through the neighbours
-/// of the node.
+/// Whether an event would reach a node in this state, if it is not refused.
+///
+/// The event reaches a node that it hits, a node that it parts from its partner, and an unmarried neighbour
+/// of a parted node. A node at rest that is not in reach stays at rest.
+///
+/// Cost: a pass over the node's neighbours.
 pub fn is_in_reach(net: &NetState, event: &Event, v: Node) -> bool
     ensures { result ≡ of.is_in_reach net.now.state event.now v }
 {

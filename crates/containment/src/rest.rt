@@ -21,11 +21,11 @@ fn is_surrounded(net: &NetState, v: Node) -> bool
     true
 }
 
-/// Whether the node of a name is married; an absent one is not.
+/// Whether a node is married; an absent one is not.
 pub(crate) fn is_married(net: &NetState, v: Node) -> bool
     ensures { result ≡ state.married net.now.state v }
 {
-    // By its contract the state is sound.
+    // Gives the prover `IsState`.
     let _ = net.registers();
     if !net.has(v) {
         return false;
@@ -33,12 +33,16 @@ pub(crate) fn is_married(net: &NetState, v: Node) -> bool
     net.married(v)
 }
 
-/// Whether a node is at rest, by rules that use the flags or do not: its flag is right if they are used, and it is married, or points
-/// nowhere and each of its neighbours is married. An absent one is. It goes through the neighbours only where it points nowhere.
+/// Whether a node is at rest; an absent one is.
+///
+/// A node is at rest if its flag is right (if flags are used), and it is married, or its pointer is null and
+/// each of its neighbours is married.
+///
+/// Cost: a pass over the neighbours if its pointer is null, else a few looks.
 pub fn is_at_rest(net: &NetState, uses_flags: bool, v: Node) -> bool
     ensures { result ≡ of.is_at_rest uses_flags net.now.state v }
 {
-    // By its contract the state is sound.
+    // Gives the prover `IsState`.
     let _ = net.registers();
     if !net.has(v) {
         return true;

@@ -1,4 +1,5 @@
--- What it is to be at rest, taken apart and put together; and that a network is stable where each of its nodes is at rest.
+-- What it is to be at rest, taken apart and put together; a network is stable if each of its nodes is at
+-- rest.
 use Rattle.std.proofs.Common.{◌≡◌, ◌≢◌, ℕ, Bool, true, false, cond, not, ◌&&◌, ◌||◌, Option, None, Some, is_none, find, IsTrue, refl, sym, ap, ◌∙◌, subst, inl, inr, ◌⊎◌, ⊎_elim}
 use Rattle.std.proofs.lemmas.Bool.{and_parts, and_from, or_cases, or_left, or_right, true≢false, cases_Bool, not-true, not-false, not_from_false, not_from_true, false_from_ne_true}
 use Rattle.std.proofs.lemmas.Option.{none-some, same_Some}
@@ -58,7 +59,7 @@ rest_from uses_flags s v rest =
     (null_is (find (λ w. not (married s w)) (neighbours s.network v)) (near_fails s.network (λ w. not (married s w)) v (λ w near. not_from_true (married s w) (alone.1 w near))))))
     rest.still)
 
--- where the test fails the node is not at rest
+-- if the test fails the node is not at rest
 pub restless_is : (uses_flags : Bool) (s : State) (v : ℕ) → is_at_rest uses_flags s v ≡ false → IsAtRest uses_flags s v → ⊥
 restless_is uses_flags s v h rest = true≢false (sym (rest_from uses_flags s v rest) ∙ h)
 
@@ -113,7 +114,7 @@ pub all_rest : (uses_flags : Bool) (s : State) → IsState s → IsStable uses_f
 all_rest uses_flags s good stable v =
     ⊎_elim (λ has. stable_rests uses_flags s good stable v has) (λ gone. absent_rests uses_flags s v good gone) (cases_Bool (present s.network v))
 
--- and where each is, the network is stable
+-- and if each is, the network is stable
 pub rest_is_stable : (uses_flags : Bool) (s : State) → IsState s → ((v : ℕ) → IsTrue (present s.network v) → IsAtRest uses_flags s v) → IsStable uses_flags s
 rest_is_stable uses_flags s good rests = record {
   answered = λ v. if_some_from _ _ (λ w at. rest_answered uses_flags s v w (rests v (pointer_present s v w good at)) at);

@@ -1,4 +1,4 @@
--- Who is at rest stays so through steps, and through each disturbance that does not reach it.
+-- A node at rest stays so through steps, and through each disturbance that does not reach it.
 use Rattle.std.proofs.Common.{◌≡◌, ◌≢◌, ℕ, true, false, not, ◌&&◌, ◌||◌, List, [], ◌∷◌, Contains, Option, None, Some, is_some, find, IsTrue, refl, sym, ap, ◌∙◌, subst, inl, ⊎_elim, arith}
 use Rattle.std.proofs.lemmas.Bool.{true≢false, and_from, or_parts, or_from, cases_Bool, not_from_false, false_from_ne_true}
 use Rattle.std.proofs.lemmas.List.Elements.{All-head, All-tail}
@@ -32,7 +32,7 @@ use Rattle.containment_laws.specs.Edits.{IsMild, accepted_mild}
 
 -- ---- one disturbance
 
--- who is not in reach is not hit, not parted, and if it is not married no neighbour of it is parted
+-- a node not in reach is not hit, not parted, and if it is unmarried none of its neighbours is parted
 pub record IsBeyond (s : State) (event : Event) (v : ℕ) : Type 0 where
   pub calm : is_hit s event v ≡ false
   pub kept : is_parted s event v ≡ false
@@ -56,7 +56,7 @@ mild_weds t s event s' good' mild v is kept has =
     let both = mild.pairs v pair.0 pair.1 pair.2 kept (inl has) in
     married_from s' v pair.0 good' both.0 both.1
 
--- who is at rest and not in reach is at rest afterwards, with the same registers
+-- a node at rest and not in reach is at rest afterwards, with the same registers
 mild_rests : (t : RuleTable) (s : State) (event : Event) (s' : State) → IsState s → IsState s' → IsMild t s event s' → (v : ℕ) → IsAtRest t.flags s v → is_in_reach s event v ≡ false → IsTrue (present s'.network v) → IsAtRest t.flags s' v × KeepsRegisters s s' v
 mild_rests t s event s' good good' mild v rest out has =
     let beyond = beyond_is s event v out in
@@ -80,7 +80,7 @@ mild_rests t s event s' good good' mild v rest out has =
       ),
     )
 
--- what an accepted disturbance leaves alone
+-- what an accepted disturbance does not change
 pub answered_mild : (t : RuleTable) (s : State) (n : ℕ) (event : Event) (s' : State) → IsState s → Answers t s n event Accepted s' → IsMild t s event s'
 answered_mild t s n event s' good answers = go (refusal_of t s event) refl answers
   where
@@ -88,7 +88,8 @@ answered_mild t s n event s' good answers = go (refusal_of t s event) refl answe
     go None e does = accepted_mild t s n event s' good e does
     go (Some refusal) e does = absurd (let k = does.0 in cc)
 
--- An accepted disturbance: who is at rest and beyond its reach is at rest in the state after it, and has its registers unless it went.
+-- After an accepted disturbance a node that was at rest and beyond its reach is at rest, with the same
+-- registers unless it left.
 pub disturbed_rests : (t : RuleTable) → IsTable t → (s : State) → IsState s → (n : ℕ) (event : Event) (s' : State) → Answers t s n event Accepted s' → (v : ℕ) → IsAtRest t.flags s v → is_in_reach s event v ≡ false → IsAtRest t.flags s' v × (IsTrue (present s'.network v) → KeepsRegisters s s' v)
 disturbed_rests t table s good n event s' answers v rest out =
     let good' = answers_keep t table s good n event Accepted s' answers in
@@ -113,7 +114,7 @@ none_moves v (EnabledAre nodes) e = refl
 none_moves v (Pairs pairs) e = refl
 none_moves v (Counts counts) e = refl
 
--- no disturbance: nobody at rest moves or changes
+-- without a disturbance no node at rest moves or changes
 calm_rests : (t : RuleTable) → AsksForWork t → IsInside t → (s : State) → IsState s → (n : ℕ) (event : Event) (reply : Reply) (s' : State) → Answers t s n event reply s' → reply ≢ Accepted → (v : ℕ) → IsAtRest t.flags s v → (moves_at v reply ≡ false) × IsAtRest t.flags s' v × KeepsRegisters s s' v
 calm_rests t asks inside s good n event reply s' answers calm v rest = by_effect (effect t s n event reply s' answers)
   where
@@ -133,7 +134,8 @@ calm_keeps_pair t asks inside s good n event reply s' answers calm v w at back =
     by_effect (steps items moves is step) = step_keeps_pair t asks inside s good items moves s' step v w at back
     by_effect (disturbs is) = absurd (calm is)
 
--- any answer: who is at rest, and not in its reach if it is an accepted disturbance, does not move and is at rest then
+-- any answer: a node at rest, and not in reach if it is an accepted disturbance, does not move and stays at
+-- rest
 answer_rests : (t : RuleTable) → IsTable t → AsksForWork t → IsInside t → (s : State) → IsState s → (n : ℕ) (event : Event) (reply : Reply) (s' : State) → Answers t s n event reply s' → (v : ℕ) → IsAtRest t.flags s v → is_reached_by s event reply v ≡ false → (moves_at v reply ≡ false) × IsAtRest t.flags s' v
 answer_rests t table asks inside s good n event Accepted s' answers v rest out = (refl, (disturbed_rests t table s good n event s' answers v rest out).0)
 answer_rests t table asks inside s good n event (Refused refusal) s' answers v rest out = let here = calm_rests t asks inside s good n event (Refused refusal) s' answers (λ e. cc) v rest in (here.0, here.1)
@@ -148,7 +150,7 @@ answer_rests t table asks inside s good n event (Counts counts) s' answers v res
 abbrev after_entry : Moment → Entry → State → Moment
 after_entry m entry next = record { state = next; spent = spent_after m.spent entry.1 }
 
--- Who is at rest never moves, keeps its registers, and is at rest at the end.
+-- A node at rest never moves, keeps its registers, and is at rest at the end.
 pub run_rests : (t : RuleTable) → IsTable t → AsksForWork t → IsInside t → (start : Moment) → IsState start.state → (log : List Entry) (end : Moment) → Run t start log end → IsUndisturbed log → (v : ℕ) → IsAtRest t.flags start.state v → (has_moved log v ≡ false) × IsAtRest t.flags end.state v × KeepsRegisters start.state end.state v
 run_rests t table asks inside start good [] end run calm v rest =
     (refl, subst (λ (m : Moment). IsAtRest t.flags m.state v) (sym run) rest, (ap (λ m. pointer m.state v) run, ap (λ m. flag m.state v) run))
@@ -184,7 +186,8 @@ run_keeps_network t inside start (entry ∷ log) end (next, answers, run) calm =
 
 -- ---- any path
 
--- Whatever comes: who is at rest at the start, and in the reach of no disturbance on the way, never moves and is at rest at the end.
+-- A node at rest at the start, and in the reach of no disturbance on the way, never moves and is at rest at
+-- the end.
 pub path_rests : (t : RuleTable) → IsTable t → AsksForWork t → IsInside t → (start : Moment) → IsState start.state → (path : List (Entry × State)) → IsPath t start path → (v : ℕ) → IsAtRest t.flags start.state v → is_ever_reached start.state path v ≡ false → (has_moved (log_of path) v ≡ false) × IsAtRest t.flags (end_of start.state path) v
 path_rests t table asks inside start good [] walk v rest out = (refl, rest)
 path_rests t table asks inside start good (((event, reply), s) ∷ path) (answers, walk) v rest out =

@@ -1,4 +1,4 @@
--- What each accepted disturbance leaves alone.
+-- What each accepted disturbance does not change.
 use Rattle.std.proofs.Common.{◌≡◌, ℕ, Bool, true, false, cond, not, ◌&&◌, ◌||◌, [], map, Option, None, Some, nat_eq, IsTrue, refl, sym, ap, ◌∙◌, subst, inl, inr, ◌⊎◌, ⊎_elim, get_or, arith}
 use Rattle.std.proofs.lemmas.Bool.{true≢false, and_parts, and_from, and_cases, or_left, or_right, cases_Bool, cases_eq, eq-eqb, not_from_false, false_from_ne_true}
 use Rattle.std.proofs.lemmas.Option.{none-some, same_Some}
@@ -26,8 +26,9 @@ use Rattle.charge_laws.specs.CostsOfRuns.{point_parts}
 use Rattle.charge_laws.specs.Present.{flagged_present}
 use Rattle.containment_laws.specs.Reach.{is_parted, is_hit}
 
--- From one state to another by an event: who is not parted stays with its partner, who is not hit goes on pointing nowhere, gets no
--- edge but to a married node, and keeps a right flag.
+-- From one state to another by an event. A node that is not parted stays with its partner. A node that is not
+-- hit keeps a right flag; if its pointer is null it stays null, and the node gets no edge except to a married
+-- node that is not parted.
 pub record IsMild (t : RuleTable) (s : State) (event : Event) (s' : State) : Type 0 where
   pub pairs : (v w : ℕ) → pointer s v ≡ Some w → pointer s w ≡ Some v → is_parted s event v ≡ false → IsTrue (present s'.network v) ⊎ (is_parted s event w ≡ false) → (pointer s' v ≡ Some w) × (pointer s' w ≡ Some v)
   pub nulls : (v : ℕ) → pointer s v ≡ None → is_hit s event v ≡ false → pointer s' v ≡ None
@@ -107,7 +108,7 @@ unlink_mild t s a b = record {
 
 -- ---- point
 
--- the node and its partner are parted where its pointer changes
+-- the node and its partner are parted if its pointer changes
 point_parts_both : (s : State) (a v w : ℕ) → IsState s → pointer s v ≡ Some w → pointer s w ≡ Some v → (v ≡ a) ⊎ (w ≡ a) → (is_mutual s a v || (nat_eq v a && married s a)) ≡ true
 point_parts_both s a v w good at back (inl va) =
     or_right (is_mutual s a v) (nat_eq v a && married s a) (and_from (nat_eq v a) (married s a) (eq-eqb v a va) (ap (married s) (sym va) ∙ married_from s v w good at back))
@@ -195,7 +196,7 @@ join_mild t s a = record {
 
 -- ---- leave
 
--- who is present then is not the one that left
+-- a node present then is not the one that left
 pub left_behind : (net : Network) (a v : ℕ) → IsTrue (present (without_node net a) v) → v ≡ a → ⊥
 left_behind net a v has va =
     let row = (and_parts _ _ (and_parts _ _ has).1).1 in

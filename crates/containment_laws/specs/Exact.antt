@@ -1,5 +1,5 @@
--- The reach is not too large: where the network was stable, who is in it is not at rest then, but for one that is parted among married
--- neighbours where no flags are used.
+-- The reach is not too large: after a disturbance of a stable network no node in it is at rest. One
+-- exception, if flags are not used: a node that is parted among married neighbours may be.
 use Rattle.std.proofs.Common.{◌≡◌, ◌≢◌, ℕ, Bool, true, false, cond, not, ◌&&◌, ◌||◌, Option, None, Some, is_some, is_none, find, nat_eq, IsTrue, refl, sym, ap, ◌∙◌, subst, inl, inr, ◌⊎◌, ⊎_elim, arith, get_or}
 use Rattle.std.specs.Ordering.{eq_by_cmp}
 use Rattle.std.proofs.lemmas.Bool.{true≢false, and_parts, or_cases, or_left, eqb-true, not-true, false_from_ne_true}
@@ -40,7 +40,7 @@ use Rattle.containment_laws.specs.AtRest.{IsAtRest, rest_is, rest_answered, rest
 abbrev IsUnanswered : State → ℕ → Type 0
 IsUnanswered s v = (w : ℕ) × (pointer s v ≡ Some w) × (pointer s w ≢ Some v)
 
--- what a disturbance of a stable state does where it hits and parts
+-- what a disturbance of a stable state does to the nodes that it hits and parts
 record IsHard (u : Bool) (s : State) (event : Event) (s' : State) : Type 0 where
   busy : (v : ℕ) → is_parted s event v ≡ true → (pointer s' v ≡ None) ⊎ IsUnanswered s' v
   was : (v : ℕ) → is_parted s event v ≡ true → married s v ≡ true
@@ -61,7 +61,7 @@ busy_unmarried : (s : State) (v : ℕ) → (pointer s v ≡ None) ⊎ IsUnanswer
 busy_unmarried s v (inl null) = null_unmarried s v null
 busy_unmarried s v (inr (w, at, alone)) = unanswered_unmarried s v w at alone
 
--- in a stable state a pointer is answered, and who is not married points nowhere
+-- in a stable state a pointer is answered, and an unmarried node has a null pointer
 answer : (u : Bool) (s : State) (v w : ℕ) → IsStable u s → pointer s v ≡ Some w → pointer s w ≡ Some v
 answer u s v w stable at = if_some_at (pointer s v) (λ x. pointer s x ≡ Some v) w at (stable.answered v)
 
@@ -204,7 +204,7 @@ point_some_hard u s a y good stable has_a near_y = record {
     moved : not (points s.registers a y) ≡ true → pointer s a ≢ Some y
     moved away at = true≢false (sym (points_from s a y at) ∙ not-true (points s.registers a y) away)
 
-    -- whom the node points at now did not point at it, since then it had been its partner
+    -- the new target did not point at the node, since it would have been its partner
     aimed : not (points s.registers a y) ≡ true → IsUnanswered (after_point s a (Some y)) a
     aimed away =
         let apart : y ≡ a → ⊥ = λ ya. linked_apart s.network a y good.is_network near_y (sym ya) in
@@ -289,7 +289,7 @@ answered_hard t s n event s' good stable answers = go (refusal_of t s event) ref
 
 -- ---- the whole
 
--- a neighbour of who is not surrounded that is not married
+-- an unmarried neighbour of a node that is not surrounded
 not_surrounded : (s : State) (v : ℕ) → is_surrounded s v ≡ false → (w : ℕ) × IsTrue (linked s.network v w) × (married s w ≡ false)
 not_surrounded s v h =
     let found = found_at (find (λ x. not (married s x)) (neighbours s.network v)) h in

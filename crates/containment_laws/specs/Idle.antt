@@ -1,5 +1,5 @@
--- No rule is enabled at a node at rest: each asks for a wrong flag, or for a null pointer with somebody to answer, or for a pointer that
--- is not answered.
+-- No rule is enabled at a node at rest: each rule needs a wrong flag, or a null pointer with a node to answer
+-- or court, or an unanswered pointer.
 use Rattle.std.proofs.Common.{◌≡◌, ◌≢◌, ℕ, Bool, true, false, cond, not, ◌&&◌, ◌||◌, None, Some, is_some, is_none, find, nat_le, IsTrue, refl, sym, ◌∙◌}
 use Rattle.std.proofs.lemmas.Bool.{and_parts, true≢false, not-true, false_from_ne_true}
 use Rattle.rule_machine.specs.declared.act.Act.{Act}

@@ -1,4 +1,4 @@
--- What is claimed of containment, for a table of rules. The functions of src/law.rt have these as their contracts.
+-- The laws of containment, for a table of rules: the contracts of the functions of src/law.rt.
 use Rattle.std.specs.Prelude.{◌≡◌, ℕ, ◌+◌, ◌≤◌, false, List, length, count_by, None, Contains, Any, IsTrue, ◌⊎◌}
 use Rattle.rule_machine.specs.declared.choice.Item.{Item}
 use Rattle.rule_machine.specs.declared.act.Moved.{Moved}
@@ -24,7 +24,7 @@ use Rattle.containment_laws.specs.Moved.{moves_at, has_moved, is_ever_reached, K
 abbrev pub RestIsIdle : RuleTable → Type 0
 RestIsIdle t = (s : State) → IsState s → (v : ℕ) → IsTrue (is_at_rest t.flags s v) → rule_at t s v ≡ None
 
--- In a step a node at rest does not move, keeps its registers, and is at rest then, whoever moves.
+-- In a step a node at rest does not move, keeps its registers and stays at rest, whatever nodes move.
 abbrev pub StepsLeaveRest : RuleTable → Type 0
 StepsLeaveRest t =
     (s : State) → IsState s → (items : List Item) (moves : List Moved) (s' : State) → IsStep t s items moves s'
@@ -38,13 +38,14 @@ StepsKeepPairs t =
 
 -- ---- runs without a disturbance
 
--- A node at rest never moves, keeps its registers, and is at rest at the end: from any state, whatever the daemon chooses.
+-- A node at rest never moves, keeps its registers, and is at rest at the end: from any state, whatever the
+-- daemon chooses.
 abbrev pub RunsLeaveRest : RuleTable → Type 0
 RunsLeaveRest t =
     (start : Moment) → IsState start.state → (log : List Entry) (end : Moment) → Run t start log end → IsUndisturbed log
     → (v : ℕ) → IsTrue (is_at_rest t.flags start.state v) → (has_moved log v ≡ false) × KeepsRegisters start.state end.state v × IsTrue (is_at_rest t.flags end.state v)
 
--- Whoever moves was not at rest at the start.
+-- Each node that moves was not at rest at the start.
 abbrev pub MoversWereRestless : RuleTable → Type 0
 MoversWereRestless t =
     (start : Moment) → IsState start.state → (log : List Entry) (end : Moment) → Run t start log end → IsUndisturbed log
@@ -58,27 +59,27 @@ RunsKeepPairs t =
 
 -- ---- one disturbance
 
--- Whoever is at rest and not in its reach is at rest after it, with the same registers if it is still there.
+-- A node at rest and not in its reach is at rest after it, with the same registers if it is still present.
 abbrev pub DisturbancesReach : RuleTable → Type 0
 DisturbancesReach t =
     (s : State) → IsState s → (spent : ℕ) (event : Event) (after : State) → Answers t s spent event Accepted after
     → (v : ℕ) → IsTrue (is_at_rest t.flags s v) → is_in_reach s event v ≡ false
     → IsTrue (is_at_rest t.flags after v) × (IsTrue (present after.network v) → KeepsRegisters s after v)
 
--- No more nodes are in its reach than a sum of degrees says, whatever the size of the network.
+-- The nodes in its reach are at most a sum of degrees, whatever the size of the network.
 abbrev pub ReachIsSmall : Type 0
 ReachIsSmall =
     (s : State) → IsState s → (event : Event) → count_by (is_in_reach s event) (names s.network) ≤ reach_size s event
 
--- In a stable network the reach is exact: whoever is in it is not at rest after it. But for one thing: where no flags are used, one that
--- is parted among married neighbours may have nothing left to do.
+-- In a stable network the reach is exact: after the disturbance no node in it is at rest. One exception, if
+-- flags are not used: a node that is parted among married neighbours may have no enabled rule.
 abbrev pub ReachIsExact : RuleTable → Type 0
 ReachIsExact t =
     (s : State) → IsState s → IsStable t.flags s → (spent : ℕ) (event : Event) (after : State) → Answers t s spent event Accepted after
     → (v : ℕ) → IsTrue (is_in_reach s event v) → IsTrue t.flags ⊎ (is_parted s event v ≡ false) ⊎ (is_surrounded s v ≡ false)
     → is_at_rest t.flags after v ≡ false
 
--- It breaks one pair at most: any two that it breaks are the same.
+-- It breaks at most one pair: any two that it breaks are the same.
 abbrev pub DisturbancesBreakOne : RuleTable → Type 0
 DisturbancesBreakOne t =
     (s : State) → IsState s → (spent : ℕ) (event : Event) (after : State) → Answers t s spent event Accepted after
@@ -97,8 +98,8 @@ ReachIsNear =
 
 -- ---- containment
 
--- After one disturbance of a stable network, whatever the daemon chooses: only nodes in its reach ever move; each other node keeps its
--- registers if it is still there, and is at rest.
+-- After one disturbance of a stable network only nodes in its reach ever move, whatever the daemon chooses.
+-- Each other node that is still present keeps its registers, and is at rest.
 abbrev pub OneIsContained : RuleTable → Type 0
 OneIsContained t =
     (s : State) → IsState s → IsStable t.flags s → (spent : ℕ) (event : Event) (after : State) → Answers t s spent event Accepted after
@@ -106,14 +107,14 @@ OneIsContained t =
     → (v : ℕ) → is_in_reach s event v ≡ false
     → (has_moved log v ≡ false) × (IsTrue (present end.state.network v) → KeepsRegisters s end.state v) × IsTrue (is_at_rest t.flags end.state v)
 
--- So whoever moves is in it.
+-- So each node that moves is in it.
 abbrev pub MoversWereReached : RuleTable → Type 0
 MoversWereReached t =
     (s : State) → IsState s → IsStable t.flags s → (spent : ℕ) (event : Event) (after : State) → Answers t s spent event Accepted after
     → (log : List Entry) (end : Moment) → Run t (record { state = after; spent = 0 }) log end → IsUndisturbed log
     → (v : ℕ) → IsTrue (has_moved log v) → IsTrue (is_in_reach s event v)
 
--- And all pairs but one at most are there at the end, from any state.
+-- And at most one pair is lost at the end, from any state.
 abbrev pub OnePairIsLost : RuleTable → Type 0
 OnePairIsLost t =
     (s : State) → IsState s → (spent : ℕ) (event : Event) (after : State) → Answers t s spent event Accepted after
@@ -121,27 +122,27 @@ OnePairIsLost t =
     → (e f : ℕ × ℕ) → Contains (mutual_pairs s) e → Contains (mutual_pairs s) f
     → (Contains (mutual_pairs end.state) e → ⊥) → (Contains (mutual_pairs end.state) f → ⊥) → e ≡ f
 
--- Whatever disturbances come, and whatever the daemon chooses between them, from any state: whoever is at rest at the start and in the
--- reach of none of them never moves, and is at rest at the end.
+-- A node at rest at the start and in the reach of no disturbance never moves, and is at rest at the end.
+-- Holds for any disturbances, from any state, whatever the daemon chooses between them.
 abbrev pub AllAreContained : RuleTable → Type 0
 AllAreContained t =
     (start : Moment) → IsState start.state → (path : List (Entry × State)) → IsPath t start path
     → (v : ℕ) → IsTrue (is_at_rest t.flags start.state v) → is_ever_reached start.state path v ≡ false
     → (has_moved (log_of path) v ≡ false) × IsTrue (is_at_rest t.flags (end_of start.state path) v)
 
--- Whoever moves was not at rest at the start, or is in the reach of one of them.
+-- Each node that moves was not at rest at the start, or is in the reach of one of them.
 abbrev pub MoversAreAccountedFor : RuleTable → Type 0
 MoversAreAccountedFor t =
     (start : Moment) → IsState start.state → (path : List (Entry × State)) → IsPath t start path
     → (v : ℕ) → IsTrue (has_moved (log_of path) v) → (is_at_rest t.flags start.state v ≡ false) ⊎ IsTrue (is_ever_reached start.state path v)
 
--- Of the pairs at the start no more are lost at the end than disturbances part one.
+-- At the end at most as many of the pairs at the start are lost as disturbances part one.
 abbrev pub PairsAreAccountedFor : RuleTable → Type 0
 PairsAreAccountedFor t =
     (start : Moment) → IsState start.state → (path : List (Entry × State)) → IsPath t start path
     → lost_pairs start.state (end_of start.state path) ≤ partings_in start.state path
 
--- So there are no fewer at the end, but for as many.
+-- So the number of pairs falls by at most as many.
 abbrev pub PairsAreLeft : RuleTable → Type 0
 PairsAreLeft t =
     (start : Moment) → IsState start.state → (path : List (Entry × State)) → IsPath t start path

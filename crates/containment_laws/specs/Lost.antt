@@ -1,4 +1,4 @@
--- Which pairs are lost: no more of those that were there at first than disturbances part one.
+-- Lost pairs: at most as many of the pairs at the start as disturbances part one.
 use Rattle.std.proofs.Common.{◌≡◌, ◌≢◌, ℕ, ◌+◌, ◌≤◌, Bool, true, false, cond, not, ◌&&◌, List, [], ◌∷◌, count_by, Contains, Option, None, Some, filter_map, nat_lt, IsTrue, refl, sym, ap, ◌∙◌, subst, inl, inr, ◌⊎◌, ⊎_elim, arith}
 use Rattle.std.specs.List.{cons_option}
 use Rattle.std.proofs.lemmas.Bool.{true≢false, and_parts, cases_Bool, cases_eq, cond-true, cond-false, not-true, not_from_true}
@@ -68,7 +68,7 @@ pairs_once s =
 
 -- ---- lost pairs
 
--- none is where each stays
+-- none is lost if each stays
 none_lost : (s s' : State) → ((v w : ℕ) → pointer s v ≡ Some w → pointer s w ≡ Some v → (pointer s' v ≡ Some w) × (pointer s' w ≡ Some v)) → lost_pairs s s' ≡ 0
 none_lost s s' keeps =
     none_count (λ e. not (is_mutual s' e.0 e.1)) (mutual_pairs s) (λ e there.
@@ -127,7 +127,7 @@ answer_lost t table asks inside s good n event (EnabledAre nodes) s' answers = c
 answer_lost t table asks inside s good n event (Pairs pairs) s' answers = calm_lost t asks inside s good n event (Pairs pairs) s' answers (λ e. cc)
 answer_lost t table asks inside s good n event (Counts counts) s' answers = calm_lost t asks inside s good n event (Counts counts) s' answers (λ e. cc)
 
--- what is lost on the way is lost at first or later
+-- a pair lost on the way is lost at first or later
 lost_later : (s s' s'' : State) → IsState s' → lost_pairs s s'' ≤ lost_pairs s s' + lost_pairs s' s''
 lost_later s s' s'' good' =
     let now : ℕ × ℕ → Bool = λ e. not (is_mutual s' e.0 e.1) in
@@ -150,7 +150,7 @@ lost_later s s' s'' good' =
     one false true = omega arith
     one false false = omega arith
 
--- Along any path: no more of the first pairs are lost than disturbances part one.
+-- Along any path at most as many of the first pairs are lost as disturbances part one.
 pub path_lost : (t : RuleTable) → IsTable t → AsksForWork t → IsInside t → (start : Moment) → IsState start.state → (path : List (Entry × State)) → IsPath t start path → lost_pairs start.state (end_of start.state path) ≤ partings_in start.state path
 path_lost t table asks inside start good [] walk =
     let zero = none_lost start.state start.state (λ v w at back. (at, back)) in omega (arith, zero)

@@ -8,7 +8,7 @@ use Rattle.rule_machine.specs.State.{State, pointer, flag}
 use Rattle.rule_machine.specs.Run.{Entry}
 use Rattle.containment_laws.specs.Reach.{is_in_reach}
 
--- whether a reply tells of a move of v
+-- whether a reply has a move of v
 abbrev pub moves_at : ℕ → Reply → Bool
 moves_at v (Moves moves) = list_any (λ m. nat_eq m.node v) moves
 moves_at v reply = false

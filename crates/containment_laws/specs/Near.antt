@@ -1,4 +1,4 @@
--- What a disturbance can reach is near the nodes that it names.
+-- The reach of a disturbance is near the nodes that it names.
 use Rattle.std.proofs.Common.{◌≡◌, ℕ, true, not, ◌&&◌, ◌||◌, Any, Contains, List, [], ◌∷◌, None, Some, is_some, find, nat_eq, cond, IsTrue, sym, ◌∙◌, subst, inl, inr, ◌⊎◌, ⊎_elim}
 use Rattle.std.proofs.lemmas.Bool.{true≢false, and_parts, or_cases, eqb-true}
 use Rattle.rule_machine.specs.declared.event.Event.{Event}

@@ -1,4 +1,4 @@
--- A disturbance parts one pair at most.
+-- A disturbance parts at most one pair.
 use Rattle.std.proofs.Common.{◌≡◌, ◌≢◌, ℕ, ◌+◌, ◌*◌, ◌≤◌, Bool, true, false, cond, not, ◌&&◌, ◌||◌, List, [], ◌∷◌, length, count_by, Contains, None, Some, unwrap_or, nat_eq, IsTrue, refl, sym, ap, ◌∙◌, inl, inr, ◌⊎◌, ⊎_elim, arith}
 use Rattle.std.proofs.lemmas.Bool.{true≢false, and_parts, and_cases, and_left, or_cases, or_parts, cond-true, cond-false, cases_Bool, cases_eq, eq-eqb, eqb-true, not-true, false_from_ne_true}
 use Rattle.std.proofs.lemmas.Option.{same_Some}
@@ -80,7 +80,7 @@ unparted s a v good alone h =
     (λ here. true≢false (sym (and_parts (nat_eq v a) (married s a) here).1 ∙ alone))
     (or_cases (is_mutual s a v) (nat_eq v a && married s a) h)
 
--- nobody is parted where no pair is
+-- no node is parted if no pair is
 pub none_parted : (s : State) (event : Event) (v : ℕ) → IsState s → parts_a_pair s event ≡ false → is_parted s event v ≡ false
 none_parted s (Link a b) v good none = refl
 none_parted s (Unlink a b) v good none = and_left (is_mutual s a b) (nat_eq v a || nat_eq v b) none
@@ -104,7 +104,7 @@ none_parted s Status v good none = refl
 
 -- ---- pairs that stay
 
--- a pair of which neither end is parted stays
+-- a pair stays if none of its ends is parted
 pub unparted_stays : (t : RuleTable) → IsTable t → (s : State) → IsState s → (n : ℕ) (event : Event) (s' : State) → Answers t s n event Accepted s' → (v w : ℕ) → pointer s v ≡ Some w → pointer s w ≡ Some v → is_parted s event v ≡ false → is_parted s event w ≡ false → (pointer s' v ≡ Some w) × (pointer s' w ≡ Some v)
 unparted_stays t table s good n event s' answers v w at back kept also = (answered_mild t s n event s' good answers).pairs v w at back kept (inr also)
 
@@ -150,7 +150,7 @@ married_twice s good =
     one true = omega arith
     one false = omega arith
 
--- Who was married and is not marked is married: then at most the marked ones are fewer.
+-- If each married node that is not marked stays married, at most the marked ones are fewer.
 married_left : (s s' : State) → IsState s' → (marked : ℕ → Bool) → ((x : ℕ) → married s x ≡ true → marked x ≡ false → married s' x ≡ true) → count_by (married s) (names s.network) ≤ count_by (married s') (names s'.network) + count_by marked (names s.network)
 married_left s s' good' marked keeps =
     let kept : ℕ → Bool = λ x. married s x && not (marked x) in
@@ -184,7 +184,8 @@ two_marked a u xs single =
     one false true = omega arith
     one false false = omega arith
 
--- Who is married before an accepted disturbance is so after it, but for the event's first node and the one at which that points.
+-- A married node stays married after an accepted disturbance, except for the event's first node and its
+-- target.
 married_but_two : (t : RuleTable) → IsTable t → (s : State) → IsState s → (n : ℕ) (event : Event) (s' : State) → Answers t s n event Accepted s' → (x : ℕ) → married s x ≡ true → (nat_eq (main_node event) x || nat_eq (unwrap_or (pointer s (main_node event)) 0) x) ≡ false → married s' x ≡ true
 married_but_two t table s good n event s' answers x is out =
     let pair = married_some s x is in
@@ -195,7 +196,7 @@ married_but_two t table s good n event s' answers x is out =
     let kept = spared_stays t table s good n event s' answers x pair.0 pair.1 pair.2 not_main not_there in
     married_from s' x pair.0 (answers_keep t table s good n event Accepted s' answers) kept.0 kept.1
 
--- where no pair is parted each pair stays
+-- if no pair is parted each pair stays
 married_all : (t : RuleTable) → IsTable t → (s : State) → IsState s → (n : ℕ) (event : Event) (s' : State) → Answers t s n event Accepted s' → parts_a_pair s event ≡ false → (x : ℕ) → married s x ≡ true → married s' x ≡ true
 married_all t table s good n event s' answers none x is =
     let pair = married_some s x is in
@@ -244,7 +245,7 @@ answer_pairs_left t table asks inside s good n event (EnabledAre nodes) s' answe
 answer_pairs_left t table asks inside s good n event (Pairs pairs) s' answers = let le = calm_pairs_left t table asks inside s good n event (Pairs pairs) s' answers (λ e. cc) in omega (arith, le)
 answer_pairs_left t table asks inside s good n event (Counts counts) s' answers = let le = calm_pairs_left t table asks inside s good n event (Counts counts) s' answers (λ e. cc) in omega (arith, le)
 
--- Along any path no more pairs are lost than disturbances part one.
+-- Along any path at most as many pairs are lost as disturbances part one.
 pub path_pairs_left : (t : RuleTable) → IsTable t → AsksForWork t → IsInside t → (start : Moment) → IsState start.state → (path : List (Entry × State)) → IsPath t start path → length (mutual_pairs start.state) ≤ length (mutual_pairs (end_of start.state path)) + partings_in start.state path
 path_pairs_left t table asks inside start good [] walk = omega arith
 path_pairs_left t table asks inside start good (((event, reply), s) ∷ path) (answers, walk) =

@@ -1,4 +1,4 @@
--- What a disturbance can reach: the nodes to which it may give something to do. Each other node that is at rest stays so.
+-- The reach of a disturbance: the nodes at which it may enable a rule. Each other node at rest stays at rest.
 use Rattle.std.specs.Prelude.{ℕ, ◌+◌, Bool, false, cond, not, ◌&&◌, ◌||◌, None, Some, List, [], ◌∷◌, count_by, is_some, find, nat_eq}
 use Rattle.rule_machine.specs.declared.event.Event.{Event}
 use Rattle.rule_machine.specs.declared.event.Event.TheVariants.{Link, Unlink, Point, Flag, Join, Leave}
@@ -10,7 +10,8 @@ use Rattle.rule_machine.specs.Stable.{mutual_pairs}
 use Rattle.rule_machine.specs.Run.{Entry}
 use Rattle.charge_laws.specs.Degrees.{degree, degree_at}
 
--- The event takes v's partner from it: the edge of a pair goes, the pointer of one of the two is written anew, or one of them leaves.
+-- The event parts v from its partner: the edge of a pair goes, the pointer of one of the two changes, or one
+-- of them leaves.
 abbrev pub is_parted : State → Event → ℕ → Bool
 is_parted s (Unlink a b) v = is_mutual s a b && (nat_eq v a || nat_eq v b)
 is_parted s (Point a None) v = is_mutual s a v || (nat_eq v a && married s a)
@@ -18,8 +19,8 @@ is_parted s (Point a (Some w)) v = not (points s.registers a w) && (is_mutual s 
 is_parted s (Leave a) v = is_mutual s a v
 is_parted s event v = false
 
--- The event itself hits v: an edge joins it to another node while neither is married, the pointer of v, which is not married, is set to
--- another node, or its flag is written wrong.
+-- The event hits v itself: an edge links it to another node and neither is married, the pointer of v, which
+-- is unmarried, changes to another node, or its flag becomes wrong.
 abbrev pub is_hit : State → Event → ℕ → Bool
 is_hit s (Link a b) v = not (married s a) && not (married s b) && (nat_eq v a || nat_eq v b)
 is_hit s (Point a (Some w)) v = nat_eq v a && not (married s a) && not (points s.registers a w)
@@ -31,8 +32,9 @@ abbrev pub is_in_reach : State → Event → ℕ → Bool
 is_in_reach s event v =
     is_hit s event v || is_parted s event v || (not (married s v) && is_some (find (is_parted s event) (neighbours s.network v)))
 
--- how many nodes may be in reach: the two nodes of a new edge; where a pair is parted, its nodes and their other neighbours, of one that
--- leaves only the partner and its; else the node whose pointer or flag is written
+-- how many nodes may be in reach: the two nodes of a new edge; if a pair is parted, its nodes and their other
+-- neighbours, but only the partner and its neighbours if a node leaves; else the node whose pointer or flag
+-- is written
 abbrev pub reach_size : State → Event → ℕ
 reach_size s (Link a b) = 2
 reach_size s (Unlink a b) = cond (is_mutual s a b) (degree s.network a + degree s.network b) 0

@@ -1,4 +1,4 @@
--- A node at rest: it has nothing to do, and no step of other nodes gives it something to do.
+-- A node at rest: no rule is enabled at it, and no step of other nodes enables one.
 use Rattle.std.specs.Prelude.{ℕ, Bool, not, ◌&&◌, ◌||◌, is_none, find}
 use Rattle.rule_machine.specs.Network.{neighbours}
 use Rattle.rule_machine.specs.State.{State, pointer, married, is_settled}
@@ -7,7 +7,8 @@ use Rattle.rule_machine.specs.State.{State, pointer, married, is_settled}
 abbrev pub is_surrounded : State → ℕ → Bool
 is_surrounded s v = is_none (find (λ w. not (married s w)) (neighbours s.network v))
 
--- v's flag is right where flags are used, and v is married, or points nowhere and each of its neighbours is married
+-- v's flag is right if flags are used, and v is married, or its pointer is null and each of its neighbours is
+-- married
 abbrev pub is_at_rest : Bool → State → ℕ → Bool
 is_at_rest uses_flags s v =
     (not uses_flags || is_settled s v) && (married s v || (is_none (pointer s v) && is_surrounded s v))

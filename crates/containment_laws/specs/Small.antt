@@ -118,7 +118,7 @@ reach_cases s event v h =
     inr (inr (not-true (married s v) both.0, (found.0, linked_back s.network found.0 v ∙ near.0, near.1))))
     (or_cases (is_hit s event v || is_parted s event v) (not (married s v) && is_some (find (is_parted s event) (neighbours s.network v))) h)
 
--- where nobody but two that are linked is parted, and nobody is hit, a node in reach is a neighbour of one of the two
+-- if only two linked nodes are parted, and none is hit, a node in reach is a neighbour of one of the two
 beside_pair : (s : State) (event : Event) (a b : ℕ) → IsTrue (linked s.network a b) → ((x : ℕ) → is_hit s event x ≡ true → ⊥) → ((x : ℕ) → is_parted s event x ≡ true → (x ≡ a) ⊎ (x ≡ b)) → (x : ℕ) → is_in_reach s event x ≡ true → IsTrue (linked s.network a x) ⊎ IsTrue (linked s.network b x)
 beside_pair s event a b near none parts x h =
     ⊎_elim
@@ -135,7 +135,7 @@ beside_pair s event a b near none parts x h =
     more)
     (reach_cases s event x h)
 
--- where nobody is parted only who is hit is in reach
+-- if no node is parted only a node that is hit is in reach
 only_hit : (s : State) (event : Event) → ((x : ℕ) → is_parted s event x ≡ true → ⊥) → (x : ℕ) → is_in_reach s event x ≡ true → is_hit s event x ≡ true
 only_hit s event none x h =
     ⊎_elim (λ hit. hit) (λ more. ⊎_elim (λ parted. absurd (none x parted)) (λ beside. absurd (none beside.1.0 beside.1.2)) more) (reach_cases s event x h)
@@ -159,7 +159,7 @@ unlink_few s a b good true pair =
 unlink_few s a b good false pair =
     nobody_few s (Unlink a b) (λ x h. never pair (and_parts (is_mutual s a b) (nat_eq x a || nat_eq x b) h).0) (λ x. never refl)
 
--- whom the write of a pointer parts
+-- the nodes that the write of a pointer parts
 point_parted : (s : State) (v : ℕ) (target : Option ℕ) (x : ℕ) → is_parted s (Point v target) x ≡ true → (is_mutual s v x || (nat_eq x v && married s v)) ≡ true
 point_parted s v None x h = h
 point_parted s v (Some y) x h = (and_parts (not (points s.registers v y)) (is_mutual s v x || (nat_eq x v && married s v)) h).1

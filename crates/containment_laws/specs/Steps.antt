@@ -1,4 +1,4 @@
--- A step breaks no pair, and leaves what is at rest at rest.
+-- A step breaks no pair, and leaves nodes at rest at rest.
 use Rattle.std.proofs.Common.{◌≡◌, ℕ, Bool, true, false, List, None, Some, IsTrue, sym, ◌∙◌, subst, inl, inr, ⊎_elim}
 use Rattle.std.proofs.lemmas.Option.{none-some, same_Some}
 use Rattle.rule_machine.specs.declared.act.Act.TheVariants.{Update, Marry, Seduce, Abandon}
@@ -14,8 +14,8 @@ use Rattle.charge_laws.specs.Deeds.{Deed, idles, updates, marries, seduces, aban
 use Rattle.containment_laws.specs.AtRest.{IsAtRest, rest_near}
 use Rattle.containment_laws.specs.Idle.{AsksForWork, rest_idles}
 
--- What keeps a node at rest: its flag stays, it stays married where it is, and where it points nowhere it goes on so, and who is linked
--- to it then is married.
+-- What keeps a node at rest: its flag stays, it stays married if it was, and if its pointer was null it stays
+-- null and its neighbours then are married.
 pub rest_carries : (uses_flags : Bool) (s s' : State) (v : ℕ) → IsAtRest uses_flags s v → flag s' v ≡ flag s v → (married s v ≡ true → married s' v ≡ true) → (pointer s v ≡ None → pointer s' v ≡ None) → (pointer s v ≡ None → (w : ℕ) → IsTrue (linked s'.network v w) → married s' w ≡ true) → IsAtRest uses_flags s' v
 rest_carries uses_flags s s' v rest same weds nulls near = record {
   right = λ uses. same ∙ rest.right uses ∙ ⊎_elim
@@ -49,7 +49,7 @@ done_keeps_married t asks s s' moves done v is =
     let kept = done_keeps_pair t asks s s' moves done v pair.0 pair.1 pair.2 in
     married_from s' v pair.0 done.is_state kept.0 kept.1
 
--- who has no enabled rule idles
+-- a node without an enabled rule idles
 deed_idles : (t : RuleTable) → AsksForWork t → (s s' : State) (moves : List Moved) (v : ℕ) → IsState s → IsAtRest t.flags s v → Deed t s s' moves v → (is_moved moves v ≡ false) × Stays s s' v
 deed_idles t asks s s' moves v good rest (idles none e f) = (none, record { pointer_is = e; flag_is = f })
 deed_idles t asks s s' moves v good rest (updates goes guard e f) = absurd (rest_idles t asks s v good rest Update guard)

@@ -1,11 +1,16 @@
-//! Laws of containment: who can move, and whom a disturbance can reach, whatever the daemon chooses.
+//! Laws of fault containment: which nodes can move, and which a disturbance can reach, whatever the daemon
+//! chooses.
 //!
-//! Nothing of this crate runs: each public function has an empty body and its contract is the law, which `specs/Laws` states in words. A
-//! node is *at rest* where its flag is right, if flags are used, and it is married, or points nowhere and each of its neighbours is
-//! married (`specs/Rest`). It has nothing to do, and no step of others gives it something to do; nor does a step break a pair. An edit or
-//! fault has a *reach* (`specs/Reach`), which is within two links of the nodes that it names and no larger than their degrees
-//! (`reach_is_near`, `reach_is_small`): from a stable network only nodes in it ever move, all others keep their registers, and all
-//! pairs but one stay (`one_is_contained`, `one_pair_is_lost`). The same holds of any number of disturbances (`all_are_contained`).
+//! Laws only: each public function is empty and its contract is the law, which `specs/Laws` states in words.
+//!
+//! - A node is *at rest* if its flag is right (if flags are used), and it is married, or its pointer is null
+//!   and each of its neighbours is married (`specs/Rest`). No rule is enabled at it, and no step of others
+//!   enables one. No step breaks a pair.
+//! - An edit or fault has a *reach* (`specs/Reach`). It is within two links of the nodes that the event names
+//!   (`reach_is_near`) and no larger than their degrees (`reach_is_small`).
+//! - From a stable network only nodes in the reach ever move, all others keep their registers, and at most
+//!   one pair is lost (`one_is_contained`, `one_pair_is_lost`). The same holds for any number of disturbances
+//!   (`all_are_contained`).
 //!
 //! ```rust
 //! one_is_contained();                               // from here on the prover knows the law

@@ -59,7 +59,7 @@ rises p low [] k h there = absurd (omega arith)
 rises p low (x ∷ xs) zero h there = let up = climbs_high p (suc x) xs 0 h.2 (omega arith) in omega arith
 rises p low (x ∷ xs) (suc k) h there = rises p (suc x) xs k h.2 (omega arith)
 
--- There are no more members than names, where the first and the last are names.
+-- There are at most as many members as names, if the first and the last are names.
 pub few_members : (bits : List Bool) (list : List ℕ) (first last : ℕ) → list ≡ members bits → 0 < length list → first ≡ get_or list 0 first → last ≡ get_or list (length list - 1) last → 1 ≤ first → last ≤ 65535 → length (members bits) ≤ 65535
 few_members bits list first last is some at_first at_last low high =
     let climb : Climbs (is_in bits) 0 list = subst (Climbs (is_in bits) 0) (sym is) (climbs_members bits) in

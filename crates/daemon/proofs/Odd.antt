@@ -45,7 +45,7 @@ or_lawful : (bits : List Bool) (central : Bool) (chosen : List ℕ) (s : Stream)
 or_lawful bits central [] s some is climb = lawful_one bits central s some
 or_lawful bits central (v ∷ chosen) s some is climb = lawful_plain bits central (v ∷ chosen) climb (omega arith) (λ on. absurd (true≢false (sym on ∙ is)))
 
--- what is drawn where the daemon is not central is a lawful choice
+-- what is drawn for a daemon that is not central is a lawful choice
 pub lawful_some : (bits : List Bool) (central : Bool) (s : Stream) → 1 ≤ length (members bits) → central ≡ false → IsLawful bits central (plain (draw_some (members bits) s).0)
 lawful_some bits central s some is = or_lawful bits central (draw_odd (members bits) s).0 (draw_odd (members bits) s).1 some is (climbs_odd (is_in bits) 0 (members bits) s (climbs_members bits))
 
@@ -53,6 +53,6 @@ or_few : (names chosen : List ℕ) (s : Stream) → length chosen ≤ length nam
 or_few names [] s few some = some
 or_few names (v ∷ chosen) s few some = few
 
--- no more are drawn than there are, also where the daemon is not central
+-- at most as many are drawn as there are, also if the daemon is not central
 pub some_few : (names : List ℕ) (s : Stream) → 1 ≤ length names → length (draw_some names s).0 ≤ length names
 some_few names s some = or_few names (draw_odd names s).0 (draw_odd names s).1 (odd_few names s) some

@@ -38,7 +38,7 @@ chosen_few central names list =
     let b = filter_few (is_named list) names in
     omega arith
 
--- the choice that was made of some items
+-- the choice of some items
 pub made : (o : Option (List Item)) (items : List Item) (chosen : List ℕ) → SomeIff o (length items ≤ 65535) items → items ≡ plain chosen → 1 ≤ length items → length chosen ≤ 65535 → o ≡ some_choice chosen
 made o items [] h is some few = absurd (let e = ap length is in omega arith)
 made None items (v ∷ chosen) h is some few = absurd (h (let e = ap length is ∙ length_plain (v ∷ chosen) in omega arith))
@@ -57,7 +57,7 @@ played_skip central names lists i list there is none = sym (unrolled central nam
 pub played_take : (central : Bool) (names : List ℕ) (lists : List (List ℕ)) (i : ℕ) (list : List ℕ) (choice : List Item) → i < length lists → list ≡ get_or lists i list → list_choice central names list ≡ Some choice → played central names (drop i lists) ≡ (Some choice, drop (i + 1) lists)
 played_take central names lists i list choice there is some = unrolled central names lists i list there is ∙ ap (λ o. play_or o (drop (i + 1) lists) (played central names (drop (i + 1) lists))) some
 
--- where a list has a choice it names a member
+-- a list that gives a choice names a member
 none_step : (central : Bool) (found : List ℕ) (lists : List (List ℕ)) (later : Option (List Item) × List (List ℕ)) → (play_or (some_choice (first_or_all central found)) lists later).0 ≡ None → (found ≡ []) × (later.0 ≡ None)
 none_step true [] lists later h = (refl, h)
 none_step false [] lists later h = (refl, h)
@@ -80,7 +80,7 @@ all_none : (central : Bool) (names : List ℕ) (lists : List (List ℕ)) → All
 all_none central names [] h = refl
 all_none central names (list ∷ lists) h = none_back central (named_of names list) lists (played central names lists) h.0 (all_none central names lists h.1)
 
--- there is no choice just where no list names a member
+-- there is no choice if and only if no list names a member
 is_none_eq : (o : Option (List Item)) → IsNone o → o ≡ None
 is_none_eq None h = refl
 is_none_eq (Some x) h = absurd (true≢false h)
@@ -116,7 +116,7 @@ some_lawful bits central (v ∷ chosen) choice is climb one =
     let some : 1 ≤ length (v ∷ chosen) = omega arith in
     subst (IsLawful bits central) same (lawful_plain bits central (v ∷ chosen) climb some (one some))
 
--- what a list stands for is a lawful choice
+-- the choice of a list is lawful
 pub list_lawful : (bits : List Bool) (central : Bool) (list : List ℕ) (choice : List Item) → list_choice central (members bits) list ≡ Some choice → IsLawful bits central choice
 list_lawful bits central list choice is = some_lawful bits central (first_or_all central (named_of (members bits) list)) choice is (climbs_first (is_in bits) 0 central (named_of (members bits) list) (climbs_filter (is_in bits) (is_named list) 0 (members bits) (climbs_members bits))) (first_one central (named_of (members bits) list))
 

@@ -1,4 +1,4 @@
--- What every daemon owes.
+-- The contract of every daemon.
 use Rattle.std.specs.Prelude.{◌≡◌, ℕ, ◌≤◌, Bool, IsTrue, List, map, length, None}
 use Rattle.std.specs.List.{All}
 use Rattle.std.specs.List.Sorted.{IsStrictlyIncreasing}
@@ -9,11 +9,11 @@ use Rattle.enabled_set.specs.Members.{is_in}
 abbrev pub nodes_of : List Item → List ℕ
 nodes_of choice = map (λ item. item.node) choice
 
--- an item for each of these names, with no wish
+-- an item for each of these names, without a wish
 abbrev pub plain : List ℕ → List Item
 plain names = map (λ v. record { node = v; wish = None }) names
 
--- A choice that a daemon may make from a set: never empty, distinct members, ascending, with no wish, and one alone where
+-- A lawful choice from a set: not empty, distinct members, ascending, without wishes, and only one item if
 -- the daemon is central.
 pub record IsLawful (bits : List Bool) (central : Bool) (choice : List Item) : Type 0 where
   pub some : 1 ≤ length choice

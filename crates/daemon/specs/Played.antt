@@ -1,4 +1,5 @@
--- What a recorded daemon plays: the choice, and the lists that are left, from the members of a set, ascending, and the lists.
+-- What a recorded daemon plays from the members of a set, ascending, and its lists: a choice, and the lists
+-- left.
 use Rattle.std.specs.Prelude.{◌≡◌, ℕ, ◌<◌, Bool, false, cond, length, slice_index_or, List, [], ◌∷◌, take, nat_eq, Option, None, Some}
 use Rattle.std.specs.List.{filter, list_any}
 use Rattle.rule_machine.specs.declared.choice.Item.{Item}
@@ -8,34 +9,34 @@ use Rattle.daemon.specs.Lawful.{plain}
 abbrev pub is_named : List ℕ → ℕ → Bool
 is_named list v = list_any (λ w. nat_eq w v) list
 
--- A table with a place for each name, true where the list names it.
+-- a table with an entry for each name: true if the list names it
 pub record IsMarked (marks : List Bool) (list : List ℕ) : Type 0 where
   pub covers : length marks ≡ 65536
   pub told : (v : ℕ) → v < 65536 → slice_index_or marks v false ≡ is_named list v
 
--- what a list stands for: those of these names that it names, in their order
+-- what a list chooses: those of these names that it names, in their order
 abbrev pub named_of : List ℕ → List ℕ → List ℕ
 named_of names list = filter (is_named list) names
 
--- the first alone where the daemon is central, else all
+-- only the first if the daemon is central, else all
 abbrev pub first_or_all : Bool → List ℕ → List ℕ
 first_or_all central names = cond central (take 1 names) names
 
--- the choice of some names; there is none of no names
+-- the choice of some names; no names give none
 abbrev pub some_choice : List ℕ → Option (List Item)
 some_choice [] = None
 some_choice (v ∷ names) = Some (plain (v ∷ names))
 
--- the choice that a list stands for
+-- the choice that a list gives
 abbrev pub list_choice : Bool → List ℕ → List ℕ → Option (List Item)
 list_choice central names list = some_choice (first_or_all central (named_of names list))
 
--- the choice of one list with the lists behind it, if it has one, else what these give
+-- the choice of one list with the lists after it, if it gives one, else what these give
 abbrev pub play_or : Option (List Item) → List (List ℕ) → Option (List Item) × List (List ℕ) → Option (List Item) × List (List ℕ)
 play_or (Some choice) lists later = (Some choice, lists)
 play_or None lists later = later
 
--- the choice of the first list that has one, and the lists behind it; lists without one are skipped
+-- the choice of the first list that gives one, and the lists after it; lists without one are skipped
 abbrev pub played : Bool → List ℕ → List (List ℕ) → Option (List Item) × List (List ℕ)
 played central names [] = (None, [])
 played central names (list ∷ lists) = play_or (list_choice central names list) lists (played central names lists)

@@ -1,4 +1,4 @@
-//! What every daemon owes, and the names that it chooses from.
+//! The contract of every daemon.
 
 ghost use Rattle.std.specs.Prelude.{◌≡◌, ◌≤◌, ℕ, Bool, List, Option, IfOk, IfSome, OnOk, length};
 ghost use Rattle.enabled_set.specs.Members.{members};
@@ -8,19 +8,21 @@ ghost use Rattle.daemon.specs.Lawful.{IsLawful};
 use enabled_set::EnabledSet;
 use rule_machine::{Choice, MAX_NAME, Node, Want};
 
-/// One who chooses the nodes of a step out of the set of the enabled ones.
+/// A daemon: it chooses the nodes of a step from the enabled ones.
 pub trait Daemon {
-    /// What it chooses among these names, ascending, central or not, and which daemon is left.
+    /// Relates names (ascending), central or not, and the daemon to its choice and the daemon afterwards.
     ghost chooses: { List ℕ → Bool → Self → Option (List Item) → Self → Type 0 };
 
-    /// The choice for the next step: distinct members of the set, ascending, one at least, none with a wish, and no more
-    /// than one where the daemon is to be central; so it has 65,535 items at most. `None` where it has no choice to make.
+    /// The choice for the next step; `None` if the daemon has none to make.
+    /// A choice has distinct members of the set, ascending, without wishes: one if `central`, else 1 to
+    /// 65,535.
+    /// Error: out of memory.
     fn choose(&mut self, set: &EnabledSet, central: bool) -> Result<Option<Choice>, Want>
         ensures lawful { IfOk result (λ choice. IfSome choice (IsLawful set.now central)) }
         ensures chosen { IfOk result (λ choice. chooses (members set.now) central self.old choice self.new) };
 }
 
-/// The members, ascending. They are no more than there are names, since each is greater than the one before it.
+/// The members, ascending. They ascend strictly, so there are at most 65,535.
 pub(crate) fn list_of(set: &EnabledSet) -> Result<Vec<Node>, Want>
     ensures list { IfOk result (λ list. list.items ≡ members set.now) }
     ensures few { OnOk result (length (members set.now) ≤ 65535) }

@@ -1,10 +1,10 @@
-//! Daemons: who chooses the nodes that move.
+//! Daemons choose the nodes that move.
 //!
-//! A `Daemon` is asked for the next step among the enabled nodes, central or not. Whatever it is, its choice is lawful: distinct members
-//! of the set, ascending, one at least, none with a wish, and one alone where the daemon is central. Two are here: `Seeded` draws by the
-//! words of a generator, `Recorded` plays lists; the choice of each is a function that its contract names. Any crate may have another.
+//! A `Daemon` chooses the next step among the enabled nodes, central or not, and every choice is lawful.
+//! `Seeded` draws from a random generator, `Recorded` plays lists; their contracts define each choice as a
+//! function. Any crate may add another daemon.
 //!
-//! The bounds on moves hold whatever a daemon chooses, and that it chooses fairly is nobody's claim.
+//! The bounds on moves hold for every daemon. Fairness is not claimed.
 //!
 //! ```rust
 //! let mut daemon = Seeded::new(alloc, Pcg32::seed_from_u64(7));

@@ -13,7 +13,7 @@ use rule_machine::{Choice, Item, MAX_NAME, Node, Want};
 use std::alloc::Global;
 use std::marker::Model;
 
-/// A table with a place for each name, `true` where the list has it: 65,536 bytes, and one write a node.
+/// A table of 65,536 bytes: `true` for each name that the list has. One write for each node.
 fn marks_of(alloc: Global, list: &[Node]) -> Result<Vec<bool>, Want>
     ensures { IfOk result (λ marks. IsMarked marks.items list.now) }
 {
@@ -24,7 +24,7 @@ fn marks_of(alloc: Global, list: &[Node]) -> Result<Vec<bool>, Want>
     Ok(marks)
 }
 
-/// An item for each of these nodes that the list names, in their order. One look a node, beside the table.
+/// An item for each of these nodes that the list has, in their order. One look a node.
 fn items_of(alloc: Global, names: &[Node], list: &[Node]) -> Result<Vec<Item>, Want>
     ensures { IfOk result (λ items. items.items ≡ plain (named_of names.now list.now)) }
 {
@@ -43,7 +43,6 @@ fn items_of(alloc: Global, names: &[Node], list: &[Node]) -> Result<Vec<Item>, W
     Ok(items)
 }
 
-/// The choice that a list stands for among these nodes, if it has one.
 fn choice_of(
     alloc: Global,
     names: &[Node],
@@ -63,8 +62,8 @@ fn choice_of(
     Ok(Choice::new(items))
 }
 
-/// The choice of the first list from one place on that has one, with the place behind that list; no choice and the end of
-/// the lists where none has one.
+/// The first choice that a list at or after `from` gives, and the index after that list.
+/// If none gives one: no choice, and the end of the lists.
 fn play(
     alloc: Global,
     names: &[Node],
@@ -86,10 +85,10 @@ fn play(
     Ok((lists.len(), None))
 }
 
-/// A daemon that plays lists in their order, seen in contracts as the lists that are left.
+/// A daemon that plays lists in their order. Contracts see the lists left.
 ///
-/// A list stands for those of its nodes that are in the set, each once, ascending; where the daemon is central, for the
-/// first of these alone. A list of which nothing is left is skipped, and after the last list there is no choice.
+/// A list chooses those of its nodes that are in the set, each once, ascending; under a central daemon only
+/// the first of these. A list without such nodes is skipped. After the last list there is no choice.
 #[derive(Drop)]
 pub struct Recorded {
     alloc: Global,
@@ -123,9 +122,11 @@ impl Recorded {
 impl Daemon for Recorded {
     ghost chooses = { λ names central old choice new. (choice, new) ≡ played central names old };
 
-    /// The choice of the next list that has one; `None` exactly where no list that is left names a member, and all are used
-    /// up then. At want of memory no list has been used. It takes a list of the members, and for each list that it looks at
-    /// a table of 65,536 bytes, a write for each node of the list and a look at each member.
+    /// The choice of the next list that gives one.
+    /// Returns `None` if and only if no list left has a member; then all lists are used up.
+    /// Error: out of memory; no list has been used.
+    /// Takes a list of the members, and for each list tried a table of 65,536 bytes. Writes once for each
+    /// node of a tried list, and looks once at each member.
     fn choose(&mut self, set: &EnabledSet, central: bool) -> Result<Option<Choice>, Want>
         ensures lawful { IfOk result (λ choice. IfSome choice (IsLawful set.now central)) }
         ensures played { IfOk result (λ choice. (choice, self.new) ≡ played central (members set.now) self.old) }

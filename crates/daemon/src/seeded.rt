@@ -1,4 +1,4 @@
-//! A daemon that draws its choices from a generator.
+//! A daemon that draws its choices from a random generator.
 
 ghost use Rattle.std.specs.Prelude.{◌≡◌, ◌↔◌, ◌≤◌, ◌%◌, nat_eq, [], ◌∷◌, length, vec_capacity, IfOk, IfSome, IsNone, OnErr};
 ghost use Rattle.enabled_set.specs.Members.{members};
@@ -13,7 +13,7 @@ use rule_machine::{Choice, Item, Node, Want};
 use std::alloc::Global;
 use std::marker::Model;
 
-/// The member that the next word picks: the (word mod count)-th, ascending from 0. One word.
+/// The member that the next word picks: number (word mod count), ascending from 0.
 fn next_member<G: Rng>(generator: &mut G, set: &EnabledSet) -> Node
     requires { 1 ≤ length (members set.now) }
     ensures { (result ∷ [], G.stream generator.new) ≡ draw_one (members set.now) (G.stream generator.old) }
@@ -32,15 +32,14 @@ fn choose_one<G: Rng>(generator: &mut G, set: &EnabledSet) -> Choice
     Choice::one(Item { node, wish: None })
 }
 
-/// Whether a word chooses its node.
 fn is_odd(word: u32) -> bool
     ensures { result ≡ nat_eq (word % 2) 1 }
 {
     word % 2 == 1
 }
 
-/// Adds an item for each node whose word is odd, by one word for each node. Each item is written, and taken back where the word
-/// is even: half of the words are, so a jump over the write would be guessed wrong as often as not.
+/// Appends an item for each node whose word is odd. Draws one word a node.
+/// Each item is written first and removed if its word is even: a branch would be mispredicted half the time.
 fn push_odd<G: Rng>(generator: &mut G, names: &[Node], items: &mut Vec<Item>)
     requires empty { items.old.items ≡ [] }
     requires room { length names.now ≤ vec_capacity items.old }
@@ -62,8 +61,8 @@ fn push_odd<G: Rng>(generator: &mut G, names: &[Node], items: &mut Vec<Item>)
     }
 }
 
-/// Items of the members whose words are odd, or of one member by one word more where none is; room is had before the first
-/// word is drawn.
+/// Items of the members whose words are odd; if there are none, of one member by one more word.
+/// Makes room before the first word is drawn.
 fn some_items<G: Rng>(
     alloc: Global,
     generator: &mut G,
@@ -84,7 +83,7 @@ fn some_items<G: Rng>(
     Ok(items)
 }
 
-/// The choice of a daemon that is not central: one item at least.
+/// The choice of a daemon that is not central: at least one item.
 fn choose_some<G: Rng>(alloc: Global, generator: &mut G, set: &EnabledSet) -> Result<Choice, Want>
     requires { 1 ≤ length (members set.now) }
     ensures drawn { IfOk result (λ choice. (choice, G.stream generator.new) ≡ as_choice (draw_some (members set.now) (G.stream generator.old))) }
@@ -95,11 +94,11 @@ fn choose_some<G: Rng>(alloc: Global, generator: &mut G, set: &EnabledSet) -> Re
     Ok(Choice::new(items).unwrap())
 }
 
-/// A daemon that draws its choices from a generator, seen in contracts as that generator.
+/// A daemon that draws its choices from a random generator. Contracts see the generator.
 ///
-/// Where it is central, one word w picks the (w mod count)-th member, ascending from 0. Else there is one word for each
-/// member, ascending, and an odd word chooses it; where none was chosen, one word more picks a member as above. From a set
-/// without members there is no choice, and no word is drawn.
+/// Under a central daemon one word w picks member (w mod count), ascending from 0.
+/// Otherwise one word is drawn for each member, ascending: an odd word chooses it. If none was chosen, one
+/// more word picks a member as above. An empty set gives no choice and draws no word.
 #[derive(Drop)]
 pub struct Seeded<G: Rng> {
     alloc: Global,
@@ -115,7 +114,7 @@ impl<G: Rng> Model for Seeded<G> {
 }
 
 impl<G: Rng> Seeded<G> {
-    /// A daemon with this generator; it takes no memory before it chooses.
+    /// A daemon with this generator. Takes no memory until it chooses.
     pub fn new(alloc: Global, generator: G) -> Seeded<G>
         ensures { result ≡ generator }
     {
@@ -126,9 +125,10 @@ impl<G: Rng> Seeded<G> {
 impl<G: Rng> Daemon for Seeded<G> {
     ghost chooses = { λ names central old choice new. (choice, G.stream new) ≡ drawn central names (G.stream old) };
 
-    /// The choice that the generator's next words make; `None` exactly where the set is empty. At want of memory no word has
-    /// been drawn. A central daemon takes one word, some 40 looks and no memory; any other a word for each member, and room
-    /// for as many nodes and items as there are members, which are 65,535 at most.
+    /// The choice of the generator's next words; `None` if and only if the set is empty.
+    /// Error: out of memory; no word has been drawn.
+    /// A central daemon draws one word, with some 40 looks and no memory. Any other draws a word for each
+    /// member and at most one more, and takes room for as many nodes and items: at most 65,535.
     fn choose(&mut self, set: &EnabledSet, central: bool) -> Result<Option<Choice>, Want>
         ensures lawful { IfOk result (λ choice. IfSome choice (IsLawful set.now central)) }
         ensures drawn { IfOk result (λ choice. (choice, G.stream self.new) ≡ drawn central (members set.now) (G.stream self.old)) }

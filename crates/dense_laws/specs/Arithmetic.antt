@@ -1,5 +1,5 @@
--- The potential in numbers. With k unmarried nodes, f of them idle and c of them stuck it is k² - 2k + 4c + 2f, twice what
--- a run can still cost; both sides of each line are written so that nothing is subtracted.
+-- The potential in numbers. With k unmarried nodes, f of them idle and c of them stuck it is k² - 2k + 4c +
+-- 2f, twice the moves that a run can still cost. Both sides of each line are written without subtraction.
 use Rattle.std.proofs.Common.{◌≡◌, ℕ, ◌+◌, ◌*◌, ◌-◌, ◌<◌, ◌≤◌, ap, ⊎_elim, arith}
 use Rattle.std.proofs.lemmas.Bool.{cases_lt}
 

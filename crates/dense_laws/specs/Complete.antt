@@ -1,4 +1,4 @@
--- The complete network of n nodes, and the states in it from which the longest runs come.
+-- The complete network of n nodes, and the states in it that begin the longest runs.
 use Rattle.std.proofs.Common.{◌≡◌, ℕ, zero, suc, ◌+◌, ◌*◌, ◌<◌, ◌≤◌, nat_le, nat_eq, true, false, cond, ◌&&◌, List, map as list_map, replicate, Option, None, Some, IsTrue, refl, sym, ap, ◌∙◌, subst, ⊎_elim, arith}
 use Rattle.std.specs.FinMap as map
 use Rattle.std.specs.List.{range_with_len}

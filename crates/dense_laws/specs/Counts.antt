@@ -1,4 +1,4 @@
--- Counts that differ at one place or at two, and what a count says of the elements.
+-- Counts that differ at one element or at two, and what a count implies for the elements.
 use Rattle.std.proofs.Common.{◌≡◌, ℕ, ◌+◌, ◌≤◌, Bool, true, false, not, cond, ◌&&◌, List, [], ◌∷◌, length, count_by, nat_eq, IsTrue, refl, sym, ap, ◌∙◌, subst, inl, inr, ⊎_elim, arith}
 use Rattle.std.proofs.lemmas.Bool.{cases_Bool, eqb-true, eq-eqb, true≢false}
 use Rattle.std.proofs.lemmas.List.Sums.{sum_by-cons}
@@ -20,7 +20,7 @@ count_le p q xs within = sum_le (λ v. bit (p v)) (λ v. bit (q v)) xs (λ v the
     one false true h = omega arith
     one false false h = omega arith
 
--- what passes p passes q, but for y perhaps
+-- whatever passes p passes q, except perhaps y
 pub count_more : (p q : ℕ → Bool) (y : ℕ) (xs : List ℕ) → IsWithoutRepeats xs → IsIn y xs → ((v : ℕ) → (v ≡ y → ⊥) → IsTrue (p v) → IsTrue (q v)) → count_by p xs ≤ count_by q xs + 1
 count_more p q y xs once at within =
     let le = sum_le (λ v. bit (p v)) (λ v. bit (q v) + mark y v) xs (λ v there. one (p v) (q v) (nat_eq y v) (λ other passes. within v (λ same. other (eq_mark v same)) passes)) in

@@ -1,4 +1,5 @@
--- Under Hsu and Huang's rules the dense charge falls by two with every move, whatever the edges, and is at most n² + 2n.
+-- By Hsu and Huang's rules the dense charge falls by two with every move, whatever the edges, and is at most
+-- n² + 2n.
 use Rattle.std.proofs.Common.{◌≡◌, ℕ, ◌+◌, ◌-◌, ◌*◌, ◌≤◌, not, List, length, IsTrue, refl, sym, ap, subst, inl, inr, ⊎_elim, ◌⊎◌, arith}
 use Rattle.std.proofs.lemmas.Bool.{cases_Bool}
 use Rattle.rule_machine.specs.declared.choice.Item.{Item}
@@ -45,7 +46,7 @@ charge_is s good =
     by_count : (k' k c f : ℕ) → k' ≡ k → 2 * k ≤ k * k + 4 * c + 2 * f → (k' * k' + 4 * c + 2 * f - 2 * k') + 2 * k ≡ k * k + 4 * c + 2 * f
     by_count k' k c f same below = let square = ap (λ x. x * x) same in omega (arith, square, same, below)
 
--- one step: a state of the same network, in which both sides have fallen
+-- one step: a state of the same network, with both sides lower
 pub record IsFall (s s' : State) (moves : List Moved) : Type 0 where
   pub one : length moves ≡ 1
   pub is_state : IsState s'

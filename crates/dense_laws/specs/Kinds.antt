@@ -1,4 +1,5 @@
--- The unmarried nodes by their pointers: idle (null), stuck (at a node that points elsewhere), hoping (at a null one).
+-- The unmarried nodes by their pointers: idle (null), stuck (at a node that points elsewhere), hoping (at a
+-- null one).
 use Rattle.std.proofs.Common.{◌≡◌, ◌≢◌, ℕ, ◌+◌, Bool, true, false, not, ◌&&◌, List, count_by, Option, None, Some, is_some, is_none, IsTrue, refl, sym, ap, ◌∙◌, ⊎_elim, arith}
 use Rattle.std.proofs.lemmas.Bool.{and_parts, and_from, not-true, not_from_false, false_from_ne_true, true≢false}
 use Rattle.std.proofs.lemmas.Option.{none-some, same_Some}

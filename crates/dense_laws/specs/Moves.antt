@@ -1,11 +1,14 @@
--- What a move does to the unmarried nodes by their kinds, in pointers alone: the potential falls, and in a trap by more.
+-- What a move does to the unmarried nodes by their kinds, in pointers alone: the potential falls, and in a
+-- trap by more.
 --
--- Who leaves was stuck and is idle; who pointed at it was stuck and hopes now. Who courts was idle, has no suitor and hopes
--- now, so that nobody becomes stuck. Who takes a suitor leaves the unmarried with it: the other suitors of both are stuck
--- then, at most all that are unmarried still; four for each of these is what the squares give back.
+-- A node that leaves was stuck and becomes idle; the nodes that point at it were stuck and become hoping. A
+-- node that courts was idle, has no suitor and becomes hoping, so no node becomes stuck. A node that takes a
+-- suitor leaves the unmarried together with it. The other suitors of both become stuck, at most all that are
+-- still unmarried; the squares give back four for each of these.
 --
--- A trap is a set of nodes that point at each other and not back: all are stuck, and stay so while nobody leaves one that
--- is pointed at. The move that opens a trap makes two nodes less stuck; one that takes a suitor beside it leaves four.
+-- A trap is a set of nodes that point at each other and not back. All are stuck, and stay so while no node
+-- leaves one that is pointed at. The move that opens a trap makes two fewer nodes stuck; one that takes a
+-- suitor has four to spare, since two nodes are stuck already.
 use Rattle.std.proofs.Common.{◌≡◌, ◌≢◌, ℕ, ◌+◌, ◌*◌, ◌≤◌, Bool, not, ◌&&◌, List, Option, None, Some, is_none, IsTrue, nat_eq, sym, ap, ◌∙◌, inl, inr, ⊎_elim, ◌⊎◌, arith}
 use Rattle.std.proofs.lemmas.Bool.{cases_eq, and_parts, and_from, not-true, not_from_false, false_from_ne_true, true≢false, eq-eqb, ne_eqb}
 use Rattle.std.proofs.lemmas.Option.{none-some, same_Some}
@@ -37,13 +40,13 @@ pub record IsTrap (p : ℕ → Option ℕ) : Type 0 where
 
 -- ---- kinds that stay
 
--- who is unmarried afterwards was
+-- a node unmarried afterwards was so before
 singles_were : (p p' : ℕ → Option ℕ) (x : ℕ) → IsSolo p p' x → (v : ℕ) → IsTrue (is_single p' v) → IsTrue (is_single p v)
 singles_were p p' x solo v h =
     not_from_false (is_paired (stance p v)) (false_from_ne_true (is_paired (stance p v)) (λ pair.
     true≢false (sym h ∙ ap (λ s. not (is_paired s)) (paired_stays p p' (λ u. (solo_turn p p' x solo u).turn) v pair))))
 
--- where the mover is in no pair afterwards, no pair is new
+-- if the mover is in no pair afterwards, no pair is new
 pairs_were : (p p' : ℕ → Option ℕ) (x : ℕ) → IsSolo p p' x → ((y : ℕ) → p' x ≡ Some y → p' y ≡ Some x → ⊥) → (v : ℕ) → IsTrue (is_paired (stance p' v)) → IsTrue (is_paired (stance p v))
 pairs_were p p' x solo none v h =
     let pair = paired_is p' v h in
@@ -62,11 +65,11 @@ singles_same p p' x xs solo none =
     let more = count_le (is_single p) (is_single p') xs (singles_stay p p' x solo none) in
     omega (arith, less, more)
 
--- who is idle afterwards was, but for the mover
+-- an idle node was idle before, except for the mover
 idle_was : (p p' : ℕ → Option ℕ) (x : ℕ) → IsSolo p p' x → (v : ℕ) → (v ≡ x → ⊥) → IsTrue (is_idle p' v) → IsTrue (is_idle p v)
 idle_was p p' x solo v apart h = ap is_none (sym (solo.others v apart)) ∙ h
 
--- who is stuck afterwards was, where neither it nor its target moved
+-- a stuck node was stuck before if neither it nor its target moved
 stuck_was : (p p' : ℕ → Option ℕ) (x : ℕ) → IsSolo p p' x → (v w : ℕ) → (v ≡ x → ⊥) → (w ≡ x → ⊥) → p' v ≡ Some w → p' w ≢ None → p' w ≢ Some v → IsTrue (is_stuck p v)
 stuck_was p p' x solo v w here there at busy apart =
     stuck_from p v w (sym (solo.others v here) ∙ at) (λ null. busy (solo.others w there ∙ null)) (λ back. apart (solo.others w there ∙ back))
@@ -107,7 +110,7 @@ leaving_lowers p p' x w xs among it =
     let stuck = count_less (is_stuck p') (is_stuck p) x xs among.once (leaving_stuck p p' x w it) (leaving_gone p p' x w xs among it) in
     falls_beside 2 (singles p xs) (stucks p xs) (idles p xs) (singles p' xs) (stucks p' xs) (idles p' xs) (leaving_singles p p' x w xs it) (omega (arith, idle, stuck))
 
--- its suitor is stuck no more
+-- its suitor stops being stuck
 suitor_gone : (p p' : ℕ → Option ℕ) (x w u : ℕ) (xs : List ℕ) → IsAmong p xs → IsLeaving p p' x w → p u ≡ Some x → (u ≡ x → ⊥) → IsGone (is_stuck p') (is_stuck p) xs u
 suitor_gone p p' x w u xs among it suits apart = record {
   there = (among.ends u x suits).0;

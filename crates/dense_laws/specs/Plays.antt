@@ -1,4 +1,4 @@
--- Runs that are there: what each rule lets a node do, as an entry before a run that goes on from there.
+-- Runs that exist: what each rule lets a node do, as an entry before a run from there.
 use Rattle.std.proofs.Common.{◌≡◌, ◌≢◌, ℕ, ◌+◌, ◌*◌, ◌≤◌, Bool, true, false, cond, not, ◌&&◌, List, [], ◌∷◌, length, Any, Option, None, Some, is_some, is_none, IsTrue, refl, sym, ap, ◌∙◌, subst, find, arith}
 use Rattle.std.proofs.lemmas.Bool.{and_from, not_from_false, false_from_ne_true}
 use Rattle.std.proofs.lemmas.List.Elements.{All-cons, All-nil}
@@ -30,8 +30,8 @@ use Rattle.charge_laws.specs.Inside.{hsu_huang_inside}
 use Rattle.charge_laws.specs.Stances.{null_is}
 use Rattle.dense_laws.specs.Kinds.{stuck_from}
 
--- a run without a disturbance from this state, where so much is spent, of at least so many moves: q is no more than twice
--- their number and one
+-- a run without a disturbance from this state, with these moves spent, that is long: q is at most twice its
+-- moves plus one
 pub record IsLong (spent : ℕ) (s : State) (q : ℕ) : Type 0 where
   pub log : List Entry
   pub last : Moment
@@ -42,7 +42,7 @@ pub record IsLong (spent : ℕ) (s : State) (q : ℕ) : Type 0 where
 pub long_at_once : (spent : ℕ) (s : State) (q : ℕ) → q ≤ 1 → IsLong spent s q
 long_at_once spent s q few = record { log = []; last = record { state = s; spent = spent }; run = refl; calm = All-nil (λ e. e.1 ≢ Accepted); enough = omega (arith, few) }
 
--- v's pointer is this in the next state, and a run that goes on from there is one from here
+-- v's pointer is this in the next state, and a run from there is one from here
 pub record IsPlayed (s : State) (v : ℕ) (target : Option ℕ) : Type 0 where
   pub next : State
   pub is_state : IsState next

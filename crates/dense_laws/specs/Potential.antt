@@ -1,5 +1,5 @@
--- What a run by Hsu and Huang's rules can still cost, however many edges there are: a number of the unmarried nodes alone,
--- twice what it bounds. This project's own.
+-- What a run by Hsu and Huang's rules can still cost, however many edges there are: a function of the
+-- unmarried nodes alone, twice the bound on moves. This project's own.
 use Rattle.std.specs.Prelude.{ℕ, ◌+◌, ◌-◌, ◌*◌, not, count_by, is_none}
 use Rattle.rule_machine.specs.declared.act.Act.TheVariants.{Abandon}
 use Rattle.rule_machine.specs.Network.{names}

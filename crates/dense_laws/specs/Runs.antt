@@ -1,4 +1,5 @@
--- Runs without a disturbance by Hsu and Huang's rules: the dense charge pays for them, and from a trap with four to spare.
+-- Runs without a disturbance by Hsu and Huang's rules: the dense charge pays for them, and from a trap with
+-- four to spare.
 use Rattle.std.proofs.Common.{◌≡◌, ◌≢◌, ℕ, ◌+◌, ◌-◌, ◌*◌, ◌<◌, ◌≤◌, List, [], ◌∷◌, length, refl, sym, ap, subst, inl, inr, ⊎_elim, ◌⊎◌, arith}
 use Rattle.std.proofs.lemmas.Bool.{cases_lt}
 use Rattle.std.proofs.lemmas.List.Elements.{All-head, All-tail}
@@ -26,7 +27,7 @@ use Rattle.dense_laws.specs.Falls.{among_from, high_of, low_of, charge_is, IsFal
 abbrev Pays : ℕ → State → ℕ → State → Type 0
 Pays room s moves s' = 2 * moves + high_of s' + low_of s + room ≤ high_of s + low_of s'
 
--- so many moves lead from one state to the other
+-- this many moves lead from one state to the other
 record IsPaid (s : State) (moves : ℕ) (s' : State) : Type 0 where
   lowers : Pays 0 s moves s'
   in_trap : IsTrap (pointer s) → IsTrap (pointer s') ⊎ Pays 4 s moves s'
@@ -90,14 +91,14 @@ dense_moves_are_paid start good log end run calm =
     by_sides : (s e hs ls he le : ℕ) → s + ls ≡ hs → e + le ≡ he → 2 * moves_in log + he + ls + 0 ≤ hs + le → 2 * moves_in log + e ≤ s
     by_sides s e hs ls he le before after paid = omega (arith, before, after, paid)
 
--- so there are no more than half of n² + 2n
+-- so there are at most half of n² + 2n
 pub dense_moves_are_bounded : (start : Moment) → IsState start.state → (log : List Entry) (end : Moment) → Run hsu_huang start log end → IsUndisturbed log → 2 * moves_in log ≤ node_count start.state.network * node_count start.state.network + 2 * node_count start.state.network
 dense_moves_are_bounded start good log end run calm =
     let paid = dense_moves_are_paid start good log end run calm in
     let bound = dense_bounded start.state good in
     omega (arith, paid, bound)
 
--- and no more than half of n² + 2n - 4 where there are two nodes
+-- and at most half of n² + 2n - 4 if there are two nodes
 pub dense_moves_are_few : (start : Moment) → IsState start.state → 2 ≤ node_count start.state.network → (log : List Entry) (end : Moment) → Run hsu_huang start log end → IsUndisturbed log → 2 * moves_in log + 4 ≤ node_count start.state.network * node_count start.state.network + 2 * node_count start.state.network
 dense_moves_are_few start good two log end run calm =
     ⊎_elim
@@ -139,7 +140,7 @@ lone_stays start good few log end run calm =
     by_sides : (s e hs ls : ℕ) → s + ls ≡ hs → hs ≤ ls + 1 → 2 * moves_in log + e ≤ s → moves_in log ≡ 0
     by_sides s e hs ls is low paid = omega (arith, is, low, paid)
 
--- n² + 2n - 4, and 0 where there is one node or none
+-- n² + 2n - 4, and 0 for one node or none
 pub moves_are_few : (start : Moment) → IsState start.state → (log : List Entry) (end : Moment) → Run hsu_huang start log end → IsUndisturbed log → 2 * moves_in log ≤ node_count start.state.network * node_count start.state.network + 2 * node_count start.state.network - 4
 moves_are_few start good log end run calm =
     ⊎_elim

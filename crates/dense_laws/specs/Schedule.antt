@@ -1,5 +1,5 @@
--- A longest run, in a complete network. Of m nodes that are stuck at one node all leave; all but the last court the last,
--- which takes its neighbour by name; and the m - 2 others are stuck at it.
+-- A longest run, in a complete network. Of m nodes that are stuck at one node all leave; all but the last
+-- court the last, which takes its neighbour by name; and the m - 2 others are stuck at it.
 use Rattle.std.proofs.Common.{◌≡◌, ℕ, zero, suc, ◌+◌, ◌*◌, ◌<◌, ◌≤◌, Option, None, Some, IsTrue, sym, ap, ◌∙◌, subst, ⊎_elim, arith}
 use Rattle.std.proofs.lemmas.Bool.{cases_eq, cases_lt}
 use Rattle.std.proofs.lemmas.Option.{none-some, same_Some}
@@ -36,7 +36,7 @@ long_less spent s q q' le long = record {
 
 -- ---- all leave
 
--- of 1 to m, which are or were stuck at z, the first j have left; whoever is above m points above m
+-- of 1 to m, which are or were stuck at z, the first j have left; each above m points above m
 pub record IsLeft (n m j : ℕ) (s : State) : Type 0 where
   pub on : IsOn n s
   pub below : m ≤ n

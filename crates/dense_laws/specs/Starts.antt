@@ -1,5 +1,5 @@
--- The potential from above and from below. Where nobody is married, nobody hopes and one is stuck, all that point are in a
--- trap; else it is four less than its greatest value.
+-- The potential from above and from below. If no node is married, none hopes and one is stuck, all that point
+-- are in a trap; else it is at most four less than its greatest value.
 use Rattle.std.proofs.Common.{◌≡◌, ◌≢◌, ℕ, refl, true, ◌+◌, ◌*◌, ◌<◌, ◌≤◌, false, List, length, count_by, Option, None, IsTrue, sym, ap, ◌∙◌, inl, inr, ⊎_elim, ◌⊎◌, arith}
 use Rattle.std.proofs.lemmas.Bool.{cases_lt, true≢false}
 use Rattle.std.proofs.lemmas.Option.{none-some}
@@ -17,7 +17,7 @@ high p xs = singles p xs * singles p xs + 4 * stucks p xs + 2 * idles p xs
 abbrev pub low : (ℕ → Option ℕ) → List ℕ → ℕ
 low p xs = 2 * singles p xs
 
--- where a node hopes, one is idle
+-- if a node hopes, one is idle
 hope_idle : (p : ℕ → Option ℕ) (xs : List ℕ) → IsAmong p xs → 1 ≤ hopings p xs → 1 ≤ idles p xs
 hope_idle p xs among some =
     let one = count_exists (is_hoping p) xs some in
@@ -49,7 +49,7 @@ most p xs =
 
 -- ---- four less, or a trap
 
--- the stuck ones are in a trap where nobody is married and nobody hopes
+-- the stuck nodes are in a trap if none is married and none hopes
 trap_of_stuck : (p : ℕ → Option ℕ) (xs : List ℕ) → IsAmong p xs → ((v : ℕ) → IsIn v xs → is_paired (stance p v) ≡ false) → ((v : ℕ) → IsIn v xs → is_hoping p v ≡ false) → (y : ℕ) → IsTrue (is_stuck p y) → IsTrap p
 trap_of_stuck p xs among unmarried hopeless y stuck = record {
   inside = is_stuck p;
@@ -105,7 +105,7 @@ trap_or_less p xs among two =
 
 -- ---- one node or none
 
--- who is stuck points at another
+-- a stuck node points at another
 pub lone_is_low : (p : ℕ → Option ℕ) (xs : List ℕ) → IsAmong p xs → length xs < 2 → high p xs ≤ low p xs + 1
 lone_is_low p xs among few =
     ⊎_elim

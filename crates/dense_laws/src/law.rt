@@ -17,29 +17,32 @@ ghost use Rattle.dense_laws.specs.Bound.{dense_bound};
 ghost use Rattle.dense_laws.specs.Complete.{IsReached};
 ghost use Rattle.dense_laws.specs.Potential.{dense_charge};
 
-/// Each move lowers the dense charge of a state by two at least, whatever the edges; and it is at most n² + 2n.
+/// Each move lowers the dense charge by at least two, whatever the edges; it is at most n² + 2n.
 pub fn dense_charge_falls()
     ensures falls { (s : State) (items : List Item) (moves : List Moved) (after : State) → IsState s → IsStep hsu_huang s items moves after
         → dense_charge after + 2 * length moves ≤ dense_charge s }
     ensures bounded { (s : State) → IsState s → dense_charge s ≤ node_count s.network * node_count s.network + 2 * node_count s.network }
 {}
 
-/// Twice the moves of a run without a disturbance, and the dense charge that is left, are no more than it was at the start, from
-/// whatever state and whatever the daemon chooses.
+/// Without a disturbance, twice the moves plus the dense charge left are at most the one at the start.
+///
+/// Holds from any state, whatever the daemon chooses.
 pub fn dense_moves_are_paid()
     ensures { (start : Moment) → IsState start.state → (log : List Entry) (end : Moment) → Run hsu_huang start log end → IsUndisturbed log
         → 2 * moves_in log + dense_charge end.state ≤ dense_charge start.state }
 {}
 
-/// Between two disturbances, from whatever state, whatever the edges and whatever the daemon chooses: with n nodes at most
-/// n²/2 + n - 2 moves, rounded down, and none where n is 0 or 1.
+/// Between two disturbances n nodes make at most n²/2 + n - 2 moves, rounded down; 0 if n is 0 or 1.
+///
+/// Holds from any state, whatever the edges and whatever the daemon chooses.
 pub fn moves_are_few()
     ensures { (start : Moment) → IsState start.state → (log : List Entry) (end : Moment) → Run hsu_huang start log end → IsUndisturbed log
         → 2 * moves_in log ≤ node_count start.state.network * node_count start.state.network + 2 * node_count start.state.network - 4 }
 {}
 
-/// A run without a disturbance in which each entry moves someone or comes where nobody is enabled, and that has n²/2 + n - 2 entries,
-/// rounded down, ends where nobody is enabled.
+/// A driven run without a disturbance is silent after n²/2 + n - 2 entries, rounded down.
+///
+/// Driven: each entry moves a node, or comes when no rule is enabled.
 pub fn enough_turns_end_silent()
     ensures { (start : Moment) → IsState start.state → (path : List (Entry × State)) → IsPath hsu_huang start path → IsUndisturbed (log_of path)
         → IsDriven hsu_huang start.state path
@@ -47,12 +50,14 @@ pub fn enough_turns_end_silent()
         → enabled_names hsu_huang (end_of start.state path) ≡ [] }
 {}
 
-/// The bound is reached: among n nodes, two or more, a run without a disturbance has half of n² + 2n - 4 moves, rounded down.
+/// The bound is reached: for n of 2 or more there is a run with n²/2 + n - 2 moves, rounded down.
+///
+/// The run has no disturbance.
 pub fn bound_is_reached()
     ensures { (n : ℕ) → 2 ≤ n → IsReached n }
 {}
 
-/// The same bound as one number: n²/2 + n - 2 with the half rounded down, and 0 for one node or none.
+/// The bound of `moves_are_few` as one number: n²/2 + n - 2 rounded down, and 0 if n is 0 or 1.
 pub fn dense_bound_holds()
     ensures { (start : Moment) → IsState start.state → (log : List Entry) (end : Moment) → Run hsu_huang start log end → IsUndisturbed log
         → moves_in log ≤ dense_bound (node_count start.state.network) }

@@ -1,5 +1,5 @@
--- What a seeded daemon draws among the enabled nodes is accepted as a step: ascending, hence distinct, each enabled, with no wish, and one
--- alone under a central daemon.
+-- A seeded daemon's draw among the enabled nodes is accepted as a step: ascending, hence distinct, each
+-- enabled, without a wish, and one alone under a central daemon.
 use Rattle.std.proofs.Common.{◌≡◌, ℕ, suc, ◌%◌, ◌<◌, ◌≤◌, Bool, true, false, cond, not, ◌&&◌, ◌||◌, List, [], ◌∷◌, ◌++◌, length, get_or, Option, None, Some, is_some, IsTrue, nat_eq, nat_lt, if◌then◌else◌, refl, sym, ap, ◌∙◌, subst, ⊎_elim, arith}
 use Rattle.std.specs.List.{filter, list_any}
 use Rattle.std.specs.Option.{option_or}

@@ -1,4 +1,5 @@
--- Each turn of a seeded daemon lowers the charge, or nobody is enabled. So as many turns as the charge end silent.
+-- Each turn of a seeded daemon lowers the charge, or the network is silent. So as many turns as the charge
+-- end silent.
 use Rattle.std.proofs.Common.{◌≡◌, ℕ, zero, suc, ◌+◌, ◌≤◌, List, [], ◌∷◌, length, Option, None, Some, refl, sym, ap, subst, ⊎_elim, arith}
 use Rattle.std.proofs.lemmas.Option.{none-some, same_Some}
 use Rattle.rand_core.specs.Stream.{Stream}
@@ -43,7 +44,7 @@ pub record IsPaid (t : RuleTable) (s s' : State) : Type 0 where
   pub is_state : IsState s'
   pub falls : t.charge s' + 1 ≤ t.charge s
 
--- a turn that draws none comes where nobody is enabled
+-- if a turn draws none, no rule is enabled
 pub turn_rests : (t : RuleTable) (s : State) (stream : Stream) → (drawn t.central (enabled_names t s) stream).0 ≡ None → enabled_names t s ≡ []
 turn_rests t s stream none = by_names (enabled_names t s) none
   where
@@ -66,7 +67,7 @@ turn_pays t weight table charged s good stream items is = record {
             subst (λ l. step_refusal t s l ≡ None) (same_Some (plain (draw t.central (v ∷ nodes) stream).0) items h)
             (subst (λ ns. 1 ≤ length ns → step_refusal t s (plain (draw t.central ns stream).0) ≡ None) (sym same) (drawn_taken t s stream) (omega arith))
 
--- where the charge is 0 nobody is enabled
+-- if the charge is 0, no rule is enabled
 pub zero_is_quiet : (t : RuleTable) (weight : ℕ) → IsTable t → IsCharged t weight → (s : State) → IsState s → t.charge s ≤ 0 → enabled_names t s ≡ []
 zero_is_quiet t weight table charged s good none =
     spent_is_quiet t (λ s n. t.charge s ≤ n) table (charge_budget t weight charged) s good none

@@ -1,4 +1,4 @@
--- Where the turns of a seeded daemon lead.
+-- The states to which the turns of a seeded daemon lead.
 use Rattle.std.specs.Prelude.{ℕ, zero, suc, List, Option, None, Some}
 use Rattle.rand_core.specs.Stream.{Stream}
 use Rattle.rule_machine.specs.declared.choice.Item.{Item}
@@ -13,7 +13,7 @@ abbrev pub after_turn : RuleTable → State → Option (List Item) → State
 after_turn t s None = s
 after_turn t s (Some items) = state_after t s (Step items)
 
--- the state after so many turns, each drawn among those who are enabled then
+-- the state after this many turns, each drawn among the nodes that are enabled
 abbrev pub driven : RuleTable → ℕ → Stream → State → State
 driven t zero stream s = s
 driven t (suc turns) stream s =

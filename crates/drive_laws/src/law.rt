@@ -8,7 +8,7 @@ ghost use Rattle.rule_machine.specs.HsuHuang.{hsu_huang};
 ghost use Rattle.rule_machine.specs.Manne.{manne};
 ghost use Rattle.drive_laws.specs.Driven.{driven};
 
-/// After as many turns of a seeded daemon as the charge was nobody is enabled, whatever words its generator gives.
+/// After as many turns of a seeded daemon as the charge was, the network is silent, whatever the seed.
 pub fn long_drives_end_silent()
     ensures hsu_huang { (s : State) → IsState s → (turns : ℕ) → hsu_huang.charge s ≤ turns → (stream : Stream) → enabled_names hsu_huang (driven hsu_huang turns stream s) ≡ [] }
     ensures manne { (s : State) → IsState s → (turns : ℕ) → manne.charge s ≤ turns → (stream : Stream) → enabled_names manne (driven manne turns stream s) ≡ [] }

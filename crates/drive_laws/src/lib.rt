@@ -1,7 +1,7 @@
 //! Drives that are long enough end silent: laws alone.
 //!
-//! Nothing of this crate runs: the public function has an empty body and its contract is the law. Each turn of a seeded daemon is a step that
-//! is accepted and moves a node at least, as long as a node is enabled; so as many turns as the charge lead to silence.
+//! The public function is empty and its contract is the law. While a rule is enabled, each turn of a seeded
+//! daemon is an accepted step that moves at least one node. So as many turns as the charge lead to silence.
 //!
 //! ```rust
 //! long_drives_end_silent();                     // from here on the prover knows the law

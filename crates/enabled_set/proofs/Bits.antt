@@ -92,7 +92,7 @@ ones_there word at width less =
     tally_shift (has_bit word) (has_bit (word / 2 ^ at)) at width (λ i low. sym (shifted_bit word at i))
     ∙ ap (λ n. tally (has_bit word) at + n) (sym (ones_low (word / 2 ^ at) width) ∙ ap count_ones (sym mask))
 
--- where one place has more members than are to pass, it has one and none is to pass
+-- if one place has more members than remain to be skipped, it has one and none remains to be skipped
 pub last : (p : ℕ → Bool) (n left : ℕ) → tally p n + left < tally p (n + 1) → (p n ≡ true) × (left ≡ 0)
 last p n left less =
     let on = tally_on p n in

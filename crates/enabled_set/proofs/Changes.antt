@@ -21,11 +21,11 @@ bit_read bits words s l total v read good there is =
     let covered = good.covered in
     good.same v ∙ ap (λ w. has_bit w (v % 64)) (sym (get_or_read words (v / 64) read (omega arith) is 0))
 
--- nothing changes where a name is as it is to be
+-- the set stays the same if a name is already as it is to be
 pub put_same : (bits : List Bool) (v : ℕ) (b : Bool) → is_in bits v ≡ b → bits ≡ set bits v b
 put_same bits v b is = sym (set-get_or bits v false) ∙ ap (λ x. set bits v x) is
 
--- who is a member, or is to be one, is somebody
+-- a name that is a member, or is to be one, is not 0
 pub somebody : (bits : List Bool) (v : ℕ) → is_in bits 0 ≡ false → is_in bits v ≡ true → 1 ≤ v
 somebody bits v nobody on = grind arith
 
@@ -33,7 +33,7 @@ somebody bits v nobody on = grind arith
 pub total_few : (bits : List Bool) → tally (is_in bits) (length bits) ≤ length bits
 total_few bits = let t = tally_add (is_in bits) 0 (length bits) (length bits) (omega arith) in let z = tally_none (is_in bits) in omega arith
 
--- where there is a member, there is one at least
+-- if there is a member, there is at least one
 pub total_some : (bits : List Bool) (v : ℕ) → v < length bits → is_in bits v ≡ true → 1 ≤ tally (is_in bits) (length bits)
 total_some bits v there on = let t = tally_through (is_in bits) 0 v (length bits) on (omega arith) there in omega arith
 
@@ -46,7 +46,7 @@ same_put bits words v word b there room same here others u =
     let was = same u in
     grind arith
 
--- one member more or less, where its counts were changed so: the lists count their places, which are those that are meant
+-- one member more or less if its counts were changed by one; the lists count the right places
 counted_put : (len : ℕ) (words s l : List ℕ) (total v read word x y left : ℕ) (b : Bool) → IsCounted (places_of len words) words s l total → v < length (places_of len words) → 1 ≤ v → read ≡ get_or words (v / 64) read → has_bit word (v % 64) ≡ b → ((i : ℕ) → i < 64 → i ≢ (v % 64) → has_bit word i ≡ has_bit read i) → IsCount (set (places_of len words) v b) 512 (set s (v / 512) x) → IsCount (set (places_of len words) v b) 4096 (set l (v / 4096) y) → tally (is_in (set (places_of len words) v b)) (length (places_of len words)) ≡ left → IsCounted (places_of len (set words (v / 64) word)) (set words (v / 64) word) (set s (v / 512) x) (set l (v / 4096) y) left × (places_of len (set words (v / 64) word) ≡ set (places_of len words) v b)
 counted_put len words s l total v read word x y left b good there named is here others in_512 in_4096 in_all =
     let bits = places_of len words in
@@ -94,7 +94,7 @@ counted_less len words s l total v read word x y good there is on here others re
     (count_less bits 4096 l v y (omega arith) good.in_4096 there some (count_read bits 4096 l v y (omega arith) good.in_4096 there read_y))
     (omega arith)
 
--- nothing is counted where there is nothing
+-- zero counts count no member
 before_zeros : (m i : ℕ) → before (replicate m 0) i ≡ 0
 before_zeros m zero = before_none (replicate m 0)
 before_zeros m (suc i) =
@@ -107,7 +107,7 @@ before_zeros m (suc i) =
 pub tally_nobody : (n i : ℕ) → tally (is_in (replicate n false)) i ≡ 0
 tally_nobody n i = tally_flat (is_in (replicate n false)) 0 i (omega arith) (λ k low high. everywhere n k false) ∙ tally_none (is_in (replicate n false))
 
--- the counts of nobody
+-- the counts of the empty set
 pub count_empty : (n w m : ℕ) → n ≤ w * m → IsCount (replicate n false) w (replicate m 0)
 count_empty n w m most =
     let len = length-replicate n false in
@@ -118,7 +118,7 @@ count_empty n w m most =
       counted = λ i. before_zeros m i ∙ sym (tally_nobody n (w * i));
     }
 
--- in words of no bits nobody is a member
+-- words without bits have no member
 nobody_on : (n : ℕ) (words : List ℕ) (v : ℕ) → words ≡ replicate (n / 64 + 8) 0 → is_in (replicate n false) v ≡ is_on words v
 nobody_on n words v is = everywhere n v false ∙ sym (ap (λ ws. is_on ws v) is ∙ on_none (n / 64 + 8) v)
 
@@ -126,7 +126,7 @@ nobody_on n words v is = everywhere n v false ∙ sym (ap (λ ws. is_on ws v) is
 pub places_empty : (n : ℕ) (words : List ℕ) → words ≡ replicate (n / 64 + 8) 0 → places_of n words ≡ replicate n false
 places_empty n words is = places_are n words (replicate n false) (length-replicate n false) (λ v there. nobody_on n words v is)
 
--- the set of nobody
+-- the empty set
 pub counted_new : (n : ℕ) (words s l : List ℕ) → n ≤ 65536 → words ≡ replicate (n / 64 + 8) 0 → s ≡ replicate (n / 512 + 8) 0 → l ≡ replicate 16 0 → IsCounted (places_of n words) words s l 0
 counted_new n words s l few is_words is_s is_l =
     let len = length-replicate n false in

@@ -3,11 +3,11 @@ use Rattle.std.proofs.Common.{◌≡◌, ◌≢◌, ℕ, zero, suc, ◌+◌, ◌
 use Rattle.std.proofs.lemmas.Bool.{cases_lt}
 use Rattle.enabled_set.specs.Counts.{tally}
 
--- 1 where a number is above v, else 0
+-- 1 if a number is above v, else 0
 abbrev pub past : ℕ → ℕ → ℕ
 past v n = min 1 (n - v)
 
--- sums of the numbers at each place, of which one is one more
+-- sums of the numbers at each place, if one of them is one more
 pub one_more : (f g p q : ℕ → ℕ) (v : ℕ) → f 0 ≡ g 0 → ((i : ℕ) → f (suc i) ≡ f i + p i) → ((i : ℕ) → g (suc i) ≡ g i + q i) → q v ≡ suc (p v) → (n : ℕ) → ((i : ℕ) → i < n → i ≢ v → q i ≡ p i) → g n ≡ f n + past v n
 one_more f g p q v start more_f more_g here zero others = omega arith
 one_more f g p q v start more_f more_g here (suc n) others =
@@ -68,11 +68,11 @@ flat f a zero b e same = ap f (let to : b ≡ a = omega arith in to)
 flat f a (suc n) b e same =
     ap f (let to : b ≡ suc (a + n) = omega arith in to) ∙ same (a + n) (omega arith) (omega arith) ∙ flat f a n (a + n) refl (λ k low high. same k low (omega arith))
 
--- where no number passes it stays
+-- a tally stays the same if no number passes
 pub tally_flat : (p : ℕ → Bool) (a b : ℕ) → a ≤ b → ((k : ℕ) → a ≤ k → k < b → p k ≡ false) → tally p b ≡ tally p a
 tally_flat p a b up none = flat (tally p) a (b - a) b (omega arith) (λ k low high. tally_false p k (none k low high))
 
--- where no number passes from one on, no tally is above that below it
+-- if no number from one on passes, no tally is above the tally below that number
 pub tally_end : (p : ℕ → Bool) (a b : ℕ) → ((k : ℕ) → a ≤ k → p k ≡ false) → tally p b ≤ tally p a
 tally_end p a b none =
     ⊎_elim

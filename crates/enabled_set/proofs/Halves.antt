@@ -1,4 +1,4 @@
--- Passing over halves: a sum that rises, of which twice a width is looked at.
+-- Skipping halves: an ascending sum, over two halves of a given width.
 use Rattle.std.proofs.Common.{◌≡◌, ℕ, ◌+◌, ◌*◌, ◌<◌, ◌≤◌, arith}
 
 -- the half that is left has more than are to pass, and no less has been passed than before
@@ -7,7 +7,8 @@ halved f place left width members to_place to_left sum enough stays_place stays_
     let twice : place + width + width ≡ place + 2 * width = omega arith in
     (grind arith, grind arith, grind arith)
 
--- Where a scan stands that has summed the stretches up to one: behind those that it has passed, and before one that has more than are to pass.
+-- The state of a scan that has summed the blocks up to one: it is after those that it has skipped, and before
+-- one with more members than remain to be skipped.
 pub record IsPassed (f : ℕ → ℕ) (from at place left sum to_pass : ℕ) : Type 0 where
   pub summed : f at ≡ f from + sum
   pub passed : f place + left ≡ f from + to_pass

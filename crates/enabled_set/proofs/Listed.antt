@@ -23,7 +23,7 @@ none_listed n bits names some few empty room =
       once = λ i j less none. absurd (omega (arith, none));
     }
 
--- where one is not, there is room for it
+-- if one is not marked, there is room for it
 pub room_left : (bits : List Bool) (names : List ℕ) (count v : ℕ) → AreListed bits names count → v < length bits → is_in bits v ≡ false → count < length bits
 room_left bits names count v listed there off =
     let put = tally_put (is_in bits) (is_in (set bits v true)) v off (on_here bits v true there) (length bits) (λ k low apart. same_there bits v true k apart) in
@@ -32,7 +32,7 @@ room_left bits names count v listed there off =
     let same = ap (tally (is_in (set bits v true))) len in
     omega (arith, put, there, most, len, same, listed.counted)
 
--- there are no more than places
+-- there are at most as many as places
 pub all_listed : (bits : List Bool) (names : List ℕ) (count : ℕ) → AreListed bits names count → count ≤ length bits
 all_listed bits names count listed = let most = total_few bits in omega (arith, most, listed.counted)
 
@@ -95,7 +95,7 @@ at_end bits names count v some read listed =
       };
     }
 
--- where none is listed, none is marked
+-- if none is listed, none is marked
 pub none_marked : (bits : List Bool) (names : List ℕ) (count v : ℕ) → count ≡ 0 → AreListed bits names count → is_in bits v ≡ false
 none_marked bits names count v none listed =
     false_from_ne_true (is_in bits v) (λ on. let some = total_some bits v (inside bits v on) on in omega (arith, some, none, listed.counted))

@@ -30,7 +30,7 @@ below_true p n h = below_more p n ∙ ap (λ b. below p n ++ cond b (n ∷ []) [
 pub below_false : (p : ℕ → Bool) (n : ℕ) → p n ≡ false → below p (suc n) ≡ below p n
 below_false p n h = below_more p n ∙ ap (λ b. below p n ++ cond b (n ∷ []) []) h ∙ append-nil (below p n)
 
--- none more where no number passes
+-- none more if no number passes
 pub below_flat : (p : ℕ → Bool) (a b : ℕ) → a ≤ b → ((k : ℕ) → a ≤ k → k < b → p k ≡ false) → below p b ≡ below p a
 below_flat p a b up none = flat (below p) a (b - a) b (omega arith) (λ k low high. below_false p k (none k low high))
 
@@ -70,7 +70,7 @@ below_at p (suc n) v k on is inside =
 pub inside : (bits : List Bool) (v : ℕ) → is_in bits v ≡ true → v < length bits
 inside bits v on = let past = get_or_past bits v false in grind arith
 
--- a member is the k-th where as many members stand before it
+-- a member is the k-th if k members are before it
 pub nth_member : (bits : List Bool) (v k : ℕ) → is_in bits v ≡ true → tally (is_in bits) v ≡ k → slice_get (members bits) k ≡ Some v
 nth_member bits v k on is =
     let there = inside bits v on in

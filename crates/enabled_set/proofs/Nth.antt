@@ -21,7 +21,7 @@ is_name bits words s l total v good on =
 
 -- ---- all members of a word
 
--- the names of a word's first bits are listed behind those before it, and the bits behind them are left
+-- the names of a word's first bits are listed after those before it, and the later bits are left
 pub record IsListed (words : List ℕ) (place rest : ℕ) (list : List ℕ) (n : ℕ) : Type 0 where
   pub within : n ≤ 64
   pub listed : list ≡ below (is_on words) (64 * place + n)
@@ -36,7 +36,7 @@ listed_none words place rest list is so_far = record {
   left = λ i low inside. ap (λ w. has_bit w i) is ∙ sym (on_word words place i inside);
 }
 
--- a bit that is left stands behind these, and is a name
+-- a bit that is left comes after these, and is a name
 bit_behind : (words : List ℕ) (place rest : ℕ) (list : List ℕ) (n at : ℕ) → IsListed words place rest list n → has_bit rest at ≡ true → n ≤ at
 bit_behind words place rest list n at so_far on =
     let gone = so_far.gone at in grind arith
@@ -45,7 +45,7 @@ pub bit_named : (words : List ℕ) (place rest : ℕ) (list : List ℕ) (n at : 
 bit_named words place rest list n at names so_far inside on =
     names (64 * place + at) (sym (so_far.left at (bit_behind words place rest list n at so_far on) inside) ∙ on)
 
--- where no bit is left below one, the names below it are listed
+-- if no bit is left below one, the names below it are listed
 pub listed_up : (words : List ℕ) (place rest : ℕ) (list : List ℕ) (n m : ℕ) → IsListed words place rest list n → n ≤ m → m ≤ 64 → ((i : ℕ) → n ≤ i → i < m → has_bit rest i ≡ false) → list ≡ below (is_on words) (64 * place + m)
 listed_up words place rest list n m so_far up most none =
     so_far.listed
@@ -93,7 +93,8 @@ enough_lots bits words s l ls total k good is less =
     let long = ap length is ∙ good.lots in
     (omega arith, omega arith)
 
--- a stretch of eight parts that has more members than are to pass begins at a place, and the sums over its parts rise by more
+-- a block of eight parts with more members than remain to be skipped begins at a place, and the sums over its
+-- parts ascend beyond that
 enough : (bits : List Bool) (width : ℕ) (counts : List ℕ) (f : ℕ → ℕ) (j left : ℕ) → IsCount bits width counts → left < get_or counts j 0 → f (8 * j) ≡ tally (is_in bits) (width * j) → f (8 * j + 8) ≡ tally (is_in bits) (width * (j + 1)) → (width * j < length bits) × (f (8 * j) + left < f (8 * j + 8))
 enough bits width counts f j left good less from to =
     let low = good.counted j in
@@ -127,7 +128,7 @@ enough_words bits words s l ss ws total group left good is_s is_w less =
     (parts (8 * group + 8) ∙ ap (tally (is_in bits)) (let e : 64 * (8 * group + 8) ≡ 512 * (group + 1) = omega arith in e)) in
     (omega (arith, more.0, good.covered, ap length is_w), more.1)
 
--- what three scans have passed, each from where the one before it stands, of lists that were read
+-- what three scans over these lists have skipped; each begins at the end of the one before
 pub passed : (bits : List Bool) (words s l ls ss ws : List ℕ) (total k lot lot_left group group_left place left : ℕ) → IsCounted bits words s l total → ls ≡ l → ss ≡ s → ws ≡ words → before ls lot + lot_left ≡ k → before ss group + group_left ≡ before ss (8 * lot) + lot_left → tally (is_on ws) (64 * place) + left ≡ tally (is_on ws) (64 * (8 * group)) + group_left → tally (is_in bits) (64 * place) + left ≡ k
 passed bits words s l ls ss ws total k lot lot_left group group_left place left good is_l is_s is_w from_l from_s from_w =
     let at_l = ap (λ xs. before xs lot) is_l ∙ good.in_4096.counted lot in
@@ -139,7 +140,7 @@ passed bits words s l ls ss ws total k lot lot_left group group_left place left 
     let at_w = words_tally bits words s l ws total (64 * place) good is_w in
     omega arith
 
--- there is no k-th member where k is no less than the total
+-- there is no k-th member if k is at least the total
 pub nth_none : (bits : List Bool) (words s l : List ℕ) (total k : ℕ) → IsCounted bits words s l total → total ≤ k → slice_get (members bits) k ≡ None
 nth_none bits words s l total k good most = slice_get_past (members bits) k (let len = length-members bits in let all = good.in_all in omega arith)
 
@@ -148,7 +149,7 @@ pub named : (o : Option ℕ) (n : ℕ) → SomeIff o ((1 ≤ n) × (n ≤ 65535)
 named None n h name = absurd (h name)
 named (Some x) n h name = ap (λ (y : ℕ). Some y) h.1
 
--- the bit that stands behind as many as are to pass is the k-th member
+-- the bit with exactly the number to be skipped before it is the k-th member
 pub nth_some : (bits : List Bool) (words s l : List ℕ) (total k word group left at : ℕ) (o : Option ℕ) → IsCounted bits words s l total → word ≡ get_or words group 0 → tally (is_in bits) (64 * group) + left ≡ k → at < 64 → has_bit word at ≡ true → tally (has_bit word) at ≡ left → SomeIff o ((1 ≤ 64 * group + at) × (64 * group + at ≤ 65535)) (64 * group + at) → o ≡ slice_get (members bits) k
 nth_some bits words s l total k word group left at o good is reached within on stands node =
     let in_word : (i : ℕ) → i < 64 → is_in bits (64 * group + i) ≡ has_bit word i = λ i less. good.same (64 * group + i) ∙ on_word words group i less ∙ ap (λ w. has_bit w i) (sym is) in

@@ -17,7 +17,7 @@ pub in_places : (len : ℕ) (words : List ℕ) (v : ℕ) → v < len → is_in (
 unfolding places_of
 in_places len words v there = get_or-map-range_with_len (is_on words) 0 len v v false there (omega arith)
 
--- the places of words are these, where they agree
+-- the places of words are these, if they agree
 pub places_are : (len : ℕ) (words : List ℕ) (bits : List Bool) → length bits ≡ len → ((v : ℕ) → v < len → is_in bits v ≡ is_on words v) → places_of len words ≡ bits
 places_are len words bits long same =
     let len_is = length-places_of len words in

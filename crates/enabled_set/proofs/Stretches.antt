@@ -8,7 +8,7 @@ use Rattle.enabled_set.specs.Counts.{tally, IsCount}
 use Rattle.enabled_set.proofs.Counting.{past, tally_add, tally_through, tally_put}
 use Rattle.enabled_set.proofs.Before.{before_more, before_put}
 
--- a stretch is counted before a place where it ends there
+-- a block is counted before a place if it ends there
 past_stretch : (w v i : ℕ) → 0 < w → past (v / w) i ≡ past v (w * i)
 past_stretch w v i some =
     let turn = mul_comm w i in

@@ -36,7 +36,7 @@ by_places {X = X} f xs d =
         let rest = mapped g is in
         omega (arith, left, right, rest)
 
--- what the places hold is what the names from 1 on bring, where place 0 has nothing
+-- the sum of the places is that of the names from 1 on, if place 0 is zero
 pub summed : {X : Type 0} (f : X → ℕ) (part : ℕ → ℕ) (size : ℕ) (xs : List X) (d : X) → length xs ≡ size + 1 → f (get_or xs 0 d) ≡ 0 → ((v : ℕ) → f (get_or xs v d) ≡ part v) → sum_by f xs ≡ sum_by part (range_with_len 1 size)
 summed f part size xs d places none told =
     let count : length xs ≡ suc size = omega (arith, places) in
@@ -53,7 +53,7 @@ sum_put f xs v was it sum x y within is at left right =
     let same = ap f at in
     omega (arith, turn, part, same, is, left, right)
 
--- still fits, where no place holds more than the most
+-- it still fits, if no place exceeds the greatest value
 pub sum_fits : {X : Type 0} (f : X → ℕ) (most : ℕ) (xs : List X) (v : ℕ) (was it : X) (sum x y : ℕ) → length xs ≤ 65536 → All (λ z. f z ≤ most) xs → f it ≤ most → v < length xs → sum ≡ sum_by f xs → was ≡ get_or xs v was → x ≡ f was → y ≡ f it → sum - x + y ≤ 65536 * most
 sum_fits f most xs v was it sum x y few light fits within is at left right =
     let put = sum_put f xs v was it sum x y within is at left right in

@@ -1,29 +1,31 @@
--- How many members each stretch of places has.
+-- How many members each block of places has.
 use Rattle.std.specs.Prelude.{◌≡◌, ℕ, zero, suc, ◌+◌, ◌*◌, ◌≤◌, Bool, false, cond, List, length, slice_index}
 use Rattle.std.specs.List.{filter, range_with_len}
 use Rattle.enabled_set.specs.Members.{is_in, is_on}
 
--- how many of the numbers below the second pass
+-- how many numbers below the second argument pass
 unfoldable pub tally : (ℕ → Bool) → ℕ → ℕ
 tally p zero = 0
 tally p (suc n) = cond (p n) (suc (tally p n)) (tally p n)
 
--- the numbers below the second that pass, ascending
+-- the numbers below the second argument that pass, ascending
 unfoldable pub below : (ℕ → Bool) → ℕ → List ℕ
 below p n = filter p (range_with_len 0 n)
 
--- the sum of the counts before a place; nothing is counted past the end
+-- the sum of the counts before an index; counts past the end are 0
 unfoldable pub before : List ℕ → ℕ → ℕ
 before counts zero = 0
 before counts (suc i) = before counts i + slice_index counts i
 
--- The i-th count is how many members the i-th stretch of this many places has, and the stretches cover all places.
+-- The i-th count is the number of members in the i-th block of `width` places, and the blocks cover all
+-- places.
 pub record IsCount (bits : List Bool) (width : ℕ) (counts : List ℕ) : Type 0 where
   pub covers : length bits ≤ width * length counts
   pub counted : (i : ℕ) → before counts i ≡ tally (is_in bits) (width * i)
 
--- The words have these places and at most eight words' more, nobody is no member, and the counts and the total are right.
--- From the group or the lot of a place on there are eight words or counts, and sixteen lots in all.
+-- The words have these places and at most eight words more, 0 is not a member, and the counts and the total
+-- are right.
+-- From any place on there are eight words and eight counts of 512; the counts of 4,096 are sixteen.
 pub record IsCounted (bits : List Bool) (words by_512 by_4096 : List ℕ) (total : ℕ) : Type 0 where
   pub few : length bits ≤ 65536
   pub covered : length bits + 448 ≤ 64 * length words

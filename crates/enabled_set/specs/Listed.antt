@@ -1,9 +1,9 @@
--- Names that are marked, each of which stands once in a list.
+-- Marked names, each listed once.
 use Rattle.std.specs.Prelude.{◌≡◌, ◌≢◌, ℕ, ◌<◌, ◌≤◌, Bool, true, List, length, slice_index}
 use Rattle.enabled_set.specs.Members.{is_in}
 use Rattle.enabled_set.specs.Counts.{tally}
 
--- so many places of the list, the first ones, have the marked names, each once
+-- the first `count` entries of the list are the marked names, each once
 pub record AreListed (bits : List Bool) (names : List ℕ) (count : ℕ) : Type 0 where
   pub few : length bits ≤ 65536
   pub some : 1 ≤ length bits

@@ -1,9 +1,10 @@
--- A set of names as a list with a place for each name, true where the name is a member, and as the bits of words. Place 0 is nobody's.
+-- A set of names: as a list of booleans, one for each name, and as the bits of words. Index 0 belongs to no
+-- node.
 use Rattle.std.specs.Prelude.{ℕ, Bool, false, List, length, slice_index_or, ◌≡◌, ◌/◌, ◌%◌, ◌≤◌, true, map, nat_eq, slice_index}
 use Rattle.std.specs.List.{filter, range_with_len}
 use Rattle.std.specs.Int.{bit_at}
 
--- whether a name is a member; a name that has no place is none
+-- whether a name is a member; a name past the end is none
 abbrev pub is_in : List Bool → ℕ → Bool
 is_in bits v = slice_index_or bits v false
 
@@ -11,18 +12,18 @@ is_in bits v = slice_index_or bits v false
 abbrev pub members : List Bool → List ℕ
 members bits = filter (is_in bits) (range_with_len 0 (length bits))
 
--- whether a word has the bit at a place, from 0
+-- whether a word has this bit, from 0
 unfoldable pub has_bit : ℕ → ℕ → Bool
 has_bit word i = nat_eq (bit_at word i) 1
 
--- whether words have the bit of a place; none past the end
+-- whether words have this bit; none past the end
 unfoldable pub is_on : List ℕ → ℕ → Bool
 is_on words v = has_bit (slice_index words (v / 64)) (v % 64)
 
--- the first places of words
+-- the first `len` places of words
 unfoldable pub places_of : ℕ → List ℕ → List Bool
 places_of len words = map (is_on words) (range_with_len 0 len)
 
--- the bits are those of names only
+-- all bits are those of names
 abbrev pub AreNames : List ℕ → Type 0
 AreNames words = (v : ℕ) → is_on words v ≡ true → (1 ≤ v) × (v ≤ 65535)

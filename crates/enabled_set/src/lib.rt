@@ -1,12 +1,12 @@
-//! A set of node names that knows how many members it has, and which is the k-th; and names that are marked until they are taken.
+//! Sets of node names with a count and a k-th member, and marks that are taken one by one.
 //!
-//! `EnabledSet` holds the enabled nodes of a network and the names that are present. A daemon asks for the k-th member, an injector for
-//! the k-th node: neither scans all names. A place is a bit; counts of 512 and of 4,096 places, and of all, are kept with it by each
-//! `insert` and `remove`. `Marks` holds the nodes of a choice, and the names that have to be looked at again: all are taken, one after
-//! another, at the cost of those that were marked. Contracts see a list of truths, one for each name.
+//! `EnabledSet` holds the enabled or the present nodes of a network. Daemons and injectors ask for the k-th
+//! member without a scan of all names. A member is a bit; members are counted for every 512 and 4,096 bits,
+//! and in all. `Marks` holds the nodes of a choice, or names to be looked at again. Taking all costs only
+//! what was marked. Contracts see both as a list of booleans, one for each name.
 //!
-//! `insert`, `remove`, `contains`, `count`, `mark` and `take` cost a few looks, `nth` some thirty at most, `to_list` a look at each word
-//! and at each member. Only `new` and `to_list` take memory.
+//! `insert`, `remove`, `contains`, `count`, `mark` and `take` cost a few looks, `nth` at most some thirty.
+//! `to_list` looks at each word and each member. Only `new` and `to_list` take memory.
 //!
 //! ```rust
 //! let mut set = EnabledSet::new(alloc, 1_000)?;

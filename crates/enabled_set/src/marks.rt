@@ -7,9 +7,9 @@ use rule_machine::{Node, Want};
 use std::alloc::Global;
 use std::marker::Model;
 
-/// Names that are marked until they are taken one by one, seen in contracts as a list with a place for each name, `true` where the
-/// name is marked. Place 0 is nobody's. The marked names stand in the first places of a list, in the order in which they came, so
-/// that taking all costs what was marked and not a look at each name.
+/// Names that are marked until they are taken, one by one.
+/// Contracts see a list of booleans, one for each name; index 0 belongs to no node.
+/// The marked names are also listed in order of arrival, so taking all costs only what was marked.
 #[derive(Drop)]
 pub struct Marks {
     is_marked: Vec<bool>,
@@ -28,7 +28,6 @@ impl Model for Marks {
     ghost invariant = { λ m. AreListed m.is_marked.items m.names.items m.count };
 }
 
-/// The node whose name is the next one.
 #[inline(always)]
 fn node_above(name: u16) -> Node
     requires { name < 65535 }
@@ -38,7 +37,8 @@ fn node_above(name: u16) -> Node
 }
 
 impl Marks {
-    /// No mark on any of the names 1 to `nodes`, at most 65,535; takes three bytes a name.
+    /// No marks, for the names 1 to `nodes`, at most 65,535. Takes three bytes a name.
+    /// Error: out of memory.
     pub fn new(alloc: Global, nodes: u32) -> Result<Marks, Want>
         requires { nodes ≤ 65535 }
         ensures { IfOk result (λ marks. marks ≡ replicate (nodes + 1) false) }
@@ -53,7 +53,7 @@ impl Marks {
         })
     }
 
-    /// Whether a name is marked; `false` for one that has no place. One look.
+    /// Whether a name is marked; `false` above the greatest name. One look.
     #[inline(always)]
     pub fn contains(&self, v: Node) -> bool
         ensures { result ≡ is_in self.now v }
@@ -61,7 +61,7 @@ impl Marks {
         self.is_marked.get(v.place()).copied().unwrap_or(false)
     }
 
-    /// Marks a name that has a place, which may be marked already. Two writes at most.
+    /// Marks a name, which may be marked already. At most three writes.
     #[inline(always)]
     pub fn mark(&mut self, v: Node)
         requires { v < length self.old }
@@ -76,7 +76,7 @@ impl Marks {
         self.count += 1;
     }
 
-    /// Marks all names. A look at each.
+    /// Marks all names. One look at each.
     pub fn mark_all(&mut self)
         ensures places { length self.new ≡ length self.old }
         ensures marked { (v : ℕ) → 1 ≤ v → v < length self.old → is_in self.new v ≡ true }
@@ -87,7 +87,8 @@ impl Marks {
         }
     }
 
-    /// Takes the mark from a name and gives that name, the one that was marked last (tested); `None` where none is. Two looks and a write.
+    /// Takes and returns the name that was marked last (tested); `None` if none is marked.
+    /// Two looks and two writes.
     #[inline(always)]
     pub fn take(&mut self) -> Option<Node>
         ensures none { IsNone result → (v : ℕ) → is_in self.old v ≡ false }
@@ -103,7 +104,7 @@ impl Marks {
         self.is_marked[v.place()] = false;
         Some(v)
     }
-    /// Takes all marks. Two looks and a write at each.
+    /// Takes all marks. Two looks and two writes for each.
     pub fn clear(&mut self)
         ensures clear { (v : ℕ) → is_in self.new v ≡ false }
         ensures places { length self.new ≡ length self.old }

@@ -7,7 +7,7 @@ ghost use Rattle.enabled_set.specs.Counts.{tally, before, below};
 use crate::word::{Spot, bit_is_set, first_bit, spot_behind, without_bit};
 use rule_machine::{Node, Want};
 
-/// The word at a place; 0 past the end.
+/// The word at an index; 0 past the end.
 #[inline(always)]
 pub fn word_at(words: &[u64], place: usize) -> u64
     ensures { result ≡ slice_index words.now place }
@@ -18,7 +18,6 @@ pub fn word_at(words: &[u64], place: usize) -> u64
     }
 }
 
-/// Whether the words have the bit of a place.
 #[inline(always)]
 pub fn look(words: &[u64], place: usize) -> bool
     ensures { result ≡ is_on words.now place }
@@ -26,8 +25,8 @@ pub fn look(words: &[u64], place: usize) -> bool
     bit_is_set(word_at(words, place / 64), place % 64)
 }
 
-/// Passes the stretches that have no more members than are to pass. Among the first sixteen there is one that has more, and
-/// the scan stands before it. It stops there, since a network has few such stretches.
+/// Which of 16 counts includes member `to_pass`, and the member's rank in it, from 0.
+/// Stops at that count, since a network has few counts to pass.
 #[inline(always)]
 pub fn pass_in_16(counts: &[u16], to_pass: u32) -> Spot
     requires room { 16 ≤ length counts.now }
@@ -47,8 +46,7 @@ pub fn pass_in_16(counts: &[u16], to_pass: u32) -> Spot
     Spot { place: 15, left }
 }
 
-/// Passes the stretches from `from` on that have no more members than are to pass: among the next eight there is one that has
-/// more, and the scan stands before it. Each of the eight is summed, so that no jump has to be guessed.
+/// The same for the eight counts from `from` on. Sums each, to avoid a mispredicted branch.
 #[inline(always)]
 pub fn pass_in_8(counts: &[u16], from: usize, to_pass: u32) -> Spot
     requires room { from + 8 ≤ length counts.now }
@@ -70,8 +68,7 @@ pub fn pass_in_8(counts: &[u16], from: usize, to_pass: u32) -> Spot
     spot
 }
 
-/// Passes the words from one on that have no more bits than are to pass. Among the first eight there is one that has
-/// more, and the scan stands before it. Each of them is summed, as above.
+/// The same for the bits of the eight words from `from` on.
 #[inline(always)]
 pub fn pass_words(words: &[u64], from: usize, to_pass: u32) -> Spot
     requires room { from + 8 ≤ length words.now }
@@ -93,7 +90,7 @@ pub fn pass_words(words: &[u64], from: usize, to_pass: u32) -> Spot
     spot
 }
 
-/// Appends the names in a word to a list of those before.
+/// Appends the names in a word to a list of the names before it.
 #[inline(always)]
 pub fn push_word(list: &mut Vec<Node>, words: &[u64], place: usize) -> Result<(), Want>
     requires named { AreNames words.now }

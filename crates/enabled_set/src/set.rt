@@ -9,9 +9,10 @@ use rule_machine::{Node, Want};
 use std::alloc::Global;
 use std::marker::Model;
 
-/// A set of names, seen in contracts as a list with a place for each name, `true` where the name is a member. Place 0 is
-/// nobody's. A place is a bit, and each 512 and each 4,096 places have a count of their members. Behind the last places there
-/// is so much room that eight words, eight counts or sixteen can be read wherever a member may stand.
+/// A set of names. Contracts see a list of booleans, one for each name; index 0 belongs to no node.
+///
+/// Each name is a bit. Each 512 and each 4,096 bits have a count of their members.
+/// The vectors are padded, so that eight words, eight counts or sixteen can be read from any member on.
 #[derive(Drop)]
 pub struct EnabledSet {
     len: usize,
@@ -34,8 +35,9 @@ impl Model for EnabledSet {
 }
 
 impl EnabledSet {
-    /// The empty set, for the names 1 to `nodes`, at most 65,535; takes a bit a name and some two bytes for each 512
-    /// names, at most some nine kilobytes.
+    /// The empty set, for the names 1 to `nodes`, at most 65,535.
+    /// Takes a bit a name and some two bytes for each 512 names: at most some nine kilobytes.
+    /// Error: out of memory.
     pub fn new(alloc: Global, nodes: u32) -> Result<EnabledSet, Want>
         requires { nodes ≤ 65535 }
         ensures { IfOk result (λ set. set ≡ replicate (nodes + 1) false) }
@@ -53,7 +55,7 @@ impl EnabledSet {
         })
     }
 
-    /// Whether a name is a member; `false` for a name that has no place. One look.
+    /// Whether a name is a member; `false` above the greatest name. One look.
     #[inline(always)]
     pub fn contains(&self, v: Node) -> bool
         ensures { result ≡ is_in self.now v }
@@ -61,15 +63,15 @@ impl EnabledSet {
         look(&self.words, v.place())
     }
 
-    /// How many members there are, at most 65,535. One look.
+    /// The number of members, at most 65,535. One look.
     pub fn count(&self) -> u32
         ensures { result ≡ length (members self.now) }
     {
         self.total
     }
 
-    /// The k-th member by rising names, from 0; `None` where there are not so many. A look at 16 counts at most, then at
-    /// eight, then at eight words, and at the bits of one.
+    /// The k-th member by ascending name, from 0; `None` from `count()` on.
+    /// Looks at most at 16 counts, eight counts, eight words, and the bits of one.
     pub fn nth(&self, k: u32) -> Option<Node>
         ensures { result ≡ slice_get (members self.now) k }
     {
@@ -84,8 +86,8 @@ impl EnabledSet {
         Node::new(u32::from(name))
     }
 
-    /// The members by rising names, at most 65,535; takes two bytes a member. A look at each word, and one more at each
-    /// member.
+    /// The members, ascending: at most 65,535. Takes two bytes a member.
+    /// Looks at each word and at each member. Error: out of memory.
     pub fn to_list(&self) -> Result<Vec<Node>, Want>
         ensures { IfOk result (λ list. list.items ≡ members self.now) }
     {
@@ -96,7 +98,7 @@ impl EnabledSet {
         Ok(list)
     }
 
-    /// Makes a name that has a place a member, which it may be already. Four writes at most.
+    /// Makes a name a member; it may be one already. At most four writes.
     pub fn insert(&mut self, v: Node)
         requires { v < length self.old }
         ensures { self.new ≡ slice_set self.old v true }
@@ -112,7 +114,7 @@ impl EnabledSet {
         self.total += 1;
     }
 
-    /// Makes a name that has a place no member, which it may be none already. Four writes at most.
+    /// Removes a name; it need not be a member. At most four writes.
     pub fn remove(&mut self, v: Node)
         requires { v < length self.old }
         ensures { self.new ≡ slice_set self.old v false }

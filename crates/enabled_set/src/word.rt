@@ -1,10 +1,9 @@
-//! Bits of a word of 64.
+//! Bits of a 64-bit word.
 
 ghost use Rattle.std.specs.Prelude.{◌≡◌, ◌≢◌, ℕ, ◌+◌, ◌*◌, ◌<◌, ◌≤◌, true, false, MatchOption};
 ghost use Rattle.enabled_set.specs.Members.{has_bit};
 ghost use Rattle.enabled_set.specs.Counts.{tally};
 
-/// Whether a word has a bit.
 #[inline(always)]
 pub fn bit_is_set(word: u64, at: usize) -> bool
     requires { at < 64 }
@@ -13,7 +12,6 @@ pub fn bit_is_set(word: u64, at: usize) -> bool
     word >> at & 1 == 1
 }
 
-/// A word with one bit more.
 pub fn with_bit(word: u64, at: usize) -> u64
     requires { at < 64 }
     ensures here { has_bit result at ≡ true }
@@ -22,7 +20,6 @@ pub fn with_bit(word: u64, at: usize) -> u64
     word | 1 << at
 }
 
-/// A word with one bit less.
 pub fn without_bit(word: u64, at: usize) -> u64
     requires { at < 64 }
     ensures here { has_bit result at ≡ false }
@@ -31,7 +28,6 @@ pub fn without_bit(word: u64, at: usize) -> u64
     word & !(1 << at)
 }
 
-/// The lowest bit that a word has.
 #[inline(always)]
 pub fn first_bit(word: u64) -> Option<usize>
     ensures { MatchOption result
@@ -44,15 +40,14 @@ pub fn first_bit(word: u64) -> Option<usize>
     Some(word.trailing_zeros() as usize)
 }
 
-/// Where a scan stands: before a stretch of places, with as many members from there on to pass.
+/// The state of a scan: the next index, and how many members to skip from there on.
 #[derive(Clone, Copy)]
 pub struct Spot {
     pub place: usize,
     pub left: u32,
 }
 
-/// Passes a stretch of so many places that has so many members, if it has no more than are to pass. Both ways are as short,
-/// so none is jumped over.
+/// Skips a block of `width` bits if it has no more members than remain to be skipped. Branch-free.
 #[inline(always)]
 fn pass_over(spot: Spot, width: usize, members: u32) -> Spot
     requires { spot.place + width ≤ 65536 }
@@ -70,7 +65,7 @@ fn pass_over(spot: Spot, width: usize, members: u32) -> Spot
     }
 }
 
-/// The spot behind stretches that have so many members, if these are no more than are to pass; else the one that there was.
+/// The spot at `place` if at most `to_pass` members come before it, else the old spot.
 #[inline(always)]
 pub fn spot_behind(spot: Spot, place: usize, to_pass: u32, members: u32) -> Spot
     ensures stays_place { to_pass < members → result.place ≡ spot.place }
@@ -87,7 +82,7 @@ pub fn spot_behind(spot: Spot, place: usize, to_pass: u32, members: u32) -> Spot
     }
 }
 
-/// Of twice as many places as `width`, the half in which the bit stands that a scan is looking for.
+/// The half of the `2 * width` bits from `spot` on that has the bit searched for.
 fn half(word: u64, spot: Spot, width: usize) -> Spot
     requires some { 1 ≤ width }
     requires inside { spot.place + 2 * width ≤ 64 }
@@ -100,7 +95,7 @@ fn half(word: u64, spot: Spot, width: usize) -> Spot
     pass_over(spot, width, low.count_ones())
 }
 
-/// The bit of a word that stands behind as many as are to pass.
+/// The bit with exactly `to_pass` set bits below it.
 pub fn find_bit(word: u64, to_pass: u32) -> usize
     requires { to_pass < tally (has_bit word) 64 }
     ensures inside { result < 64 }

@@ -1,4 +1,4 @@
--- Where a text stops to be the lines of a base.
+-- The first line at which a text departs from the lines of a base.
 use Rattle.std.proofs.Common.{◌≡◌, ℕ, zero, suc, ◌+◌, ◌<◌, ◌≤◌, List, [], ◌∷◌, ◌++◌, length, length-append, map, refl, sym, ap, ap₂, subst, ◌∙◌, append_assoc, arith}
 use Rattle.std.specs.Prelude.{Result, Ok, Err, IfErr}
 use Rattle.std.specs.Result.{IsErrAnd}
@@ -67,7 +67,7 @@ all_follow (suc left) edges last [] lines h r f = absurd (omega (arith, h))
 all_follow zero edges last (place ∷ places) lines h r f = absurd (omega (arith, h))
 all_follow (suc left) edges last (place ∷ places) lines h r f = (r.0, all_follow left edges place.node places lines (omega (arith, h)) r.1 f)
 
--- what follows them where some are missing
+-- what follows them if some are missing
 
 node_comes : (left edges last : ℕ) (places : List PlaceKept) (line : BaseLine) → length places < left → NodesFollow left edges last (place_lines places ++ line ∷ []) → (place : PlaceKept) × (line ≡ place_line place) × (last_node last places < place.node)
 node_comes zero edges last places line h f = absurd (omega (arith, h))

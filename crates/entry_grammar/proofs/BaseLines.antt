@@ -45,7 +45,7 @@ ends_is a b = append_assoc (number_text a) (32 ∷ []) (number_text b)
 pub head_is : (rules : RuleSet) (size : ℕ) → rules_word rules ++ codes " " ++ number_text size ≡ rules_text rules size
 head_is rules size = append_assoc (rules_word rules) (32 ∷ []) (number_text size)
 
--- the first byte, which tells the four kinds of lines apart
+-- the first byte, which distinguishes the four kinds of lines
 abbrev first_of : List ℕ → ℕ
 first_of line = get_or line 0 0
 
@@ -72,7 +72,7 @@ no_line line node edge base head (Base number spent nodes edges) h = base (joine
 no_line line node edge base head (Place v target flag) h = node (number_text v ++ codes " " ++ target_text target ++ codes " " ++ bool_text flag) h.is
 no_line line node edge base head (Link e) h = edge (pair_text e.0 e.1) h.is
 
--- what stands behind each number of a base
+-- what follows each number of a base
 pub behind_number : (bytes : List ℕ) (n : ℕ) (rest : List ℕ) (q : ℕ × ℕ × ℕ × ℕ) → AreCounts q → FieldThen bytes (codes "") n rest → bytes ≡ joined field_text (base_fields q.0 q.1 q.2 q.3) → rest ≡ joined field_text ((codes "spent=", q.1) ∷ (codes "nodes=", q.2) ∷ (codes "edges=", q.3) ∷ [])
 behind_number bytes n rest q f h e =
     (behind bytes (codes "") n q.0 rest (codes "spent=", q.1) ((codes "nodes=", q.2) ∷ (codes "edges=", q.3) ∷ []) tt f.0 h e).1

@@ -30,7 +30,7 @@ nodes_rise_push : (last : ℕ) (places : List Place) (place : Place) → NodesRi
 nodes_rise_push last [] place r h = (h, tt)
 nodes_rise_push last (p ∷ places) place r h = (r.0, nodes_rise_push p.node places place r.1 h)
 
--- so many nodes were read, the last of them that one
+-- this many nodes were read, the last of them that one
 pub record NodesSoFar (bytes : List ℕ) (places : List Place) (rest : List ℕ) (count last : ℕ) : Type 0 where
   pub read : NodesRead bytes places rest
   pub count_is : length places ≡ count
@@ -71,7 +71,7 @@ edges_rise_push : (last : ℕ × ℕ) (edges : List (ℕ × ℕ)) (edge : ℕ ×
 edges_rise_push last [] edge r h = (h, tt)
 edges_rise_push last (e ∷ edges) edge r h = (r.0, edges_rise_push e edges edge r.1 h)
 
--- so many edges were read, the last of them that one
+-- this many edges were read, the last of them that one
 pub record EdgesSoFar (bytes : List ℕ) (edges : List (ℕ × ℕ)) (rest : List ℕ) (count : ℕ) (last : ℕ × ℕ) : Type 0 where
   pub read : EdgesRead bytes edges rest
   pub count_is : length edges ≡ count

@@ -26,7 +26,7 @@ text lines = ended base_line_text lines
 one_line : (line : BaseLine) (lines : List BaseLine) (x : List ℕ) → text (line ∷ lines) ++ x ≡ base_line_text line ++ 10 ∷ (text lines ++ x)
 one_line line lines x = append_assoc (base_line_text line ++ 10 ∷ []) (text lines) x ∙ append_assoc (base_line_text line) (10 ∷ []) (text lines ++ x)
 
--- the second goes on where the first ends
+-- the second continues after the first
 record GoesOn (ls ms : List BaseLine) (x y : List ℕ) : Type 0 where
   more : List BaseLine
   is : ms ≡ ls ++ more
@@ -91,7 +91,7 @@ base_text_is rules size base =
     append_assoc (head ++ counts) (ended place_text base.nodes) (ended link_text base.edges)
     ∙ append_assoc head counts (ended place_text base.nodes ++ ended link_text base.edges)
 
--- the lines behind the first
+-- the lines after the first
 abbrev tail_of : BaseKept → List BaseLine
 tail_of base = map place_line base.nodes ++ map (λ edge. Link edge) base.edges
 
@@ -149,7 +149,7 @@ base_from_lines a b e =
     let parts = parts_once a.nodes b.nodes a.edges b.edges two.1 in
     λ i. record { number = four.0 i; spent = four.1 i; nodes = parts.0 i; edges = parts.1 i }
 
--- a base's lines go on behind another's by none
+-- a base's lines never continue after those of another
 no_more : (a b : BaseKept) (more : List BaseLine) → lines_of_base b ≡ lines_of_base a ++ more → length more ≡ 0
 no_more a b more e =
     let two = cons_is (first_of b) (first_of a) (tail_of b) (tail_of a ++ more) e in
@@ -181,9 +181,9 @@ base_once bytes a b x y f g d e =
     go (inl h) = let s = same_from a b x y h in (s.bases, s.rests)
     go (inr h) = let s = same_from b a y x h in (sym s.bases, sym s.rests)
 
--- ---- where lines break off
+-- ---- the break of lines
 
--- lines that may come next do not where others break off
+-- lines that may come next do not come at a break
 not_behind : (bytes : List ℕ) (k : ℕ) (b : BreaksAt bytes k) (lines : List BaseLine) (y : List ℕ) → MayFollow lines → GoesOn b.lines lines b.rest y → lines ≡ b.lines
 not_behind bytes k b lines y follow g = go g.more g.is g.behind g.fit
   where
@@ -200,7 +200,7 @@ breaks_once bytes k l b c = go (meet b.lines c.lines b.rest c.rest b.fit c.fit (
     go (inl h) = b.number ∙ ap (λ ls. length ls + 1) (sym (not_behind bytes k b c.lines c.rest c.follow h)) ∙ sym c.number
     go (inr h) = b.number ∙ ap (λ ls. length ls + 1) (not_behind bytes l c b.lines b.rest b.follow h) ∙ sym c.number
 
--- a whole base is not short, and neither is what goes on behind it
+-- a whole base is not short, and neither is what continues it
 not_short : (base : BaseKept) (more : List BaseLine) → IsShort (lines_of_base base ++ more) → ⊥
 not_short base more short =
     let lens = length-append (tail_of base) more in

@@ -1,4 +1,4 @@
--- Numbers behind their names.
+-- Fields: numbers after their names.
 use Rattle.std.proofs.Common.{◌≡◌, ◌≤◌, ℕ, List, ◌∷◌, ◌++◌, Option, None, Some, drop, refl, sym, ap, ◌∙◌, arith}
 use Rattle.std.specs.Prelude.{codes}
 use Rattle.std.proofs.lemmas.List.{append-nil, append_cancel_left}
@@ -10,7 +10,7 @@ use Rattle.line_text.specs.Reading.{Reads}
 use Rattle.entry_grammar.specs.Reading.{IsFree, CutAt, FieldThen}
 use Rattle.entry_grammar.proofs.Free.{free_append, free_number, free_by, cut_once}
 
--- a field is cut at the space behind it
+-- a field is cut at the space after it
 pub field_cut : (bytes name : List ℕ) (n : ℕ) (rest : List ℕ) → IsFree 32 name → FieldThen bytes name n rest → CutAt 32 bytes (field_text (name, n)) rest
 field_cut bytes name n rest f h =
     let few = h.fits in
@@ -24,12 +24,12 @@ pub field_once : (name : List ℕ) (m n : ℕ) → IsCount m → IsCount n → f
 field_once name m n f g e =
     decimal_injective m n (omega (arith, f)) (omega (arith, g)) (append_cancel_left name (number_text m) (number_text n) e)
 
--- a number behind its name is read as its digits are
+-- a number after its name is read as its digits are
 pub field_reads : (bytes name digits : List ℕ) (r : Option ℕ) → bytes ≡ name ++ digits → Reads (λ n. n ≤ 4294967295) number_text digits r → Reads IsCount (λ n. field_text (name, n)) bytes r
 field_reads bytes name digits None e none = λ n f is. none n (omega (arith, f)) (append_cancel_left name digits (number_text n) (sym e ∙ is))
 field_reads bytes name digits (Some n) e found = (omega (arith, found.0), e ∙ ap (λ (t : List ℕ). name ++ t) found.1)
 
--- a field, and what follows the space behind it
+-- a field, and what follows the space after it
 pub behind : (bytes name : List ℕ) (m n : ℕ) (rest : List ℕ) (next : List ℕ × ℕ) (more : List (List ℕ × ℕ)) → IsFree 32 name → IsCount n → FieldThen bytes name m rest → bytes ≡ joined field_text ((name, n) ∷ next ∷ more) → (m ≡ n) × (rest ≡ joined field_text (next ∷ more))
 behind bytes name m n rest next more f g h e =
     let r = cut_once 32 bytes (field_text (name, m)) (field_text (name, n)) rest (joined field_text (next ∷ more)) (field_cut bytes name m rest f h) (field_cut bytes name n (joined field_text (next ∷ more)) f (record { fits = g; is = e })) in
@@ -39,7 +39,7 @@ behind bytes name m n rest next more f g h e =
 abbrev pub left_from : ℕ → Counts → List ℕ
 left_from k c = joined field_text (drop k (fields_of c))
 
--- what stands behind each field, one after another
+-- what follows each field, one after another
 pub after_nodes : (bytes : List ℕ) (n : ℕ) (rest : List ℕ) (c : Counts) → IsCounts c → FieldThen bytes (codes "nodes=") n rest → bytes ≡ counts_text c → (n ≡ c.nodes) × (rest ≡ left_from 1 c)
 after_nodes bytes n rest c f h e =
     behind bytes (codes "nodes=") n c.nodes rest (codes "edges=", c.edges) (drop 2 (fields_of c)) (free_by 32 (codes "nodes=") refl) f.0 h e
@@ -85,11 +85,11 @@ counts_once x y f g e =
     let last = field_once (codes "spent=") x.spent y.spent f.5 g.5 (sym (append-nil (field_text (codes "spent=", x.spent))) ∙ k.1 ∙ append-nil (field_text (codes "spent=", y.spent))) in
     counts_same x y a.0 b.0 c.0 d.0 k.0 last
 
--- what is left behind the fifth field is the sixth
+-- what is left after the fifth field is the sixth
 pub last_text : (rest : List ℕ) (c : Counts) → rest ≡ left_from 5 c → rest ≡ field_text (codes "spent=", c.spent)
 last_text rest c e = e ∙ append-nil (field_text (codes "spent=", c.spent))
 
--- where nothing was found there is nothing to be found
+-- if none was found there is none to be found
 pub none_read : (bytes : List ℕ) (r : Option Counts) → r ≡ None → ((c : Counts) → IsCounts c → bytes ≡ counts_text c → ⊥) → Reads IsCounts counts_text bytes r
 none_read bytes None e none = none
 none_read bytes (Some c) e none = cc

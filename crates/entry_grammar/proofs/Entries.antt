@@ -46,19 +46,19 @@ spells_entry_once line m n e f a b =
     let r = pair_is e.0 e.1 f a.event a.reply (fits_suits e.0 e.1 a.fits) b.event b.reply (fits_suits f.0 f.1 b.fits) p.1 p.2 in
     (decimal_injective m n (omega (arith, j.1)) (omega (arith, k.1)) p.0, ap (λ (z : Event). (z, e.1)) r.0 ∙ ap (λ (z : Reply). (f.0, z)) r.1)
 
--- no entry is spelled where the event's text is no command
+-- no entry is spelled if the event's text is no command
 pub no_command : (line number event reply : List ℕ) (n : ℕ) (entry : Event × Reply) → PartsOf line number event reply → NotACommand event → SpellsEntry line n entry → ⊥
 no_command line number event reply n entry p none h =
     none entry.0 (h.event, (spelled_same line number event reply n entry p h).1)
 
--- no entry is spelled where the reply's text is no reply to the event
+-- no entry is spelled if the reply's text is no reply to the event
 pub no_reply : (line number event reply : List ℕ) (n : ℕ) (entry : Event × Reply) (asked : Event) → PartsOf line number event reply → Spells event asked → ((q : Reply) → IsTrue (suits asked q) × IsReply q → reply ≡ reply_text q → ⊥) → SpellsEntry line n entry → ⊥
 no_reply line number event reply n entry asked p s none h =
     let q = spelled_same line number event reply n entry p h in
     let same : entry.0 ≡ asked = spells_once event entry.0 asked (h.event, q.1) s in
     none entry.1 (subst (λ (z : Event). IsTrue (suits z entry.1)) same (fits_suits entry.0 entry.1 h.fits), h.reply) q.2
 
--- no entry is spelled where the reply does not fit the event
+-- no entry is spelled if the reply does not fit the event
 pub no_fit : (line number event reply : List ℕ) (n : ℕ) (entry : Event × Reply) (asked : Event) (answered : Reply) → PartsOf line number event reply → Spells event asked → (IsTrue (suits asked answered) × IsReply answered) × (reply ≡ reply_text answered) → (IsTrue (fits asked answered) → ⊥) → SpellsEntry line n entry → ⊥
 no_fit line number event reply n entry asked answered p s r none h =
     let q = spelled_same line number event reply n entry p h in

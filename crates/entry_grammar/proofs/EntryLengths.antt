@@ -29,7 +29,7 @@ act_short : (act : Act) → length (act_word act) ≤ 7
 act_short Update = omega arith
 act_short act = omega arith
 
--- a rule with its target, where it takes one
+-- a rule with its target, if it takes one
 deed_short : (node : ℕ) (act : Act) (target : Option ℕ) → IfSome target IsName → IsTrue (is_move (record { node = node; act = act; target = target })) → length (act_word act ++ marked_text (codes ">") target) ≤ 12
 deed_short node act None h is = omega (arith, act_short act, length-append (act_word act) [])
 deed_short node Marry (Some w) h is = omega (arith, name_short w h, length-append (codes "marry") (codes ">" ++ number_text w), length-append (codes ">") (number_text w))
@@ -37,7 +37,7 @@ deed_short node Seduce (Some w) h is = omega (arith, name_short w h, length-appe
 deed_short node Update (Some w) h is = absurd (true≢false (sym is))
 deed_short node Abandon (Some w) h is = absurd (true≢false (sym is))
 
--- a move as a reply may tell it
+-- a move as a reply may have it
 abbrev IsTold : Moved → Type 0
 IsTold m = IsMoved m × IsTrue (is_move m)
 
@@ -125,7 +125,7 @@ refusal_short refusal =
       length-append (number_text (refusal_number refusal) ++ codes " ") (refusal_text refusal),
     )
 
--- a number behind its name, and the space before it
+-- a field, and the space before it
 field_short : (name : List ℕ) (n : ℕ) → length name ≤ 8 → IsCount n → length (field_text (name, n)) ≤ 18
 field_short name n short h =
     let digits : length (number_text n) ≤ 10 = length-decimal-le 10 n (omega arith) (omega (arith, h)) (omega (arith, h)) in

@@ -1,4 +1,4 @@
--- Texts that have no byte of a kind, and where they end.
+-- Texts without a given byte, and their ends.
 use Rattle.std.proofs.Common.{◌≡◌, ◌≢◌, ℕ, ◌<◌, ◌+◌, ◌-◌, true, not, List, [], ◌∷◌, ◌++◌, take, drop, length, get_or, refl, sym, ap, subst, ◌∙◌, arith}
 use Rattle.std.specs.Prelude.{Option, None, Some, IfSome, nat_eq}
 use Rattle.std.specs.Int.{IsInRange}
@@ -49,7 +49,7 @@ pub not_free : (mark : ℕ) (front back : List ℕ) → IsFree mark (front ++ ma
 not_free mark [] back f = f.0 refl
 not_free mark (b ∷ front) back f = not_free mark front back f.1
 
--- what stands before the first mark, and behind it, is determined
+-- what comes before the first mark, and after it, is determined
 pub mark_once : (mark : ℕ) (f g x y : List ℕ) → IsFree mark f → IsFree mark g → f ++ mark ∷ x ≡ g ++ mark ∷ y → (f ≡ g) × (x ≡ y)
 mark_once mark [] [] x y p q e = (refl, (cons_parts mark mark x y e).1)
 mark_once mark [] (d ∷ g) x y p q e = absurd (q.0 (sym (cons_parts mark d x (g ++ mark ∷ y) e).0))
@@ -72,7 +72,7 @@ pub free_more : (mark : ℕ) (bytes : List ℕ) (i : ℕ) → i < length bytes �
 free_more mark bytes i lt f n =
     subst (IsFree mark) (sym (take_more bytes i 0 lt)) (free_append mark (take i bytes) (get_or bytes i 0 ∷ []) f (n, tt))
 
--- what is left of the bytes behind the mark
+-- what is left of the bytes after the mark
 pub behind_mark : (mark : ℕ) (bytes : List ℕ) (i : ℕ) → CutAt mark bytes (take i bytes) (drop (i + 1) bytes) → CutAt mark bytes (take i bytes) (take (length bytes - (i + 1)) (drop (i + 1) bytes))
 behind_mark mark bytes i h =
     let all : take (length bytes - (i + 1)) (drop (i + 1) bytes) ≡ drop (i + 1) bytes = ap (λ (z : ℕ). take z (drop (i + 1) bytes)) (sym (length-drop (i + 1) bytes)) ∙ take-length (drop (i + 1) bytes) in
@@ -98,7 +98,7 @@ pub free_act_mark : (act : Act) → IsFree 62 (act_word act)
 free_act_mark Update = free_by 62 (act_word Update) refl
 free_act_mark act = free_by 62 (act_word act) refl
 
--- a target behind its mark
+-- a target after its mark
 pub free_marked : (mark : ℕ) (target : Option ℕ) → (IsInRange 48 57 mark → ⊥) → 62 ≢ mark → IfSome target IsName → IsFree mark (marked_text (62 ∷ []) target)
 free_marked mark None o n f = tt
 free_marked mark (Some w) o n f = (n, free_name mark w o f)

@@ -18,7 +18,7 @@ pub rules_free : (rules : RuleSet) → IsFree 32 (rules_word rules)
 rules_free Hh = free_by 32 (rules_word Hh) refl
 rules_free Manne = free_by 32 (rules_word Manne) refl
 
--- what stands behind the first word of a header
+-- what follows the first word of a header
 pub header_words : (line words : List ℕ) (rules : RuleSet) (size count : ℕ) → line ≡ codes "matching " ++ words → SpellsHeader line rules size count → CutAt 32 words (rules_word rules) (sizes_text size count)
 header_words line words rules size count e h =
     let sizes = sizes_text size count in
@@ -27,7 +27,7 @@ header_words line words rules size count e h =
       is = append_cancel_left (codes "matching ") words (rules_word rules ++ 32 ∷ sizes) (sym e ∙ h.is ∙ append_assoc (codes "matching " ++ rules_word rules) (32 ∷ []) sizes ∙ append_assoc (codes "matching ") (rules_word rules) (32 ∷ sizes));
     }
 
--- the two parts of a header behind its first word
+-- the two parts of a header after its first word
 pub header_parts : (line words front back : List ℕ) (rules : RuleSet) (size count : ℕ) → line ≡ codes "matching " ++ words → CutAt 32 words front back → SpellsHeader line rules size count → (front ≡ rules_word rules) × (back ≡ sizes_text size count)
 header_parts line words front back rules size count e a h =
     cut_once 32 words front (rules_word rules) back (sizes_text size count) a (header_words line words rules size count e h)
@@ -40,7 +40,7 @@ free_size n few = free_number 32 n (λ h. omega (arith, h.0)) (omega (arith, few
 pub number_once : (back : List ℕ) (m n : ℕ) → m ≤ 65535 → n ≤ 65535 → back ≡ number_text m → back ≡ number_text n → m ≡ n
 number_once back m n h k e f = decimal_injective m n (omega arith) (omega arith) (sym e ∙ f)
 
--- where all are present, one number is said, and else two are
+-- if all are present there is one number, else there are two
 pub sizes_all : (size : ℕ) → sizes_text size size ≡ number_text size
 sizes_all size = grind (arith, nat_tests)
 
@@ -62,7 +62,7 @@ said size count bytes f e = told (nat_lt count size) refl
     told true less = let below : count < size = search rules in partly below (record { free = free_size size f.few; is = e ∙ sizes_some size count below })
     told false more = let same : count ≡ size = grind (arith, f.within) in whole same (e ∙ ap (sizes_text size) same ∙ sizes_all size)
 
--- where a space stands among them, two numbers are said
+-- if there is a space among them, there are two numbers
 pub two_said : (size count : ℕ) (bytes front back : List ℕ) → AreSizes size count → bytes ≡ sizes_text size count → CutAt 32 bytes front back → (count < size) × (front ≡ number_text size) × (back ≡ number_text count)
 two_said size count bytes front back f e at = step (said size count bytes f e)
   where

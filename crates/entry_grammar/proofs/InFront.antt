@@ -1,4 +1,4 @@
--- What stands at the front of a text is determined.
+-- The front of a text is determined.
 use Rattle.std.proofs.Common.{◌≡◌, ℕ, List, [], ◌∷◌, ◌++◌, Option, None, Some, get_or, refl, sym, ap, subst, ◌∙◌, append_assoc, arith}
 use Rattle.std.specs.Prelude.{IfSome, slice_index_or}
 use Rattle.std.specs.Int.{IsInRange}
@@ -14,12 +14,12 @@ use Rattle.entry_grammar.specs.Reading.{first_byte, Ends, TokenThen, PairThen, D
 use Rattle.entry_grammar.proofs.Marked.{marked_once}
 use Rattle.entry_grammar.proofs.TokensOnce.{whole_pair}
 
--- no digit stands at an end
+-- no digit begins an end
 pub ends_digit : (rest : List ℕ) → Ends rest → NoDigit rest
 ends_digit [] e = λ h. omega (arith, h.0)
 ends_digit (b ∷ rest) e = λ (h : IsInRange 48 57 b). omega (arith, h.0, h.1, e)
 
--- no mark but a space stands there
+-- no mark except a space begins an end
 pub ends_mark : (mark : ℕ) (rest : List ℕ) → (mark ≡ 32 → ⊥) → Ends (mark ∷ rest) → ⊥
 ends_mark mark rest other e = other e
 
@@ -40,7 +40,7 @@ pub act_begins : (act : Act) (bytes rest : List ℕ) → bytes ≡ act_word act 
 act_begins Update bytes rest e = sym (ap (λ (z : List ℕ). slice_index_or z 0 0) e)
 act_begins act bytes rest e = sym (ap (λ (z : List ℕ). slice_index_or z 0 0) e)
 
--- a rule's word is told by its first byte
+-- a rule's word is determined by its first byte
 pub act_by_first : (a b : Act) → first_byte a ≡ first_byte b → a ≡ b
 act_by_first Update Update e = refl
 act_by_first Marry Marry e = refl
@@ -70,12 +70,12 @@ pair_alone mark bytes p f e = record {
 pub deed_is : (act : Act) (target : Option ℕ) (rest : List ℕ) → deed_text act target ++ rest ≡ act_word act ++ (marked_text (62 ∷ []) target ++ rest)
 deed_is act target rest = append_assoc (act_word act) (marked_text (62 ∷ []) target) rest
 
--- what stands behind a rule's word in front
+-- what follows a rule's word at the front
 pub deed_marked : (bytes : List ℕ) (a : Act) (marked : List ℕ) (act : Act) (target : Option ℕ) (rest : List ℕ) → bytes ≡ act_word a ++ marked → DeedThen bytes act target rest → marked ≡ marked_text (62 ∷ []) target ++ rest
 deed_marked bytes a marked act target rest e h =
     (act_first a act marked (marked_text (62 ∷ []) target ++ rest) (sym e ∙ h.is ∙ deed_is act target rest)).1
 
--- behind a `>` stands a name
+-- after a `>` comes a name
 pub deed_name : (marked name : List ℕ) (target : Option ℕ) (rest : List ℕ) → marked ≡ 62 ∷ name → IfSome target IsName → Ends rest → marked ≡ marked_text (62 ∷ []) target ++ rest → (w : ℕ) × NameThen name w rest
 deed_name marked name None rest at f ends e = absurd (ends_mark 62 name (λ h. omega (arith, h)) (subst Ends (sym e ∙ at) ends))
 deed_name marked name (Some w) rest at f ends e =

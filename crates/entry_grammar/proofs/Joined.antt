@@ -7,8 +7,8 @@ use Rattle.line_text.specs.Words.{spaced, joined, joined_or}
 use Rattle.entry_grammar.specs.Reading.{IsFree, CutAt, Ends, TokenThen}
 use Rattle.entry_grammar.proofs.Free.{mark_once, not_free}
 
--- Some words were read, and a rest that is not empty is left: with the words of the rest they make the whole text, and
--- whatever words the whole text spells, the rest spells some.
+-- Some words were read, and a non-empty rest is left. With the words of the rest they make the whole text;
+-- and whatever words the whole text spells, the rest spells some.
 pub record SoFar {X : Type 0} (text : X → List ℕ) (fits : X → Type 0) (bytes : List ℕ) (words : List X) (rest : List ℕ) : Type 0 where
   pub read : AllByRecursion fits words
   pub onto : (w : X) (more : List X) → rest ≡ joined text (w ∷ more) → bytes ≡ joined text (words ++ w ∷ more)
@@ -32,7 +32,7 @@ pub fits_push : {X : Type 0} (fits : X → Type 0) (words : List X) (x : X) → 
 fits_push fits [] x f g = (g, tt)
 fits_push fits (w ∷ words) x f g = (f.0, fits_push fits words x f.1 g)
 
--- where the rest has a space, its first word stands before it
+-- if the rest has a space, its first word comes before it
 cut_word : {X : Type 0} (text : X → List ℕ) (fits : X → Type 0) → ((x : X) → fits x → IsFree 32 (text x)) → (rest front back : List ℕ) (w : X) (more : List X) → CutAt 32 rest front back → AllByRecursion fits (w ∷ more) → rest ≡ joined text (w ∷ more) → (front ≡ text w) × ((v : X) × (others : List X) × AllByRecursion fits (v ∷ others) × (back ≡ joined text (v ∷ others)))
 cut_word text fits free rest front back w [] a f e =
     absurd (not_free 32 front back (subst (IsFree 32) (sym (append-nil (text w)) ∙ sym e ∙ a.is) (free w f.0)))
@@ -57,7 +57,7 @@ pub SoFar-last : {X : Type 0} (text : X → List ℕ) (fits : X → Type 0) (byt
 SoFar-last text fits bytes words rest x s f e =
     (fits_push fits words x s.read f, s.onto x [] (e ∙ sym (append-nil (text x))))
 
--- no words are spelled where none stands in front
+-- no words are spelled if none is at the front
 pub SoFar-no_word : {X : Type 0} (text : X → List ℕ) (fits : X → Type 0) (bytes : List ℕ) (words : List X) (rest : List ℕ) → SoFar text fits bytes words rest → ((x : X) (back : List ℕ) → TokenThen fits text rest x back → ⊥) → (all : List X) → AllByRecursion fits all → bytes ≡ joined text all → ⊥
 SoFar-no_word {X} text fits bytes words rest s none all g h =
     let l = s.left all g h in
@@ -67,7 +67,7 @@ SoFar-no_word {X} text fits bytes words rest s none all g h =
     spaced_ends [] = refl
     spaced_ends (v ∷ more) = refl
 
--- a word in front with a space behind it is cut there
+-- a word at the front, with a space after it, is cut there
 pub word_cut : {X : Type 0} (text : X → List ℕ) (fits : X → Type 0) → ((x : X) → fits x → IsFree 32 (text x)) → (rest behind next : List ℕ) (x : X) → TokenThen fits text rest x behind → behind ≡ 32 ∷ next → CutAt 32 rest (text x) next
 word_cut text fits free rest behind next x h e = record { free = free x h.fits; is = h.is ∙ ap (λ (z : List ℕ). text x ++ z) e }
 

@@ -1,4 +1,4 @@
--- Names that a mark ends, and what stands behind it.
+-- Names that a mark ends, and what follows it.
 use Rattle.std.proofs.Common.{◌≡◌, ℕ, List, [], ◌∷◌, ◌++◌, ◌∙◌, append_assoc, arith}
 use Rattle.std.specs.Int.{IsInRange}
 use Rattle.std.proofs.lemmas.Fmt.{decimal_injective}
@@ -13,11 +13,11 @@ use Rattle.entry_grammar.proofs.Free.{mark_once, free_name}
 pub name_once : (m n : ℕ) → IsName m → IsName n → number_text m ≡ number_text n → m ≡ n
 name_once m n f g e = decimal_injective m n (omega arith) (omega arith) e
 
--- a name before a mark is where the text is cut
+-- the text is cut after a name that comes before a mark
 pub name_cut : (mark : ℕ) (bytes : List ℕ) (n : ℕ) (rest : List ℕ) → (IsInRange 48 57 mark → ⊥) → IsName n → bytes ≡ number_text n ++ mark ∷ rest → CutAt mark bytes (number_text n) rest
 name_cut mark bytes n rest o f e = record { free = free_name mark n o f; is = e }
 
--- a name and what stands behind its mark are determined
+-- a name and what follows its mark are determined
 pub marked_once : (mark : ℕ) (m n : ℕ) (x y : List ℕ) → (IsInRange 48 57 mark → ⊥) → IsName m → IsName n → number_text m ++ mark ∷ x ≡ number_text n ++ mark ∷ y → (m ≡ n) × (x ≡ y)
 marked_once mark m n x y o f g e =
     let r = mark_once mark (number_text m) (number_text n) x y (free_name mark m o f) (free_name mark n o g) e in

@@ -1,4 +1,4 @@
--- Texts that have no line feed, which ends a line, and texts that have no `=`, which stands before a reply.
+-- Texts without a line feed, which ends a line, and texts without a `=`, which comes before a reply.
 use Rattle.std.proofs.Common.{◌≡◌, ℕ, ◌<◌, Bool, true, false, not, List, [], ◌∷◌, ◌++◌, Option, None, Some, refl, arith}
 use Rattle.std.specs.Prelude.{codes, IfSome, nat_eq}
 use Rattle.std.specs.Int.{IsInRange}
@@ -45,7 +45,7 @@ both_lack m x y f g = free_append (byte_of m) x y f g
 pub apart_lack : (m : Mark) (x y : List ℕ) → Lacks m x → Lacks m y → Lacks m (x ++ codes " " ++ y)
 apart_lack m x y f g = both_lack m (x ++ codes " ") y (both_lack m x (codes " ") f (word_lacks m (codes " ") refl refl)) g
 
--- behind spaces, and joined by them
+-- after spaces, and joined by them
 pub spaced_lack : {X : Type 0} (m : Mark) (fits : X → Type 0) (text : X → List ℕ) → ((x : X) → fits x → Lacks m (text x)) → (xs : List X) → AllByRecursion fits xs → Lacks m (spaced text xs)
 spaced_lack m fits text free [] f = tt
 spaced_lack m fits text free (x ∷ xs) f =

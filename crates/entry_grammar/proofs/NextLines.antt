@@ -21,7 +21,7 @@ place_starts bytes place more h = record { fits = h.fits; is = h.is }
 pub edge_starts : (bytes : List ℕ) (edge : ℕ × ℕ) (more : List ℕ) → Starts IsPair link_text bytes edge more → Starts IsBaseLine base_line_text bytes (Link edge) more
 edge_starts bytes edge more h = record { fits = h.fits; is = h.is }
 
--- where the line is another, there is none
+-- if the line is another, there is none
 
 pub no_numbers : (bytes : List ℕ) (line : BaseLine) (rest : List ℕ) → Starts IsBaseLine base_line_text bytes line rest → ((q : ℕ × ℕ × ℕ × ℕ) → line ≡ Base q.0 q.1 q.2 q.3 → ⊥) → (q : ℕ × ℕ × ℕ × ℕ) (more : List ℕ) → Starts AreCounts numbers_text bytes q more → ⊥
 no_numbers bytes line rest found none q more h = none q (starts_once bytes line (Base q.0 q.1 q.2 q.3) rest more found (numbers_start bytes q more h))
@@ -32,7 +32,7 @@ no_place_starts bytes line rest found none place more h = none place (starts_onc
 pub no_edge_starts : (bytes : List ℕ) (line : BaseLine) (rest : List ℕ) → Starts IsBaseLine base_line_text bytes line rest → ((edge : ℕ × ℕ) → line ≡ Link edge → ⊥) → (edge : ℕ × ℕ) (more : List ℕ) → Starts IsPair link_text bytes edge more → ⊥
 no_edge_starts bytes line rest found none edge more h = none edge (starts_once bytes line (Link edge) rest more found (edge_starts bytes edge more h))
 
--- where it is one that stands not above the last, there is none that does
+-- if its line does not come after the last, there is none that does
 
 same_node : (p q : PlaceKept) → place_line p ≡ place_line q → p.node ≡ q.node
 same_node p q e = cc

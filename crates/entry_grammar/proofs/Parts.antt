@@ -15,7 +15,7 @@ use Rattle.entry_grammar.proofs.Marks.{equals, event_lacks}
 pub parts_of : (line : List ℕ) (number : ℕ) (event : Event) (reply : List ℕ) → IsFree 32 (number_text number) → IsEvent event → line ≡ number_text number ++ codes " " ++ event_text event ++ codes " = " ++ reply → PartsOf line (number_text number) (event_text event) reply
 parts_of line number event reply f g e = record { numbered = f; asked = event_lacks equals event g; is = e }
 
--- what stands behind the number
+-- what follows the number
 pub parts_rest : (line number event reply : List ℕ) → PartsOf line number event reply → CutAt 32 line number (event ++ codes " = " ++ reply)
 parts_rest line number event reply p = record {
   free = p.numbered;
@@ -30,7 +30,7 @@ parts_rest line number event reply p = record {
 around : (event reply : List ℕ) → event ++ codes " = " ++ reply ≡ (event ++ 32 ∷ []) ++ 61 ∷ 32 ∷ reply
 around event reply = append_assoc event (codes " = ") reply ∙ sym (append_assoc event (32 ∷ []) (61 ∷ 32 ∷ reply))
 
--- what stands before the `=` and behind it
+-- what comes before the `=` and after it
 parts_around : (event reply : List ℕ) → IsFree 61 event → CutAt 61 (event ++ codes " = " ++ reply) (event ++ 32 ∷ []) (32 ∷ reply)
 parts_around event reply f = record {
   free = free_append 61 event (32 ∷ []) f (free_by 61 (32 ∷ []) refl);

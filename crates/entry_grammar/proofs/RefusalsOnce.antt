@@ -29,7 +29,7 @@ pub refusal_named : (r : Refusal) → IsName (refusal_number r)
 refusal_named UnknownNode = (omega arith, omega arith)
 refusal_named r = (omega arith, omega arith)
 
--- a refusal's words are cut behind its number
+-- a refusal's words are cut after its number
 pub refusal_cut : (bytes : List ℕ) (r : Refusal) → bytes ≡ refusal_words r → CutAt 32 bytes (number_text (refusal_number r)) (refusal_text r)
 refusal_cut bytes r e =
     name_cut 32 bytes (refusal_number r) (refusal_text r) (λ h. omega (arith, h.0)) (refusal_named r) (e ∙ append_assoc (number_text (refusal_number r)) (32 ∷ []) (refusal_text r))

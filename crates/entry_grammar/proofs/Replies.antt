@@ -77,7 +77,7 @@ reply_once Matching r q s t f g e = are_pairs_once r q s t f g e
 reply_once Status r q s t f g e = are_counts_once r q s t f g e
 reply_once event r q s t f g e = done_once r q s t e
 
--- where the words behind `refused` are no refusal's, no reply to a step or to a question where a node points is spelled
+-- if the words after `refused` are no refusal's, no reply to a step or to `show` is spelled
 pub no_moved : (bytes words : List ℕ) → bytes ≡ codes "refused " ++ words → ((r : Refusal) → ⊤ → words ≡ refusal_words r → ⊥) → (q : Reply) → IsTrue (is_moved q) × IsReply q → bytes ≡ reply_text q → ⊥
 no_moved bytes words a none (Moves x) f e = refused_moves x words f.1 (sym e ∙ a)
 no_moved bytes words a none (Refused q) f e = none q tt (append_cancel_left (codes "refused ") words (refusal_words q) (sym a ∙ e))

@@ -84,7 +84,7 @@ pair_once p q f g e =
     let high = name_once p.1 q.1 f.1 g.1 r.1 in
     ap (λ (z : ℕ). (z, p.1)) r.0 ∙ ap (λ (z : ℕ). (q.0, z)) high
 
--- a word, and no more or more words behind a space
+-- a word, and no or more words after a space
 joined_step : {X : Type 0} (text : X → List ℕ) (fits : X → Type 0) → ((x : X) → fits x → IsFree 32 (text x)) → ((x y : X) → fits x → fits y → text x ≡ text y → x ≡ y) → (x : X) (xs : List X) (y : X) (ys : List X) → AllByRecursion fits (x ∷ xs) → AllByRecursion fits (y ∷ ys) → joined text (x ∷ xs) ≡ joined text (y ∷ ys) → x ∷ xs ≡ y ∷ ys
 joined_step {X} text fits free once x [] y [] f g e =
     ap (λ (z : X). z ∷ []) (once x y f.0 g.0 (sym (append-nil (text x)) ∙ e ∙ append-nil (text y)))

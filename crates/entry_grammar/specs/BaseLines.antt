@@ -1,4 +1,5 @@
--- The lines of a base behind its first, the head: which are in order, which text they make, and where a text stops to be such lines.
+-- The lines of a base after its head: their order, their text, and the first line at which a text departs
+-- from them.
 use Rattle.std.specs.Prelude.{◌≡◌, ℕ, zero, suc, ◌+◌, ◌<◌, ◌⊎◌, List, [], ◌∷◌, ◌++◌, length, map, IfSome}
 use Rattle.std.specs.List.{AllByRecursion}
 use Rattle.rule_machine.specs.declared.base.Place.{Place as PlaceKept}
@@ -10,16 +11,16 @@ use Rattle.entry_grammar.specs.declared.base_line.BaseLine.{BaseLine}
 use Rattle.entry_grammar.specs.declared.base_line.BaseLine.TheVariants.{Base, Place, Link}
 use Rattle.entry_grammar.specs.Spelling.{IsPair, IsBaseLine, base_line_text}
 
--- the edge stands above another: its lower end does, or they share that and its higher end does
+-- the edge comes after another: its lower end is above, or they share that and its higher end is above
 abbrev pub IsAbove : ℕ × ℕ → ℕ × ℕ → Type 0
 IsAbove last edge = (last.0 < edge.0) ⊎ ((last.0 ≡ edge.0) × (last.1 < edge.1))
 
--- nodes by rising names, all above this one
+-- nodes by ascending name, all above this one
 abbrev pub NodesRise : ℕ → List PlaceKept → Type 0
 NodesRise last [] = Unit {0}
 NodesRise last (place ∷ places) = (last < place.node) × NodesRise place.node places
 
--- edges that rise, all above this one
+-- edges that ascend, all after this one
 abbrev pub EdgesRise : ℕ × ℕ → List (ℕ × ℕ) → Type 0
 EdgesRise last [] = Unit {0}
 EdgesRise last (edge ∷ edges) = IsAbove last edge × EdgesRise edge edges
@@ -27,7 +28,7 @@ EdgesRise last (edge ∷ edges) = IsAbove last edge × EdgesRise edge edges
 abbrev pub IsPlace : PlaceKept → Type 0
 IsPlace place = IsName place.node × IfSome place.target IsName
 
--- what a base is whose lines were read: its numbers fit their fields, its nodes and edges have names, and they rise
+-- a base whose lines can be read: its numbers fit their fields, and its nodes and edges have names and ascend
 pub record IsShaped (base : BaseKept) : Type 0 where
   pub number : IsCount base.number
   pub spent : IsCount base.spent
@@ -38,7 +39,7 @@ pub record IsShaped (base : BaseKept) : Type 0 where
   pub nodes_rise : NodesRise 0 base.nodes
   pub edges_rise : EdgesRise (0, 0) base.edges
 
--- the text of all lines of a base but its head
+-- the text of all lines of a base except its head
 abbrev pub base_lines : BaseKept → List ℕ
 base_lines base =
     (numbers_line base ++ 10 ∷ []) ++ (ended place_text base.nodes ++ ended link_text base.edges)
@@ -52,13 +53,13 @@ abbrev pub lines_of_base : BaseKept → List BaseLine
 lines_of_base base =
     Base base.number base.spent (length base.nodes) (length base.edges) ∷ (map place_line base.nodes ++ map (λ edge. Link edge) base.edges)
 
--- the lines are edges that rise above the last one, and so many at most
+-- the lines are at most `left` edges that ascend after the last one
 abbrev pub EdgesFollow : (left : ℕ) → (last : ℕ × ℕ) → List BaseLine → Type 0
 EdgesFollow left last [] = Unit {0}
 EdgesFollow (suc left) last (Link edge ∷ lines) = IsAbove last edge × EdgesFollow left edge lines
 EdgesFollow left last (line ∷ lines) = ⊥
 
--- the lines are nodes that rise above the last one, so many at most; and where they are so many, such edges
+-- the lines are at most `left` nodes that ascend above the last one; if exactly `left`, such edges follow
 abbrev pub NodesFollow : (left edges last : ℕ) → List BaseLine → Type 0
 NodesFollow left edges last [] = Unit {0}
 NodesFollow zero edges last lines = EdgesFollow edges (0, 0) lines
@@ -71,14 +72,14 @@ MayFollow [] = Unit {0}
 MayFollow (Base number spent nodes edges ∷ lines) = NodesFollow nodes edges 0 lines
 MayFollow (line ∷ lines) = ⊥
 
--- by its numbers a line of the base is still missing
+-- by its numbers the base lacks a line
 abbrev pub IsShort : List BaseLine → Type 0
 IsShort [] = Unit {0}
 IsShort (Base number spent nodes edges ∷ lines) = length lines < nodes + edges
 IsShort (line ∷ lines) = ⊥
 
--- Line k, counted from 1, is the first that is not as it has to be: the lines before it are the first of a base, one is
--- missing, and what follows them begins with no line, its LF behind it, that may come next.
+-- Line k, counted from 1, is the first that is wrong: the lines before it are the first of a base, one is
+-- missing, and the rest does not begin with a line, with its LF, that may come next.
 pub record BreaksAt (bytes : List ℕ) (k : ℕ) : Type 0 where
   pub lines : List BaseLine
   pub rest : List ℕ

@@ -1,4 +1,4 @@
--- What the readers of a base's nodes and edges say of the bytes that they are given.
+-- What the readers of a base's nodes and edges say of their bytes.
 use Rattle.std.specs.Prelude.{◌≡◌, ℕ, ◌+◌, ◌<◌, List, [], ◌∷◌, ◌++◌, length}
 use Rattle.std.specs.List.{AllByRecursion}
 use Rattle.rule_machine.specs.declared.base.Place.{Place}
@@ -12,7 +12,7 @@ use Rattle.entry_grammar.specs.BaseLines.{IsAbove, NodesRise, EdgesRise, IsPlace
 abbrev pub numbers_text : ℕ × ℕ × ℕ × ℕ → List ℕ
 numbers_text q = base_counts q.0 q.1 q.2 q.3
 
--- the last of some nodes' names, or what was last before them
+-- the name of the last of some nodes, or the last one before them
 abbrev pub last_node : ℕ → List Place → ℕ
 last_node last [] = last
 last_node last (place ∷ places) = last_node place.node places
@@ -21,13 +21,13 @@ abbrev pub last_edge : ℕ × ℕ → List (ℕ × ℕ) → ℕ × ℕ
 last_edge last [] = last
 last_edge last (edge ∷ edges) = last_edge edge edges
 
--- the bytes begin with the lines of these nodes, which rise
+-- the bytes begin with the lines of these nodes, which ascend
 pub record NodesRead (bytes : List ℕ) (places : List Place) (rest : List ℕ) : Type 0 where
   pub is : bytes ≡ ended place_text places ++ rest
   pub fit : AllByRecursion IsPlace places
   pub rise : NodesRise 0 places
 
--- behind fewer nodes than so many comes none that rises further; the first of them is line 2
+-- after fewer than `count` nodes comes none that ascends further; the first of them is line 2
 pub record NodesBreak (bytes : List ℕ) (count k : ℕ) : Type 0 where
   pub places : List Place
   pub rest : List ℕ
@@ -36,13 +36,13 @@ pub record NodesBreak (bytes : List ℕ) (count k : ℕ) : Type 0 where
   pub number : k ≡ length places + 2
   pub stops : (place : Place) (more : List ℕ) → last_node 0 places < place.node → Starts IsPlace place_text rest place more → ⊥
 
--- the bytes begin with the lines of these edges, which rise
+-- the bytes begin with the lines of these edges, which ascend
 pub record EdgesRead (bytes : List ℕ) (edges : List (ℕ × ℕ)) (rest : List ℕ) : Type 0 where
   pub is : bytes ≡ ended link_text edges ++ rest
   pub fit : AllByRecursion IsPair edges
   pub rise : EdgesRise (0, 0) edges
 
--- behind fewer edges than so many comes none that rises further; the first of them is the given line
+-- after fewer than `count` edges comes none that ascends further; the first of them is line `first`
 pub record EdgesBreak (bytes : List ℕ) (count first k : ℕ) : Type 0 where
   pub edges : List (ℕ × ℕ)
   pub rest : List ℕ

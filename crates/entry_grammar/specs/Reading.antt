@@ -1,4 +1,4 @@
--- What the readers of an entry's parts say of the bytes that they are given.
+-- What the readers of an entry's parts say of their bytes.
 use Rattle.std.specs.Prelude.{◌≡◌, ◌≢◌, ℕ, Bool, true, false, List, ◌∷◌, ◌++◌, Option, IfSome, IsTrue, codes, slice_index_or}
 use Rattle.std.specs.List.{AllByRecursion}
 use Rattle.rule_machine.specs.declared.act.Act.{Act}
@@ -18,48 +18,49 @@ use Rattle.entry_grammar.specs.Spelling.{IsReply, IsPair}
 abbrev pub IsFree : ℕ → List ℕ → Type 0
 IsFree mark bytes = AllByRecursion (λ b. b ≢ mark) bytes
 
--- the bytes are a front that has no mark, the mark, and what stands behind it
+-- the bytes are a front without the mark, the mark, and the rest
 pub record CutAt (mark : ℕ) (bytes front back : List ℕ) : Type 0 where
   pub free : IsFree mark front
   pub is : bytes ≡ front ++ mark ∷ back
 
--- nothing stands there, or a space in front
+-- the text is empty or begins with a space
 abbrev pub Ends : List ℕ → Type 0
 Ends bytes = slice_index_or bytes 0 32 ≡ 32
 
--- the bytes are the text of this value and, behind it, nothing or what begins with a space
+-- the bytes are the text of this value; the rest is empty or begins with a space
 pub record TokenThen {X : Type 0} (Fits : X → Type 0) (text : X → List ℕ) (bytes : List ℕ) (value : X) (rest : List ℕ) : Type 0 where
   pub fits : Fits value
   pub ends : Ends rest
   pub is : bytes ≡ text value ++ rest
 
--- the bytes are two names with a mark between them, the lower one in front, and after the last digit the rest
+-- the bytes are two names with a mark between them, the lower one first, and after the last digit the rest
 pub record PairThen (mark : ℕ) (bytes : List ℕ) (pair : ℕ × ℕ) (rest : List ℕ) : Type 0 where
   pub fits : IsPair pair
   pub ends : NoDigit rest
   pub is : bytes ≡ number_text pair.0 ++ mark ∷ (number_text pair.1 ++ rest)
 
--- the byte with which a rule's word begins
+-- the first byte of a rule's word
 abbrev pub first_byte : Act → ℕ
 first_byte act = slice_index_or (act_word act) 0 0
 
--- a rule, and a target behind a `>`
+-- a rule, and a target after a `>`
 abbrev pub deed_text : Act → Option ℕ → List ℕ
 deed_text act target = act_word act ++ marked_text (codes ">") target
 
--- the bytes are a rule, a target behind a `>` where there is one, and then nothing or what begins with a space
+-- the bytes are a rule, perhaps a target after a `>`; the rest is empty or begins with a space
 pub record DeedThen (bytes : List ℕ) (act : Act) (target : Option ℕ) (rest : List ℕ) : Type 0 where
   pub fits : IfSome target IsName
   pub ends : Ends rest
   pub is : bytes ≡ deed_text act target ++ rest
 
--- the line is three texts with what stands between those of an entry: the first without a space, the second without a `=`
+-- the line is an entry's number, event and reply with what comes between them: the number has no space, the
+-- event no `=`
 pub record PartsOf (line number event reply : List ℕ) : Type 0 where
   pub numbered : IsFree 32 number
   pub asked : IsFree 61 event
   pub is : line ≡ number ++ codes " " ++ event ++ codes " = " ++ reply
 
--- the bytes are a number behind its name, a space, and the rest
+-- the bytes are a field, a space, and the rest
 pub record FieldThen (bytes name : List ℕ) (number : ℕ) (rest : List ℕ) : Type 0 where
   pub fits : IsCount number
   pub is : bytes ≡ field_text (name, number) ++ 32 ∷ rest
@@ -76,28 +77,28 @@ is_moved (Moves moves) = true
 is_moved (Refused refusal) = true
 is_moved reply = false
 
--- replies to the question where a node points
+-- replies to `show`
 abbrev pub is_shown : Reply → Bool
 is_shown (Shown target) = true
 is_shown (Refused refusal) = true
 is_shown reply = false
 
--- replies to the question which nodes are enabled
+-- replies to `enabled`
 abbrev pub are_enabled : Reply → Bool
 are_enabled (EnabledAre nodes) = true
 are_enabled reply = false
 
--- replies to the question for the mutual pairs
+-- replies to `matching`
 abbrev pub are_pairs : Reply → Bool
 are_pairs (Pairs pairs) = true
 are_pairs reply = false
 
--- replies to the question where the network stands
+-- replies to `status`
 abbrev pub are_counts : Reply → Bool
 are_counts (Counts counts) = true
 are_counts reply = false
 
--- whether replies of this kind are given to the event, whatever they say
+-- whether replies of this kind may answer the event
 abbrev pub suits : Event → Reply → Bool
 suits (Link a b) reply = is_done reply
 suits (Unlink a b) reply = is_done reply
@@ -111,7 +112,7 @@ suits Enabled reply = are_enabled reply
 suits Matching reply = are_pairs reply
 suits Status reply = are_counts reply
 
--- the bytes spell a reply of the kind that the test tells, or what was found is none and they spell no such reply
+-- the bytes spell the reply found, of the kind tested; if none was found, they spell no such reply
 abbrev pub ReadsReply : (Reply → Bool) → List ℕ → Option Reply → Type 0
 ReadsReply kind bytes found = Reads (λ reply. IsTrue (kind reply) × IsReply reply) reply_text bytes found
 
@@ -119,19 +120,19 @@ ReadsReply kind bytes found = Reads (λ reply. IsTrue (kind reply) × IsReply re
 abbrev pub rules_text : RuleSet → ℕ → List ℕ
 rules_text rules size = rules_word rules ++ 32 ∷ number_text size
 
--- what the four numbers of a base meet
+-- what the four numbers of a base satisfy
 abbrev pub AreCounts : ℕ × ℕ × ℕ × ℕ → Type 0
 AreCounts q = IsCount q.0 × IsCount q.1 × IsCount q.2 × IsCount q.3
 
--- where a pointer is, and a flag
+-- a pointer, and a flag
 abbrev pub registers_text : Option ℕ → Bool → List ℕ
 registers_text target flag = target_text target ++ 32 ∷ bool_text flag
 
--- the bytes are a node with its registers, or what was found is none and they are no such thing
+-- the bytes are the node found with its registers; if none was found, they are no node
 abbrev pub ReadsPlace : List ℕ → Option (ℕ × Option ℕ × Bool) → Type 0
 ReadsPlace bytes found = Reads (λ p. IsName p.0 × IfSome p.1 IsName) (λ p. number_text p.0 ++ 32 ∷ registers_text p.1 p.2) bytes found
 
--- the bytes begin with the text of this value, an LF behind it, and then the rest
+-- the bytes begin with the text of this value and an LF, then comes the rest
 pub record Starts {X : Type 0} (Fits : X → Type 0) (text : X → List ℕ) (bytes : List ℕ) (value : X) (rest : List ℕ) : Type 0 where
   pub fits : Fits value
   pub is : bytes ≡ text value ++ 10 ∷ rest

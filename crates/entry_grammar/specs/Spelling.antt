@@ -1,4 +1,4 @@
--- Which lines of a transcript are a header, and which an entry. Lines are without the LF that ends them.
+-- Which lines of a transcript are headers, and which are entries. Lines come without their LF.
 use Rattle.std.specs.Prelude.{◌≡◌, ℕ, ◌≤◌, Bool, true, false, List, ◌++◌, IfSome, IsTrue, codes}
 use Rattle.rule_machine.specs.declared.event.Event.{Event}
 use Rattle.rule_machine.specs.declared.event.Event.TheVariants.{Step, Enabled, Matching}
@@ -30,7 +30,7 @@ has_list Enabled = true
 has_list Matching = true
 has_list event = false
 
--- between the number and the reply of the line, whatever these are, stands an event that goes with a list
+-- between some number and some reply the line has an event with a list
 pub record AsksForList (line : List ℕ) : Type 0 where
   pub number : List ℕ
   pub asked : Event
@@ -39,18 +39,19 @@ pub record AsksForList (line : List ℕ) : Type 0 where
   pub listed : IsTrue (has_list asked)
   pub is : line ≡ number ++ codes " " ++ event_text asked ++ codes " = " ++ reply
 
--- how many names there are, and how many of them are present at the start: the first, so many
+-- the number of names, and how many of them are present at the start: the first `count`
 pub record AreSizes (size count : ℕ) : Type 0 where
   pub few : size ≤ 65535
   pub within : count ≤ size
 
--- the line is the one spelling of the header for these rules, so many names, and so many of them present at the start
+-- the line is the one spelling of the header for these rules, `size` names, and `count` of them present at
+-- the start
 pub record SpellsHeader (line : List ℕ) (rules : RuleSet) (size count : ℕ) : Type 0 where
   pub few : size ≤ 65535
   pub within : count ≤ size
   pub is : line ≡ header_text rules size count
 
--- what each value of the program's type of a base's lines meets
+-- what each value of the program's type of a base's lines satisfies
 abbrev pub IsBaseLine : BaseLine → Type 0
 IsBaseLine (Head rules size) = size ≤ 65535
 IsBaseLine (Base number spent nodes edges) = IsCount number × IsCount spent × IsCount nodes × IsCount edges

@@ -1,4 +1,4 @@
-//! The lines of a base.
+//! The lines of a base, one by one.
 
 ghost use Rattle.std.specs.Prelude.{◌≡◌, ◌≤◌, IfOk, IfErr, IfSome, MatchOption};
 ghost use Rattle.line_text.specs.Words.{IsName, joined};
@@ -21,26 +21,26 @@ use rule_machine::{Edge, Node, RuleSet};
 /// A line of a base.
 #[derive(Clone, Copy, Debug, PartialEq, Eq)]
 pub enum BaseLine {
-    /// The first: the rules, and how many names there are.
+    /// The first line: the rules, and the number of names.
     Head(RuleSet, u32),
-    /// The second, which says where the run stands.
+    /// The second line: the numbers of the base.
     Base {
-        /// How many entries led there.
+        /// The number of the last entry before the base.
         number: u32,
         /// The moves since the last accepted disturbance, or since the start.
         spent: u32,
-        /// How many lines of nodes follow.
+        /// How many node lines follow.
         nodes: u32,
-        /// How many lines of edges follow these.
+        /// How many edge lines follow them.
         edges: u32,
     },
-    /// A node, where its pointer is, and what its flag says.
+    /// A node, its pointer, and its flag.
     Place(Node, Option<Node>, bool),
     /// An edge.
     Link(Edge),
 }
 
-// Reads the rules and how many names there are.
+// Reads the rules and the number of names.
 fn read_head(bytes: &[u8]) -> Option<(RuleSet, u32)>
     ensures { ReadsTwo (λ rules size. size ≤ 65535) rules_text bytes.now result }
 {
@@ -56,7 +56,7 @@ fn read_head(bytes: &[u8]) -> Option<(RuleSet, u32)>
     Some((rules, size))
 }
 
-// Reads four numbers, the last three behind their names.
+// Reads four numbers, the last three after their names.
 fn read_base(bytes: &[u8]) -> Option<(u32, u32, u32, u32)>
     ensures { Reads AreCounts (λ q. joined field_text (base_fields q.0 q.1 q.2 q.3)) bytes.now result }
 {
@@ -75,7 +75,6 @@ fn read_base(bytes: &[u8]) -> Option<(u32, u32, u32, u32)>
     Some((number, spent, nodes, edges))
 }
 
-// Reads where a pointer is, and what a flag says.
 fn read_registers(bytes: &[u8]) -> Option<(Option<Node>, bool)>
     ensures { ReadsTwo (λ target flag. IfSome target IsName) registers_text bytes.now result }
 {
@@ -91,7 +90,6 @@ fn read_registers(bytes: &[u8]) -> Option<(Option<Node>, bool)>
     Some((target, flag))
 }
 
-// Reads a node and its registers.
 fn read_place(bytes: &[u8]) -> Option<(Node, Option<Node>, bool)>
     ensures { ReadsPlace bytes.now result }
 {
@@ -141,7 +139,8 @@ fn find_base_line(line: &[u8]) -> Option<BaseLine>
     Some(BaseLine::Head(rules, size))
 }
 
-/// Reads a line of a base, without its LF. Takes no memory.
+/// Reads a line of a base, without its LF.
+/// Error: `NotALine` if the line spells none. Takes no memory.
 pub fn read_base_line(line: &[u8]) -> Result<BaseLine, EntryFault>
     ensures ok { IfOk result (λ found. SpellsBaseLine line.now found) }
     ensures not_a_line { IfErr result (λ fault. (fault ≡ NotALine) × ((found : Line) → SpellsBaseLine line.now found → ⊥)) }

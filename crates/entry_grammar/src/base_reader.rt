@@ -17,7 +17,7 @@ use byte_streams::split_line;
 use rule_machine::{Base, Edge, Listing, Place};
 use std::alloc::Global;
 
-// Reads the line that comes first, with its LF, and gives what follows.
+// Reads the first line and its LF, and returns the rest.
 fn next_line(bytes: &[u8]) -> Option<(BaseLine, &[u8])>
     ensures { MatchOption result
         ((line : Line) (more : List ℕ) → Starts IsBaseLine base_line_text bytes.now line more → ⊥)
@@ -32,7 +32,6 @@ fn next_line(bytes: &[u8]) -> Option<(BaseLine, &[u8])>
     }
 }
 
-// The numbers of a line.
 fn numbers_of(line: BaseLine) -> Option<(u32, u32, u32, u32)>
     ensures { MatchOption result
         ((q : ℕ × ℕ × ℕ × ℕ) → line ≡ LineOfNumbers q.0 q.1 q.2 q.3 → ⊥)
@@ -49,7 +48,7 @@ fn numbers_of(line: BaseLine) -> Option<(u32, u32, u32, u32)>
     }
 }
 
-// Reads the numbers of a base.
+// Reads the line with the numbers of a base.
 fn next_numbers(bytes: &[u8]) -> Option<((u32, u32, u32, u32), &[u8])>
     ensures { MatchOption result
         ((q : ℕ × ℕ × ℕ × ℕ) (more : List ℕ) → Starts AreCounts numbers_text bytes.now q more → ⊥)
@@ -64,7 +63,6 @@ fn next_numbers(bytes: &[u8]) -> Option<((u32, u32, u32, u32), &[u8])>
     Some((numbers, rest))
 }
 
-// The node of a line.
 fn place_of(line: BaseLine) -> Option<Place>
     ensures { MatchOption result ((place : PlaceKept) → line ≡ place_line place → ⊥) (λ place. line ≡ place_line place) }
 {
@@ -78,7 +76,6 @@ fn place_of(line: BaseLine) -> Option<Place>
     }
 }
 
-// The edge of a line.
 fn edge_of(line: BaseLine) -> Option<Edge>
     ensures { MatchOption result ((edge : ℕ × ℕ) → line ≡ Link edge → ⊥) (λ edge. line ≡ Link edge) }
 {
@@ -88,7 +85,7 @@ fn edge_of(line: BaseLine) -> Option<Edge>
     }
 }
 
-// Reads a node whose name is above the last one.
+// Reads a node whose name is above `last`.
 fn next_node(bytes: &[u8], last: u32) -> Option<(Place, &[u8])>
     ensures { MatchOption result
         ((place : PlaceKept) (more : List ℕ) → last < place.node → Starts IsPlace place_text bytes.now place more → ⊥)
@@ -106,14 +103,13 @@ fn next_node(bytes: &[u8], last: u32) -> Option<(Place, &[u8])>
     Some((place, rest))
 }
 
-// The names of an edge's ends.
 fn ends(edge: Edge) -> (u32, u32)
     ensures { result ≡ edge }
 {
     (edge.low().name(), edge.high().name())
 }
 
-// Whether an edge stands above the last one.
+// Whether an edge comes after `last` in the order of a base.
 fn is_above(last: (u32, u32), edge: Edge) -> bool
     ensures { MatchBool result (IsAbove last edge) (IsAbove last edge → ⊥) }
 {
@@ -121,7 +117,7 @@ fn is_above(last: (u32, u32), edge: Edge) -> bool
     last.0 < low || last.0 == low && last.1 < edge.high().name()
 }
 
-// Reads an edge that stands above the last one.
+// Reads an edge that comes after `last`.
 fn next_edge(bytes: &[u8], last: (u32, u32)) -> Option<(Edge, &[u8])>
     ensures { MatchOption result
         ((edge : ℕ × ℕ) (more : List ℕ) → IsAbove last edge → Starts IsPair link_text bytes.now edge more → ⊥)
@@ -139,7 +135,7 @@ fn next_edge(bytes: &[u8], last: (u32, u32)) -> Option<(Edge, &[u8])>
     Some((edge, rest))
 }
 
-// Reads so many nodes, which begin at line 2.
+// Reads `count` nodes, from line 2 on.
 fn read_nodes<'a>(
     alloc: Global,
     bytes: &'a [u8],
@@ -165,7 +161,7 @@ fn read_nodes<'a>(
     Ok((places, rest))
 }
 
-// Reads so many edges, which begin at the given line.
+// Reads `count` edges, from line `first` on.
 fn read_edges<'a>(
     alloc: Global,
     bytes: &'a [u8],
@@ -193,10 +189,10 @@ fn read_edges<'a>(
     Ok((edges, rest))
 }
 
-/// Reads the lines of a base behind its head, each with its LF: its numbers, its nodes by rising names, and its edges by
-/// rising lower and higher ends; so many of them as its numbers say. Gives the base, and what follows it. `BadLine` tells the
-/// first line that is another, or is missing; `Memory` comes where memory runs out before such a line was met. One look at
-/// each line; memory for what was read, however many the numbers say.
+/// Reads the lines of a base after its head, each with its LF; returns the base and the rest.
+/// Its numbers come first and say how many nodes and edges follow, each ascending.
+/// Errors: `BadLine` names the first line that is wrong or missing; `Memory` if memory runs out before it.
+/// One look at each line. Takes memory only for what was read, whatever the numbers say.
 pub fn read_base<'a>(alloc: Global, bytes: &'a [u8]) -> Result<(Base, &'a [u8]), BaseFault>
     ensures base { IfOk result (λ found. bytes.now ≡ base_lines found.0 ++ found.1.now) }
     ensures shaped { IfOk result (λ found. IsShaped found.0) }

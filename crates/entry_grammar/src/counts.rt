@@ -1,4 +1,4 @@
-//! The numbers that say where a network stands.
+//! The numbers that `status` reports.
 
 ghost use Rattle.std.specs.Prelude.{ℕ, ◌≤◌, List, MatchOption};
 ghost use Rattle.line_text.specs.Words.{number_text};
@@ -10,7 +10,6 @@ use crate::cut::cut;
 use line_text::{after, read_number};
 use rule_machine::Counts;
 
-/// Reads a number up to a greatest one.
 pub(crate) fn read_up_to(bytes: &[u8], most: u32) -> Option<u32>
     ensures { Reads (λ n. n ≤ most) number_text bytes.now result }
 {
@@ -20,7 +19,7 @@ pub(crate) fn read_up_to(bytes: &[u8], most: u32) -> Option<u32>
     Some(number as u32)
 }
 
-/// Reads a number behind its name.
+/// Reads a field: its name, then its number.
 pub(crate) fn read_field(bytes: &[u8], name: &[u8]) -> Option<u32>
     ensures { Reads IsCount (λ number. field_text (name.now, number)) bytes.now result }
 {
@@ -30,7 +29,7 @@ pub(crate) fn read_field(bytes: &[u8], name: &[u8]) -> Option<u32>
     read_up_to(digits, u32::MAX)
 }
 
-/// Reads a number behind its name and the space behind it, and gives what follows the space.
+/// Reads a field and the space after it, and returns the rest.
 pub(crate) fn read_next<'a>(bytes: &'a [u8], name: &[u8]) -> Option<(u32, &'a [u8])>
     requires { IsFree 32 name.now }
     ensures { MatchOption result
@@ -46,7 +45,7 @@ pub(crate) fn read_next<'a>(bytes: &'a [u8], name: &[u8]) -> Option<(u32, &'a [u
     Some((number, rest))
 }
 
-/// Reads the six numbers, each behind its name; `None` where anything else stands there.
+/// Reads the six fields of a `status` reply; `None` for any other text.
 pub fn read_counts(bytes: &[u8]) -> Option<Counts>
     ensures { Reads IsCounts counts_text bytes.now result }
 {

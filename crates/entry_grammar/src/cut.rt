@@ -1,11 +1,11 @@
-//! Texts that are cut at a byte, or at one of their ends.
+//! Cuts texts at a byte, or at one of their ends.
 
 ghost use Rattle.std.specs.Prelude.{◌≡◌, ℕ, ◌↔◌, List, ◌∷◌, ◌++◌, IsTrue, MatchOption};
 ghost use Rattle.entry_grammar.specs.Reading.{IsFree, CutAt, Ends};
 
 use memchr::memchr;
 
-/// What stands before the first byte that is the mark, and what stands behind it; `None` where no byte is.
+/// What comes before and after the first `mark`; `None` if there is none.
 pub fn cut(bytes: &[u8], mark: u8) -> Option<(&[u8], &[u8])>
     ensures { MatchOption result
         (IsFree mark bytes.now)
@@ -19,8 +19,7 @@ pub fn cut(bytes: &[u8], mark: u8) -> Option<(&[u8], &[u8])>
     None
 }
 
-/// What stands before the first byte that is the mark, and what stands behind it, where that may be far: many bytes are looked
-/// at at once. `None` where no byte is.
+/// The same for a mark that may be far away: looks at many bytes at once.
 pub fn cut_far(bytes: &[u8], mark: u8) -> Option<(&[u8], &[u8])>
     ensures { MatchOption result
         (IsFree mark bytes.now)
@@ -32,7 +31,7 @@ pub fn cut_far(bytes: &[u8], mark: u8) -> Option<(&[u8], &[u8])>
     }
 }
 
-/// Whether nothing stands there, or a space in front.
+/// Whether the text is empty or begins with a space.
 #[inline(always)]
 pub(crate) fn ends(bytes: &[u8]) -> bool
     ensures { IsTrue result ↔ Ends bytes.now }
@@ -40,7 +39,7 @@ pub(crate) fn ends(bytes: &[u8]) -> bool
     bytes.get(0).copied().unwrap_or(b' ') == b' '
 }
 
-/// What stands behind the mark in front; `None` where another byte or none stands there.
+/// What follows `mark` at the front; `None` if the text begins otherwise.
 #[inline(always)]
 pub(crate) fn behind(bytes: &[u8], mark: u8) -> Option<&[u8]>
     ensures { MatchOption result
@@ -53,7 +52,7 @@ pub(crate) fn behind(bytes: &[u8], mark: u8) -> Option<&[u8]>
     }
 }
 
-/// What stands before the given text at the end; `None` where another text stands there.
+/// What precedes `back` at the end; `None` if the text ends otherwise.
 pub fn before<'a>(bytes: &'a [u8], back: &[u8]) -> Option<&'a [u8]>
     ensures { MatchOption result
         ((front : List ℕ) → bytes.now ≡ front ++ back.now → ⊥)

@@ -1,4 +1,4 @@
-//! The lines of a transcript that are entries.
+//! The entries of a transcript.
 
 ghost use Rattle.std.specs.Prelude.{◌≡◌, ℕ, ◌<◌, ◌≤◌, List, IfOk, IfErr, MatchOption};
 ghost use Rattle.rule_machine.specs.declared.event.Event.{Event};
@@ -41,7 +41,8 @@ fn parts(line: &[u8]) -> Option<(u32, &[u8], &[u8])>
     Some((number, event, reply))
 }
 
-/// The line of the entry with this number, without an LF: the one spelling, by which `read_entry` finds it again.
+/// The line of the entry with this number, without its LF. `read_entry` reads it back.
+/// Error: out of memory.
 pub fn entry_text(alloc: Global, number: u32, entry: &Entry) -> Result<Vec<u8>, Want>
     requires { (1 ≤ number) × (number ≤ max_entries) }
     ensures text { IfOk result (λ text. text.items ≡ entry_text number entry.now.0 entry.now.1) }
@@ -53,8 +54,9 @@ pub fn entry_text(alloc: Global, number: u32, entry: &Entry) -> Result<Vec<u8>, 
     Ok(text)
 }
 
-/// Reads an entry and its number from a line without its LF. `Memory` is answered at most where the line's event is a step,
-/// `enabled` or `matching`, which go with lists: every other line, a bad one too, is read without memory.
+/// Reads an entry and its number from a line without its LF.
+/// Errors: `NotALine` if the line spells no entry; `Memory` if memory runs out.
+/// Only lines of a step, `enabled` or `matching` take memory. Any other line, also a bad one, takes none.
 #[inline(always)]
 pub fn read_entry(alloc: Global, line: &[u8]) -> Result<(u32, Entry), EntryFault>
     ensures ok { IfOk result (λ found. SpellsEntry line.now found.0 found.1) }

@@ -1,4 +1,4 @@
-//! Why a line was not read.
+//! Errors of reading.
 
 ghost use Rattle.std.specs.Prelude.{◌≡◌};
 ghost use Rattle.entry_grammar.specs.declared.fault.EntryFault.TheVariants.{Memory};
@@ -9,10 +9,10 @@ use thiserror::Error;
 /// Why a line was not read.
 #[derive(Clone, Copy, Debug, PartialEq, Eq, Error)]
 pub enum EntryFault {
-    /// The line spells no entry, or no header.
+    /// The line does not spell what was to be read: an entry, a header or a line of a base.
     #[error("not a transcript line")]
     NotALine,
-    /// A growth of memory was refused.
+    /// Memory ran out.
     #[error("out of memory")]
     Memory,
 }
@@ -28,10 +28,10 @@ impl From<AllocError> for EntryFault {
 /// Why the lines of a base were not read.
 #[derive(Clone, Copy, Debug, PartialEq, Eq, Error)]
 pub enum BaseFault {
-    /// This line, counted from 1 for the one behind the head, is missing or without its LF, or another line than may come there.
+    /// This line is missing, lacks its LF, or may not come there. Line 1 comes after the head.
     #[error("line {0} behind the head of a base is not as it has to be")]
     BadLine(u64),
-    /// A growth of memory was refused.
+    /// Memory ran out.
     #[error("out of memory")]
     Memory,
 }

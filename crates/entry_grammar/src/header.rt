@@ -16,7 +16,6 @@ use line_text::{after, put_header};
 use rule_machine::{MAX_NAME, RuleSet, Want};
 use std::alloc::Global;
 
-/// Reads a rule set by its word.
 pub(crate) fn read_rules(bytes: &[u8]) -> Option<RuleSet>
     ensures { Reads (λ (rules : RuleSet). ⊤) rules_word bytes.now result }
 {
@@ -29,14 +28,14 @@ pub(crate) fn read_rules(bytes: &[u8]) -> Option<RuleSet>
     None
 }
 
-/// Reads how many names there are.
+/// Reads the number of names.
 pub(crate) fn read_size(bytes: &[u8]) -> Option<u32>
     ensures { Reads (λ n. n ≤ 65535) number_text bytes.now result }
 {
     read_up_to(bytes, MAX_NAME)
 }
 
-// Reads how many names there are, and how many of them are present at the start, which is said only where not all are.
+// Reads the number of names and, if it follows, how many are present at the start: fewer than all.
 fn read_sizes(bytes: &[u8]) -> Option<(u32, u32)>
     ensures { ReadsTwo AreSizes sizes_text bytes.now result }
 {
@@ -78,8 +77,9 @@ fn find_header(line: &[u8]) -> Option<(RuleSet, u32, u32)>
     Some((rules, size, count))
 }
 
-/// The header for these rules and so many names, of which so many are present at the start, without an LF: the one
-/// spelling, by which `read_header` finds it again. The number of those that are present is left out where all are.
+/// The header for these rules and names, without its LF. `read_header` reads it back.
+/// `count` of the `size` names are present at the start; it is left out if all are.
+/// Error: out of memory.
 pub fn header_text(alloc: Global, rules: RuleSet, size: u32, count: u32) -> Result<Vec<u8>, Want>
     requires few { size ≤ 65535 }
     requires within { count ≤ size }
@@ -92,8 +92,8 @@ pub fn header_text(alloc: Global, rules: RuleSet, size: u32, count: u32) -> Resu
     Ok(text)
 }
 
-/// Reads a header, without its LF: the rules, how many names there are, and how many of them are present at the start.
-/// Takes no memory.
+/// Reads a header, without its LF: rules, number of names, and how many are present at the start.
+/// Error: `NotALine` if the line is not a header. Takes no memory.
 pub fn read_header(line: &[u8]) -> Result<(RuleSet, u32, u32), EntryFault>
     ensures ok { IfOk result (λ found. SpellsHeader line.now found.0 found.1 found.2) }
     ensures not_a_line { IfErr result (λ fault.

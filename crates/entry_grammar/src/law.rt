@@ -1,4 +1,4 @@
-//! What holds of all lines of a transcript.
+//! Laws of all transcript lines.
 
 ghost use Rattle.std.specs.Prelude.{◌≡◌, ◌≤◌, ◌++◌, ℕ, List, length};
 ghost use Rattle.rule_machine.specs.declared.base.Base.{Base};
@@ -18,7 +18,8 @@ pub fn one_spelling()
         → SpellsHeader line r m c → SpellsHeader line q n d → (r ≡ q) × (m ≡ n) × (c ≡ d) }
 {}
 
-/// A text begins with the lines of one base at most; or they break off, at one line.
+/// A text begins with the lines of at most one base.
+/// Its lines break off at one line at most, and not at all if the base is whole.
 pub fn one_base()
     ensures base { (bytes : List ℕ) (a b : Base) (x y : List ℕ)
         → IsShaped a → IsShaped b → bytes ≡ base_lines a ++ x → bytes ≡ base_lines b ++ y → (a ≡ b) × (x ≡ y) }
@@ -26,8 +27,9 @@ pub fn one_base()
     ensures whole { (bytes : List ℕ) (base : Base) (rest : List ℕ) (k : ℕ) → IsShaped base → bytes ≡ base_lines base ++ rest → BreaksAt bytes k → ⊥ }
 {}
 
-/// No entry has a line of more than 2,031,600 bytes, which is less than 2 MiB (2,097,152): the longest are those of a step of 65,535
-/// items, each with its wish, and as many moves, each with its target, as the last entries of a full log.
+/// Every entry's line has at most 2,031,600 bytes: less than 2 MiB (2,097,152).
+/// The longest are steps late in a full log: 65,535 items, each with a wish, and as many moves, each with a
+/// target.
 pub fn entry_lines_are_short()
     ensures { (line : List ℕ) (number : ℕ) (entry : Event × Reply) → SpellsEntry line number entry → length line ≤ 2031600 }
 {}

@@ -1,11 +1,12 @@
-//! The lines of a transcript: each entry and each header has one spelling, which is written and read exactly.
+//! The lines of a transcript. Each entry and each header has one spelling.
 //!
-//! A line is read as an entry, a header or a line of a base exactly where it spells one, and it spells one at most (the law
-//! `one_spelling`); `read_base` reads the lines of a whole base in their order, or names the first that is missing or wrong. So a leading
-//! zero, two spaces or a pair the wrong way round are no entry, and two transcripts of one run are the same bytes.
+//! A line is read as an entry, a header or a line of a base if and only if it spells one. It spells at most
+//! one (the law `one_spelling`). `read_base` reads all lines of a base, or names the first that is wrong or
+//! missing. So a leading zero, two spaces or a pair in the wrong order is refused, and two transcripts of one
+//! run are the same bytes.
 //!
-//! What a line says is not judged here: that its number is the next and its reply the machine's are the auditor's. Reading takes memory
-//! for lists of several items alone.
+//! The auditor, not this crate, checks that numbers are consecutive and replies are the machine's. Reading
+//! takes memory only for lists of several items.
 //!
 //! ```rust
 //! let (number, entry) = read_entry(alloc, b"3 show 2 = 1")?;        // `NotALine`, or `Memory`

@@ -1,4 +1,4 @@
-//! Replies, which are read by the kind of the event that they answer.
+//! Replies, read by their event's kind.
 
 ghost use Rattle.std.specs.Prelude.{⊤, IfOk, IsTrue, OnErr};
 ghost use Rattle.rule_machine.specs.declared.refusal.Refusal.{Refusal};
@@ -14,7 +14,7 @@ use line_text::{after, read_target};
 use rule_machine::{Event, Refusal, Reply, Want};
 use std::alloc::Global;
 
-// Reads a refusal's number and its text; `None` where they are not of one refusal.
+// Reads a refusal's number and text; `None` if they do not match.
 fn read_refusal(bytes: &[u8]) -> Option<Refusal>
     ensures { Reads (λ (refusal : Refusal). ⊤) refusal_words bytes.now result }
 {
@@ -33,7 +33,7 @@ fn read_refusal(bytes: &[u8]) -> Option<Refusal>
     Some(refusal)
 }
 
-// Reads whether a change was made, or why it was refused.
+// Reads the reply to a disturbance.
 fn read_done(bytes: &[u8]) -> Option<Reply>
     ensures { ReadsReply is_done bytes.now result }
 {
@@ -46,7 +46,7 @@ fn read_done(bytes: &[u8]) -> Option<Reply>
     read_refusal(words).map(|refusal| Reply::Refused(refusal))
 }
 
-// Reads the moves of a step, or why it was refused.
+// Reads the reply to a step.
 fn read_moved(alloc: Global, bytes: &[u8]) -> Result<Option<Reply>, Want>
     ensures { IfOk result (ReadsReply is_moved bytes.now) }
 {
@@ -59,7 +59,7 @@ fn read_moved(alloc: Global, bytes: &[u8]) -> Result<Option<Reply>, Want>
     Ok(read_words(alloc, bytes)?.map(|moves| Reply::Moves(moves)))
 }
 
-// Reads where a node points, or why it is not told.
+// Reads the reply to `show`.
 fn read_shown(bytes: &[u8]) -> Option<Reply>
     ensures { ReadsReply is_shown bytes.now result }
 {
@@ -72,7 +72,8 @@ fn read_shown(bytes: &[u8]) -> Option<Reply>
     read_target(bytes).map(|target| Reply::Shown(target))
 }
 
-/// Reads a reply to the event; `None` where the bytes spell none of its kind. Memory is for lists alone.
+/// Reads a reply to this event; `None` if the bytes spell none of its kind.
+/// Takes memory only for lists. Error: out of memory.
 pub fn read_reply(alloc: Global, event: &Event, bytes: &[u8]) -> Result<Option<Reply>, Want>
     ensures reply { IfOk result (ReadsReply (suits event.now) bytes.now) }
     ensures memory { OnErr result (IsTrue (has_list event.now)) }

@@ -14,7 +14,7 @@ use crate::words::Token;
 use line_text::{after, read_name};
 use rule_machine::{Act, Edge, Moved, Node};
 
-/// Reads the name that stands before the mark, and gives what stands behind the mark.
+/// Reads a name and `mark` at the front, and returns the rest.
 #[inline(always)]
 pub(crate) fn read_marked(bytes: &[u8], mark: u8) -> Option<(Node, &[u8])>
     requires { IsInRange 48 57 mark → ⊥ }
@@ -47,7 +47,6 @@ fn act_with(first: u8) -> Option<Act>
     }
 }
 
-// What follows a rule's word in front; `None` where another text stands there.
 #[inline(always)]
 fn after_act(bytes: &[u8], act: Act) -> Option<&[u8]>
     ensures { MatchOption result
@@ -62,7 +61,7 @@ fn after_act(bytes: &[u8], act: Act) -> Option<&[u8]>
     }
 }
 
-// Reads the word for a rule in front, which its first byte tells, and gives what follows it.
+// Reads the rule's word at the front, chosen by its first byte, and returns the rest.
 #[inline(always)]
 fn read_act(bytes: &[u8]) -> Option<(Act, &[u8])>
     ensures { MatchOption result
@@ -78,7 +77,7 @@ fn read_act(bytes: &[u8]) -> Option<(Act, &[u8])>
     Some((act, rest))
 }
 
-// Reads a rule in front, a target where one stands behind a `>`, and gives what follows them.
+// Reads a rule at the front, and its target if a `>` follows, and returns the rest.
 fn read_deed(bytes: &[u8]) -> Option<(Act, Option<Node>, &[u8])>
     ensures { MatchOption result
         ((act : Act) (target : Option ℕ) (rest : List ℕ) → DeedThen bytes.now act target rest → ⊥)
@@ -102,7 +101,7 @@ fn read_deed(bytes: &[u8]) -> Option<(Act, Option<Node>, &[u8])>
     Some((act, Some(target), rest))
 }
 
-// Reads the two ends of an edge in front with the mark between them, the lower one first, and gives what follows them.
+// Reads an edge's ends with `mark` between them, the lower one first, and returns the rest.
 #[inline(always)]
 fn read_pair(bytes: &[u8], mark: u8) -> Option<(Edge, &[u8])>
     requires { IsInRange 48 57 mark → ⊥ }
@@ -125,7 +124,7 @@ fn read_pair(bytes: &[u8], mark: u8) -> Option<(Edge, &[u8])>
     Some((pair, rest))
 }
 
-/// Reads the two ends of an edge with the mark between them, the lower one first.
+/// Reads an edge's ends with `mark` between them, the lower one first, to the end of the text.
 pub(crate) fn read_ends(bytes: &[u8], mark: u8) -> Option<Edge>
     requires { IsInRange 48 57 mark → ⊥ }
     ensures { Reads IsPair (λ e. number_text e.0 ++ mark ∷ number_text e.1) bytes.now result }

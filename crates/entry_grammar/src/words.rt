@@ -1,4 +1,4 @@
-//! Lists of words that are joined by one space.
+//! Lists of words joined by one space.
 
 ghost use Rattle.std.specs.Prelude.{◌≡◌, ◌≢◌, ℕ, List, [], ◌∷◌, IfOk, IfSome, MatchOption, codes};
 ghost use Rattle.std.specs.List.{AllByRecursion};
@@ -10,22 +10,22 @@ use crate::cut::behind;
 use rule_machine::{Listing, Want};
 use std::alloc::Global;
 
-/// What stands in a line as one word.
+/// A value read from one word.
 pub trait Token {
     // The word's text.
     ghost text: { Self → List ℕ };
 
-    // What each value of the type meets.
+    // What each value of the type satisfies.
     ghost fits: { Self → Type 0 };
 
-    /// Reads the word in front, which nothing or a space follows, and gives what follows; `None` where there is none.
+    /// Reads the word at the front, which ends at a space or the end of the text; returns the rest.
+    /// Returns `None` if there is none.
     fn read(bytes: &[u8]) -> Option<(Self, &[u8])>
         ensures { MatchOption result
             ((word : Self) (rest : List ℕ) → TokenThen fits text bytes.now word rest → ⊥)
             (λ found. TokenThen fits text bytes.now found.0 found.1.now) };
 }
 
-/// Reads a word that nothing follows.
 fn read_alone<W: Token + Copy>(bytes: &[u8]) -> Option<W>
     ensures { IfSome result (λ word. AllByRecursion W.fits (word ∷ []) × (bytes.now ≡ joined W.text (word ∷ []))) }
 {
@@ -35,7 +35,7 @@ fn read_alone<W: Token + Copy>(bytes: &[u8]) -> Option<W>
     }
 }
 
-/// Reads one word or more that are joined by one space; `None` where anything else stands there.
+/// Reads one or more words joined by one space; `None` for any other text.
 #[inline(never)]
 fn read_many<W: Token + Copy>(alloc: Global, bytes: &[u8]) -> Result<Option<Listing<W>>, Want>
     requires some { bytes.now ≢ [] }
@@ -54,8 +54,8 @@ fn read_many<W: Token + Copy>(alloc: Global, bytes: &[u8]) -> Result<Option<List
     Ok(None)
 }
 
-/// Reads words that are joined by one space, none at all from an empty text; `None` where anything else stands there. Memory is
-/// for two words and more.
+/// Reads words joined by one space, none from an empty text; `None` for any other text.
+/// Takes memory for two or more words. Error: out of memory.
 pub fn read_words<W: Token + Copy>(alloc: Global, bytes: &[u8]) -> Result<Option<Listing<W>>, Want>
     requires no_space { (word : W) → W.fits word → IsFree 32 (W.text word) }
     ensures { IfOk result (Reads (AllByRecursion W.fits) (joined W.text) bytes.now) }
@@ -69,7 +69,7 @@ pub fn read_words<W: Token + Copy>(alloc: Global, bytes: &[u8]) -> Result<Option
     read_many(alloc, bytes)
 }
 
-/// Reads words that are joined by one space, or `none` for no words; `None` where anything else stands there.
+/// Reads words joined by one space, or `none` for no words; `None` for any other text.
 pub fn read_list<W: Token + Copy>(alloc: Global, bytes: &[u8]) -> Result<Option<Listing<W>>, Want>
     requires some { (word : W) → W.fits word → W.text word ≢ [] }
     requires no_space { (word : W) → W.fits word → IsFree 32 (W.text word) }

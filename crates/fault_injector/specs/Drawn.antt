@@ -1,4 +1,4 @@
--- A fault of a register, drawn by the words of a generator: the node, the register, and what it will hold.
+-- A fault of a register, drawn by the words of a generator: the node, the register and its new value.
 use Rattle.std.specs.Prelude.{ℕ, zero, suc, ◌+◌, ◌-◌, ◌%◌, Bool, true, false, Option, None, Some, if◌then◌else◌, nat_eq, length, slice_get, slice_index}
 use Rattle.rand_core.specs.Stream.{Stream, next_u32}
 use Rattle.rule_machine.specs.declared.event.Event.{Event}
@@ -9,11 +9,11 @@ use Rattle.rule_machine.specs.Network.{Network, names, neighbours, node_count}
 abbrev pub word : Stream → ℕ
 word stream = (next_u32 stream).0
 
--- the stream behind its next word
+-- the stream after its next word
 abbrev pub rest : Stream → Stream
 rest stream = (next_u32 stream).1
 
--- the stream behind so many words
+-- the stream after this number of words
 abbrev pub behind : ℕ → Stream → Stream
 behind zero stream = stream
 behind (suc words) stream = behind words (rest stream)
@@ -26,11 +26,11 @@ is_odd w = nat_eq (w % 2) 1
 abbrev pub node_at : Network → ℕ → ℕ
 node_at net w = slice_index (names net) (w % node_count net)
 
--- where the pointer of v goes at a number: to null for 0, else to the neighbour of that number, counted from 1
+-- the new pointer of v: null for 0, else the neighbour with that number, from 1
 abbrev pub pointer_at : Network → ℕ → ℕ → Option ℕ
 pointer_at net v number = if nat_eq number 0 then None else slice_get (neighbours net v) (number - 1)
 
--- where the pointer of v goes by a word
+-- the new pointer of v by a word
 abbrev pub target_at : Network → ℕ → ℕ → Option ℕ
 target_at net v w = pointer_at net v (w % (length (neighbours net v) + 1))
 
@@ -38,11 +38,11 @@ target_at net v w = pointer_at net v (w % (length (neighbours net v) + 1))
 abbrev pub pointer_fault : Network → ℕ → Stream → Option Event × Stream
 pointer_fault net v stream = (Some (Point v (target_at net v (word stream))), rest stream)
 
--- a fault of v's flag, by one word: true for an odd one
+-- a fault of v's flag, by one word: true if it is odd
 abbrev pub flag_fault : ℕ → Stream → Option Event × Stream
 flag_fault v stream = (Some (Flag v (is_odd (word stream))), rest stream)
 
--- a fault at v where there are flags: of the flag for an odd word, else of the pointer
+-- a fault at v if there are flags: of the flag if the word is odd, else of the pointer
 abbrev pub either_fault : Network → ℕ → Stream → Option Event × Stream
 either_fault net v stream = if is_odd (word stream) then flag_fault v (rest stream) else pointer_fault net v (rest stream)
 
@@ -50,12 +50,13 @@ either_fault net v stream = if is_odd (word stream) then flag_fault v (rest stre
 abbrev pub fault_at : Network → Bool → ℕ → Stream → Option Event × Stream
 fault_at net flags v stream = if flags then either_fault net v stream else pointer_fault net v stream
 
--- the fault that a stream's words draw, and the stream behind them; none, and no word taken, where there is no node
+-- the fault drawn by a stream's words, and the stream after them; none, and no word taken, if there is no
+-- node
 abbrev pub drawn : Network → Bool → Stream → Option Event × Stream
 drawn net flags stream =
     if nat_eq (node_count net) 0 then (None, stream) else fault_at net flags (node_at net (word stream)) (rest stream)
 
--- how many words a fault takes, where there are flags and where not
+-- how many words a fault takes, with flags and without
 abbrev pub fault_words : Bool → ℕ
 fault_words flags = if flags then 3 else 2
 

@@ -1,4 +1,4 @@
-//! The hand that breaks registers.
+//! The source of register faults.
 
 ghost use Rattle.std.specs.Prelude.{◌≡◌, ◌<◌, ◌↔◌, IfSome, IsNone, IsTrue, None};
 ghost use Rattle.rule_machine.specs.Network.{node_count};
@@ -12,8 +12,8 @@ use rule_machine::Event;
 use rule_set::Rules;
 use std::marker::Model;
 
-/// A hand that breaks registers at random, by the words of a generator: from the same words it breaks the same ones.
-/// Contracts see it as its generator.
+/// Draws faults of registers from the words of a generator; the same words give the same faults.
+/// Contracts see the generator.
 #[derive(Drop)]
 pub struct Injector<G: Rng> {
     generator: G,
@@ -26,22 +26,23 @@ impl<G: Rng> Model for Injector<G> {
 }
 
 impl<G: Rng> Injector<G> {
-    /// The hand that takes its words from this generator. Takes no memory.
+    /// An injector that takes its words from this generator. Takes no memory.
     pub fn new(generator: G) -> Injector<G>
         ensures { result ≡ generator }
     {
         Injector { generator }
     }
 
-    /// A fault of a register that the network accepts; `None` exactly where it has no node, and then no word is taken.
-    /// Else three words are taken where the rules use flags, and two where they do not. Takes no memory, and looks at one
-    /// neighbour at most.
+    /// A fault of a register that the network accepts; `None` exactly if the network has no node.
+    /// Takes no word if there is no node, three if the rules use flags, and two otherwise. Takes no memory,
+    /// and looks at one neighbour at most.
     ///
-    /// The words are the generator's, by `next_u32`. The first picks the node: of n nodes the one at the place
-    /// `word mod n`, counted from 0 by rising names. Where the rules use flags, the next says which register: an odd
-    /// word the flag, an even one the pointer. The last says what it will hold: a flag is true for an odd word; a
-    /// pointer, with d neighbours, is null where `word mod (d + 1)` is 0, and else at the neighbour of that number,
-    /// counted from 1 by rising names.
+    /// The words come from `next_u32`:
+    ///
+    /// - The first picks the node: of n nodes the one at index `word mod n`, from 0, names ascending.
+    /// - If the rules use flags, the next picks the register: the flag if odd, the pointer if even.
+    /// - The last picks the value. A flag is true if the word is odd. A pointer, with d neighbours, is null
+    ///   if `word mod (d + 1)` is 0, otherwise the neighbour with that number, from 1, names ascending.
     pub fn draw<R: Rules>(&mut self, net: &Net<R>) -> Option<Event>
         ensures event { (result, G.stream self.new) ≡ drawn net.now.state.network R.table.flags (G.stream self.old) }
         ensures none { IsNone result ↔ (node_count net.now.state.network ≡ 0) }

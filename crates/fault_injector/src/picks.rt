@@ -8,8 +8,8 @@ ghost use Rattle.fault_injector.specs.Drawn.{node_at, target_at, is_odd};
 use graph_store::EdgeStore;
 use rule_machine::Node;
 
-/// The node at a place, counted from 0 by rising names: a look at 24 counts and eight words at most, and none where no name is
-/// absent.
+/// The node at an index, from 0, names ascending.
+/// It looks at 24 counts and eight words at most, and at none if every name is present.
 fn nth_node(store: &EdgeStore, place: u32) -> Node
     requires { place < node_count store.now.network }
     ensures { result ≡ slice_index (names store.now.network) place }
@@ -20,7 +20,7 @@ fn nth_node(store: &EdgeStore, place: u32) -> Node
     store.nth(place).unwrap()
 }
 
-/// The node that a word picks: of n nodes the one at the place `word mod n`, counted from 0 by rising names.
+/// The node that a word picks: of n nodes the one at index `word mod n`, from 0, names ascending.
 pub(crate) fn pick_node(store: &EdgeStore, word: u32) -> Node
     requires { 0 < node_count store.now.network }
     ensures node { result ≡ node_at store.now.network word }
@@ -29,8 +29,7 @@ pub(crate) fn pick_node(store: &EdgeStore, word: u32) -> Node
     nth_node(store, word % store.nodes())
 }
 
-/// What a word makes a node's pointer: with d neighbours, null where `word mod (d + 1)` is 0, and else the neighbour
-/// of that number, counted from 1 by rising names. Looks at one neighbour.
+/// The value that a word picks for a node's pointer, as in `Injector::draw`. Looks at one neighbour.
 pub(crate) fn pick_target(store: &EdgeStore, node: Node, word: u32) -> Option<Node>
     requires { IsTrue (present store.now.network node) }
     ensures target { result ≡ target_at store.now.network node word }
@@ -44,7 +43,6 @@ pub(crate) fn pick_target(store: &EdgeStore, node: Node, word: u32) -> Option<No
     Some(neighbours[place - 1])
 }
 
-/// What a word makes a node's flag: true where it is odd.
 pub(crate) fn pick_value(word: u32) -> bool
     ensures { result ≡ is_odd word }
 {

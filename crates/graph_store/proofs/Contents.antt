@@ -52,7 +52,7 @@ pub room_counted : (rows : List (Vec ℕ Global)) (v : ℕ) → v < length rows 
 room_counted [] v inside room = absurd (omega (arith, inside))
 room_counted (r ∷ rows) v inside room = omega (arith, get_or-map spare (r ∷ rows) v r 0 inside, room r)
 
--- a look-up finds what is there
+-- a look-up finds what the table has
 pub found : (row : List ℕ) (name : ℕ) (r : Result ℕ ℕ) → MatchResult r (IsPlaceOf row name) (IsGapFor row name) → is_ok r ≡ has row name
 found row name (Ok i) place = sym (there_at_place row name i place)
 found row name (Err i) gap = sym (absent_at_gap row name i gap)
@@ -65,7 +65,7 @@ lower_by_one old new same moved =
     let inside : k + 1 < length old = omega (arith, lt, length-take (length old - 1) new) in
     get_or-take (length old - 1) new k 0 (omega arith) ∙ moved k inside ∙ ap (λ i. get_or old i 0) (omega arith) ∙ sym (get_or-drop 1 old k 0))
 
--- a name is out where those behind it moved down by one place and the last was let go
+-- a name is removed if those after it moved down by one place and the last was dropped
 pub taken_out : (row tail past rest : List ℕ) (len place : ℕ) → len ≡ length row → place < length row → length tail ≡ length (take (length row - place) (drop place row)) → take (length (take (length row - place) (drop place row)) - 1) tail ≡ drop 1 (take (length row - place) (drop place row)) → take (len - 1) (take len ((take place row ++ (tail ++ past)) ++ rest)) ≡ remove row place
 taken_out row tail past rest len place whole inside as_long moved =
     let size : length (take (length row - place) (drop place row)) ≡ length row - place = ap length (take_rest row place) ∙ length-drop place row in

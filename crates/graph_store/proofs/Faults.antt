@@ -27,7 +27,7 @@ pub record MayLink (net : Network) (a b : ℕ) : Type 0 where
   pub fresh : linked net a b ≡ false
   pub few : edge_count net < max_edges
 
--- what is known where no test of an edge fails
+-- what is known if no test of an edge fails
 good_edge : (p q e l m : Bool) → cond (not (p && q)) (Some UnknownNode) (cond e (Some SelfLoop) (cond l (Some AlreadyLinked) (cond m (Some TooManyEdges) None))) ≡ None → (p ≡ true) × (q ≡ true) × (e ≡ false) × (l ≡ false) × (m ≡ false)
 good_edge p q e l m h = grind arith
 
@@ -43,12 +43,12 @@ may_link net a b free =
       few = leb-false max_edges (edge_count net) known.4;
     }
 
--- an edge that may be put in, or not, where the ends are two nodes
+-- inserting an edge is possible or not, given that its ends are two nodes
 pub link_fault_is : (net : Network) (a b : ℕ) (l m : Bool) → present net a ≡ true → present net b ≡ true → eqb a b ≡ false → linked net a b ≡ l → nat_le max_edges (edge_count net) ≡ m → link_fault net a b ≡ cond l (Some AlreadyLinked) (cond m (Some TooManyEdges) None)
 link_fault_is net a b l m p q e is_l is_m =
     λ i. cond (not (p i && q i)) (Some UnknownNode) (cond (e i) (Some SelfLoop) (cond (is_l i) (Some AlreadyLinked) (cond (is_m i) (Some TooManyEdges) None)))
 
--- an edge that may be taken out, or not, likewise
+-- removing an edge is possible or not, given that its ends are two nodes
 pub unlink_fault_is : (net : Network) (a b : ℕ) (l : Bool) → present net a ≡ true → present net b ≡ true → eqb a b ≡ false → linked net a b ≡ l → unlink_fault net a b ≡ cond l None (Some NotLinked)
 unlink_fault_is net a b l p q e is_l =
     λ i. cond (not (p i && q i)) (Some UnknownNode) (cond (e i) (Some SelfLoop) (cond (is_l i) None (Some NotLinked)))
@@ -70,7 +70,7 @@ pub row_here : (size : ℕ) (roll : List Bool) (rows : List (Vec ℕ Global)) (n
 row_here size roll rows net v p r row seen good here same is items =
     items ∙ row_read rows rows v p r refl same (has_row size roll rows net v seen good here) is
 
--- two names are linked where one is found in the other's row
+-- two names are linked if one is found in the other's row
 pub linked_at_place : (size : ℕ) (roll : List Bool) (rows : List (List ℕ)) (net : Network) (a b i : ℕ) (row : List ℕ) → network_of size roll rows ≡ net → IsRows size roll rows → row ≡ row_at rows a → IsPlaceOf row b i → linked net a b ≡ true
 linked_at_place size roll rows net a b i row seen good is place =
     sym (linked_by size roll rows net a b seen good) ∙ ap (λ l. has l b) (sym is) ∙ there_at_place row b i place
@@ -92,6 +92,6 @@ are_joined size roll rows net a b seen good joined =
       back = linked_back net b a ∙ joined;
     }
 
--- where two names are linked there is an edge
+-- if two names are linked there is an edge
 pub some_edge : (net : Network) (a b : ℕ) → linked net a b ≡ true → 1 ≤ edge_count net
 some_edge net a b there = count-some net.edges (edge a b) there

@@ -15,7 +15,7 @@ in_order a b h = grind (arith, nat_tests)
 pub out_of_order : (a b : ℕ) → is_lt (nat_cmp a b) ≡ false → b ≤ a
 out_of_order a b h = grind (arith, nat_tests)
 
--- the upper half, where the name in the middle is not above
+-- the upper half, if the name in the middle is not above
 pub upper_half : (row : List ℕ) (name start size : ℕ) → IsStrictlyIncreasing row → IsPartFor row name start size → get_or row (start + size / 2) 0 ≤ name → IsPartFor row name (start + size / 2) (size - size / 2)
 upper_half row name start size up part low = record {
   inside = omega (arith, part.inside);
@@ -24,7 +24,7 @@ upper_half row name start size up part low = record {
   above = λ k ge lt. part.above k (omega (arith, ge)) lt;
 }
 
--- the lower half, where it is
+-- the lower half, if it is
 pub lower_half : (row : List ℕ) (name start size : ℕ) → IsStrictlyIncreasing row → IsPartFor row name start size → name < get_or row (start + size / 2) 0 → IsPartFor row name start (size - size / 2)
 lower_half row name start size up part high = record {
   inside = omega (arith, part.inside);

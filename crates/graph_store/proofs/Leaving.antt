@@ -32,7 +32,7 @@ ends_at v w a b h =
     (λ (le : w ≤ v). or_right (eqb a v) (eqb b v) (eq-eqb b v (omega (arith, high, le))))
     (cases_lt v w)
 
--- who leaves without an edge leaves what who leaves with it does
+-- removing an edge at v before v leaves the same network as removing v with its edges
 pub without_edge_at : (net : Network) (v w : ℕ) → without_node (without_edge net v w) v ≡ without_node net v
 without_edge_at net v w =
     ap (λ (s : PairSet). let gone : Network = record { size = net.size; here = set net.here v false; edges = s } in gone)
@@ -77,11 +77,11 @@ last_of size roll rows net v (x ∷ xs) o seen good here is found =
     subst (λ r. MatchOption r (neighbours net v ≡ []) (λ w. unlink_fault net v w ≡ None)) (sym (found ∙ slice_get-get_or (x ∷ xs) i 0 inside))
     (unlinks_at size roll rows net v (get_or (x ∷ xs) i 0) i (x ∷ xs) seen good here is (inside, refl))
 
--- nobody has a name in its row whose own row is empty
+-- no row has a name whose own row is empty
 nobody_has : (size : ℕ) (roll : List Bool) (rows : List (List ℕ)) (v w : ℕ) → IsRows size roll rows → row_at rows v ≡ [] → has (row_at rows w) v ≡ false
 nobody_has size roll rows v w good alone = good.mutual_in w v ∙ ap (λ row. has row w) alone
 
--- the rows of a store stay those of a store where a name without neighbours leaves the roll
+-- the rows of a store stay those of a store if a name without neighbours leaves the roll
 pub parted_store : (size : ℕ) (roll : List Bool) (edges : ℕ) (rows : List (List ℕ)) (v : ℕ) → IsStore size roll edges rows → 1 ≤ v → row_at rows v ≡ [] → IsStore size (set roll v false) edges rows
 parted_store size roll edges rows v store low alone =
     let good = store.is_rows in

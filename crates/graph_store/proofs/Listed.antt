@@ -14,7 +14,7 @@ use Rattle.graph_store.specs.Rows.{row_at, has, pairs_from, edges_of, IsRows}
 use Rattle.machine_laws.specs.Edges.{pair_total}
 use Rattle.graph_store.proofs.Rising.{RisesFrom, rises_from, lower_rises}
 
--- each pair is below the one behind it
+-- each pair is below the next one
 abbrev pub RiseBy : List (ℕ × ℕ) → Type 0
 RiseBy [] = Unit {0}
 RiseBy (p ∷ []) = Unit {0}
@@ -121,7 +121,7 @@ pairs_more v k rows within = ap (pairs_from v) (take_more rows k [] within) ∙ 
 pub pairs_next : (k : ℕ) (rows : List (List ℕ)) → k < length rows → pairs_from 0 (take (k + 1) rows) ≡ pairs_from 0 (take k rows) ++ pairs_of k (get_or rows k [])
 pairs_next k rows within = pairs_more 0 k rows within ∙ (let same : 0 + k ≡ k = omega arith in ap (λ u. pairs_from 0 (take k rows) ++ pairs_of u (get_or rows k [])) same)
 
--- nobody's row has no name
+-- the row at index 0 has no name
 pub nobody_row : (size : ℕ) (roll : List Bool) (rows : List (List ℕ)) → IsRows size roll rows → row_at rows 0 ≡ []
 nobody_row size roll rows good = none (row_at rows 0) (λ w h. true≢false (sym (good.within w 0 (sym (good.mutual_in 0 w) ∙ h))))
   where

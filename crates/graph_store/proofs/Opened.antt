@@ -40,7 +40,7 @@ bool_number b = grind arith
 pub bool_few : (b : Bool) → from_bool b ≤ 1
 bool_few b = grind arith
 
--- an edge's one or nothing, as it is read
+-- an edge's one or zero, as it is read
 pub open_number : (ends read : List End) (a b number : ℕ) (opens : Bool) → number ≡ from_bool opens → opens ≡ are_open (end_at read a) (end_at read b) → read ≡ ends → number ≡ cond (are_open (end_at ends a) (end_at ends b)) 1 0
 open_number ends read a b number opens is tells all = is ∙ bool_number opens ∙ ap (λ t. cond t 1 0) (tells ∙ ap (λ l. are_open (end_at l a) (end_at l b)) all)
 
@@ -103,7 +103,7 @@ rows_network size roll rows good = record {
     parts : (a b : ℕ) → map.contains_key (edges_of rows) (a, b) ≡ true → (ltb a b ≡ true) × (has (row_at rows a) b ≡ true)
     parts a b h = and_parts (ltb a b) (has (row_at rows a) b) (sym (has-edges_of rows a b) ∙ h)
 
--- what stands at a name itself does not count among its neighbours
+-- a name's own stance does not count among its neighbours
 beside : (size : ℕ) (roll : List Bool) (rows : List (List ℕ)) → IsRows size roll rows → (p q : ℕ → Bool) (v : ℕ) → ((w : ℕ) → (w ≡ v → ⊥) → p w ≡ q w) → count_by p (row_at rows v) ≡ count_by q (row_at rows v)
 beside size roll rows good p q v same =
     let net = network_of size roll rows in

@@ -13,16 +13,16 @@ use Rattle.machine_laws.specs.Leaves.{unit_some}
 abbrev pub same_pair : ℕ × ℕ → ℕ × ℕ → Bool
 same_pair p q = eqb p.0 q.0 && eqb p.1 q.1
 
--- two pairs tie where both their parts are equal
+-- two pairs tie if both their parts are equal
 pair_tied : (p q : ℕ × ℕ) → eq_by_cmp pair_cmp p q ≡ same_pair p q
 pair_tied p q =
     sym (both_tied (eqb p.0 q.0) (eqb p.1 q.1) (nat_cmp p.0 q.0) (nat_cmp p.1 q.1) (unsigned_ties p.0 q.0) (unsigned_ties p.1 q.1))
 
--- an inserted pair is there, and else nothing changes
+-- an inserted pair is there, and all others are as they were
 pub has-insert : (s : PairSet) (p q : ℕ × ℕ) → map.contains_key (map.insert s p tt) q ≡ (same_pair q p || map.contains_key s q)
 has-insert s p q = contains-insert s p q ∙ ap (λ b. b || map.contains_key s q) (pair_tied q p)
 
--- a removed pair is not there, and else nothing changes
+-- a removed pair is not there, and all others are as they were
 pub has-remove : (s : PairSet) (p q : ℕ × ℕ) → map.contains_key (map.remove s p) q ≡ (not (same_pair q p) && map.contains_key s q)
 has-remove s p q = contains-remove s p q ∙ ap (λ b. not b && map.contains_key s q) (pair_tied q p)
 

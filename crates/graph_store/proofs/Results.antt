@@ -11,7 +11,7 @@ pub from_map_err : {T E F : Type 0} (P : T → Type 0) (r : Result T E) (v : Res
 from_map_err P (Ok y) v x Q is passed h = let same : y ≡ x = cc in subst P same h
 from_map_err P (Err d) v x Q is passed h = absurd (subst (λ w. IsErrAnd w (Q d)) is passed)
 
--- what follows from an `Ok` holds where `map_err` passed one on
+-- what follows from an `Ok` holds if `map_err` passed one on
 pub on_ok_map_err : {T E F : Type 0} (P Q : Type 0) (r : Result T E) (v : Result T F) (R : E → F → Type 0) → MatchResult r (λ y. v ≡ Ok y) (λ e. IsErrAnd v (R e)) → (P → Q) → OnOk r P → OnOk v Q
 on_ok_map_err P Q (Ok y) v R passed step h = subst (λ w. OnOk w Q) (sym passed) (step h)
 on_ok_map_err P Q (Err d) (Ok x) R passed step h = absurd passed
@@ -25,7 +25,7 @@ never_falls xs up i j le inside =
     (λ (ge : j ≤ i). let e : i ≡ j = omega arith in omega (arith, ap (λ k. get_or xs k 0) e))
     (cases_lt i j)
 
--- a place of a rising list before which the last name is lower, and at which the name is higher, is where a name belongs
+-- a name belongs at a place of an ascending list if the name before it is lower and the name at it is higher
 pub gap_here : (row : List ℕ) (name place : ℕ) → IsStrictlyIncreasing row → place ≤ length row → (0 < place → get_or row (place - 1) 0 < name) → (place < length row → name < get_or row place 0) → IsGapFor row name place
 gap_here row name place up inside low high = record {
   inside = inside;

@@ -1,4 +1,5 @@
--- Lists that rise: such a list is the part of a range that it has, and it still rises with a name put in or taken out.
+-- Ascending lists: such a list is the part of a range that it has, and it still ascends after an insertion or
+-- a removal.
 use Rattle.std.proofs.Common.{◌≡◌, ◌≢◌, ℕ, ◌+◌, ◌-◌, ◌<◌, ◌≤◌, suc, zero, Bool, true, false, not, cond, ◌&&◌, ◌||◌, List, [], ◌∷◌, ◌++◌, length, eqb, get_or, take, drop, sym, refl, ap, ◌∙◌, arith, add-one, ⊎_elim}
 use Rattle.std.specs.Prelude.{filter}
 use Rattle.std.specs.List.{range_with_len, insert, remove}
@@ -101,7 +102,7 @@ has-insert row i w y =
     ∙ or_swap (has (take i row) y) (eqb y w) (has (drop i row) y)
     ∙ ap (λ b. eqb y w || b) (sym (list_any-append (eqb y) (take i row) (drop i row)) ∙ ap (λ l. has l y) (take-append-drop i row))
 
--- what stands at another place is another name
+-- the name at another place is another name
 other_place : (row : List ℕ) (i k d : ℕ) → IsStrictlyIncreasing row → i < length row → k < length row → k ≢ i → eqb (get_or row i 0) (get_or row k d) ≡ false
 other_place row i k d up inside there apart =
     ne_eqb _ _ (λ e.
@@ -111,7 +112,7 @@ other_place row i k d up inside there apart =
     (λ (le : i ≤ k). let above = AllPairs-from_increasing row up i k 0 (omega arith) there in omega (arith, e, same))
     (cases_lt k i))
 
--- a name that stands once is gone when it is removed
+-- a name that comes once is gone when it is removed
 gone : (row : List ℕ) (i : ℕ) → IsStrictlyIncreasing row → i < length row → has (remove row i) (get_or row i 0) ≡ false
 gone row i up inside =
     list_any-append (eqb (get_or row i 0)) (take i row) (drop (suc i) row)

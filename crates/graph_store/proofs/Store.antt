@@ -19,7 +19,7 @@ use Rattle.std.proofs.Math.Bool.{and-false}
 use Rattle.graph_store.proofs.Pairs.{has-edges_of}
 use Rattle.graph_store.proofs.Rising.{part_of_names}
 
--- the roll says who is present
+-- the roll says which names are present
 pub on_roll : (net : Network) (v : ℕ) → length net.here ≡ net.size + 1 → get_or net.here 0 false ≡ false → get_or net.here v false ≡ present net v
 on_roll net v len nobody =
     ⊎_elim
@@ -47,7 +47,7 @@ ordered : (rows : List (List ℕ)) (a b x y : ℕ) → x ≡ a → y ≡ b → a
 ordered rows a b x y p q lt =
     (λ i. map.contains_key (edges_of rows) (p i, q i)) ∙ has-edges_of rows a b ∙ ap (λ t. t && has (row_at rows a) b) (lt-ltb a b lt)
 
--- two names are linked where one is in the other's row
+-- two names are linked if one is in the other's row
 pub linked_row : (size : ℕ) (roll : List Bool) (rows : List (List ℕ)) (a b : ℕ) → IsRows size roll rows → linked (network_of size roll rows) a b ≡ has (row_at rows a) b
 linked_row size roll rows a b good =
     ⊎_elim

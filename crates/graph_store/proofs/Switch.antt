@@ -18,12 +18,12 @@ use Rattle.graph_store.proofs.Store.{linked_row}
 abbrev joins : ℕ → ℕ → ℕ → ℕ → Bool
 joins a b x y = (eqb x a && eqb y b) || (eqb x b && eqb y a)
 
--- a row in which one name is now there or not, and the others are as they were
+-- a row with one name inserted or removed, and all others as they were
 record RowSwitched (row row' : List ℕ) (w : ℕ) (on : Bool) : Type 0 where
   held : (y : ℕ) → has row' y ≡ cond (eqb y w) on (has row y)
   rising : IsStrictlyIncreasing row'
 
--- rows in which one edge is now there or not, and the others are as they were
+-- rows with one edge inserted or removed, and all others as they were
 record Switched (a b : ℕ) (on : Bool) (rows rows' : List (List ℕ)) : Type 0 where
   places : length rows' ≡ length rows
   held : (x y : ℕ) → has (row_at rows' x) y ≡ cond (joins a b x y) on (has (row_at rows x) y)
@@ -128,11 +128,11 @@ switched_rows size roll a b on rows rows' good apart in_a in_b new = record {
   rising = new.rising;
 }
 
--- a pair that rises, where the first end is the lower one
+-- a pair that ascends, if the first end is the lower one
 first_way : (a b x y : ℕ) → x < y → a < b → joins a b x y ≡ same_pair (x, y) (a, b)
 first_way a b x y lt below = grind (arith, nat_tests)
 
--- and where it is the higher one
+-- and if it is the higher one
 second_way : (a b x y : ℕ) → x < y → b < a → joins a b x y ≡ same_pair (x, y) (b, a)
 second_way a b x y lt below = grind (arith, nat_tests)
 
@@ -140,7 +140,7 @@ second_way a b x y lt below = grind (arith, nat_tests)
 never_falls : (x y low high : ℕ) → y ≤ x → low < high → same_pair (x, y) (low, high) ≡ false
 never_falls x y low high ge up = grind (arith, nat_tests)
 
--- the pair of an edge, where its lower end is first
+-- the pair of an edge, if its lower end is first
 joins_pair : (a b x y : ℕ) → a ≢ b → ltb x y ≡ true → joins a b x y ≡ same_pair (x, y) (edge a b)
 joins_pair a b x y apart lt =
     ⊎_elim
@@ -171,7 +171,7 @@ edges_switched a b on rows rows' edges apart new is =
     ∙ switched_pair on (ltb x y) (same_pair (x, y) (edge a b)) (joins a b x y) (has (row_at rows x) y) (joins_pair a b x y apart) (λ ge. no_pair a b x y ge apart)
     ∙ sym (is (x, y) ∙ ap (cond (same_pair (x, y) (edge a b)) on) (has-edges_of rows x y)))
 
--- a store in which an edge is switched is one of the network with these edges
+-- a store after an edge is switched is one of the network with these edges
 switched_store : (size : ℕ) (roll : List Bool) (edges edges' a b : ℕ) (on : Bool) (rows rows' : List (List ℕ)) (ra rb : List ℕ) (pairs : PairSet) → IsStore size roll edges rows → a ≢ b → present (network_of size roll rows) a ≡ true → present (network_of size roll rows) b ≡ true → RowSwitched (row_at rows a) ra b on → RowSwitched (row_at rows b) rb a on → rows' ≡ set (set rows a ra) b rb → ((q : ℕ × ℕ) → map.contains_key pairs q ≡ cond (same_pair q (edge a b)) on (map.contains_key (edges_of rows) q)) → map.len pairs ≡ edges' → edges' ≤ 1048576 → IsStore size roll edges' rows' × (network_of size roll rows' ≡ record (network_of size roll rows) { edges = pairs })
 switched_store size roll edges edges' a b on rows rows' ra rb pairs store apart in_a in_b row_a row_b is switched counted few =
     let good = store.is_rows in

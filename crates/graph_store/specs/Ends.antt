@@ -1,4 +1,4 @@
--- The edges that are open by what their ends make of them.
+-- Each node's stance on its edges, and which edges are open by the stances of their ends.
 use Rattle.std.specs.Prelude.{◌≡◌, ℕ, ◌+◌, Bool, true, false, not, ◌&&◌, List, length, count_by, slice_index_or, refl}
 use Rattle.std.specs.Coded.{Coded, code_by, coded×, coded_bool}
 use Rattle.std.specs.FinMap as map
@@ -38,11 +38,11 @@ end_code = code_by (Bool × Bool) (coded× coded_bool coded_bool) to_bools of_bo
 abbrev pub are_open : End → End → Bool
 are_open a b = not (is_shut a) && not (is_shut b) && not (is_courted a && is_courted b)
 
--- what a node makes of its edges
+-- a node's stance on its edges
 abbrev pub end_at : List End → ℕ → End
 end_at ends v = slice_index_or ends v Shut
 
--- how many of these names leave an edge open to one that makes this of its edges
+-- how many of these names have an open edge to a node with this stance
 abbrev pub open_to : List End → End → List ℕ → ℕ
 open_to ends end names = count_by (λ w. are_open end (end_at ends w)) names
 
@@ -50,11 +50,11 @@ open_to ends end names = count_by (λ w. are_open end (end_at ends w)) names
 abbrev pub open_among : List End → PairSet → ℕ
 open_among ends edges = count_by (λ e. are_open (end_at ends e.0) (end_at ends e.1)) (map.keys edges)
 
--- how many edges of a network are
+-- how many edges of a network are open
 abbrev pub open_edges : Network → List End → ℕ
 open_edges net ends = open_among ends net.edges
 
--- each name has its place, and so many edges of the rows are open
+-- each name has its entry, and `count` edges of the rows are open
 pub record AreCounted (size : ℕ) (rows : List (List ℕ)) (ends : List End) (count : ℕ) : Type 0 where
   pub places : length ends ≡ size + 1
   pub counted : open_among ends (edges_of rows) ≡ count

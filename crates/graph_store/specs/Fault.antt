@@ -1,4 +1,4 @@
--- Which change of a store is refused, and why: the first reason in a fixed order.
+-- Why a change of a store is refused: the first reason in a fixed order.
 use Rattle.std.specs.Prelude.{◌≡◌, ℕ, not, Option, None, Some, if◌then◌else◌, nat_eq, nat_le, nat_lt}
 use Rattle.rule_machine.specs.Network.{Network, present, linked, edge_count}
 use Rattle.rule_machine.specs.Refuse.{both_present, max_edges}
@@ -9,11 +9,11 @@ use Rattle.graph_store.specs.declared.fault.GraphFault.TheVariants.{TooManyNodes
 abbrev pub max_nodes : ℕ
 max_nodes = 65535
 
--- why no store of these many nodes is made, if none is
+-- why no store of `n` nodes is made, if none is
 abbrev pub nodes_fault : ℕ → Option GraphFault
 nodes_fault n = if nat_lt max_nodes n then Some TooManyNodes else None
 
--- why two names are no ends of an edge, if they are not
+-- why two names can't be the ends of an edge, if they can't
 abbrev pub ends_fault : Network → ℕ → ℕ → Option GraphFault
 ends_fault net a b =
     if not (both_present net a b) then Some UnknownNode else (if nat_eq a b then Some SelfLoop else None)
@@ -27,7 +27,7 @@ join_fault net v =
 abbrev pub leave_fault : Network → ℕ → Option GraphFault
 leave_fault net v = if present net v then None else Some UnknownNode
 
--- why an edge is not put in, if it is not
+-- why an edge is not inserted, if it is not
 abbrev pub link_fault : Network → ℕ → ℕ → Option GraphFault
 link_fault net a b =
     if not (both_present net a b) then Some UnknownNode
@@ -35,14 +35,14 @@ link_fault net a b =
     else (if linked net a b then Some AlreadyLinked
     else (if nat_le max_edges (edge_count net) then Some TooManyEdges else None)))
 
--- why an edge is not taken out, if it is not
+-- why an edge is not removed, if it is not
 abbrev pub unlink_fault : Network → ℕ → ℕ → Option GraphFault
 unlink_fault net a b =
     if not (both_present net a b) then Some UnknownNode
     else (if nat_eq a b then Some SelfLoop
     else (if linked net a b then None else Some NotLinked))
 
--- an answer is the fault in the call, and want of memory only where there is none
+-- an error is the fault of the call, or a lack of memory if the call has none
 abbrev pub Explains : Option GraphFault → GraphFault → Type 0
 Explains None f = f ≡ Memory
 Explains (Some fault) f = f ≡ fault

@@ -9,7 +9,7 @@ use Rattle.graph_store.specs.declared.ends.End.{End}
 use Rattle.graph_store.specs.Ends.{end_code}
 use Rattle.graph_store.specs.Rows.{contents, network_of}
 
--- the network, for how many more neighbours each name has room, and what each makes of the edges at it: the lists have a place
+-- the network, the room for further neighbours of each name, and the stance of each; every list has an entry
 -- for each name
 pub record Graph : Type 0 where
   pub network : Network
@@ -28,7 +28,7 @@ graph_of size roll rows ends = record {
   ends = ends;
 }
 
--- an edge between these two takes no memory
+-- inserting an edge between these two takes no memory
 pub record HasRoomFor (room : List ℕ) (a b : ℕ) : Type 0 where
   pub at_a : 0 < slice_index_or room a 0
   pub at_b : 0 < slice_index_or room b 0

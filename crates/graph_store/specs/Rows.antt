@@ -1,4 +1,4 @@
--- Neighbour lists as a network: the row of a name stands at its place, and place 0 is nobody's.
+-- Neighbour lists as a network: each name's row is at the name's index, and index 0 belongs to no node.
 use Rattle.std.specs.Prelude.{◌≡◌, ℕ, ◌+◌, ◌<◌, ◌≤◌, Bool, true, false, List, [], ◌∷◌, ◌++◌, map, filter, length, nat_eq, nat_lt, slice_index, slice_index_or, slice_set, IsTrue}
 use Rattle.std.specs.List.{insert, list_any, remove}
 use Rattle.std.specs.List.Sorted.{IsStrictlyIncreasing}
@@ -28,11 +28,13 @@ pairs_from v (row ∷ rows) = map (λ w. (v, w)) (filter (nat_lt v) row) ++ pair
 unfoldable pub edges_of : List (List ℕ) → PairSet
 edges_of rows = pair_set (pairs_from 0 rows)
 
--- the network of these many names, of which the roll says who is present, whose edges are the pairs of the rows
+-- the network of `size` names whose present names are those of the roll, and whose edges are the pairs of the
+-- rows
 abbrev pub network_of : ℕ → List Bool → List (List ℕ) → Network
 network_of size roll rows = record { size = size; here = roll; edges = edges_of rows }
 
--- The roll says who is present; each row rises and names other nodes of the network only, and two names are in each other's rows or in neither's.
+-- The roll says which names are present. Each row ascends and has only other nodes of the network, and two
+-- names are in each other's rows or in neither's.
 pub record IsRows (size : ℕ) (roll : List Bool) (rows : List (List ℕ)) : Type 0 where
   pub places : length rows ≡ size + 1
   pub roll_len : length roll ≡ size + 1
@@ -59,23 +61,24 @@ abbrev pub take_both : List (List ℕ) → ℕ → ℕ → ℕ → ℕ → List 
 take_both rows a i b j =
     slice_set (slice_set rows a (remove (row_at rows a) i)) b (remove (row_at rows b) j)
 
--- w stands in the row at place i
+-- w is in the row at index i
 abbrev pub IsPlaceOf : List ℕ → ℕ → ℕ → Type 0
 IsPlaceOf row w i = (i < length row) × (slice_index row i ≡ w)
 
--- w belongs into the row at place i: what stands before is lower, and what stands from there on is higher
+-- w belongs into the row at index i: the names before it are lower, and those from there on are higher
 pub record IsGapFor (row : List ℕ) (w i : ℕ) : Type 0 where
   pub inside : i ≤ length row
   pub below : (k : ℕ) → k < i → slice_index row k < w
   pub above : (k : ℕ) → i ≤ k → k < length row → w < slice_index row k
 
--- the place of w is in this part of the row or at its end: what stands before is lower, and what stands behind is higher
+-- the index of w is in this part of the row or at its end: names before it are lower, and names after it are
+-- higher
 pub record IsPartFor (row : List ℕ) (w start size : ℕ) : Type 0 where
   pub inside : start + size ≤ length row
   pub some : 0 < size
   pub below : (k : ℕ) → k < start → slice_index row k < w
   pub above : (k : ℕ) → start + size ≤ k → k < length row → w < slice_index row k
 
--- the row at place v has room for one more name
+-- the row of v has room for one more name
 abbrev pub HasRoom : List (Vec ℕ Global) → ℕ → Type 0
 HasRoom rows v = (d : Vec ℕ Global) → vec_len (slice_index_or rows v d) < vec_capacity (slice_index_or rows v d)

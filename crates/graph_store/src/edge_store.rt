@@ -1,4 +1,4 @@
-//! The edges of a network.
+//! The store of edges.
 
 ghost use Rattle.std.specs.Prelude.{◌≡◌, ◌≢◌, ◌≤◌, ℕ, false, length, [], slice_get, slice_set, IfOk, IfErr, OnOk, OnErr, MatchOption, IsTrue, All, None, Some};
 ghost use Rattle.std.specs.List.Sorted.{IsStrictlyIncreasing};
@@ -19,10 +19,11 @@ use rule_machine::{Edge, MAX_EDGES, MAX_NAME, Node, Want};
 use std::alloc::Global;
 use std::marker::Model;
 
-/// The names 1 to n, those of them that are nodes, and the edges between these, seen in contracts as the network of the three, for
-/// how many more neighbours each name has room, and what each name makes of the edges at it. Each name has the sorted list of its
-/// neighbours, two bytes a neighbour, a bit that says whether it is present, and a byte for what it makes of its edges. Names that
-/// are absent have no neighbours.
+/// A network of nodes named 1 to a fixed capacity, as sorted neighbour lists.
+///
+/// Contracts see the network, the room in each list, and each name's stance (`End`) on its edges.
+/// Memory: two bytes a neighbour; a list, a bit (present) and a byte (stance) a name.
+/// An absent name has no neighbours.
 #[derive(Drop)]
 pub struct EdgeStore {
     rows: Vec<Vec<Node>>,
@@ -31,7 +32,7 @@ pub struct EdgeStore {
     edges: u32,
     ends: Vec<End>,
     open_edges: u32,
-    // Where the last edge for which room was made belongs in its first end's row: a guess, which is looked at before it is used.
+    // A guess, checked before use: the gap for the last reserved edge in the row of its first end.
     last_gap: usize,
 }
 
@@ -50,8 +51,9 @@ impl Model for EdgeStore {
 }
 
 impl EdgeStore {
-    /// The graph of the nodes 1 to `nodes` with no edge, in which no more can join; takes memory for one empty list a node.
-    /// `TooManyNodes` above 65,535, and `Memory` if memory runs out.
+    /// The graph of the nodes 1 to `nodes` without edges. No further node can join.
+    /// Takes memory for one empty list a node.
+    /// Errors: `TooManyNodes` above 65,535; `Memory`.
     pub fn new(alloc: Global, nodes: u32) -> Result<EdgeStore, GraphFault>
         ensures ok { IfOk result (λ store. store.network ≡ edgeless nodes) }
         ensures small { OnOk result (nodes ≤ 65535) }
@@ -60,8 +62,9 @@ impl EdgeStore {
         EdgeStore::with_present(alloc, nodes, nodes)
     }
 
-    /// The graph of the names 1 to `nodes`, of which 1 to `present` are nodes, with no edge; takes memory for one empty list, a
-    /// byte and a bit a name. `TooManyNodes` above 65,535 names, and `Memory` if memory runs out.
+    /// The graph of the names 1 to `nodes` without edges. Nodes 1 to `present` are present.
+    /// Takes memory for one empty list, a byte and a bit a name.
+    /// Errors: `TooManyNodes` above 65,535 names; `Memory`.
     pub fn with_present(alloc: Global, nodes: u32, present: u32) -> Result<EdgeStore, GraphFault>
         requires within { present ≤ nodes }
         ensures ok { IfOk result (λ store. store.network ≡ edgeless_with nodes present) }
@@ -85,7 +88,7 @@ impl EdgeStore {
         })
     }
 
-    /// How many nodes there are: how many names are present, at most 65,535. One look.
+    /// The number of nodes: the names that are present, at most 65,535. One look.
     pub fn nodes(&self) -> u32
         ensures count { result ≡ node_count self.now.network }
         ensures few { result ≤ 65535 }
@@ -93,7 +96,7 @@ impl EdgeStore {
         self.here.count()
     }
 
-    /// The greatest name that a node may have, present or not, at most 65,535: so many names there are. Never changes.
+    /// The capacity: the greatest name that a node may have, at most 65,535. It never changes.
     pub fn capacity(&self) -> u32
         ensures size { result ≡ self.now.network.size }
         ensures few { result ≤ 65535 }
@@ -101,14 +104,15 @@ impl EdgeStore {
         self.nodes
     }
 
-    /// The k-th node by rising names, from 0; `None` from `nodes()` on. A look at 24 counts and eight words at most.
+    /// The k-th node by ascending name, from 0; `None` from `nodes()` on.
+    /// Looks at most at 24 counts and eight words.
     pub fn nth(&self, k: u32) -> Option<Node>
         ensures { result ≡ slice_get (names self.now.network) k }
     {
         self.here.nth(k)
     }
 
-    /// Whether this is a node of the graph: a name up to the capacity that is present. One look at one bit.
+    /// Whether this name is present: a node of the graph. One look at one bit.
     #[inline(always)]
     pub fn has(&self, node: Node) -> bool
         ensures { result ≡ present self.now.network node }
@@ -116,7 +120,7 @@ impl EdgeStore {
         self.here.contains(node)
     }
 
-    /// How many edges there are, at most 1,048,576.
+    /// The number of edges, at most 1,048,576.
     pub fn edges(&self) -> u32
         ensures count { result ≡ edge_count self.now.network }
         ensures few { result ≤ 1048576 }
@@ -124,8 +128,8 @@ impl EdgeStore {
         self.edges
     }
 
-    /// Whether there is an edge between two names; `false` where one of them is no node of the graph. A look-up by
-    /// halves among the neighbours of `a`.
+    /// Whether two nodes have an edge; `false` if either is not a node of the graph.
+    /// A binary search among the neighbours of `a`.
     pub fn linked(&self, a: Node, b: Node) -> bool
         ensures value { result ≡ linked self.now.network a b }
         ensures present { IsTrue result → IsTrue (present self.now.network a) × IsTrue (present self.now.network b) }
@@ -137,7 +141,7 @@ impl EdgeStore {
         }
     }
 
-    /// The neighbours of a node, by rising names.
+    /// The neighbours of a node, ascending.
     pub fn neighbours(&self, node: Node) -> &[Node]
         requires { IsTrue (present self.now.network node) }
         ensures all { result.now ≡ neighbours self.now.network node }
@@ -149,8 +153,9 @@ impl EdgeStore {
         &self.rows[node.place()]
     }
 
-    /// The edges, by rising lower ends, and those of one lower end by rising higher ends; takes four bytes an edge. A look at
-    /// every name, and at both ends of every edge.
+    /// The edges, ascending by lower end, then by higher end.
+    /// Looks at every name and at both ends of every edge; takes four bytes an edge.
+    /// Error: out of memory.
     pub fn list(&self) -> Result<Vec<Edge>, Want>
         ensures list { IfOk result (λ edges. edges.items ≡ edge_list self.now.network) }
         ensures few { IfOk result (λ edges. length edges.items ≤ 1048576) }
@@ -158,7 +163,7 @@ impl EdgeStore {
         list_pairs(self.rows.allocator().clone()?, &self.rows, self.edges)
     }
 
-    /// How many edges are open by what their ends make of them. One look.
+    /// How many edges are open by the stances of their ends. One look.
     pub fn open_edges(&self) -> u32
         ensures count { result ≡ open_edges self.now.network self.now.ends }
         ensures few { result ≤ 1048576 }
@@ -166,8 +171,8 @@ impl EdgeStore {
         self.open_edges
     }
 
-    /// Says what a name makes of the edges at it from now on, where at first each name shuts them: one look where that was said
-    /// before, else one at each neighbour. Takes no memory.
+    /// Sets a name's stance on its edges. At first each name shuts them.
+    /// One look if the stance is unchanged, else one at each neighbour. Takes no memory.
     pub fn turn(&mut self, v: Node, end: End)
         requires { v ≤ self.old.network.size }
         ensures told { end_at self.new.ends v ≡ end }
@@ -186,7 +191,6 @@ impl EdgeStore {
         }
     }
 
-    // Whether an edge may join the two, which have to be nodes of the graph, and different.
     fn check_ends(&self, a: Node, b: Node) -> Result<(), GraphFault>
         ensures ok { OnOk result (ends_fault self.now.network a b ≡ None) }
         ensures fault { IfErr result (λ fault. ends_fault self.now.network a b ≡ Some fault) }
@@ -200,7 +204,7 @@ impl EdgeStore {
         Ok(())
     }
 
-    // The place where `b` belongs among the neighbours of `a`, if an edge may join the two.
+    // The gap for `b` among the neighbours of `a`, if an edge may join them.
     fn check_link(&self, a: Node, b: Node) -> Result<usize, GraphFault>
         ensures free { OnOk result (link_fault self.now.network a b ≡ None) }
         ensures gap { IfOk result (λ place. IsGapFor (neighbours self.now.network a) b place) }
@@ -216,14 +220,14 @@ impl EdgeStore {
         Ok(place)
     }
 
-    /// Why `link` would not put in an edge between two names, but for want of memory; by a look-up by halves.
+    /// Why `link` would refuse an edge, apart from a lack of memory; `None` if it would not.
+    /// A binary search.
     pub fn link_fault(&self, a: Node, b: Node) -> Option<GraphFault>
         ensures { result ≡ link_fault self.now.network a b }
     {
         self.check_link(a, b).err()
     }
 
-    // The place where `w` belongs among the neighbours of `v`.
     fn find_gap(&self, v: Node, w: Node) -> usize
         requires present { IsTrue (present self.now.network v) }
         requires apart { linked self.now.network v w ≡ false }
@@ -232,7 +236,7 @@ impl EdgeStore {
         find_gap(self.neighbours(v), w)
     }
 
-    // The place where `w` belongs among the neighbours of `v`: by two looks, where it is the last place that was found.
+    // The gap for `w` among the neighbours of `v`: two looks if the last gap found is right.
     fn guess_gap(&self, v: Node, w: Node) -> usize
         requires present { IsTrue (present self.now.network v) }
         requires apart { linked self.now.network v w ≡ false }
@@ -241,7 +245,6 @@ impl EdgeStore {
         guess_gap(self.neighbours(v), self.last_gap, w)
     }
 
-    // Makes room for the edge between two nodes.
     fn make_room(&mut self, a: Node, b: Node) -> Result<(), GraphFault>
         requires present_a { IsTrue (present self.old.network a) }
         requires present_b { IsTrue (present self.old.network b) }
@@ -253,7 +256,7 @@ impl EdgeStore {
         reserve_both(&mut self.rows, a, b).map_err(|_| GraphFault::Memory)
     }
 
-    // Puts in the edge between two nodes, for which there is room, each at its place among the other's neighbours.
+    // Inserts a reserved edge, each end in its gap among the other's neighbours.
     fn put_edge(&mut self, a: Node, place_in_a: usize, b: Node, place_in_b: usize)
         requires free { link_fault self.old.network a b ≡ None }
         requires room { HasRoomFor self.old.room a b }
@@ -267,9 +270,10 @@ impl EdgeStore {
         self.open_edges += u32::from(are_open(&self.ends, a, b));
     }
 
-    /// Puts in the edge between two nodes: by a look-up by halves and a shift in the rows of the two.
-    /// `UnknownNode` where an end is no node of the graph, then `SelfLoop`, then `AlreadyLinked`, then `TooManyEdges`
-    /// at 1,048,576 edges, and `Memory` if memory runs out. No fault changes anything.
+    /// Inserts the edge between two nodes: a binary search and a shift in both rows.
+    /// Errors, in this order: `UnknownNode` if an end is not a node of the graph, `SelfLoop`,
+    /// `AlreadyLinked`, `TooManyEdges` at 1,048,576 edges, `Memory`.
+    /// An error leaves the network unchanged.
     pub fn link(&mut self, a: Node, b: Node) -> Result<(), GraphFault>
         ensures ok { OnOk result ((link_fault self.old.network a b ≡ None) × (self.new.network ≡ with_edge self.old.network a b)) }
         ensures fault { IfErr result (λ fault. Explains (link_fault self.old.network a b) fault) }
@@ -283,9 +287,9 @@ impl EdgeStore {
         Ok(())
     }
 
-    /// Makes room for the edge between two nodes, so that `link_reserved` of them takes no memory: a look-up by halves among the
-    /// neighbours of `a`, and the growth of at most two rows. `UnknownNode`, `SelfLoop`, `AlreadyLinked`, `TooManyEdges` and
-    /// `Memory`, in the order of `link`; no edge changes.
+    /// Makes room for the edge between two nodes, so that `link_reserved` of it takes no memory.
+    /// A binary search among the neighbours of `a`, and the growth of at most two rows.
+    /// Errors: those of `link`, in its order. No edge changes.
     pub fn reserve_link(&mut self, a: Node, b: Node) -> Result<(), GraphFault>
         ensures ok { OnOk result ((link_fault self.old.network a b ≡ None) × HasRoomFor self.new.room a b) }
         ensures fault { IfErr result (λ fault. Explains (link_fault self.old.network a b) fault) }
@@ -296,8 +300,9 @@ impl EdgeStore {
         self.make_room(a, b)
     }
 
-    /// Puts in the edge between two nodes for which there is room: by a look-up by halves in the row of `b`, and in that of `a`
-    /// where the last `reserve_link` was of another edge, and a shift in both. Takes no memory.
+    /// Inserts an edge after room was made for it. Takes no memory.
+    /// A binary search in the row of `b`, and in that of `a` unless the last `reserve_link` was of this edge;
+    /// a shift in both.
     pub fn link_reserved(&mut self, a: Node, b: Node)
         requires free { link_fault self.old.network a b ≡ None }
         requires room { HasRoomFor self.old.room a b }
@@ -309,7 +314,6 @@ impl EdgeStore {
         self.put_edge(a, place_in_a, b, place_in_b);
     }
 
-    // The place of `w` among the neighbours of `v`, which has it for one.
     fn find_edge(&self, v: Node, w: Node) -> usize
         requires { IsTrue (linked self.now.network v w) }
         ensures { IsPlaceOf (neighbours self.now.network v) w result }
@@ -320,7 +324,7 @@ impl EdgeStore {
         }
     }
 
-    /// Takes out an edge: by a look-up by halves and a shift in the rows of its two ends; takes no memory.
+    /// Removes an edge: a binary search and a shift in both rows. Takes no memory.
     pub fn take_out(&mut self, a: Node, b: Node)
         requires { IsTrue (linked self.old.network a b) }
         ensures network { self.new.network ≡ without_edge self.old.network a b }
@@ -333,8 +337,9 @@ impl EdgeStore {
         self.open_edges -= u32::from(are_open(&self.ends, a, b));
     }
 
-    /// Takes out the edge between two nodes, as `link` puts it in; takes no memory.
-    /// `UnknownNode` where an end is no node of the graph, then `SelfLoop`, then `NotLinked`. No fault changes anything.
+    /// Removes the edge between two nodes: binary searches and a shift in both rows. Takes no memory.
+    /// Errors, in this order: `UnknownNode` if an end is not a node of the graph, `SelfLoop`, `NotLinked`.
+    /// An error leaves the network unchanged.
     pub fn unlink(&mut self, a: Node, b: Node) -> Result<(), GraphFault>
         ensures ok { OnOk result ((unlink_fault self.old.network a b ≡ None) × (self.new.network ≡ without_edge self.old.network a b)) }
         ensures fault { IfErr result (λ fault. unlink_fault self.old.network a b ≡ Some fault) }
@@ -349,8 +354,9 @@ impl EdgeStore {
         Ok(())
     }
 
-    /// Makes a name a node without neighbours, by a write of a bit and of its counts; takes no memory. `UnknownNode` above the
-    /// capacity, then `AlreadyPresent`. No fault changes anything.
+    /// Makes a name a node without neighbours: writes a bit and its counts. Takes no memory.
+    /// Errors, in this order: `UnknownNode` above the capacity, `AlreadyPresent`.
+    /// An error leaves the network unchanged.
     pub fn join(&mut self, v: Node) -> Result<(), GraphFault>
         ensures ok { OnOk result ((join_fault self.old.network v ≡ None) × (self.new.network ≡ with_node self.old.network v)) }
         ensures fault { IfErr result (λ fault. join_fault self.old.network v ≡ Some fault) }
@@ -367,7 +373,7 @@ impl EdgeStore {
         Ok(())
     }
 
-    // The last neighbour of a node, so that the edge to it may be taken out.
+    // The last neighbour of a node: the next edge to remove when the node leaves.
     fn last_neighbour(&self, v: Node) -> Option<Node>
         requires { IsTrue (present self.now.network v) }
         ensures { MatchOption result (neighbours self.now.network v ≡ []) (λ w. unlink_fault self.now.network v w ≡ None) }
@@ -375,8 +381,9 @@ impl EdgeStore {
         self.rows[v.place()].last().copied()
     }
 
-    /// Takes a node out, with the edges that it still has; takes no memory. For each of its neighbours a look-up by halves in
-    /// two rows and a shift in the neighbour's row. `UnknownNode` where it is no node of the graph, which changes nothing.
+    /// Removes a node and its remaining edges. Takes no memory.
+    /// For each neighbour a binary search in two rows and a shift in the neighbour's row.
+    /// Error: `UnknownNode` if it is not a node of the graph, which leaves the network unchanged.
     pub fn leave(&mut self, v: Node) -> Result<(), GraphFault>
         ensures ok { OnOk result ((leave_fault self.old.network v ≡ None) × (self.new.network ≡ without_node self.old.network v)) }
         ensures fault { IfErr result (λ fault. leave_fault self.old.network v ≡ Some fault) }
@@ -394,7 +401,7 @@ impl EdgeStore {
         Ok(())
     }
 
-    /// Takes a node out that has no edge, by a write of a bit and of its counts; takes no memory.
+    /// Removes a node without edges: writes a bit and its counts. Takes no memory.
     pub fn part(&mut self, v: Node)
         requires present { IsTrue (present self.old.network v) }
         requires alone { neighbours self.old.network v ≡ [] }
@@ -406,7 +413,8 @@ impl EdgeStore {
     }
 }
 
-/// The set of the names 1 to `count`, for names up to `size`; takes what `EnabledSet::new` takes.
+/// The set of the names 1 to `count`, for names up to `size`.
+/// Memory and error are those of `EnabledSet::new`.
 pub fn first_names(alloc: Global, size: u32, count: u32) -> Result<EnabledSet, Want>
     requires few { size ≤ 65535 }
     requires within { count ≤ size }

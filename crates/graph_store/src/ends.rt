@@ -1,4 +1,4 @@
-//! What a name makes of the edges at it, and how many edges are open by what all names make of theirs.
+//! Stances on edges, and open edges.
 
 ghost use Rattle.std.specs.Prelude.{◌≡◌, ◌+◌, ◌<◌, ◌≤◌, All, IfOk, length, replicate, slice_set};
 ghost use Rattle.graph_store.specs.Ends.{are_open, end_at, open_to};
@@ -7,19 +7,20 @@ ghost use Rattle.graph_store.specs.declared.ends.End.TheVariants.{Shut};
 use rule_machine::{Node, Want};
 use std::alloc::Global;
 
-/// What a node makes of the edges at it: an edge is open where neither of its ends shuts it and not both are courted.
+/// A node's stance on its edges.
+/// An edge is open if neither end shuts it and its ends are not both courted.
 #[derive(Clone, Copy, PartialEq, Eq)]
 pub enum End {
     /// No edge at the node is open.
     Shut,
-    /// No edge between the node and another courted one is open.
+    /// An edge at the node is open if its other end is free.
     Courted,
-    /// The node leaves each edge open that its other end does.
+    /// An edge at the node is open unless its other end shuts it.
     Free,
 }
 
 impl End {
-    /// Whether an edge between two such nodes is open.
+    /// Whether an edge between two such ends is open.
     #[inline(always)]
     pub fn is_open_to(self, other: End) -> bool
         ensures { result ≡ are_open self other }
@@ -30,14 +31,12 @@ impl End {
     }
 }
 
-/// A place for each of so many, which shuts its edges.
 pub fn shut_ends(alloc: Global, count: usize) -> Result<Vec<End>, Want>
     ensures { IfOk result (λ ends. ends.items ≡ replicate count Shut) }
 {
     vec![in alloc; End::Shut; count]
 }
 
-/// Whether an edge between two names is open.
 #[inline(always)]
 pub fn are_open(ends: &[End], a: Node, b: Node) -> bool
     requires low { a < length ends.now }
@@ -47,7 +46,6 @@ pub fn are_open(ends: &[End], a: Node, b: Node) -> bool
     ends[a.place()].is_open_to(ends[b.place()])
 }
 
-/// How many edges to the names of a row are open at such an end.
 fn open_to(row: &[Node], ends: &[End], end: End) -> u32
     requires few { length row.now ≤ 65536 }
     requires within { All (λ w. w < length ends.now) row.now }
@@ -61,7 +59,7 @@ fn open_to(row: &[Node], ends: &[End], end: End) -> u32
     count
 }
 
-/// Says what a name with this row makes of the edges at it, and tells how many edges are open then, where so many were before.
+/// Sets the stance of the name with this row; returns the new number of open edges, given the old.
 pub fn turn_end(row: &[Node], ends: &mut [End], count: u32, v: Node, end: End) -> u32
     requires few { length row.now ≤ 65536 }
     requires within { All (λ w. w < length ends.old) row.now }

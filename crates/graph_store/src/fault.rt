@@ -1,20 +1,21 @@
-//! Why a graph refuses a change.
+//! Errors of a graph.
 
 use thiserror::Error;
 
 /// Why a store of edges was not made or not changed.
 #[derive(Clone, Copy, Debug, PartialEq, Eq, Error)]
 pub enum GraphFault {
-    /// A graph of more than 65,535 names was asked for.
+    /// The graph would have more than 65,535 names.
     #[error("a graph has at most 65535 nodes")]
     TooManyNodes,
-    /// An end of the edge, or what leaves, is no node of the graph; or what joins is no name of it.
+    /// An end of the edge or the node to leave is not a node of the graph.
+    /// For `join`: the name is above the capacity.
     #[error("no node of the graph has this name")]
     UnknownNode,
-    /// What joins is a node of the graph already. Only `join` answers so.
+    /// The name to join is present already. Only `join` returns it.
     #[error("a node of the graph has this name already")]
     AlreadyPresent,
-    /// The two ends are one node.
+    /// The two ends are the same node.
     #[error("an edge needs two different nodes")]
     SelfLoop,
     /// The edge is there already.
@@ -26,7 +27,7 @@ pub enum GraphFault {
     /// The graph has 1,048,576 edges.
     #[error("a graph has at most 1048576 edges")]
     TooManyEdges,
-    /// A growth of memory was refused.
+    /// Memory ran out.
     #[error("memory ran out")]
     Memory,
 }

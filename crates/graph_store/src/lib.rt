@@ -1,11 +1,11 @@
 //! The edges of a network as sorted neighbour lists.
 //!
-//! `EdgeStore` is the finite set of edges over the names up to its capacity, with which of these are present: it keeps each edge at both
-//! its ends, each list ascending, and counts the edges. Each refusal comes exactly where it should, in the order of the definitions, and
-//! then nothing has changed. It also counts how many edges are open by what names make of the edges at them (`turn`, `open_edges`).
+//! `EdgeStore` is a finite set of edges, with the names that are present. It keeps each edge at both ends, in
+//! ascending lists, and counts the edges and the open edges (by each node's stance: `turn`, `open_edges`). It
+//! refuses exactly what the definitions refuse, in their order. A refusal leaves the network unchanged.
 //!
-//! An edge costs a look-up by halves and a shift in two lists. Only what makes room takes memory: a new store, and `link`, of which
-//! `reserve_link` is the part that may fail and `link_reserved` the one that can't. `list` takes that of what it lists.
+//! An edge costs a binary search and a shift in two lists. Only a new store, `link` and `list` take memory.
+//! `link` splits into `reserve_link`, which may fail, and `link_reserved`, which can't.
 //!
 //! ```rust
 //! let mut store = EdgeStore::new(alloc, 3)?;

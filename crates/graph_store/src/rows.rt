@@ -1,4 +1,4 @@
-//! Neighbour lists, which rise.
+//! Neighbour lists, ascending.
 
 ghost use Rattle.std.specs.Prelude.{◌≡◌, ◌++◌, filter, map, nat_lt, ◌≢◌, ℕ, ◌+◌, ◌<◌, ◌≤◌, [], length, replicate, slice_set, IfOk, OnOk, MatchResult, IsTrue, slice_index, ◌-◌, ◌/◌, ◌∷◌, take, drop, true, false};
 ghost use Rattle.std.specs.List.{insert, remove};
@@ -9,7 +9,6 @@ ghost use Rattle.graph_store.specs.Rows.{contents, pairs_from, put_both, row_at,
 use rule_machine::{Edge, Node, Want};
 use std::alloc::Global;
 
-/// As many empty rows as `count` says.
 pub fn empty_rows(alloc: Global, count: usize) -> Result<Vec<Vec<Node>>, Want>
     ensures { IfOk result (λ rows. contents rows.items ≡ replicate count []) }
 {
@@ -20,20 +19,20 @@ pub fn empty_rows(alloc: Global, count: usize) -> Result<Vec<Vec<Node>>, Want>
     Ok(rows)
 }
 
-// The most places of a part that is halved without a branch.
+// The longest part that is halved without a branch.
 const SHORT: usize = 64;
 
-// So many halvings leave one of so many places.
+// This many halvings reduce `SHORT` entries to one.
 const HALVINGS: usize = 6;
 
-/// The part of a row that the place of a name is looked for in: what stands before it is lower, and what stands behind it higher.
+/// A part of a row. Names before it are below the name searched for, names after it above.
 #[derive(Clone, Copy)]
 struct Part {
     start: usize,
     size: usize,
 }
 
-/// The half of a part in which the place is.
+/// The half with the place of the name.
 #[inline(always)]
 fn halve(row: &[Node], name: Node, part: Part) -> Part
     requires rising { IsStrictlyIncreasing row.now }
@@ -54,7 +53,7 @@ fn halve(row: &[Node], name: Node, part: Part) -> Part
     }
 }
 
-/// A short part: the whole of a row that has no more places.
+/// The whole row, or a short part of it that has the place of the name.
 fn shorten(row: &[Node], name: Node) -> Part
     requires rising { IsStrictlyIncreasing row.now }
     requires some { 0 < length row.now }
@@ -71,8 +70,8 @@ fn shorten(row: &[Node], name: Node) -> Part
     part
 }
 
-/// The place of the last name that is not above one, or the first place. Turns whose number is fixed, though some be idle, cost
-/// less than an end that is guessed wrong.
+/// The index of the last name not above `name`, or 0.
+/// The number of turns is fixed: idle turns cost less than a mispredicted end.
 fn narrow(row: &[Node], name: Node) -> usize
     requires rising { IsStrictlyIncreasing row.now }
     requires some { 0 < length row.now }
@@ -85,7 +84,7 @@ fn narrow(row: &[Node], name: Node) -> usize
     part.start
 }
 
-/// The place of a name in a row, or the one where it belongs; a look-up by halves.
+/// A name's index in a row (`Ok`), or the index where it belongs (`Err`). A binary search.
 pub fn find_place(row: &[Node], name: Node) -> Result<usize, usize>
     requires { IsStrictlyIncreasing row.now }
     ensures { MatchResult result (IsPlaceOf row.now name) (IsGapFor row.now name) }
@@ -101,7 +100,7 @@ pub fn find_place(row: &[Node], name: Node) -> Result<usize, usize>
     }
 }
 
-/// The place where a name that is not in a row belongs; a look-up by halves.
+/// The index where a new name belongs. A binary search.
 pub fn find_gap(row: &[Node], name: Node) -> usize
     requires rising { IsStrictlyIncreasing row.now }
     requires apart { has row.now name ≡ false }
@@ -114,7 +113,6 @@ pub fn find_gap(row: &[Node], name: Node) -> usize
     near + usize::from(row[near] < name)
 }
 
-/// Whether a name is above the one before a place of a row, where there is one.
 fn is_above(row: &[Node], place: usize, name: Node) -> bool
     requires { place ≤ length row.now }
     ensures { IsTrue result → 0 < place → slice_index row.now (place - 1) < name }
@@ -125,7 +123,6 @@ fn is_above(row: &[Node], place: usize, name: Node) -> bool
     row[place - 1] < name
 }
 
-/// Whether a name is below the one at a place of a row, where there is one.
 fn is_below(row: &[Node], place: usize, name: Node) -> bool
     ensures { IsTrue result → place < length row.now → name < slice_index row.now place }
 {
@@ -135,7 +132,7 @@ fn is_below(row: &[Node], place: usize, name: Node) -> bool
     }
 }
 
-/// The place where a name that is not in a row belongs: two looks where the guess is right, else a look-up by halves.
+/// The index where a new name belongs: two looks if the guess is right, else a binary search.
 pub fn guess_gap(row: &[Node], guess: usize, name: Node) -> usize
     requires rising { IsStrictlyIncreasing row.now }
     requires apart { has row.now name ≡ false }
@@ -147,10 +144,10 @@ pub fn guess_gap(row: &[Node], guess: usize, name: Node) -> usize
     find_gap(row, name)
 }
 
-// So many names more a full row has room for: as many as the smallest block of memory holds.
+// By how many names a full row grows: as many as the smallest block of memory holds.
 const MORE: usize = 12;
 
-/// Makes room for one more name in a node's row, and changes no names.
+/// Makes room for one more name in a node's row. Changes no names.
 fn make_room(rows: &mut [Vec<Node>], node: Node) -> Result<(), Want>
     requires { node < length rows.old }
     ensures names { contents rows.new ≡ contents rows.old }
@@ -164,8 +161,8 @@ fn make_room(rows: &mut [Vec<Node>], node: Node) -> Result<(), Want>
     row.reserve(MORE)
 }
 
-/// Moves the names of a row's end up by one place, of which the last is lost, and puts one in at the first. The loop is compiled
-/// to a move of memory at once, which `Vec::insert` is not.
+/// Shifts a row's tail up by one, dropping its last name, and puts `name` first.
+/// The loop compiles to one move of memory, which `Vec::insert` does not.
 fn put_first(tail: &mut [Node], name: Node)
     requires { 0 < length tail.old }
     ensures { tail.new ≡ name ∷ take (length tail.old - 1) tail.old }
@@ -178,7 +175,6 @@ fn put_first(tail: &mut [Node], name: Node)
     tail[0] = name;
 }
 
-/// Puts a name in at a place of a row that has room for it.
 fn put_at(row: &mut Vec<Node>, place: usize, name: Node)
     requires inside { place ≤ length row.old.items }
     requires room { vec_len row.old < vec_capacity row.old }
@@ -188,7 +184,6 @@ fn put_at(row: &mut Vec<Node>, place: usize, name: Node)
     put_first(&mut row[place..], name);
 }
 
-/// Puts a name into a node's row, where there is room for it.
 fn put_in(rows: &mut [Vec<Node>], node: Node, place: usize, name: Node)
     requires known { node < length rows.old }
     requires inside { place ≤ length (row_at (contents rows.old) node) }
@@ -199,7 +194,7 @@ fn put_in(rows: &mut [Vec<Node>], node: Node, place: usize, name: Node)
     put_at(&mut rows[node.place()], place, name);
 }
 
-/// Makes room for one more name in each of two nodes' rows, and changes no names.
+/// Makes room for one more name in both rows. Changes no names.
 pub fn reserve_both(rows: &mut [Vec<Node>], a: Node, b: Node) -> Result<(), Want>
     requires a_known { a < length rows.old }
     requires b_known { b < length rows.old }
@@ -210,7 +205,7 @@ pub fn reserve_both(rows: &mut [Vec<Node>], a: Node, b: Node) -> Result<(), Want
     make_room(rows, b)
 }
 
-/// Puts two nodes into each other's rows, at these places, where there is room for them.
+/// Inserts two nodes into each other's rows at these places. Both rows have room.
 pub fn put_both(rows: &mut [Vec<Node>], a: Node, place_in_a: usize, b: Node, place_in_b: usize)
     requires apart { a ≢ b }
     requires a_known { a < length rows.old }
@@ -225,7 +220,7 @@ pub fn put_both(rows: &mut [Vec<Node>], a: Node, place_in_a: usize, b: Node, pla
     put_in(rows, b, place_in_b, a);
 }
 
-/// Moves the names of a row's end down by one place, of which the first is lost, and the last stands twice.
+/// Shifts a row's tail down by one, dropping its first name; its last name then comes twice.
 fn drop_first(tail: &mut [Node])
     ensures { take (length tail.old - 1) tail.new ≡ drop 1 tail.old }
 {
@@ -234,7 +229,6 @@ fn drop_first(tail: &mut [Node])
     }
 }
 
-/// Takes out the name at a place of a row.
 fn take_at(row: &mut Vec<Node>, place: usize)
     requires { place < length row.old.items }
     ensures { row.new.items ≡ remove row.old.items place }
@@ -243,7 +237,6 @@ fn take_at(row: &mut Vec<Node>, place: usize)
     let _last = row.pop();
 }
 
-/// Takes the name at a place out of a node's row.
 fn take_out(rows: &mut [Vec<Node>], node: Node, place: usize)
     requires known { node < length rows.old }
     requires inside { place < length (row_at (contents rows.old) node) }
@@ -252,7 +245,7 @@ fn take_out(rows: &mut [Vec<Node>], node: Node, place: usize)
     take_at(&mut rows[node.place()], place);
 }
 
-/// Takes two nodes out of each other's rows, at these places.
+/// Removes two nodes from each other's rows at these places.
 pub fn take_both(rows: &mut [Vec<Node>], a: Node, place_in_a: usize, b: Node, place_in_b: usize)
     requires apart { a ≢ b }
     requires a_known { a < length rows.old }
@@ -265,7 +258,6 @@ pub fn take_both(rows: &mut [Vec<Node>], a: Node, place_in_a: usize, b: Node, pl
     take_out(rows, b, place_in_b);
 }
 
-/// Adds the pairs of a node with those of its row that have higher names.
 fn push_above(pairs: &mut Vec<Edge>, v: Node, row: &[Node]) -> Result<(), Want>
     ensures { OnOk result (pairs.new.items ≡ pairs.old.items ++ map (λ w. (v, w)) (filter (nat_lt v) row.now)) }
 {
@@ -277,7 +269,7 @@ fn push_above(pairs: &mut Vec<Edge>, v: Node, row: &[Node]) -> Result<(), Want>
     Ok(())
 }
 
-/// The pairs of all rows, each once, in their order; takes memory for as many as there are said to be.
+/// The pairs of all rows, each once, in order. Takes memory for `count` pairs.
 pub fn list_pairs(alloc: Global, rows: &[Vec<Node>], count: u32) -> Result<Vec<Edge>, Want>
     requires few { length rows.now ≤ 65536 }
     requires nobody { row_at (contents rows.now) 0 ≡ [] }

@@ -1,4 +1,4 @@
--- Lists and sums over the names of a network's nodes, as a scan of all names up to its size makes them.
+-- Lists and sums over the names of a network's nodes, by a scan of all names up to its capacity.
 use Rattle.std.proofs.Common.{◌≡◌, ℕ, ◌≤◌, Bool, false, cond, ◌&&◌, List, [], ◌∷◌, filter, filter_map, length, sum_by, Option, None, refl, sym, ap, ◌∙◌, arith}
 use Rattle.std.specs.List.{range_with_len}
 use Rattle.std.proofs.lemmas.Bool.{true≢false}
@@ -17,7 +17,7 @@ pub kept_twice : (p q : ℕ → Bool) (xs : List ℕ) → filter p (filter q xs)
 kept_twice p q [] = refl
 kept_twice p q (x ∷ xs) = let rest = kept_twice p q xs in grind arith
 
--- there are no more nodes than names
+-- there are at most as many nodes as names
 pub few_names : (net : Network) → node_count net ≤ net.size
 few_names net =
     let kept = length-filter (present net) (range_with_len 1 net.size) in
@@ -25,7 +25,7 @@ few_names net =
     let all = length-range_with_len 1 net.size in
     omega (arith, kept, most, all)
 
--- a node has no more neighbours than there are names
+-- a node has at most as many neighbours as there are names
 pub few_neighbours : (net : Network) (v : ℕ) → length (neighbours net v) ≤ net.size
 few_neighbours net v =
     let kept = length-filter (linked net v) (names net) in
@@ -36,7 +36,7 @@ few_neighbours net v =
 pub names_sum : (f : ℕ → ℕ) (net : Network) → sum_by f (names net) ≡ sum_by (λ v. cond (present net v) (f v) 0) (range_with_len 1 net.size)
 names_sum f net = sum_filter f (present net) (range_with_len 1 net.size)
 
--- what is found at the names that a filter keeps is all, where nothing is found at the others
+-- a filter keeps all that is found if the others have no result
 pub found_kept : {X : Type 0} (f : ℕ → Option X) (p : ℕ → Bool) → ((v : ℕ) → p v ≡ false → f v ≡ None) → (xs : List ℕ) → filter_map f (filter p xs) ≡ filter_map f xs
 found_kept f p none [] = refl
 found_kept f p none (x ∷ xs) =

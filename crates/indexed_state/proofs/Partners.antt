@@ -10,7 +10,7 @@ at_pointer : (s : State) (v w : ℕ) → IsState s → pointer s v ≡ Some w �
 at_pointer s v w good at true back = partner_from s v w good at (points_true s w v back)
 at_pointer s v w good at false back = none_is (partner s v) (unanswered_unmarried s v w at (λ e. true≢false (sym (points_from s w v e) ∙ back)))
 
--- a node's partner is the node that it points at, where that one points back
+-- a node's partner is its target, if that one points back
 pub partner_answered : (s : State) (v : ℕ) → IsState s → partner s v ≡ answered_by s.registers v
 partner_answered s v good =
     ⊎_elim

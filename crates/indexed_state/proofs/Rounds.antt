@@ -1,4 +1,4 @@
--- What a node brings depends on no more than its registers, its neighbours and who points at it.
+-- A node's contribution depends only on its registers, its neighbours and the nodes that point at it.
 use Rattle.std.proofs.Common.{◌≡◌, ◌≢◌, ℕ, ◌+◌, Bool, true, false, cond, not, ◌&&◌, List, length, set, count_by, None, Some, is_some, is_none, option_and_then, refl, sym, ap, subst, ◌∙◌, arith}
 use Rattle.enabled_set.specs.Members.{is_in}
 use Rattle.rule_machine.specs.Network.{neighbours}
@@ -37,7 +37,7 @@ same_closing closes adds s u v near good also round =
         let closing = λ (at : points s.registers x v ≡ true) (there : points u.registers x v ≡ true). near.closes_by_target s u x v good also (points_true s x v at) (points_true u x v there) (same_standing s u v round) in
         grind arith
 
--- so what was told of a node is still right
+-- so what is kept of a node is still right
 pub told_again : (courted_close : Bool) (closes : State → ℕ → Bool) (adds : State → ℕ → ℕ) (s u : State) (ends : List End) (each : List Share) (lower : List Bool) (v : ℕ) → AreNear closes adds → IsState s → IsState u → IsSameRound s u v → IsToldAt courted_close closes adds s ends each lower v → IsToldAt courted_close closes adds u ends each lower v
 told_again courted_close closes adds s u ends each lower v near good also round told =
     let standing = same_standing s u v round in
@@ -50,7 +50,7 @@ told_again courted_close closes adds s u ends each lower v near good also round 
       end = λ here. told.end (round.here ∙ here) ∙ (λ i. cond (standing.paired i) Shut (cond (courted_close && (is_none (standing.points i) && standing.courted i)) Courted Free));
     }
 
--- and so is all that is not stale, where no more than this changed
+-- and so is all that is not stale, if only this changed
 pub told_after : {t : State} (courted_close : Bool) (closes : State → ℕ → Bool) (adds : State → ℕ → ℕ) (s u : State) (ends ends' : List End) (each each' : List Share) (lower lower' stale stale' : List Bool) → AreNear closes adds → IsState s → IsState u → u ≡ t → t.network.size ≡ s.network.size → ends' ≡ ends → each' ≡ each → lower' ≡ lower → length stale' ≡ length stale → ((v : ℕ) → is_in stale' v ≡ false → (is_in stale v ≡ false) × IsSameRound s t v) → AreTold courted_close closes adds s ends each lower stale → AreTold courted_close closes adds u ends' each' lower' stale'
 told_after {t = t} courted_close closes adds s u ends ends' each each' lower lower' stale stale' near good also now size same_ends same_each same_lower same_places elsewhere told = record {
   places = ap length same_each ∙ told.places ∙ sym (ap (λ n. n + 1) sizes);
@@ -67,7 +67,7 @@ told_after {t = t} courted_close closes adds s u ends ends' each each' lower low
   sizes : u.network.size ≡ s.network.size
   sizes = ap (λ (x : State). x.network.size) now ∙ size
 
--- where a name became present or absent, without an edge
+-- if a name became present or absent, without an edge
 pub told_seated : (courted_close : Bool) (closes : State → ℕ → Bool) (adds : State → ℕ → ℕ) (s u : State) (v : ℕ) (b : Bool) (ends ends' : List End) (each each' : List Share) (lower lower' stale stale' : List Bool) → AreNear closes adds → IsState s → IsState u → u ≡ record s { network = record s.network { here = set s.network.here v b } } → ends' ≡ ends → each' ≡ each → lower' ≡ lower → length stale' ≡ length stale → ((w : ℕ) → is_in stale' w ≡ false → (is_in stale w ≡ false) × (w ≢ v)) → AreTold courted_close closes adds s ends each lower stale → AreTold courted_close closes adds u ends' each' lower' stale'
 told_seated courted_close closes adds s u v b ends ends' each each' lower lower' stale stale' near good also now same_ends same_each same_lower same_places elsewhere told =
     let kept = subst IsState now also in

@@ -1,4 +1,4 @@
--- What the shares come to where no name is stale.
+-- The sums of the contributions if no name is stale.
 use Rattle.std.proofs.Common.{◌≡◌, ℕ, suc, ◌+◌, ◌<◌, ◌≤◌, Bool, true, false, cond, not, ◌&&◌, List, [], ◌∷◌, length, get_or, count_by, sum_by, filter, filter_map, Option, None, Some, is_some, option_and_then, IsTrue, nat_eq, take, refl, sym, ap, ap₂, ◌∙◌, arith}
 use mir.Val.{bool_byte}
 use Rattle.std.specs.List.{range_with_len, cons_option}
@@ -28,7 +28,7 @@ use Rattle.indexed_state.proofs.Named.{names_sum, pairs_scanned}
 
 -- ---- lower ends
 
--- place 0 is nobody's
+-- entry 0 is unused
 nobody_points : (s : State) → IsState s → is_lower_end s.registers 0 ≡ false
 nobody_points s good = at_null (pointer s 0) refl
   where
@@ -36,7 +36,7 @@ nobody_points s good = at_null (pointer s 0) refl
     at_null None e = ap (λ o. is_some (pair_above 0 (option_and_then (λ w. cond (points s.registers w 0) (Some w) None) o))) e
     at_null (Some w) e = absurd (true≢false (sym (linked_present s.network 0 w good.is_network (pointer_linked s 0 w good e))))
 
--- the lower ends that are kept are those that there are
+-- the lower ends kept are those of the state
 pub lower_members : (s : State) (lower : List Bool) → IsState s → length lower ≡ s.network.size + 1 → ((v : ℕ) → is_in lower v ≡ is_lower_end s.registers v) → members lower ≡ filter (is_lower_end s.registers) (range_with_len 1 s.network.size)
 lower_members s lower good places same =
     let count : length lower ≡ suc s.network.size = omega (arith, places) in
@@ -106,7 +106,7 @@ lone_closing s closes v w lone =
 
 -- ---- sums
 
--- what the names bring is what the nodes bring, where nobody has place 0
+-- the names' contributions sum to those of the nodes, if entry 0 is unused
 pub node_sum : (f : Share → ℕ) (part : ℕ → ℕ) (net : Network) (each : List Share) → length each ≡ net.size + 1 → ((v : ℕ) → f (share_at each v) ≡ cond (present net v) (part v) 0) → sum_by f each ≡ sum_by part (names net)
 node_sum f part net each places told =
     summed f (λ v. cond (present net v) (part v) 0) net.size each no_share places (told 0) told ∙ sym (names_sum part net)
@@ -125,7 +125,7 @@ open_alike m n c a b = grind arith
 pub ends_alike : (courted_close : Bool) (s : State) (v w : ℕ) → are_open (end_of courted_close s v) (end_of courted_close s w) ≡ ends_open courted_close s (v, w)
 ends_alike courted_close s v w = open_alike (married s v) (married s w) courted_close (is_courted s v) (is_courted s w)
 
--- where each node has said what it makes of its edges, the open ones are those that the charge counts
+-- if each node's stance is set, the open edges are those that the charge counts
 pub turned_open : (courted_close : Bool) (s : State) (ends : List End) → IsNetwork s.network → ((v : ℕ) → IsTrue (present s.network v) → end_at ends v ≡ end_of courted_close s v) → open_edges s.network ends ≡ count_by (ends_open courted_close s) (edge_list s.network)
 turned_open courted_close s ends good turned =
     edges_agree s.network good (λ e. are_open (end_at ends e.0) (end_at ends e.1)) (ends_open courted_close s) (λ a b here there. ap₂ are_open (turned a here) (turned b there) ∙ ends_alike courted_close s a b)

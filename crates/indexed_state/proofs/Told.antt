@@ -12,7 +12,7 @@ use Rattle.rule_machine.specs.Stable.{pair_above}
 use Rattle.indexed_state.specs.declared.share.Share.{Share}
 use Rattle.indexed_state.specs.Shares.{closing_at, end_of, is_lower_end, no_share, node_part, share_at, IsToldAt, AreTold}
 
--- of a name without a node and without a pointer nothing is to be told
+-- of a name without a node and without a pointer no value is kept
 told_nowhere : (courted_close : Bool) (closes : State → ℕ → Bool) (adds : State → ℕ → ℕ) (s : State) (ends : List End) (each : List Share) (lower : List Bool) (v : ℕ) → present s.network v ≡ false → pointer s v ≡ None → share_at each v ≡ no_share → is_in lower v ≡ false → IsToldAt courted_close closes adds s ends each lower v
 told_nowhere courted_close closes adds s ends each lower v absent null nothing not_lower = record {
   added = ap (λ (it : Share). it.added) nothing ∙ sym (ap (λ b. cond b (node_part (adds s) s v) 0) absent);
@@ -39,7 +39,7 @@ told_at_first courted_close closes adds size count ends stale places all = recor
         let past = lt-leb v size in
         grind arith
 
--- a look at a name tells of it, and of the others what was told
+-- a look at a name makes its entry right, and leaves the others
 pub told_next : (courted_close : Bool) (closes : State → ℕ → Bool) (adds : State → ℕ → ℕ) (s : State) (ends ends' : List End) (each each' : List Share) (lower lower' stale stale' : List Bool) (v : ℕ) (share : Share) (is_lower : Bool) → v ≤ s.network.size → each' ≡ set each v share → lower' ≡ set lower v is_lower → stale' ≡ set stale v false → share.added ≡ cond (present s.network v) (node_part (adds s) s v) 0 → share.closing ≡ cond (present s.network v) (closing_at (closes s) s v) 0 → is_lower ≡ is_lower_end s.registers v → (IsTrue (present s.network v) → end_at ends' v ≡ end_of courted_close s v) → ((w : ℕ) → w ≢ v → end_at ends' w ≡ end_at ends w) → AreTold courted_close closes adds s ends each lower stale → AreTold courted_close closes adds s ends' each' lower' stale'
 told_next courted_close closes adds s ends ends' each each' lower lower' stale stale' v share is_lower within set_each set_lower set_stale added closing low end others told = record {
   places = ap length set_each ∙ length-set each v share ∙ told.places;

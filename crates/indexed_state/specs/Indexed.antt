@@ -1,12 +1,12 @@
--- What is kept beside a state.
+-- A state with what the index keeps of it.
 use Rattle.std.specs.Prelude.{ℕ, Bool, List, refl}
 use Rattle.std.specs.Coded.{Coded, code_by, coded×, coded_ℕ, coded_bool, coded_list}
 use Rattle.rule_machine.specs.State.{State, state_code}
 use Rattle.graph_store.specs.declared.ends.End.{End}
 use Rattle.graph_store.specs.Ends.{end_code}
 
--- a state, for how many more neighbours each name has room, what each makes of the edges at it, and which names are stale: their
--- nodes may bring something else to what questions ask than when they were last looked at
+-- a state, how many more neighbours each name has room for, the stance of each name towards its edges, and
+-- which names are stale: their nodes may contribute otherwise than at the last look
 pub record Indexed : Type 0 where
   pub state : State
   pub room : List ℕ

@@ -1,4 +1,4 @@
--- What each node brings to the totals of its network.
+-- What each node contributes to the totals of its network.
 use Rattle.std.specs.Prelude.{◌≡◌, ℕ, ◌+◌, ◌≤◌, Bool, false, cond, ◌&&◌, List, length, count_by, sum_by, Option, Some, None, is_some, option_and_then, slice_index_or, IsTrue, if◌then◌else◌}
 use Rattle.enabled_set.specs.Members.{is_in}
 use Rattle.graph_store.specs.declared.ends.End.{End}
@@ -11,7 +11,7 @@ use Rattle.rule_machine.specs.Charge.{is_courted}
 use Rattle.net_state.specs.Held.{Held}
 use Rattle.indexed_state.specs.declared.share.Share.{Share}
 
--- the node that v points at, if it points back, where these are the pointers
+-- the node that v points at, if it points back, by these pointers
 abbrev pub answered_in : List (Option ℕ) → ℕ → Option ℕ
 answered_in pointers v = option_and_then (λ w. if is_at (slice_index_or pointers w None) v then Some w else None) (slice_index_or pointers v None)
 
@@ -22,12 +22,12 @@ answered_by r v = answered_in r.pointers v
 abbrev pub is_lower_end : Registers → ℕ → Bool
 is_lower_end r v = is_some (pair_above v (answered_by r v))
 
--- what a node makes of the edges at it: a married one shuts them, and where courted nodes close the edges between them it says
--- whether it is one
+-- a node's stance towards its edges: a married one shuts them, and if courted nodes close the edges between
+-- them a courted one is marked
 abbrev pub end_of : Bool → State → ℕ → End
 end_of courted_close s v = cond (married s v) Shut (cond (courted_close && is_courted s v) Courted Free)
 
--- 1 where v's pointer is not answered, and what v adds by itself
+-- 1 if v's pointer is unanswered, plus v's own part
 abbrev pub node_part : (ℕ → ℕ) → State → ℕ → ℕ
 node_part adds s v = cond (is_unanswered s v) 1 0 + adds v
 
@@ -35,7 +35,7 @@ node_part adds s v = cond (is_unanswered s v) 1 0 + adds v
 abbrev pub closing_at : (ℕ → Bool) → State → ℕ → ℕ
 closing_at closes s w = count_by (λ v. points s.registers v w && closes v) (neighbours s.network w)
 
--- what a name brings where no node has it
+-- the contribution of a name without a node
 abbrev pub no_share : Share
 no_share = record { added = 0; closing = 0 }
 
@@ -51,7 +51,7 @@ pub record AreSummed (each : List Share) (added closing : ℕ) : Type 0 where
   pub in_all : added ≡ sum_by (λ (it : Share). it.added) each
   pub closed : closing ≡ sum_by (λ (it : Share). it.closing) each
 
--- what is kept of a name is what it brings, whether it is a lower end, and what it makes of its edges
+-- a name's entry has its contribution, whether it is a lower end, and its stance towards its edges
 pub record IsToldAt (courted_close : Bool) (closes : State → ℕ → Bool) (adds : State → ℕ → ℕ) (s : State) (ends : List End) (each : List Share) (lower : List Bool) (v : ℕ) : Type 0 where
   pub added : (share_at each v).added ≡ cond (present s.network v) (node_part (adds s) s v) 0
   pub closing : (share_at each v).closing ≡ cond (present s.network v) (closing_at (closes s) s v) 0
@@ -65,7 +65,7 @@ pub record AreTold (courted_close : Bool) (closes : State → ℕ → Bool) (add
   pub stale_places : length stale ≡ s.network.size + 1
   pub told : (v : ℕ) → is_in stale v ≡ false → IsToldAt courted_close closes adds s ends each lower v
 
--- the state is one, and what is kept beside it is so
+-- the state is valid, and so is what is kept of it
 abbrev pub IsTold : Bool → (State → ℕ → Bool) → (State → ℕ → ℕ) → Held → List Share → List Bool → List Bool → Type 0
 IsTold courted_close closes adds held each lower stale =
     IsState held.state × AreTold courted_close closes adds held.state held.ends each lower stale

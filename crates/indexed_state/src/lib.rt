@@ -1,10 +1,11 @@
-//! A state of the rule machine that knows what each node brings to what questions ask of all.
+//! A state of the rule machine that keeps what each node contributes to the totals that questions need.
 //!
-//! `IndexedState` is a `SuitorIndex` with shares of its names. Each write marks the names whose nodes may bring something else to the
-//! charge and the pairs now, three at most; a question looks at the marked ones alone (`totals`, `lower_ends`) and keeps the sums.
+//! `IndexedState` is a `SuitorIndex` with a contribution for each name. Each write marks as stale at most
+//! three names, whose nodes may contribute otherwise to the charge and the pairs. A question (`totals`,
+//! `lower_ends`) looks at the stale names alone and keeps the sums.
 //!
-//! A write that turns whether its node is open goes through that node's neighbours; every other one costs a few looks. Only a new state,
-//! `reserve_link` and `lower_ends` take memory.
+//! A write that opens or closes its node scans that node's neighbours; every other write costs a few looks.
+//! Only a new state, `reserve_link` and `lower_ends` take memory.
 //!
 //! ```rust
 //! let change = state.write_pointer(v, Some(w));     // where it pointed before, and whether it turned

@@ -1,4 +1,4 @@
-//! What a name brings to the totals of its network.
+//! What a name contributes to the totals of its network.
 
 ghost use Rattle.std.specs.Prelude.{◌≡◌, ◌&&◌, ◌≤◌, false, not, cond, IsTrue, MatchOption};
 ghost use Rattle.rule_machine.specs.Network.{present};
@@ -12,21 +12,21 @@ use rule_machine::Node;
 use rule_set::{Rules, Standing};
 use suitor_index::SuitorIndex;
 
-/// What a node brings to the totals of its network: what it adds to the charge beside its edges, and how many pointers at it close the
-/// edge that they are on, which its ends leave open.
+/// What a node contributes to the totals of its network.
+///
+/// It has what the node adds to the charge apart from its edges, and how many pointers at it close an edge
+/// that is open by its ends.
 #[derive(Clone, Copy)]
 pub(crate) struct Share {
     pub(crate) added: u16,
     pub(crate) closing: u16,
 }
 
-/// What is brought where there is no node.
 pub(crate) const NO_SHARE: Share = Share {
     added: 0,
     closing: 0,
 };
 
-/// What a node makes of the edges at it.
 #[inline(always)]
 fn end_of<R: Rules>(node: &Standing) -> End
     ensures { (s : State) → IsStanding s node.now → result ≡ end_of R.COURTED_CLOSE s node.now.node }
@@ -40,7 +40,6 @@ fn end_of<R: Rules>(node: &Standing) -> End
     }
 }
 
-/// Whether a node points at one that does not point back.
 #[inline(always)]
 fn is_unanswered(registers: &Registers, node: &Standing) -> bool
     ensures { result ≡ holds_at (λ w. not (points registers.now w node.now.node)) node.now.pointer }
@@ -51,7 +50,7 @@ fn is_unanswered(registers: &Registers, node: &Standing) -> bool
     }
 }
 
-/// What the charge looks at, at a node. A few looks.
+/// Returns what the charge depends on at a node. A few looks.
 #[inline(always)]
 fn standing<R: Rules>(index: &SuitorIndex<R>, v: Node) -> Standing
     requires { IsTrue (present index.now.state.network v) }
@@ -68,7 +67,7 @@ fn standing<R: Rules>(index: &SuitorIndex<R>, v: Node) -> Standing
     }
 }
 
-/// Whether a node is one that points at another and closes the edge by that, which its ends leave open.
+/// Whether `w` points at the node, and so closes an edge that is open by its ends.
 #[inline(always)]
 fn closes_edge<R: Rules>(index: &SuitorIndex<R>, w: Node, node: &Standing) -> bool
     requires { IsStanding index.now.state node.now }
@@ -77,7 +76,7 @@ fn closes_edge<R: Rules>(index: &SuitorIndex<R>, w: Node, node: &Standing) -> bo
     index.net().points(w, node.node) && R::closes(w, node)
 }
 
-/// How many neighbours of a node point at it and close the edge by that, which its ends leave open. A look at each.
+/// Counts the pointers at a node that close an edge open by its ends. A look at each neighbour.
 fn closing_among<R: Rules>(index: &SuitorIndex<R>, node: &Standing) -> u16
     requires present { IsTrue (present index.now.state.network node.now.node) }
     requires standing { IsStanding index.now.state node.now }
@@ -90,14 +89,15 @@ fn closing_among<R: Rules>(index: &SuitorIndex<R>, node: &Standing) -> u16
     closing
 }
 
-/// How many neighbours of a node point at it and close the edge by that, which its ends leave open. No search where none points at
-/// the node, or one.
+/// Counts the pointers at a node that close an edge open by its ends.
+///
+/// Cost: a scan of the neighbours only if the node has several suitors.
 fn closing_at<R: Rules>(index: &SuitorIndex<R>, node: &Standing) -> u16
     requires present { IsTrue (present index.now.state.network node.now.node) }
     requires standing { IsStanding index.now.state node.now }
     ensures { result ≡ closing_at (R.closes index.now.state) index.now.state node.now.node }
 {
-    // By its contract the state is sound.
+    // Gives the prover `IsState`.
     let _ = index.net();
     if !node.has_suitor {
         return 0;
@@ -108,7 +108,6 @@ fn closing_at<R: Rules>(index: &SuitorIndex<R>, node: &Standing) -> u16
     }
 }
 
-/// What a name brings: nothing where no node has it.
 pub(crate) fn share_of<R: Rules>(index: &SuitorIndex<R>, v: Node) -> Share
     ensures added { result.added ≡ cond (present index.now.state.network v) (node_part (R.adds index.now.state) index.now.state v) 0 }
     ensures closing { result.closing ≡ cond (present index.now.state.network v) (closing_at (R.closes index.now.state) index.now.state v) 0 }
@@ -124,7 +123,6 @@ pub(crate) fn share_of<R: Rules>(index: &SuitorIndex<R>, v: Node) -> Share
     }
 }
 
-/// Whether a name is the lower end of a mutual pair.
 pub(crate) fn is_lower_end<R: Rules>(index: &SuitorIndex<R>, v: Node) -> bool
     requires { v ≤ index.now.state.network.size }
     ensures { result ≡ is_lower_end index.now.state.registers v }
@@ -135,7 +133,7 @@ pub(crate) fn is_lower_end<R: Rules>(index: &SuitorIndex<R>, v: Node) -> bool
     }
 }
 
-/// What the node of a name makes of the edges at it, if there is one.
+/// Returns the stance of the name's node towards its edges, if there is one.
 pub(crate) fn end_at<R: Rules>(index: &SuitorIndex<R>, v: Node) -> Option<End>
     ensures { MatchOption result (present index.now.state.network v ≡ false) (λ end. end ≡ end_of R.COURTED_CLOSE index.now.state v) }
 {

@@ -1,4 +1,4 @@
-//! What each node brings to the totals of its network, as it was when the node was last looked at.
+//! What each node contributes to the totals of its network, as of the last look at the node.
 
 ghost use Rattle.std.specs.Prelude.{◌≡◌, ◌≢◌, All, ℕ, ◌+◌, ◌<◌, ◌≤◌, true, false, length, replicate, slice_set, IfOk, IfSome};
 ghost use Rattle.enabled_set.specs.Members.{is_in};
@@ -11,8 +11,9 @@ use enabled_set::{EnabledSet, Marks};
 use rule_machine::{Node, Want};
 use std::alloc::Global;
 
-/// What each node brought when it was last looked at, with the sums, and whether it was the lower end of a mutual pair. The nodes of
-/// stale names may bring something else now.
+/// What each node contributed at the last look, whether it was the lower end of a pair, and the sums.
+///
+/// The nodes of stale names may contribute otherwise.
 #[derive(Drop)]
 pub(crate) struct Shares {
     pub(crate) each: Vec<Share>,
@@ -26,7 +27,7 @@ pub(crate) struct Shares {
 }
 
 impl Shares {
-    /// Nothing is brought as yet, and all names up to `nodes` are stale. Takes seven bytes and a bit a name.
+    /// Creates empty contributions; all names up to `nodes` are stale. Takes seven bytes and a bit a name.
     pub(crate) fn new(alloc: Global, nodes: u32) -> Result<Shares, Want>
         requires { nodes ≤ 65535 }
         ensures each { IfOk result (λ it. it.each.items ≡ replicate (nodes + 1) no_share) }
@@ -47,7 +48,6 @@ impl Shares {
         })
     }
 
-    /// A name is stale from now on.
     #[inline(always)]
     pub(crate) fn mark(&mut self, v: Node)
         requires { v < length self.old.stale }
@@ -58,7 +58,6 @@ impl Shares {
         self.stale.mark(v);
     }
 
-    /// The name that a pointer is at, if any, is stale from now on.
     #[inline(always)]
     fn mark_target(&mut self, target: Option<Node>)
         requires { IfSome target (λ w. w < length self.old.stale) }
@@ -71,7 +70,7 @@ impl Shares {
         }
     }
 
-    /// A node's pointer was written: it and those that the pointer was at and is at are stale from now on.
+    /// After a write of a pointer: marks the node, the old target and the new one as stale.
     #[inline(always)]
     pub(crate) fn mark_pointer(&mut self, v: Node, was: Option<Node>, is: Option<Node>)
         requires node { v < length self.old.stale }
@@ -86,7 +85,6 @@ impl Shares {
         self.mark_target(is);
     }
 
-    /// Keeps what a name brings now.
     pub(crate) fn put(&mut self, v: Node, share: Share, is_lower_end: bool)
         requires share { v < length self.old.each.items }
         requires lower { v < length self.old.lower_ends }
@@ -102,7 +100,6 @@ impl Shares {
     }
 }
 
-/// Makes a name that has a place a member or none.
 fn put_member(set: &mut EnabledSet, v: Node, is_member: bool)
     requires { v < length set.old }
     ensures { set.new ≡ slice_set set.old v is_member }

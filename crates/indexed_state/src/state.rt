@@ -22,9 +22,10 @@ use std::alloc::Global;
 use std::marker::Model;
 use suitor_index::{Change, SuitorIndex};
 
-/// The edges and the registers of a network, with what the guards of the rules `R` ask of them counted at each node, and what each
-/// node brings to what questions ask of all. Seen in contracts as a state of the rule machine, for how many more neighbours each
-/// node has room, what each made of the edges at it when it was last looked at, and which names are stale since.
+/// A network with an index of what the guards of `R` need, and each node's contribution to the totals.
+///
+/// Contracts see the state, how many more neighbours each node has room for, the stance of each node towards
+/// its edges at the last look, and which names are stale since.
 #[derive(Drop)]
 pub struct IndexedState<R: Rules> {
     pub(crate) index: SuitorIndex<R>,
@@ -45,8 +46,9 @@ impl<R: Rules> Model for IndexedState<R> {
 }
 
 impl<R: Rules> IndexedState<R> {
-    /// The state of the names 1 to `nodes`, of which 1 to `present` are nodes, with no edges, all pointers null and all flags
-    /// false. `TooManyNodes` above 65,535 names, and `Memory` if memory runs out.
+    /// Creates names 1 to `nodes`; 1 to `present` are nodes, without an edge, pointers null, flags false.
+    ///
+    /// `TooManyNodes` above 65,535 names; `Memory` if memory runs out.
     pub fn with_present(
         alloc: Global,
         nodes: u32,
@@ -64,7 +66,7 @@ impl<R: Rules> IndexedState<R> {
         Ok(IndexedState { index, shares })
     }
 
-    /// The edges.
+    /// Returns the edges.
     pub fn store(&self) -> &EdgeStore
         ensures value { result.now.network ≡ self.now.state.network }
         ensures room { result.now.room ≡ self.now.room }
@@ -74,7 +76,7 @@ impl<R: Rules> IndexedState<R> {
         self.index.net().store()
     }
 
-    /// The registers.
+    /// Returns the registers.
     pub fn registers(&self) -> &Registers
         ensures value { result.now ≡ self.now.state.registers }
         ensures state { IsState self.now.state }
@@ -82,7 +84,7 @@ impl<R: Rules> IndexedState<R> {
         self.index.net().registers()
     }
 
-    /// What is shown at a node that is present.
+    /// Returns the view of a node that is present.
     pub fn at(&self, node: Node) -> NodeView<'_, R>
         requires { IsTrue (present self.now.state.network node) }
         ensures state { result.state.now ≡ self.now }
@@ -100,8 +102,9 @@ impl<R: Rules> IndexedState<R> {
         R::opens(net.pointer(v), net.flag(v))
     }
 
-    /// Whether no neighbour that a node's guard asks for is open but v, which is a neighbour, and open or not as is said here. One
-    /// look.
+    /// Whether no neighbour but `v` that the guard of `w` asks for is open. One look.
+    ///
+    /// `v` is a neighbour of `w`, and `is_open` is whether `v` is open.
     pub fn relies_on(&self, w: Node, v: Node, is_open: bool) -> bool
         requires present { IsTrue (present self.now.state.network w) }
         requires linked { IsTrue (linked self.now.state.network w v) }
@@ -111,7 +114,7 @@ impl<R: Rules> IndexedState<R> {
         self.index.relies_on(w, v, is_open)
     }
 
-    /// The neighbour that points at a node, where it is the only one; `None` where none does, or several do. One look.
+    /// Returns the only neighbour that points at a node; `None` if none or several do. One look.
     pub fn lone_suitor(&self, v: Node) -> Option<Node>
         requires { IsTrue (present self.now.state.network v) }
         ensures { MatchOption result (suitor_count self.now.state v ≢ 1) (IsLoneSuitor self.now.state v) }
@@ -119,9 +122,9 @@ impl<R: Rules> IndexedState<R> {
         self.index.lone_suitor(v)
     }
 
-    /// Makes room for the edge between two nodes, so that `link_reserved` of them takes no memory: a look-up by halves, and the
-    /// growth of at most two neighbour lists. `UnknownNode`, `SelfLoop`, `AlreadyLinked`, `TooManyEdges`, `Memory`, in that
-    /// order; the state stays.
+    /// Makes room for the edge between two nodes, so that `link_reserved` takes no memory.
+    ///
+    /// Errors and cost: as for `NetState::reserve_link`. The state never changes.
     pub fn reserve_link(&mut self, a: Node, b: Node) -> Result<(), GraphFault>
         ensures ok { OnOk result ((link_fault self.old.state.network a b ≡ None) × HasRoomFor self.new.room a b) }
         ensures fault { IfErr result (λ fault. Explains (link_fault self.old.state.network a b) fault) }
@@ -130,8 +133,9 @@ impl<R: Rules> IndexedState<R> {
         self.index.reserve_link(a, b)
     }
 
-    /// Adds the edge between two nodes for which there is room: a look-up by halves and a shift in two neighbour lists. Takes no
-    /// memory.
+    /// Adds the edge between two nodes that have room for it.
+    ///
+    /// Cost: a binary search and a shift in two neighbour lists; no memory.
     pub fn link_reserved(&mut self, a: Node, b: Node)
         requires free { link_fault self.old.state.network a b ≡ None }
         requires room { HasRoomFor self.old.room a b }
@@ -142,8 +146,10 @@ impl<R: Rules> IndexedState<R> {
         self.shares.mark(b);
     }
 
-    /// Writes a node's pointer, to null or to a neighbour, and tells what that changed. Looks at the node's neighbours only where
-    /// that makes it open or not open any more, and at the old and the new target. Takes no memory.
+    /// Writes a node's pointer, to null or to a neighbour, and returns what that changed.
+    ///
+    /// Cost: looks at the old and the new target, and at the node's neighbours only if the node became open
+    /// or ceased to be; no memory.
     pub fn write_pointer(&mut self, v: Node, target: Option<Node>) -> Change
         requires present { IsTrue (present self.old.state.network v) }
         requires near { IfSome target (λ w. IsTrue (linked self.old.state.network v w)) }
@@ -152,7 +158,7 @@ impl<R: Rules> IndexedState<R> {
         ensures left { result.left ≡ pointer self.old.state v }
         ensures turned { result.turned ≡ not (beq (RuleTable.is_open R.table.opens self.old.state v) (RuleTable.is_open R.table.opens self.new.state v)) }
     {
-        // Each use has a copy: of a value that is passed on proofs say no more.
+        // Copied: the prover drops facts about a moved value.
         let courted = target;
         let change = self.index.write_pointer(v, target);
         let left = change.left;
@@ -160,8 +166,9 @@ impl<R: Rules> IndexedState<R> {
         change
     }
 
-    /// Writes a node's flag, and tells whether the node became open or ceased to be. Looks at the node's neighbours only where it
-    /// did. Takes no memory.
+    /// Writes a node's flag, and returns whether the node became open or ceased to be.
+    ///
+    /// Cost: looks at the node's neighbours only if it did; no memory.
     pub fn write_flag(&mut self, v: Node, value: bool) -> bool
         requires { IsTrue (present self.old.state.network v) }
         ensures value { self.new.state ≡ after_flag self.old.state v value }
@@ -175,7 +182,7 @@ impl<R: Rules> IndexedState<R> {
         self.index.write_flag(v, value)
     }
 
-    /// Makes a name a node, with no edge, a null pointer and its flag false. Takes no memory.
+    /// Makes a name a node, without an edge, its pointer null and its flag false. Takes no memory.
     pub fn join(&mut self, v: Node)
         requires within { v ≤ self.old.state.network.size }
         requires absent { present self.old.state.network v ≡ false }

@@ -1,4 +1,4 @@
-//! What questions ask of all nodes: looks at those alone that may bring something else than when this was last asked.
+//! The totals that questions need, updated by looks at the nodes that may contribute otherwise.
 
 ghost use Rattle.std.specs.Prelude.{◌≡◌, ◌&&◌, ℕ, ◌+◌, ◌<◌, ◌≤◌, false, not, filter, length, slice_set, cond, count_by, sum_by, IfOk, IsTrue, MatchOption};
 ghost use Rattle.std.specs.List.{range_with_len};
@@ -14,22 +14,24 @@ use crate::share::{end_at, is_lower_end, share_of};
 use rule_machine::{Node, Want};
 use rule_set::Rules;
 
-/// What a status asks of all nodes and edges.
+/// The totals over all nodes and edges that a status needs.
 #[derive(Clone, Copy)]
 pub struct Totals {
     /// How many mutual pairs there are.
     pub pairs: u32,
-    /// How many edges are open by what their ends are.
+    /// How many edges are open by the stances of their ends.
     pub open_edges: u32,
-    /// What all nodes add to the charge.
+    /// What all nodes add to the charge apart from their edges.
     pub added: u32,
-    /// How many pointers close an edge that its ends leave open.
+    /// How many pointers close an edge that is open by its ends.
     pub closing: u32,
 }
 
 impl<R: Rules> IndexedState<R> {
-    /// Looks again at each stale name, so that none is stale. A few looks at each that makes of its edges what it did and has no more
-    /// than one suitor, else one at each neighbour.
+    /// Updates the contribution of each stale name, so that none is stale.
+    ///
+    /// Cost: a few looks at a node whose stance stays and that has at most one suitor, else one at each
+    /// neighbour.
     fn look_again(&mut self)
         ensures state { self.new.state ≡ self.old.state }
         ensures room { self.new.room ≡ self.old.room }
@@ -46,9 +48,10 @@ impl<R: Rules> IndexedState<R> {
         }
     }
 
-    /// What a status asks of all nodes and edges: looks at the nodes alone that may bring something else than when this, or who is a
-    /// lower end, was last asked, and at the neighbours of those that make something else of their edges or have several suitors.
-    /// Takes no memory.
+    /// Returns the totals that a status needs.
+    ///
+    /// Cost: looks at the nodes that may contribute otherwise than at the last call of this or `lower_ends`,
+    /// and at the neighbours of those whose stance changed or that have several suitors. Takes no memory.
     pub fn totals(&mut self) -> Totals
         ensures state { self.new.state ≡ self.old.state }
         ensures room { self.new.room ≡ self.old.room }
@@ -66,7 +69,9 @@ impl<R: Rules> IndexedState<R> {
         }
     }
 
-    /// The lower ends of the mutual pairs, ascending, by the looks of `totals`; takes two bytes for each.
+    /// Returns the lower ends of the mutual pairs, ascending.
+    ///
+    /// `Want` if memory runs out. Cost: the looks of `totals`; takes two bytes for each pair.
     pub fn lower_ends(&mut self) -> Result<Vec<Node>, Want>
         ensures state { self.new.state ≡ self.old.state }
         ensures room { self.new.room ≡ self.old.room }

@@ -1,4 +1,4 @@
-//! What is shown at a node.
+//! What is visible at a node.
 
 ghost use Rattle.std.specs.Prelude.{◌≡◌, IsTrue};
 ghost use Rattle.rule_machine.specs.Network.{present};
@@ -9,7 +9,7 @@ use crate::IndexedState;
 use rule_machine::Node;
 use rule_set::{Local, Rules};
 
-/// The registers round one node of a network, and what the index has counted there.
+/// The registers around one node of a network, and the index's counts there.
 #[derive(Drop)]
 pub struct NodeView<'a, R: Rules> {
     state: &'a IndexedState<R>,

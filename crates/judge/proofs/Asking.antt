@@ -8,7 +8,7 @@ use Rattle.rule_machine.specs.State.{State, IsState}
 use Rattle.machine_laws.specs.Neighbours.{linked_back, linked_present, near_found}
 use Rattle.judge.specs.Shares.{asks, AreAsking, IsMarked}
 
--- v and the neighbours that ask for it are marked, but for some that are to come
+-- v and the neighbours that ask for it are marked, except for some that are to come
 pub record AreAskingBut (s : State) (v : ℕ) (was is : List Bool) (rest : List ℕ) : Type 0 where
   pub places : length is ≡ length was
   pub others : (x : ℕ) → is_in is x ≡ false → (is_in was x ≡ false) × (x ≢ v)

@@ -1,4 +1,4 @@
--- Where a run begins at a base: the state that a base's lines tell, and what is tested there.
+-- A run that begins at a base: the state of the base's lines, and what is tested there.
 use Rattle.std.proofs.Common.{◌≡◌, ℕ, ◌+◌, ◌-◌, ◌≤◌, true, false, List, [], ◌∷◌, map, Option, Some, is_some, IfSome, nat_le, find, refl, sym, ap, ◌∙◌, subst, ⊎_elim, arith}
 use Rattle.std.specs.List.{list_any}
 use Rattle.std.proofs.lemmas.Bool.{true≢false, false_from_ne_true, le-leb, leb-true}
@@ -24,7 +24,7 @@ pub charge_within : (rules : RuleSet) (s : State) → (table_of rules).charge s 
 charge_within Hh s = hsu_huang_bounded s
 charge_within Manne s = manne_bounded s
 
--- what may be spent beside the charge
+-- what may be spent in addition to the charge
 pub beside : (spent charge bound : ℕ) → charge ≤ bound → nat_le spent (bound - charge) ≡ nat_le (spent + charge) bound
 beside spent charge bound most =
     grind arith
@@ -35,7 +35,7 @@ any_flag : (s : State) (vs : List ℕ) → list_any (λ p. p.flagged) (map (plac
 any_flag s [] = refl
 any_flag s (v ∷ vs) = let rest = any_flag s vs in grind arith
 
--- where no node's flag is true none is
+-- if no node's flag is true none is
 pub none_flagged : (s : State) → IsState s → list_any (λ p. p.flagged) (places s) ≡ false → (v : ℕ) → flag s v ≡ false
 none_flagged s good none v =
     false_from_ne_true (flag s v) (λ up.
@@ -66,18 +66,18 @@ lines_made size base nodes edges found n lines is same_nodes same_edges =
     let made : HasLines size nodes edges n.state = subst (λ o. IfSome o (λ m. HasLines size nodes edges m.state)) is lines in
     record { size_is = made.size_is; nodes_are = made.nodes_are ∙ same_nodes; edges_are = made.edges_are ∙ same_edges }
 
--- none begins where too much is spent
+-- none begins if too much is spent
 pub too_much : (t : RuleTable) (bound : Network → ℕ) (size : ℕ) (base : Base) (s : State) (start : Moment) → IsState s → HasLines size base.nodes base.edges s → nat_le (base.spent + t.charge s) (bound s.network) ≡ false → IsBegun t bound size base start → ⊥
 too_much t bound size base s start good lines over begun =
     let within : base.spent + t.charge s ≤ bound s.network = subst (λ (m : Moment). m.spent + t.charge m.state ≤ bound m.state.network) (same_moment t bound size base s start good lines begun) begun.within in
     true≢false (sym (le-leb (base.spent + t.charge s) (bound s.network) within) ∙ over)
 
--- nor where a flag is true that the rules do not use
+-- nor if a flag is true that the rules do not use
 pub fit_flags : (t : RuleTable) (bound : Network → ℕ) (size : ℕ) (base : Base) (s : State) (start : Moment) → IsState s → HasLines size base.nodes base.edges s → IsBegun t bound size base start → t.flags ≡ false → (v : ℕ) → flag s v ≡ false
 fit_flags t bound size base s start good lines begun =
     subst (λ (m : Moment). t.flags ≡ false → (v : ℕ) → flag m.state v ≡ false) (same_moment t bound size base s start good lines begun) begun.unflagged
 
--- the moment at which one begins
+-- the moment at the start of one
 pub begins : (t : RuleTable) (bound : Network → ℕ) (size : ℕ) (base : Base) (s : State) → IsState s → HasLines size base.nodes base.edges s → (t.flags ≡ false → (v : ℕ) → flag s v ≡ false) → nat_le (base.spent + t.charge s) (bound s.network) ≡ true → IsBegun t bound size base (record { state = s; spent = base.spent })
 begins t bound size base s good lines fit within = record {
   is_state = good;

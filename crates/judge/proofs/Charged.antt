@@ -1,4 +1,4 @@
--- The charge by what the ends make of the edges and by what is counted at the names.
+-- The charge from the stances of the ends and from the counts of the names.
 use Rattle.std.proofs.Common.{◌≡◌, ℕ, ◌+◌, ◌*◌, Bool, true, false, cond, not, ◌&&◌, length, List, [], ◌∷◌, None, is_some, count_by, sum_by, refl, sym, ap, ap₂, ◌∙◌, arith}
 use Rattle.std.specs.List.{range_with_len}
 use Rattle.std.proofs.lemmas.List.Sums.{sum_by-cons}
@@ -22,7 +22,7 @@ use Rattle.judge.specs.Shares.{end_of, closes, flag_charge, adds, no_share, AreF
 use Rattle.judge.proofs.Counting.{kept_count, kept_sum, kept_values, length_filter_map}
 use Rattle.enabled_set.proofs.Sums.{summed}
 
--- each node makes of its edges what the state says
+-- each node's stance is the state's
 abbrev pub AreTurned : RuleSet → State → List End → Type 0
 AreTurned rules s ends = (v : ℕ) → present s.network v ≡ true → end_at ends v ≡ end_of rules s v
 
@@ -34,7 +34,7 @@ hsu_huang_open m n c d = grind arith
 manne_open : (m n : Bool) → are_open (cond m Shut Free) (cond n Shut Free) ≡ (not m && not n)
 manne_open m n = grind arith
 
--- whether an edge is open by what its ends are
+-- whether an edge is open by the stances of its ends
 abbrev apart : RuleSet → State → ℕ × ℕ → Bool
 apart Hh s e = hsu_huang_apart s e
 apart Manne s e = manne_apart s e
@@ -65,7 +65,8 @@ split Manne s good =
     let added = sum_add (λ v. cond (is_unanswered s v) 1 0) (flag_charge Manne s) (names s.network) in
     omega (arith, edges, added)
 
--- The charge, with twice the pointers that close an edge, is twice the edges that are open by their ends with what the nodes add.
+-- The charge plus twice the pointers that close an edge is twice the edges open by their ends plus the nodes'
+-- parts.
 pub charge_turned : (rules : RuleSet) (s : State) (ends : List End) → IsState s → AreTurned rules s ends → (table_of rules).charge s + 2 * sum_by (λ v. cond (cond (present s.network v) (closes rules s v) false) 1 0) (range_with_len 1 s.network.size) ≡ 2 * open_edges s.network ends + sum_by (λ v. cond (present s.network v) (adds rules s v) 0) (range_with_len 1 s.network.size)
 charge_turned rules s ends good told =
     let edges = apart_edges rules s ends good told in
@@ -81,7 +82,7 @@ pub record IsCounted (rules : RuleSet) (s : State) (ends : List End) (pairs enab
   pub ruled : enabled ≡ length (enabled_names (table_of rules) s)
   pub charged : (table_of rules).charge s + 2 * closing ≡ 2 * open_edges s.network ends + added
 
--- where nothing changed since all was told, the sums are those of the state
+-- if nothing changed since the last look, the sums are those of the state
 pub counted : (rules : RuleSet) (s : State) (ends : List End) (each : List Share) (touched due : List Bool) (pairs enabled added closing : ℕ) → AreTold rules s ends each touched due → AreFresh touched due → AreSummed each pairs enabled added closing → IsCounted rules s ends pairs enabled added closing
 counted rules s ends each touched due pairs enabled added closing told fresh sums = record {
   paired = sums.paired

@@ -1,4 +1,4 @@
--- What is counted at the nodes in turn.
+-- Counts over the nodes in turn.
 use Rattle.std.proofs.Common.{rules, ◌≡◌, ℕ, ◌+◌, Bool, cond, nat_lt, List, [], ◌∷◌, length, filter, filter_map, sum_by, Option, None, Some, is_some, refl, ◌∙◌, arith}
 use Rattle.std.specs.List.{cons_option}
 use Rattle.std.specs.Ordering.{is_lt, nat_cmp}
@@ -9,7 +9,7 @@ longer : {Y : Type 0} (o : Option Y) (ys : List Y) → length (cons_option o ys)
 longer None ys = omega arith
 longer (Some y) ys = omega arith
 
--- a list is as long as there are elements at which a function has a value
+-- the values of a function over a list are as many as the elements that have one
 pub length_filter_map : {X Y : Type 0} (f : X → Option Y) (xs : List X) → length (filter_map f xs) ≡ sum_by (λ x. cond (is_some (f x)) 1 0) xs
 length_filter_map f [] = refl
 length_filter_map f (x ∷ xs) =

@@ -9,7 +9,7 @@ use Rattle.rule_machine.specs.State.{State, IsState, suits, has_suitor}
 use Rattle.machine_laws.specs.Neighbours.{linked_present, near_fails}
 use Rattle.charge_laws.specs.Degrees.{degree, none_count}
 
--- no more than there may be names
+-- at most as many as names
 pub few_edges : (net : Network) (v : ℕ) → net.size ≤ 65535 → degree net v ≤ 65535
 few_edges net v few =
     let near = length-filter (linked net v) (names net) in
@@ -19,7 +19,7 @@ few_edges net v few =
     let all = length-range_with_len 1 net.size in
     omega (arith, few, near, most, kept, named, all)
 
--- none where no node has it
+-- none if no node has it
 absent_alone : (net : Network) (v w : ℕ) → IsNetwork net → present net v ≡ false → linked net v w ≡ false
 absent_alone net v w good absent =
     false_from_ne_true (linked net v w) (λ near. true≢false (sym (linked_present net v w good near) ∙ absent))

@@ -1,4 +1,4 @@
--- The value of a call that answers exactly where a fact holds.
+-- The value of a call that answers exactly if a fact holds.
 use Rattle.std.proofs.Common.{◌≡◌, Option, Some, SomeIff, subst}
 
 pub some_iff_at : {X : Type 0} (o : Option X) (P : Type 0) (v x : X) → SomeIff o P v → o ≡ Some x → x ≡ v

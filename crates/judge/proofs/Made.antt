@@ -60,7 +60,7 @@ increasing u (p ∷ q ∷ nodes) up zero inside = up.1.0
 increasing u (p ∷ q ∷ nodes) up (suc k) inside =
     let h = increasing p.node (q ∷ nodes) up.1 k (omega arith) in simp add-one (simp add-one at h)
 
--- who is a node, where the names are these
+-- the names that are nodes, if these are the names
 pub names_are : (net : Network) (nodes : List Place) → NamesRise 0 nodes → ((x : ℕ) → present net x ≡ has (names_in nodes) x) → names net ≡ names_in nodes
 names_are net nodes up here =
     ap (λ (p : ℕ → Bool). filter p (range_with_len 1 net.size)) (λ i x. here x i)
@@ -224,7 +224,7 @@ pointer_allowed s net nodes k place good same joined listed within is =
     let kept : linked net place.node w ≡ linked s.network place.node w = finmap.contains_key-keys net.edges q ∙ ap (list_any (eq_by_cmp pair_cmp q)) (sym joined) ∙ sym (finmap.contains_key-keys s.network.edges q) in
     (present_in s.network net same w (edges.linked_present s.network place.node w good.is_network near), kept ∙ near))
 
--- where a pointer may be written there is a node
+-- a pointer may be written only at a node
 pub allowed_present : (net : Network) (v : ℕ) (o : Option ℕ) → point_refusal net v o ≡ None → present net v ≡ true
 allowed_present net v None e = grind arith
 allowed_present net v (Some w) e =

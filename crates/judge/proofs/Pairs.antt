@@ -1,4 +1,4 @@
--- What is told of a node by its pointer.
+-- Facts of a node from its pointer.
 use Rattle.std.proofs.Common.{◌≡◌, ℕ, Bool, true, false, cond, not, ◌&&◌, ◌||◌, nat_lt, None, Some, is_some, is_none, IsTrue, refl, sym, ap, ap₂, ◌∙◌, arith}
 use Rattle.std.proofs.lemmas.Bool.{and_right, ne_eqb, true≢false}
 use Rattle.rule_machine.specs.declared.rules.RuleSet.TheVariants.{Manne}
@@ -21,7 +21,7 @@ pub no_lower_end : (s : State) (v : ℕ) → pointer s v ≡ None → is_some (p
 no_lower_end s v null =
     ap (λ o. is_some (cond (present s.network v) (pair_above v o) None)) (none_is (partner s v) (null_unmarried s v null)) ∙ grind arith
 
--- under the rules of Manne and others its pointer closes an edge only where its target is not married
+-- by Manne's rules a pointer closes an edge only if its target is unmarried
 pub manne_closing : (s : State) (v w : ℕ) → IsState s → pointer s v ≡ Some w → closes Manne s v ≡ ((nat_lt v w && not (flag s w)) && not (married s w))
 manne_closing s v w good at = go (points s.registers w v) refl
   where

@@ -1,4 +1,4 @@
--- Lists by rising names of what is told of names: those that have as much as is told at all have all of it.
+-- Lists of facts about names, by ascending names: a list as long as all facts has all of them.
 use Rattle.std.proofs.Common.{◌≡◌, ℕ, ◌+◌, ◌<◌, ◌≤◌, ◌↔◌, zero, suc, Bool, true, false, cond, nat_lt, List, [], ◌∷◌, drop, get_or, length, filter_map, Option, None, Some, is_some, IsTrue, refl, sym, ap, subst, ◌∙◌, ⊎_elim, arith, lt-ltb}
 use Rattle.std.specs.Option.{option_map}
 use Rattle.std.specs.List.{range_with_len, cons_option}
@@ -21,7 +21,7 @@ nil_of : {X : Type 0} (xs : List X) → length xs ≤ 0 → [] ≡ xs
 nil_of [] few = refl
 nil_of (x ∷ xs) few = absurd (omega (arith, few))
 
--- it is all that is told, where no more is told
+-- it has all facts if there are at most as many
 all_told : {Y : Type 0} (f : ℕ → Option (ℕ × Y)) (k n : ℕ) (items : List (ℕ × Y)) → ((v : ℕ) (p : ℕ × Y) → f v ≡ Some p → v ≤ n + k) → AreRising f n items → length (filter_map f (range_with_len (n + 1) k)) ≤ length items → items ≡ filter_map f (range_with_len (n + 1) k)
 all_told f k n [] top up few = nil_of (filter_map f (range_with_len (n + 1) k)) few
 all_told f zero n (p ∷ items) top up few = absurd (omega (arith, up.0, top p.0 p up.1))
@@ -44,7 +44,7 @@ all_told {Y = Y} f (suc k) n (p ∷ items) top up few =
     ap (λ l. p ∷ l) (more items (subst (λ (m : ℕ). AreRising f m items) same up.2) (omega (arith, few, ap length first))) ∙ sym first)
     (cases_lt (n + 1) p.0)
 
--- all that is told rises
+-- all facts ascend
 all_rise : {Y : Type 0} (f : ℕ → Option (ℕ × Y)) → ((v : ℕ) (p : ℕ × Y) → f v ≡ Some p → p.0 ≡ v) → (k n m : ℕ) → m ≤ n → AreRising f m (filter_map f (range_with_len (n + 1) k))
 all_rise f named zero n m low = tt
 all_rise {Y = Y} f named (suc k) n m low =
@@ -59,7 +59,7 @@ all_rise {Y = Y} f named (suc k) n m low =
           subst (λ (v : ℕ). AreRising f v (filter_map f (range_with_len (n + 1 + 1) k))) (sym at) with_it,
         )
 
--- as many items as are told of the names up to size are all of them exactly if they rise
+-- a list as long as the facts about the names up to size has all of them exactly if it ascends
 all_listed : {Y : Type 0} (f : ℕ → Option (ℕ × Y)) (size : ℕ) (all items : List (ℕ × Y)) → all ≡ filter_map f (range_with_len 1 size) → ((v : ℕ) (p : ℕ × Y) → f v ≡ Some p → (v ≤ size) × (p.0 ≡ v)) → length items ≡ length all → AreRising f 0 items ↔ (items ≡ all)
 all_listed f size all items is told as_many =
     let long = ap length is in (
@@ -69,7 +69,7 @@ all_listed f size all items is told as_many =
 
 -- ---- mutual pairs
 
--- a pair is told of its lower end, which is there
+-- a pair is the fact of its lower end, which is present
 told_pair : (s : State) (v : ℕ) (p : ℕ × ℕ) → pair_at s v ≡ Some p → IsTrue (present s.network v) × (p.0 ≡ v) × (partner s v ≡ Some p.1)
 told_pair s v p e = told (present s.network v) (partner s v) e
   where
@@ -94,7 +94,7 @@ pair_told s v w good up there back =
     let here = linked_present s.network v w good.is_network (pointer_linked s v w good to) in
     ap (λ b. cond b (pair_above v (partner s v)) None) here ∙ ap (pair_above v) (partner_from s v w good to from) ∙ ap (λ b. cond b (Some (v, w)) None) (lt-ltb v w up)
 
--- v points at w, and w tells whether they are a pair
+-- v points at w, and w's pointer decides whether they are a pair
 pub told_back : (s : State) (v w : ℕ) (back : Bool) → IsState s → v < w → IsTrue (points s.registers v w) → back ≡ points s.registers w v → IsTrue back ↔ (pair_at s v ≡ Some (v, w))
 told_back s v w back good up there is = (
   λ yes. pair_told s v w good up there (sym is ∙ yes),
@@ -107,7 +107,7 @@ told_apart s v w apart e = true≢false (sym (points_from s v w (partner_some s 
 
 -- ---- enabled nodes
 
--- a rule is told of a node that is there, at which it is enabled
+-- a rule is the fact of a present node, if it is enabled there
 told_rule : (t : RuleTable) (s : State) (v : ℕ) (p : ℕ × Act) → ruled_node t s v ≡ Some p → IsTrue (present s.network v) × (p.0 ≡ v) × (rule_at t s v ≡ Some p.1)
 told_rule t s v p e = told (present s.network v) (rule_at t s v) e
   where
@@ -142,11 +142,11 @@ enabled_listed t s nodes as_many =
 
 -- ---- a walk over a list
 
--- the item at a place, and what comes behind it
+-- the item at an index, and the rest after it
 item_at : {X : Type 0} (items : List X) (at : ℕ) (p : X) → at < length items → p ≡ get_or items at p → drop at items ≡ p ∷ drop (at + 1) items
 item_at items at p within is = drop_more items at p within ∙ ap (λ x. x ∷ drop (at + 1) items) (sym is)
 
--- one more item, which is told of its name, above the last one
+-- one more item, which is the fact of its name, above the last one
 pub rise_more : {Y : Type 0} (P : Type 0) (f : ℕ → Option (ℕ × Y)) (items : List (ℕ × Y)) (at last next : ℕ) (p : ℕ × Y) → at < length items → p ≡ get_or items at p → next ≡ p.0 → last < next → f p.0 ≡ Some p → P ↔ AreRising f last (drop at items) → P ↔ AreRising f next (drop (at + 1) items)
 rise_more P f items at last next p within is name above told so_far =
     let here = item_at items at p within is in (
@@ -154,11 +154,11 @@ rise_more P f items at last next p within is name above told so_far =
       λ rest. so_far.1 (subst (AreRising f last) (sym here) (omega (arith, name, above), told, subst (λ (n : ℕ). AreRising f n (drop (at + 1) items)) name rest)),
     )
 
--- an item that is not above the last one, or is not told of its name
+-- an item that is not above the last one, or is not the fact of its name
 pub rise_not : {Y : Type 0} (P : Type 0) (f : ℕ → Option (ℕ × Y)) (items : List (ℕ × Y)) (at last : ℕ) (p : ℕ × Y) → at < length items → p ≡ get_or items at p → (last < p.0 → f p.0 ≡ Some p → ⊥) → P ↔ AreRising f last (drop at items) → P → ⊥
 rise_not P f items at last p within is wrong so_far h =
     let up = subst (AreRising f last) (item_at items at p within is) (so_far.0 h) in wrong up.0 up.1
 
--- behind the last item
+-- after the last item
 pub rise_end : {Y : Type 0} (P : Type 0) (f : ℕ → Option (ℕ × Y)) (items : List (ℕ × Y)) (at last : ℕ) → length items ≤ at → P ↔ AreRising f last (drop at items) → P
 rise_end P f items at last end so_far = so_far.1 (subst (AreRising f last) (sym (drop_all at items end)) tt)

@@ -1,4 +1,4 @@
--- What a name brings depends on no more than what is round the names that it asks.
+-- A name's contribution depends only on the surroundings of the names that it asks.
 use Rattle.std.proofs.Common.{◌≡◌, ℕ, ◌+◌, Bool, true, false, cond, not, ◌&&◌, ◌||◌, List, length, set, find, nat_eq, nat_lt, nat_le, Option, None, Some, is_some, is_none, IsTrue, refl, sym, ap, ap₂, subst, ◌∙◌}
 use Rattle.std.proofs.lemmas.Bool.{eq-eqb, or_left, or_right, and_from}
 use Rattle.enabled_set.specs.Members.{is_in}
@@ -38,7 +38,7 @@ at_target : (s : State) (v w : ℕ) → IsState s → pointer s v ≡ Some w →
 at_target s v w good at =
     or_right (nat_eq v w) _ (and_from (linked s.network v w) _ (pointer_linked s v w good at) (or_right (is_none (pointer s v)) _ (points_from s v w at)))
 
--- its neighbours, where it points nowhere
+-- its neighbours, if its pointer is null
 at_neighbour : (s : State) (v w : ℕ) → pointer s v ≡ None → IsTrue (linked s.network v w) → asks s v w ≡ true
 at_neighbour s v w null link =
     or_right (nat_eq v w) _ (and_from (linked s.network v w) _ link (or_left _ _ (ap is_none null)))
@@ -46,12 +46,12 @@ at_neighbour s v w null link =
 pub same_asks : (s u : State) (v w : ℕ) → IsSameRound s u v → asks s v w ≡ asks u v w
 same_asks s u v w round = λ i. nat_eq v w || (round.link w i && (is_none (round.own_pointer i) || is_at (round.own_pointer i) w))
 
--- what is said of a target
+-- tests of a target
 held_alike : (f g : ℕ → Bool) (o p : Option ℕ) → o ≡ p → ((w : ℕ) → o ≡ Some w → f w ≡ g w) → holds_at f o ≡ holds_at g p
 held_alike f g None p same alike = cc
 held_alike f g (Some w) p same alike = cc (alike w refl)
 
--- whether a neighbour passes a test, where the name points nowhere
+-- whether a neighbour passes a test, if the name's pointer is null
 near_alike : (s u : State) (v : ℕ) (p q : ℕ → Bool) → AreSameRounds s u v → pointer s v ≡ None → ((w : ℕ) → IsSameRound s u w → p w ≡ q w) → find p (neighbours s.network v) ≡ find q (neighbours u.network v)
 near_alike s u v p q rounds null alike =
     near_agree s.network p q v (λ w link. alike w (rounds w (at_neighbour s v w null link))) ∙ ap (find q) (own s u v rounds).near
@@ -63,12 +63,13 @@ abbrev first_of : Bool → Bool → Bool → Bool → Option Act
 first_of update marry seduce abandon =
     cond update (Some Update) (cond marry (Some Marry) (cond seduce (Some Seduce) (cond abandon (Some Abandon) None)))
 
--- by whether a node is settled, its pointer, whether it has a suitor, whether one is near that it may seduce, and whether it waits in vain
+-- by whether a node is settled, its pointer, whether it has a suitor, whether it may seduce a neighbour, and
+-- whether it waits in vain
 abbrev rule_of : Bool → Option ℕ → Bool → Bool → Bool → Option Act
 rule_of settled o courted near vain =
     first_of (not settled) (settled && is_none o && courted) (settled && is_none o && not courted && near) (settled && vain)
 
--- who is near is asked only where the node points nowhere
+-- the neighbours matter only if the node's pointer is null
 rule_alike : (o p : Option ℕ) (a b c d m n x y : Bool) → o ≡ p → a ≡ b → c ≡ d → (o ≡ None → m ≡ n) → x ≡ y → rule_of a o c m x ≡ rule_of b p d n y
 rule_alike None p a b c d m n x y same settled courted near vain = cc (near refl)
 rule_alike (Some w) p true b c d m n x y same settled courted near vain = cc
@@ -146,7 +147,7 @@ told_again rules s u ends each v good rounds told =
       end = λ here. told.end (round.here ∙ here) ∙ ends_alike rules s u v round;
     }
 
--- and so is all that is fresh, where no more than this changed
+-- and so is all that is fresh, if only this changed
 pub told_after : {t : State} (rules : RuleSet) (s u : State) (ends ends' : List End) (each each' : List Share) (touched touched' due due' : List Bool) → IsState u → u ≡ t → t.network.size ≡ s.network.size → ends' ≡ ends → each' ≡ each → due' ≡ due → length touched' ≡ length touched → ((v : ℕ) → is_in touched' v ≡ false → (is_in touched v ≡ false) × IsSameRound s t v) → AreTold rules s ends each touched due → AreTold rules u ends' each' touched' due'
 told_after {t = t} rules s u ends ends' each each' touched touched' due due' good now size same_ends same_each same_due same_places elsewhere told = record {
   sound = good;
@@ -168,7 +169,7 @@ told_after {t = t} rules s u ends ends' each each' touched touched' due due' goo
   round_of : (v : ℕ) → is_in touched' v ≡ false → (is_in touched v ≡ false) × IsSameRound s u v
   round_of v fresh = let it = elsewhere v fresh in (it.0, subst (λ x. IsSameRound s x v) (sym now) it.1)
 
--- where a name became present or absent, without an edge
+-- if a name became present or absent, without an edge
 pub told_seated : (rules : RuleSet) (s u : State) (v : ℕ) (b : Bool) (ends ends' : List End) (each each' : List Share) (touched touched' due due' : List Bool) → IsState u → u ≡ record s { network = record s.network { here = set s.network.here v b } } → ends' ≡ ends → each' ≡ each → due' ≡ due → IsMarked touched touched' v → AreTold rules s ends each touched due → AreTold rules u ends' each' touched' due'
 told_seated rules s u v b ends ends' each each' touched touched' due due' good now same_ends same_each same_due marked told =
     let kept = subst IsState now good in

@@ -1,4 +1,4 @@
--- Shares and their sums, where nobody brings anything.
+-- Contributions and their sums, if all are empty.
 use Rattle.std.proofs.Common.{◌≡◌, ℕ, replicate, subst, ◌*◌, ◌≤◌, Bool, true, false, cond, List, sum_by, is_some, sym, refl, ap, ◌∙◌, arith}
 use Rattle.std.specs.List.{All}
 use Rattle.std.proofs.lemmas.List.{get_or-replicate, length-replicate}

@@ -103,7 +103,7 @@ held_more t s table items k item act held mine within is place fresh =
           (cases_eq v item.node);
     }
 
--- a table of the first items has nothing where no item names the node
+-- a table of the first items has no entry if no item names the node
 pub within_from_held : (t : RuleTable) (s : State) (table : List (Option RuledItem)) (items : List Item) (k : ℕ) → Holds t s table (take k items) → IsWithin table items
 within_from_held t s table items k held v none =
     no_item (ruled_at table v) (held.first v ∙ not_found (λ i. nat_eq i.node v) (take k items) (beginning_fails (λ i. nat_eq i.node v) items k none))
@@ -149,14 +149,14 @@ any_found t s m (item ∷ items) e =
 pub own_items : (t : RuleTable) (s : State) (items : List Item) → step_refusal t s items ≡ None → Own items items
 own_items t s items none = record { own = own_item t s items none }
 
--- the moves are asked for just where each is asked for by the item at its node
+-- the moves are asked for exactly if the item at each one's node asks for it
 pub asked_by : (t : RuleTable) (s : State) (items : List Item) (moves : List Moved) (table : List (Option RuledItem)) → step_refusal t s items ≡ None → Holds t s table items → list_all (λ m. is_move_by t s (item_at table m.node) m) moves ≡ list_all (λ m. is_asked t s items m) moves
 asked_by t s items moves table none held =
     let each : (m : Moved) → is_move_by t s (item_at table m.node) m ≡ is_asked t s items m = λ m.
     ap (λ o. is_move_by t s o m) (held.first m.node) ∙ both_ways _ _ (any_found t s m items) (asked_in t s m items items (own_items t s items none)) in
     λ i. list_all (λ m. each m i) moves
 
--- where each move is asked for by the item at its node, a mover is answered
+-- if the item at each move's node asks for it, a mover is answered
 mover_answered : (t : RuleTable) (s : State) (item : Item) (all : List Item) (moves : List Moved) → item_of all item.node ≡ Some item → list_all (λ m. is_move_by t s (item_of all m.node) m) moves ≡ true → is_mover moves item.node ≡ true → is_answered t s moves item ≡ true
 mover_answered t s item all [] own asked e = cc
 mover_answered t s item all (m ∷ moves) own asked e =
@@ -189,13 +189,13 @@ left_in t s (item ∷ items) all moves table left own held asked out =
     ap (λ b. b && list_all (λ i. is_none (ruled_at left i.node)) items) here
     ∙ ap (λ b. is_answered t s moves item && b) (left_in t s items all moves table left (own_rest item items all own) held asked out)
 
--- once the movers' items are taken out, each item has a move just where none is left
+-- after the movers' items are removed, each item has a move exactly if none is left
 pub left_answered : (t : RuleTable) (s : State) (items : List Item) (moves : List Moved) (table left : List (Option RuledItem)) → step_refusal t s items ≡ None → Holds t s table items → list_all (λ m. is_move_by t s (item_at table m.node) m) moves ≡ true → ((v : ℕ) → ruled_at left v ≡ cond (is_mover moves v) None (ruled_at table v)) → list_all (λ i. is_none (ruled_at left i.node)) items ≡ list_all (λ i. is_answered t s moves i) items
 left_answered t s items moves table left none held asked out =
     left_in t s items items moves table left (own_items t s items none) held
     (sym (λ i. list_all (λ m. is_move_by t s (held.first m.node i) m) moves) ∙ asked) out
 
--- what is left stands at nodes of items
+-- the rest is at nodes of items
 pub within_left : (t : RuleTable) (s : State) (items : List Item) (moves : List Moved) (table left : List (Option RuledItem)) → Holds t s table items → ((v : ℕ) → ruled_at left v ≡ cond (is_mover moves v) None (ruled_at table v)) → IsWithin left items
 within_left t s items moves table left held out v none =
     let before = within_from_all t s table items held v none in

@@ -14,7 +14,7 @@ use Rattle.rule_machine.specs.Tables.{table_of}
 use Rattle.judge.specs.declared.share.Share.{Share}
 use Rattle.judge.specs.Shares.{adds, asks, closes, end_of, no_share, share_at, AreAsking, IsShare, IsToldAt, AreTold}
 
--- of a name without a node nothing is to be told
+-- of a name without a node no value is kept
 told_nowhere : (rules : RuleSet) (s : State) (ends : List End) (each : List Share) (v : ℕ) → present s.network v ≡ false → share_at each v ≡ no_share → IsToldAt rules s ends each v
 told_nowhere rules s ends each v absent nothing = record {
   share = record {
@@ -26,7 +26,7 @@ told_nowhere rules s ends each v absent nothing = record {
   end = λ here. absurd (true≢false (sym here ∙ absent));
 }
 
--- where all names are due nothing is to be told
+-- if all names are due no value is kept
 pub told_of_none : (rules : RuleSet) (s : State) (ends : List End) (each : List Share) (touched due : List Bool) → IsState s → length each ≡ s.network.size + 1 → length touched ≡ s.network.size + 1 → length due ≡ s.network.size + 1 → share_at each 0 ≡ no_share → ((v : ℕ) → 1 ≤ v → v ≤ s.network.size → is_in due v ≡ true) → AreTold rules s ends each touched due
 told_of_none rules s ends each touched due good places touched_places due_places none all = record {
   sound = good;
@@ -43,7 +43,7 @@ told_of_none rules s ends each touched due good places touched_places due_places
       told_nowhere rules s ends each v (grind arith) (grind arith);
 }
 
--- what depends on a name is due, and it is touched no longer
+-- what depends on a name is due, and the name is untouched
 pub told_spread : (rules : RuleSet) (s : State) (ends : List End) (each : List Share) (touched touched' due due' : List Bool) (v : ℕ) → touched' ≡ set touched v false → AreAsking s v due due' → AreTold rules s ends each touched due → AreTold rules s ends each touched' due'
 told_spread rules s ends each touched touched' due due' v cleared asking told = record {
   sound = told.sound;
@@ -65,7 +65,7 @@ told_spread rules s ends each touched touched' due due' v cleared asking told = 
 none_there : (rules : RuleSet) (s : State) (share : Share) → IsShare rules s 0 share → share ≡ no_share
 none_there rules s share is = λ i. record { rule = is.rule i; is_lower_end = is.is_lower_end i; added = is.added i; closes = is.closes i }
 
--- a look at a name tells of it, and of the others what was told
+-- a look at a name makes its entry right, and leaves the others
 pub told_next : (rules : RuleSet) (s : State) (ends ends' : List End) (each each' : List Share) (touched due due' : List Bool) (v : ℕ) (share : Share) → v ≤ s.network.size → each' ≡ set each v share → due' ≡ set due v false → IsShare rules s v share → (IsTrue (present s.network v) → end_at ends' v ≡ end_of rules s v) → ((w : ℕ) → w ≢ v → end_at ends' w ≡ end_at ends w) → AreTold rules s ends each touched due → AreTold rules s ends' each' touched due'
 told_next rules s ends ends' each each' touched due due' v share within set_each set_due is end others told = record {
   sound = told.sound;

@@ -1,4 +1,4 @@
--- Bases at which a judge begins, and that it tells.
+-- Bases that a judge begins at, and returns.
 use Rattle.std.specs.Prelude.{◌≡◌, ℕ, ◌<◌, ◌≤◌, List, [], ◌∷◌, length}
 use Rattle.std.specs.declared.cmp.Ordering.TheVariants.{Less}
 use Rattle.rule_machine.specs.declared.base.Base.{Base}
@@ -37,7 +37,7 @@ abbrev pub NoStateHolds : Network → List Place → Type 0
 NoStateHolds net nodes =
     (s : State) → IsState s → names s.network ≡ names net → edge_list s.network ≡ edge_list net → places s ≡ nodes → ⊥
 
--- a run may begin at a base in this state, and the base has no more edges than a network
+-- a run may begin at a base in this state, and the base has at most as many edges as a network may have
 abbrev pub BeginsAt : RuleSet → ℕ → Base → State → Type 0
 BeginsAt rules size base s =
     IsBegun (table_of rules) (charge_bound (weight_of rules)) size base (record { state = s; spent = base.spent }) × (length base.edges ≤ 1048576)

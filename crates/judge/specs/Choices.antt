@@ -1,4 +1,4 @@
--- A table with a place for each name, at which the item of a choice stands that names it, with the rule that is enabled there.
+-- A table with an entry for each name: the item of a choice that names it, with the rule enabled there.
 use Rattle.std.specs.Prelude.{◌≡◌, ℕ, ◌+◌, length, Bool, false, not, List, Option, None, Some, Result, IfSome, MatchResult, IsTrue, if◌then◌else◌, nat_eq, option_map, slice_index_or}
 use Rattle.std.specs.List.{list_any}
 use Rattle.rule_machine.specs.declared.act.Act.{Act}
@@ -14,7 +14,7 @@ use Rattle.rule_machine.specs.Least.{item_of}
 use Rattle.machine_laws.specs.Judged.{is_move_of}
 use Rattle.judge.specs.declared.choices.RuledItem.{RuledItem}
 
--- what stands at a name
+-- the entry of a name
 abbrev pub ruled_at : List (Option RuledItem) → ℕ → Option RuledItem
 ruled_at table v = slice_index_or table v None
 
@@ -27,11 +27,11 @@ pub record IsRuled (t : RuleTable) (s : State) (item : Item) (act : Act) : Type 
   pub rule : rule_at t s item.node ≡ Some act
   pub wish : IfSome item.wish (λ w. IsTrue (t.allowed s item.node act w))
 
--- each item stands with its rule
+-- each item is with its rule
 abbrev pub AreRuled : RuleTable → State → List (Option RuledItem) → Type 0
 AreRuled t s table = (v : ℕ) → IfSome (ruled_at table v) (λ r. IsRuled t s r.item r.act)
 
--- at each name stands the first of the items that names it, with its rule
+-- each name has the first of the items that names it, with its rule
 pub record Holds (t : RuleTable) (s : State) (table : List (Option RuledItem)) (items : List Item) : Type 0 where
   pub first : (v : ℕ) → item_at table v ≡ item_of items v
   pub ruled : AreRuled t s table
@@ -44,11 +44,11 @@ is_named items v = list_any (λ i. nat_eq i.node v) items
 abbrev pub is_mover : List Moved → ℕ → Bool
 is_mover moves v = list_any (λ m. nat_eq m.node v) moves
 
--- an item stands only at a name that the items name
+-- only names that the items name have an item
 abbrev pub IsWithin : List (Option RuledItem) → List Item → Type 0
 IsWithin table items = (v : ℕ) → is_named items v ≡ false → ruled_at table v ≡ None
 
--- no item stands anywhere
+-- no name has an item
 abbrev pub IsClear : List (Option RuledItem) → Type 0
 IsClear table = (v : ℕ) → ruled_at table v ≡ None
 
@@ -56,13 +56,13 @@ IsClear table = (v : ℕ) → ruled_at table v ≡ None
 abbrev pub refused_rule : RuleTable → State → Item → Option Refusal
 refused_rule t s item = rule_refusal t s item (rule_at t s item.node)
 
--- why an item is refused whose node may stand in the choice before
+-- why an item is refused, if its node may have been chosen before
 abbrev pub refused_item : RuleTable → State → Item → Bool → Option Refusal
 refused_item t s item twice =
     if not (present s.network item.node) then Some UnknownNode
     else (if twice then Some ChosenTwice else refused_rule t s item)
 
--- what is found of an item that is refused for this reason, if it is: the reason, or the rule that it has
+-- the result for an item: the reason if it is refused, else its rule
 abbrev pub IsFound : RuleTable → State → Item → Option Refusal → Result Act Refusal → Type 0
 IsFound t s item refusal found =
     MatchResult found (λ act. (refusal ≡ None) × IsRuled t s item act) (λ reason. refusal ≡ Some reason)

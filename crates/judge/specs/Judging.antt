@@ -1,4 +1,4 @@
--- What a judge says of an event and its reply beside whether it is right.
+-- The parts of a judgement, apart from whether a reply is right.
 use Rattle.std.specs.Prelude.{◌≡◌, ℕ, Bool, true, false, List, [], None, IsTrue}
 use Rattle.rule_machine.specs.declared.choice.Item.{Item}
 use Rattle.rule_machine.specs.declared.event.Event.{Event}
@@ -24,7 +24,7 @@ pub record TakesMemory (t : RuleTable) (s : State) (event : Event) (reply : Repl
   pub accepted : refusal_of t s event ≡ None
   pub reply_is : reply ≡ Accepted
 
--- this reply to an event that is not refused is right, in the state to which it leads
+-- this reply to an event that is not refused is right, with the state after it
 abbrev pub IsRight : RuleTable → State → ℕ → Event → Reply → Type 0
 IsRight t s spent event reply = Does t s spent event reply (followed s event reply)
 

@@ -1,4 +1,4 @@
--- Lists by rising names of what is told of names.
+-- Lists of facts about names, by ascending names.
 use Rattle.std.specs.Prelude.{◌≡◌, ℕ, ◌<◌, List, [], ◌∷◌, Option, None, Some, cond}
 use Rattle.std.specs.Option.{option_map}
 use Rattle.rule_machine.specs.declared.act.Act.{Act}
@@ -7,12 +7,12 @@ use Rattle.rule_machine.specs.State.{State, partner}
 use Rattle.rule_machine.specs.Stable.{pair_above}
 use Rattle.rule_machine.specs.RuleTable.{RuleTable, rule_at}
 
--- each item is what f tells of the name in its front, and the names rise, the first above n
+-- each item is f's value at its name, and the names ascend from above n
 abbrev pub AreRising : {Y : Type 0} → (ℕ → Option (ℕ × Y)) → ℕ → List (ℕ × Y) → Type 0
 AreRising f n [] = Unit {0}
 AreRising f n (p ∷ items) = (n < p.0) × (f p.0 ≡ Some p) × AreRising f p.0 items
 
--- the mutual pair of which the node of a name is the lower end
+-- the mutual pair whose lower end is this name's node
 abbrev pub pair_at : State → ℕ → Option (ℕ × ℕ)
 pair_at s v = cond (present s.network v) (pair_above v (partner s v)) None
 

@@ -1,4 +1,5 @@
--- What each name brings to the totals of its network, what it makes of the edges at it, and how long what is kept of that is right.
+-- What each name contributes to the totals of its network, its stance towards its edges, and how long the
+-- kept values hold.
 use Rattle.std.specs.Prelude.{◌≡◌, ◌≢◌, ℕ, ◌+◌, ◌≤◌, Bool, false, true, cond, ◌&&◌, ◌||◌, List, length, sum_by, None, is_none, is_some, nat_eq, slice_index_or, IsTrue}
 use Rattle.enabled_set.specs.Members.{is_in}
 use Rattle.rule_machine.specs.declared.rules.RuleSet.{RuleSet}
@@ -17,7 +18,7 @@ use Rattle.judge.specs.declared.share.Share.{Share}
 use Rattle.judge.specs.declared.totals.Totals.{Totals}
 use Rattle.judge.specs.Rising.{pair_at}
 
--- what a name makes of the edges at it
+-- a name's stance towards its edges
 abbrev pub hsu_huang_end : State → ℕ → End
 hsu_huang_end s v = cond (married s v) Shut (cond (is_courted s v) Courted Free)
 
@@ -38,18 +39,18 @@ abbrev pub flag_charge : RuleSet → State → ℕ → ℕ
 flag_charge Hh s v = 0
 flag_charge Manne s v = manne_node_charge s v
 
--- what it adds beside its edges
+-- what it adds apart from its edges
 abbrev pub adds : RuleSet → State → ℕ → ℕ
 adds rules s v = cond (is_unanswered s v) 1 0 + flag_charge rules s v
 
--- what a name brings, where there is a node
+-- a name's contribution, if it is a node
 pub record IsShare (rules : RuleSet) (s : State) (v : ℕ) (share : Share) : Type 0 where
   pub rule : share.rule ≡ cond (present s.network v) (rule_at (table_of rules) s v) None
   pub is_lower_end : share.is_lower_end ≡ is_some (pair_at s v)
   pub added : share.added ≡ cond (present s.network v) (adds rules s v) 0
   pub closes : share.closes ≡ cond (present s.network v) (closes rules s v) false
 
--- what a name without a node brings
+-- the contribution of a name without a node
 abbrev pub no_share : Share
 no_share = record { rule = None; is_lower_end = false; added = 0; closes = false }
 
@@ -78,7 +79,7 @@ pub record IsMarked (was is : List Bool) (v : ℕ) : Type 0 where
   pub places : length is ≡ length was
   pub others : (w : ℕ) → is_in is w ≡ false → (is_in was w ≡ false) × (w ≢ v)
 
--- whether what v brings depends on w: its neighbours if it points nowhere, else its target
+-- whether v's contribution depends on w: its neighbours if its pointer is null, else its target
 abbrev pub asks : State → ℕ → ℕ → Bool
 asks s v w = nat_eq v w || (linked s.network v w && (is_none (pointer s v) || points s.registers v w))
 
@@ -87,7 +88,7 @@ pub record AreAsking (s : State) (w : ℕ) (was is : List Bool) : Type 0 where
   pub places : length is ≡ length was
   pub others : (v : ℕ) → is_in is v ≡ false → (is_in was v ≡ false) × (asks s v w ≡ false)
 
--- nothing changed on which v depends since it was looked at
+-- nothing that v depends on changed since the last look at it
 pub record IsFresh (s : State) (touched due : List Bool) (v : ℕ) : Type 0 where
   pub not_due : is_in due v ≡ false
   pub untouched : (w : ℕ) → asks s v w ≡ true → is_in touched w ≡ false
@@ -97,7 +98,7 @@ pub record AreFresh (touched due : List Bool) : Type 0 where
   pub none_due : (v : ℕ) → is_in due v ≡ false
   pub none_touched : (v : ℕ) → is_in touched v ≡ false
 
--- what is kept of a name is what it brings, and what it makes of its edges
+-- a name's entry has its contribution, and its stance towards its edges
 pub record IsToldAt (rules : RuleSet) (s : State) (ends : List End) (each : List Share) (v : ℕ) : Type 0 where
   pub share : IsShare rules s v (share_at each v)
   pub end : IsTrue (present s.network v) → end_at ends v ≡ end_of rules s v

@@ -1,4 +1,4 @@
-//! Bases: one at which a judge begins, and the one at which it stands.
+//! Bases: to begin a judge at one, and the base of its present state.
 
 ghost use Rattle.std.specs.Prelude.{◌≡◌, ◌≤◌, ◌+◌, ◌↔◌, ℕ, IfOk, IfSome, IsTrue, None, false, length, nat_le};
 ghost use Rattle.std.specs.List.{list_any};
@@ -16,7 +16,6 @@ use net_state::NetState;
 use rule_machine::{Base, Listing, Place, RuleSet, Want};
 use std::alloc::Global;
 
-/// Whether a flag is true.
 fn has_flag(nodes: &[Place]) -> bool
     ensures { result ≡ list_any (λ p. p.flagged) nodes.now }
 {
@@ -28,28 +27,29 @@ fn has_flag(nodes: &[Place]) -> bool
     false
 }
 
-/// What is the most that may be spent, with the charge that is left: twice the edges, and the rules' weight for each node.
+/// Returns the most that moves spent plus charge may be.
+///
+/// It is twice the edges plus the rules' weight for each node.
 fn bound(net: &NetState, rules: RuleSet) -> u64
     ensures { result ≡ charge_bound (weight_of rules) net.now.state.network }
 {
     2 * u64::from(net.edges()) + rules.node_weight() * u64::from(net.nodes())
 }
 
-/// Whether what is spent is within the bound of the network, with the charge.
+/// Whether moves spent plus the charge are within the bound of the network.
 fn is_within(survey: &mut Survey, rules: RuleSet, spent: u32) -> bool
     ensures within { result ≡ nat_le (spent + (table_of rules).charge survey.old.net.state) (charge_bound (weight_of rules) survey.old.net.state.network) }
     ensures sound { IsState survey.old.net.state }
     ensures kept { survey.new.net.state ≡ survey.old.net.state }
 {
-    // By its contract the state is sound.
+    // Gives the prover `IsState`.
     let _ = survey.net.registers();
     let bound = bound(&survey.net, rules);
     let charge = u64::from(survey.totals(rules).charge);
-    // The charge alone never exceeds the bound.
+    // Never underflows: the charge alone is within the bound.
     u64::from(spent) <= bound - charge
 }
 
-/// Whether the flags that are true are used by the rules.
 fn has_fit_flags(net: &NetState, rules: RuleSet, nodes: &[Place]) -> bool
     requires sound { IsState net.now.state }
     requires listed { places net.now.state ≡ nodes.now }
@@ -59,10 +59,18 @@ fn has_fit_flags(net: &NetState, rules: RuleSet, nodes: &[Place]) -> bool
 }
 
 impl Judge {
-    /// The judge in the state of which these are the lines, for names up to `size`, at most 65,535, where a run may begin there.
-    /// None where none may: a name is above `size`, an end of an edge is no node, there are more than 1,048,576 edges, a pointer is
-    /// at no neighbour, a flag is true though the rules use none, or what is spent and the charge are together above the bound
-    /// of the network. A look-up a node, a search an edge, and one charge; takes some forty bytes a name, and four an edge.
+    /// Creates a judge in the state of a base; `None` if no run may begin there.
+    ///
+    /// `size` is the capacity, at most 65,535. `Want` if memory runs out. `None` if
+    ///
+    /// - a name is above `size`, or an end of an edge is no node;
+    /// - there are more than 1,048,576 edges;
+    /// - a pointer is at no neighbour;
+    /// - a flag is true and the rules use none;
+    /// - moves spent plus the charge are above the bound of the network.
+    ///
+    /// Cost: a look-up for each node, a search for each edge, and one count of the charge. Takes some forty
+    /// bytes a name and four an edge.
     pub fn at_base(
         alloc: Global,
         rules: RuleSet,
@@ -93,8 +101,13 @@ impl Judge {
         Ok(Some(Judge::of_survey(alloc, survey)?))
     }
 
-    /// The base at which it stands, after so many entries and with these moves spent since the last accepted disturbance. Takes
-    /// some eight bytes a node and four an edge; a look at every name and at both ends of every edge.
+    /// Returns the base of the present state.
+    ///
+    /// `number` is how many entries came before, `spent` the moves since the last accepted disturbance.
+    /// `Want` if memory runs out.
+    ///
+    /// Cost: a look at every name and at both ends of every edge. Takes some eight bytes a node and four an
+    /// edge.
     pub fn base(&self, alloc: Global, number: u32, spent: u32) -> Result<Base, Want>
         ensures base { IfOk result (λ base. base ≡ base_of number (record { state = self.now; spent = spent })) }
         ensures few { IfOk result (λ base. (length base.nodes ≤ 65535) × (length base.edges ≤ 1048576)) }

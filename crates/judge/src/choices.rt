@@ -1,4 +1,4 @@
-//! The items of the step that is judged, each at its node with its rule.
+//! The items of the step under judgement, each at its node with its rule.
 
 ghost use Rattle.std.specs.Prelude.{◌≡◌, ◌+◌, ◌<◌, ◌≤◌, ℕ, IfOk, None, Some, cond, is_none, length, replicate, slice_set};
 ghost use Rattle.std.specs.List.{list_all};
@@ -15,7 +15,7 @@ pub(crate) struct RuledItem {
     pub(crate) act: Act,
 }
 
-/// The items of a choice, seen in contracts as a list with a place for each name; place 0 is nobody's.
+/// The items of a choice, one entry for each name; contracts see the list, whose entry 0 is unused.
 #[derive(Drop)]
 pub(crate) struct Chosen {
     items: Vec<Option<RuledItem>>,
@@ -31,7 +31,6 @@ impl Model for Chosen {
 }
 
 impl Chosen {
-    /// No item, for the names 1 to `nodes`.
     pub(crate) fn new(alloc: Global, nodes: u32) -> Result<Chosen, Want>
         requires { nodes ≤ 65535 }
         ensures { IfOk result (λ chosen. chosen ≡ replicate (nodes + 1) None) }
@@ -40,7 +39,6 @@ impl Chosen {
         Ok(Chosen { items })
     }
 
-    /// What stands at a node.
     pub(crate) fn get(&self, v: Node) -> Option<RuledItem>
         ensures { result ≡ ruled_at self.now v }
     {
@@ -51,7 +49,6 @@ impl Chosen {
         }
     }
 
-    /// Puts an item and its rule at its node, which has a place.
     pub(crate) fn put(&mut self, item: Item, act: Act)
         requires { item.node < length self.old }
         ensures { self.new ≡ slice_set self.old item.node (Some (record { item = item; act = act })) }
@@ -60,7 +57,6 @@ impl Chosen {
         self.items[place] = Some(RuledItem { item, act });
     }
 
-    /// Takes out the item at a node, if there is one.
     fn take_out(&mut self, v: Node)
         ensures { self.new ≡ slice_set self.old v None }
     {
@@ -69,7 +65,7 @@ impl Chosen {
         }
     }
 
-    /// Takes out what stands at the nodes of items.
+    /// Removes the items of the nodes that these items name.
     pub(crate) fn clear(&mut self, items: &[Item])
         ensures len { length self.new ≡ length self.old }
         ensures out { (v : ℕ) → ruled_at self.new v ≡ cond (is_named items.now v) None (ruled_at self.old v) }
@@ -79,7 +75,7 @@ impl Chosen {
         }
     }
 
-    /// Takes out what stands at the nodes of moves.
+    /// Removes the items of the nodes that these moves move.
     pub(crate) fn take_movers(&mut self, moves: &[Moved])
         ensures len { length self.new ≡ length self.old }
         ensures out { (v : ℕ) → ruled_at self.new v ≡ cond (is_mover moves.now v) None (ruled_at self.old v) }
@@ -89,7 +85,7 @@ impl Chosen {
         }
     }
 
-    /// Whether nothing stands at any node of items.
+    /// Whether none of these items' nodes has an item.
     pub(crate) fn has_none(&self, items: &[Item]) -> bool
         ensures { result ≡ list_all (λ i. is_none (ruled_at self.now i.node)) items.now }
     {
@@ -102,7 +98,6 @@ impl Chosen {
     }
 }
 
-/// So many places with no item.
 fn empty_places(alloc: Global, places: usize) -> Result<Vec<Option<RuledItem>>, Want>
     requires { places ≤ 65536 }
     ensures { IfOk result (λ items. items.items ≡ replicate places None) }

@@ -9,7 +9,6 @@ use net_state::{Disturb, NetState};
 use rule_machine::{Node, Place, Want};
 use std::alloc::{AllocError, Global};
 
-/// The nodes 1 to `present`, for names up to `nodes`, without an edge, all pointers null and all flags false.
 pub(crate) fn opened(alloc: Global, nodes: u32, present: u32) -> Result<NetState, Want>
     requires few { nodes ≤ 65535 }
     requires within { present ≤ nodes }
@@ -21,7 +20,6 @@ pub(crate) fn opened(alloc: Global, nodes: u32, present: u32) -> Result<NetState
     }
 }
 
-/// Adds the edge between two nodes.
 pub(crate) fn link(net: &mut NetState, a: Node, b: Node) -> Result<(), Want>
     requires { link_refusal net.old.state.network a b ≡ None }
     ensures ok { OnOk result (net.new.state ≡ after_link net.old.state a b) }
@@ -35,23 +33,21 @@ pub(crate) fn link(net: &mut NetState, a: Node, b: Node) -> Result<(), Want>
     }
 }
 
-/// Writes a node's pointer.
 pub(crate) fn point<D: Disturb>(it: &mut D, v: Node, target: Option<Node>)
     requires { point_refusal (D.state it.old).network v target ≡ None }
     ensures { D.state it.new ≡ after_point (D.state it.old) v target }
 {
-    // By its contract the state is sound.
+    // Gives the prover `IsState`.
     let _ = it.net();
     it.set_pointer(v, target);
 }
 
-/// Writes a node's registers.
 pub(crate) fn write(net: &mut NetState, place: Place)
     requires { point_refusal net.old.state.network place.node place.target ≡ None }
     ensures written { net.new.state ≡ after_flag (after_point net.old.state place.node place.target) place.node place.flagged }
     ensures sound { IsState net.old.state }
 {
-    // By its contract the state is sound.
+    // Gives the prover `IsState`.
     let _ = net.registers();
     point(net, place.node, place.target);
     net.set_flag(place.node, place.flagged);

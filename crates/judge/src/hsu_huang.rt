@@ -15,16 +15,12 @@ use graph_store::End;
 use net_state::NetState;
 use rule_machine::{Act, Event, Node};
 
-/// Whether one node alone moves in a step.
 pub(crate) const IS_CENTRAL: bool = true;
 
-/// Whether flags are used.
 pub(crate) const USES_FLAGS: bool = false;
 
-/// What a node adds to the charge by its flag.
 pub(crate) const FLAG_CHARGE: u8 = 0;
 
-/// The rule that is enabled at a node, if any is.
 #[inline(always)]
 pub(crate) fn rule_at(net: &NetState, v: Node) -> Option<Act>
     requires { IsTrue (present net.now.state.network v) }
@@ -39,7 +35,6 @@ pub(crate) fn rule_at(net: &NetState, v: Node) -> Option<Act>
     }
 }
 
-/// Whether a node may point at another by a rule.
 pub(crate) fn is_allowed(net: &NetState, v: Node, act: Act, w: Node) -> bool
     ensures { result ≡ hsu_huang_allowed net.now.state v act w }
 {
@@ -50,13 +45,13 @@ pub(crate) fn is_allowed(net: &NetState, v: Node, act: Act, w: Node) -> bool
     }
 }
 
-/// Whether a node's pointer closes an edge that is open by its ends: it is at one that points nowhere.
+/// Whether a node's pointer closes an edge that is open by its ends: its target's pointer is null.
 #[inline(always)]
 pub(crate) fn closes(net: &NetState, v: Node) -> bool
     requires { IsTrue (present net.now.state.network v) }
     ensures { result ≡ hsu_huang_closes net.now.state v }
 {
-    // By its contract the state is sound.
+    // Gives the prover `IsState`.
     let _ = net.registers();
     match net.pointer(v) {
         Some(w) => net.pointer(w).is_none(),
@@ -64,7 +59,9 @@ pub(crate) fn closes(net: &NetState, v: Node) -> bool
     }
 }
 
-/// What a node makes of the edges at it, where this rule is enabled at it, if any. Who points nowhere has a suitor where it may marry.
+/// Returns the stance of a node towards its edges, if `rule` is the rule enabled at it.
+///
+/// A node with a null pointer has a suitor exactly if it may marry.
 #[inline(always)]
 pub(crate) fn end_of(net: &NetState, v: Node, rule: Option<Act>) -> End
     requires present { IsTrue (present net.now.state.network v) }
@@ -80,7 +77,6 @@ pub(crate) fn end_of(net: &NetState, v: Node, rule: Option<Act>) -> End
     }
 }
 
-/// The first neighbour that points nowhere.
 fn first_null(net: &NetState, v: Node) -> Option<Node>
     requires { IsTrue (present net.now.state.network v) }
     ensures { result ≡ table.first_open hsu_huang_opens net.now.state v }
@@ -88,7 +84,6 @@ fn first_null(net: &NetState, v: Node) -> Option<Node>
     first_null_among(net.neighbours(v), net)
 }
 
-/// The first of these that points nowhere.
 fn first_null_among(row: &[Node], net: &NetState) -> Option<Node>
     requires { All (λ w. IsTrue (present net.now.state.network w)) row.now }
     ensures { result ≡ find (λ w. is_none (state.pointer net.now.state w)) row.now }
@@ -101,7 +96,6 @@ fn first_null_among(row: &[Node], net: &NetState) -> Option<Node>
     None
 }
 
-/// What an event may add to the charge where it is accepted.
 pub(crate) fn cost_of(net: &NetState, event: &Event) -> u32
     ensures { result ≡ costs.hsu_huang_cost net.now.state event.now }
 {
@@ -115,7 +109,6 @@ pub(crate) fn cost_of(net: &NetState, event: &Event) -> u32
     }
 }
 
-/// What a write of a node's pointer may add to the charge.
 fn point_cost(net: &NetState, v: Node) -> u32
     ensures { let s = net.now.state in result ≡ costs.hsu_huang_point_cost s.network v (state.is_unanswered s v) (state.has_suitor s v) (state.pointer s v) }
 {
@@ -127,7 +120,7 @@ fn point_cost(net: &NetState, v: Node) -> u32
     }
 }
 
-/// How many edges are at the node at which a name points, if it points anywhere.
+/// Returns the degree of the node that a name points at; 0 if there is none.
 fn edges_of_target(net: &NetState, v: Node) -> u32
     ensures value { result ≡ degrees.degree_at net.now.state.network (state.pointer net.now.state v) }
     ensures few { result ≤ 65535 }

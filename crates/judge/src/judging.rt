@@ -1,4 +1,4 @@
-//! The judgement of a reply, and what it does.
+//! The judgement of a reply, and what the reply does.
 
 ghost use Rattle.std.specs.Prelude.{◌≡◌, ◌↔◌, ℕ, None, false, IsTrue, IfOk, OnOk, OnErr, length};
 ghost use Rattle.rule_machine.specs.Answer.{Answers, Does};
@@ -21,8 +21,9 @@ use crate::{Chosen, Survey};
 use net_state::{Disturb, NetState, leave, make_moves, unlink};
 use rule_machine::{Event, Item, Refusal, Reply, RuleSet, Want};
 
-/// Whether the machine may give this reply to the event, where these moves are spent; where it may, the event is
-/// carried out as the reply says. Items of a step may stand at their nodes then.
+/// Whether the machine may give this reply to the event; if so, carries the event out as replied.
+///
+/// Afterwards `chosen` may have items of a step.
 pub(crate) fn judge_reply(
     survey: &mut Survey,
     rules: RuleSet,
@@ -46,7 +47,9 @@ pub(crate) fn judge_reply(
     }
 }
 
-/// Why an event is refused, if it is. The items of a step up to the first that is refused stand at their nodes then.
+/// Returns why an event is refused, if it is.
+///
+/// Afterwards `chosen` has the items of a step up to the first refused one.
 fn refusal(net: &NetState, rules: RuleSet, event: &Event, chosen: &mut Chosen) -> Option<Refusal>
     requires { IsReady net.now.state.network.size chosen.old }
     ensures value { result ≡ refusal_of (table_of rules) net.now.state event.now }
@@ -66,7 +69,6 @@ fn refusal(net: &NetState, rules: RuleSet, event: &Event, chosen: &mut Chosen) -
     }
 }
 
-/// Whether the machine may give this reply to an event that is not refused, and what the reply does.
 fn judge_accepted(
     survey: &mut Survey,
     rules: RuleSet,
@@ -92,7 +94,6 @@ fn judge_accepted(
     Ok(true)
 }
 
-/// Whether an event that is not refused may have this reply.
 fn may_accept(
     survey: &mut Survey,
     rules: RuleSet,
@@ -123,7 +124,6 @@ fn may_accept(
     }
 }
 
-/// Whether a reply has the moves of a step of these items.
 fn may_move(
     net: &NetState,
     rules: RuleSet,
@@ -143,7 +143,7 @@ fn may_move(
     }
 }
 
-/// Carries out an event as a reply says that the machine may give.
+/// Carries out an event as a right reply has it. `Want` if memory runs out.
 fn follow(survey: &mut Survey, rules: RuleSet, event: &Event, reply: &Reply) -> Result<(), Want>
     requires accepted { refusal_of (table_of rules) survey.old.net.state event.now ≡ None }
     requires right { (spent : ℕ) × IsRight (table_of rules) survey.old.net.state spent event.now reply.now }
@@ -159,7 +159,7 @@ fn follow(survey: &mut Survey, rules: RuleSet, event: &Event, reply: &Reply) -> 
     Ok(())
 }
 
-/// Carries out a disturbance. A step and a question do nothing.
+/// Carries out a disturbance. Does nothing for a step or a question.
 fn disturb(survey: &mut Survey, event: &Event) -> Result<(), Want>
     requires accepted { (t : RuleTable) × (refusal_of t survey.old.net.state event.now ≡ None) }
     ensures ok { OnOk result (survey.new.net.state ≡ disturbed survey.old.net.state event.now) }

@@ -1,12 +1,13 @@
-//! A judge of replies: whether the rule machine may give one, found by looks at the nodes that its event is about.
+//! A judge of replies: whether the rule machine may give one, found by looks at the nodes of the event.
 //!
-//! A `Judge` keeps the state of a run and says of each reply whether the machine may give it there, whatever allowed targets it took; a
-//! right one is carried out, a wrong one changes nothing. Its guards, targets and counts are written from the tables alone and share none
-//! with the rule sets of the engine, whose mistakes it would else repeat; the state (`net_state`) they share.
+//! A `Judge` keeps the state of a run. It carries out a right reply, whatever allowed targets the reply took;
+//! a wrong one changes nothing. Its guards, targets and counts are written from the tables alone. They share
+//! no code with the engine's rule sets, so that a mistake of those is not repeated; the state (`net_state`)
+//! is shared.
 //!
-//! A disturbance and a `Show` cost look-ups, a step looks at the neighbours of its nodes, and a question at what changed since the last
-//! one and at what its reply lists. It also begins at a base (`at_base`), and tells where it stands (`base`) and what a disturbance
-//! costs (`cost_of`).
+//! A disturbance and a `Show` cost look-ups. A step looks at the neighbours of its nodes. A question looks at
+//! what changed since the last one and at what its reply lists. A judge may begin at a base (`at_base`). It
+//! returns the base of its state (`base`) and the cost of a disturbance (`cost_of`).
 //!
 //! ```rust
 //! let mut judge = Judge::new(alloc, 2)?;

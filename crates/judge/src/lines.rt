@@ -12,8 +12,12 @@ use net_state::NetState;
 use rule_machine::{Edge, Place, Want};
 use std::alloc::Global;
 
-/// The network in the state that has these lines, for names up to `size`; none where no state has them: a name is above
-/// `size`, an end of an edge is no node, or a pointer is at no neighbour. A look-up a node, and a search an edge.
+/// Creates the network that has these lines, for names up to `size`; `None` if no state has them.
+///
+/// No state has them if a name is above `size`, an end of an edge is no node, or a pointer is at no
+/// neighbour. `Want` if memory runs out.
+///
+/// Cost: a look-up for each node and a search for each edge.
 pub(crate) fn from_lines(
     alloc: Global,
     size: u32,
@@ -40,7 +44,7 @@ pub(crate) fn from_lines(
     Ok(Some(net))
 }
 
-/// Makes nodes of the names, as long as there are places for them.
+/// Makes the names nodes; false at the first that is above the capacity.
 fn join_all(net: &mut NetState, nodes: &[Place]) -> bool
     requires empty { (v : ℕ) → present net.old.state.network v ≡ false }
     requires rise { NamesRise 0 nodes.now }
@@ -58,7 +62,7 @@ fn join_all(net: &mut NetState, nodes: &[Place]) -> bool
     true
 }
 
-/// Adds the edges, as long as their ends are nodes.
+/// Adds the edges; false at the first with an end that is no node.
 fn link_all(net: &mut NetState, edges: &[Edge]) -> Result<bool, Want>
     requires bare { edge_list net.old.state.network ≡ [] }
     requires few { length edges.now ≤ 1048576 }
@@ -80,7 +84,7 @@ fn link_all(net: &mut NetState, edges: &[Edge]) -> Result<bool, Want>
     Ok(true)
 }
 
-/// Writes the registers of all nodes, as long as their pointers are null or at neighbours.
+/// Writes the registers of all nodes; false at the first pointer that is not null or at a neighbour.
 fn write_all(net: &mut NetState, nodes: &[Place]) -> bool
     requires named { names net.old.state.network ≡ map (λ p. p.node) nodes.now }
     requires rise { NamesRise 0 nodes.now }

@@ -1,4 +1,4 @@
-//! What a judge's network looks like.
+//! Read access to a judge's network.
 
 ghost use Rattle.std.specs.Prelude.{◌≡◌, ◌≤◌, IsTrue};
 ghost use Rattle.rule_machine.specs.Network as network;
@@ -11,7 +11,7 @@ use crate::rules::rule_at;
 use rule_machine::{Act, Node, RuleSet};
 
 impl Judge {
-    /// How many nodes there are, at most 65,535.
+    /// Returns the number of nodes, at most 65,535.
     pub fn nodes(&self) -> u32
         ensures count { result ≡ network.node_count self.now.network }
         ensures few { result ≤ 65535 }
@@ -19,7 +19,7 @@ impl Judge {
         self.survey.net.nodes()
     }
 
-    /// The greatest name that a node may have, at most 65,535.
+    /// Returns the greatest name that a node may have, at most 65,535.
     pub fn capacity(&self) -> u32
         ensures size { result ≡ self.now.network.size }
         ensures few { result ≤ 65535 }
@@ -34,14 +34,14 @@ impl Judge {
         self.survey.net.has(v)
     }
 
-    /// How many edges there are, at most 1,048,576.
+    /// Returns the number of edges, at most 1,048,576.
     pub fn edges(&self) -> u32
         ensures { result ≡ network.edge_count self.now.network }
     {
         self.survey.net.edges()
     }
 
-    /// A node's neighbours, ascending.
+    /// Returns a node's neighbours, ascending.
     pub fn neighbours(&self, v: Node) -> &[Node]
         requires { IsTrue (network.present self.now.network v) }
         ensures { result.now ≡ network.neighbours self.now.network v }
@@ -64,7 +64,7 @@ impl Judge {
         self.survey.net.married(v)
     }
 
-    /// The rule that is enabled at a node, if any is. Looks at its neighbours.
+    /// Returns the rule that is enabled at a node, if any. Looks at its neighbours.
     pub fn rule_at(&self, rules: RuleSet, v: Node) -> Option<Act>
         requires { IsTrue (network.present self.now.network v) }
         ensures { result ≡ table.rule_at (table_of rules) self.now v }

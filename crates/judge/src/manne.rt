@@ -1,4 +1,5 @@
-//! The rules of Manne, Mjelde, Pilard and Tixeuil: any set of nodes moves at once, and flags tell who is married.
+//! The rules of Manne, Mjelde, Pilard and Tixeuil: any set of nodes moves at once, and flags show who is
+//! married.
 
 ghost use Rattle.std.specs.Prelude.{◌≡◌, ◌≤◌, ◌&&◌, All, IsTrue, Some, find, is_none, nat_lt, not};
 ghost use Rattle.rule_machine.specs.Charge.{manne_node_charge};
@@ -15,13 +16,10 @@ use graph_store::End;
 use net_state::NetState;
 use rule_machine::{Act, Event, Node};
 
-/// Whether one node alone moves in a step.
 pub(crate) const IS_CENTRAL: bool = false;
 
-/// Whether flags are used.
 pub(crate) const USES_FLAGS: bool = true;
 
-/// The rule that is enabled at a node, if any is.
 #[inline(always)]
 pub(crate) fn rule_at(net: &NetState, v: Node) -> Option<Act>
     requires { IsTrue (present net.now.state.network v) }
@@ -39,7 +37,6 @@ pub(crate) fn rule_at(net: &NetState, v: Node) -> Option<Act>
     }
 }
 
-/// Whether a node may point at another by a rule.
 pub(crate) fn is_allowed(net: &NetState, v: Node, act: Act, w: Node) -> bool
     ensures { result ≡ manne_allowed net.now.state v act w }
 {
@@ -52,7 +49,6 @@ pub(crate) fn is_allowed(net: &NetState, v: Node, act: Act, w: Node) -> bool
     }
 }
 
-/// What a node adds to the charge by its flag.
 #[inline(always)]
 pub(crate) fn flag_charge(net: &NetState, v: Node) -> u8
     requires { IsTrue (present net.now.state.network v) }
@@ -66,13 +62,12 @@ pub(crate) fn flag_charge(net: &NetState, v: Node) -> u8
     }
 }
 
-/// Whether a node's pointer closes an edge that is open by its ends.
 #[inline(always)]
 pub(crate) fn closes(net: &NetState, v: Node) -> bool
     requires { IsTrue (present net.now.state.network v) }
     ensures { result ≡ manne_closes net.now.state v }
 {
-    // By its contract the state is sound.
+    // Gives the prover `IsState`.
     let _ = net.registers();
     match net.pointer(v) {
         Some(w) => closes_at(net, v, w),
@@ -90,7 +85,6 @@ fn closes_at(net: &NetState, v: Node, w: Node) -> bool
     v < w && !net.flag(w) && !net.married(w)
 }
 
-/// What a node makes of the edges at it.
 #[inline(always)]
 pub(crate) fn end_of(net: &NetState, v: Node) -> End
     requires { IsTrue (present net.now.state.network v) }
@@ -99,14 +93,12 @@ pub(crate) fn end_of(net: &NetState, v: Node) -> End
     if net.married(v) { End::Shut } else { End::Free }
 }
 
-/// Whether a node may court another: that one is above it, points nowhere and is not flagged.
 fn may_court(net: &NetState, v: Node, w: Node) -> bool
     ensures { result ≡ may_court net.now.state v w }
 {
     v < w && pointer(net, w).is_none() && !flag(net, w)
 }
 
-/// The first neighbour that a node may court.
 fn first_to_court(net: &NetState, v: Node) -> Option<Node>
     requires { IsTrue (present net.now.state.network v) }
     ensures { result ≡ find (may_court net.now.state v) (neighbours net.now.state.network v) }
@@ -114,7 +106,6 @@ fn first_to_court(net: &NetState, v: Node) -> Option<Node>
     first_to_court_among(net.neighbours(v), net, v)
 }
 
-/// The first of these that a node may court.
 fn first_to_court_among(row: &[Node], net: &NetState, v: Node) -> Option<Node>
     requires { All (λ w. IsTrue (present net.now.state.network w)) row.now }
     ensures { result ≡ find (λ w. (is_none (state.pointer net.now.state w) && not (state.flag net.now.state w)) && nat_lt v w) row.now }
@@ -127,7 +118,6 @@ fn first_to_court_among(row: &[Node], net: &NetState, v: Node) -> Option<Node>
     None
 }
 
-/// The first neighbour above another that a node may court.
 fn first_to_court_above(net: &NetState, v: Node, w: Node) -> Option<Node>
     requires { IsTrue (present net.now.state.network v) }
     ensures { result ≡ find (λ x. may_court net.now.state v x && nat_lt w x) (neighbours net.now.state.network v) }
@@ -140,7 +130,6 @@ fn first_to_court_above(net: &NetState, v: Node, w: Node) -> Option<Node>
     None
 }
 
-/// What an event may add to the charge where it is accepted.
 pub(crate) fn cost_of(net: &NetState, event: &Event) -> u32
     ensures { result ≡ costs.manne_cost net.now.state event.now }
 {
@@ -156,7 +145,6 @@ pub(crate) fn cost_of(net: &NetState, event: &Event) -> u32
     }
 }
 
-/// What the loss of an edge may add to the charge.
 fn unlink_cost(net: &NetState, a: Node, b: Node) -> u32
     ensures { result ≡ costs.manne_cost net.now.state (Event.Unlink a b) }
 {
@@ -166,7 +154,6 @@ fn unlink_cost(net: &NetState, a: Node, b: Node) -> u32
     2 * (degree(net, a).saturating_sub(1) + degree(net, b).saturating_sub(1)) + 4
 }
 
-/// What a write of a node's pointer may add to the charge.
 fn point_cost(net: &NetState, v: Node) -> u32
     ensures { let s = net.now.state in result ≡ costs.manne_point_cost s.network v (state.is_unanswered s v) (state.pointer s v) }
 {
@@ -177,7 +164,6 @@ fn point_cost(net: &NetState, v: Node) -> u32
     }
 }
 
-/// What a write of a node's flag may add to the charge.
 fn flag_cost(net: &NetState, v: Node, value: bool) -> u32
     ensures { result ≡ costs.manne_cost net.now.state (Event.Flag v value) }
 {
@@ -188,7 +174,6 @@ fn flag_cost(net: &NetState, v: Node, value: bool) -> u32
     }
 }
 
-/// What the loss of a node may add to the charge.
 fn leave_cost(net: &NetState, v: Node) -> u32
     ensures { result ≡ costs.manne_cost net.now.state (Event.Leave v) }
 {

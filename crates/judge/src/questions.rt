@@ -1,4 +1,4 @@
-//! Whether a reply tells what a question asks for.
+//! Whether a reply answers a question rightly.
 
 ghost use Rattle.std.specs.Prelude.{◌≡◌, ◌↔◌, IsTrue, Some};
 ghost use Rattle.rule_machine.specs.Answer.{counts_of};
@@ -12,7 +12,9 @@ use crate::Survey;
 use net_state::NetState;
 use rule_machine::{Act, Edge, Node, Reply, RuleSet};
 
-/// Whether a reply has the enabled nodes, each with its rule: as many as there are, and each one of them, by rising names.
+/// Whether a reply lists exactly the enabled nodes, ascending, each with its rule.
+///
+/// Compares the number of entries with the count of enabled nodes, then checks each entry.
 pub(crate) fn are_enabled(survey: &mut Survey, rules: RuleSet, reply: &Reply) -> bool
     ensures value { IsTrue result ↔ (reply.now ≡ Reply.EnabledAre (enabled (table_of rules) survey.old.net.state)) }
     ensures kept { survey.new.net.state ≡ survey.old.net.state }
@@ -25,7 +27,6 @@ pub(crate) fn are_enabled(survey: &mut Survey, rules: RuleSet, reply: &Reply) ->
     given.len() == totals.enabled as usize && are_ruled(survey, given)
 }
 
-/// Whether these are enabled nodes, each with its rule, by rising names.
 #[inline(never)]
 fn are_ruled(survey: &Survey, given: &[(Node, Act)]) -> bool
     requires { AreFresh survey.now.shares.touched survey.now.shares.due }
@@ -42,7 +43,6 @@ fn are_ruled(survey: &Survey, given: &[(Node, Act)]) -> bool
     true
 }
 
-/// Whether this rule is enabled at the node of a name, if there is one.
 #[inline(always)]
 fn has_rule(survey: &Survey, v: Node, act: Act) -> bool
     requires { AreFresh survey.now.shares.touched survey.now.shares.due }
@@ -54,7 +54,9 @@ fn has_rule(survey: &Survey, v: Node, act: Act) -> bool
     }
 }
 
-/// Whether a reply has the mutual pairs: as many as there are, and each one of them, by rising lower ends.
+/// Whether a reply lists exactly the mutual pairs, by ascending lower end.
+///
+/// Compares the number of entries with the count of pairs, then checks each entry.
 pub(crate) fn are_mutual(survey: &mut Survey, rules: RuleSet, reply: &Reply) -> bool
     ensures value { IsTrue result ↔ (reply.now ≡ Reply.Pairs (mutual_pairs survey.old.net.state)) }
     ensures kept { survey.new.net.state ≡ survey.old.net.state }
@@ -67,7 +69,6 @@ pub(crate) fn are_mutual(survey: &mut Survey, rules: RuleSet, reply: &Reply) -> 
     given.len() == totals.pairs as usize && are_pairs(&survey.net, given)
 }
 
-/// Whether these are mutual pairs, by rising lower ends.
 #[inline(never)]
 fn are_pairs(net: &NetState, given: &[Edge]) -> bool
     ensures { IsTrue result ↔ AreRising (pair_at net.now.state) 0 given.now }
@@ -83,18 +84,16 @@ fn are_pairs(net: &NetState, given: &[Edge]) -> bool
     true
 }
 
-/// Whether the ends of an edge point at each other.
 #[inline(always)]
 fn is_mutual(net: &NetState, pair: Edge) -> bool
     ensures { IsTrue result ↔ (pair_at net.now.state pair.0 ≡ Some pair) }
 {
-    // By its contract the state is sound.
+    // Gives the prover `IsState`.
     let _ = net.registers();
     let (low, high) = (pair.low(), pair.high());
     net.points(low, high) && net.points(high, low)
 }
 
-/// Whether a reply has the numbers of the network, where these moves are spent.
 pub(crate) fn has_counts(survey: &mut Survey, rules: RuleSet, spent: u64, reply: &Reply) -> bool
     ensures value { IsTrue result ↔ (reply.now ≡ Reply.Counts (counts_of (table_of rules) survey.old.net.state spent)) }
     ensures kept { survey.new.net.state ≡ survey.old.net.state }

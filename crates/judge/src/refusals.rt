@@ -9,7 +9,6 @@ use graph_store::MAX_EDGES;
 use net_state::NetState;
 use rule_machine::{Node, Refusal, RuleSet};
 
-/// Why a link is refused, if it is.
 pub(crate) fn link_refusal(net: &NetState, a: Node, b: Node) -> Option<Refusal>
     ensures { result ≡ refuse.link_refusal net.now.state.network a b }
 {
@@ -26,7 +25,6 @@ pub(crate) fn link_refusal(net: &NetState, a: Node, b: Node) -> Option<Refusal>
     }
 }
 
-/// Why an unlink is refused, if it is.
 pub(crate) fn unlink_refusal(net: &NetState, a: Node, b: Node) -> Option<Refusal>
     ensures { result ≡ refuse.unlink_refusal net.now.state.network a b }
 {
@@ -41,7 +39,6 @@ pub(crate) fn unlink_refusal(net: &NetState, a: Node, b: Node) -> Option<Refusal
     }
 }
 
-/// Why a write of a node's pointer is refused, if it is.
 pub(crate) fn point_refusal(net: &NetState, v: Node, target: Option<Node>) -> Option<Refusal>
     ensures { result ≡ refuse.point_refusal net.now.state.network v target }
 {
@@ -53,7 +50,6 @@ pub(crate) fn point_refusal(net: &NetState, v: Node, target: Option<Node>) -> Op
     }
 }
 
-/// Why a write of a node's flag is refused, if it is.
 pub(crate) fn flag_refusal(net: &NetState, rules: RuleSet, v: Node) -> Option<Refusal>
     ensures { result ≡ refuse.flag_refusal (table_of rules) net.now.state.network v }
 {
@@ -64,7 +60,6 @@ pub(crate) fn flag_refusal(net: &NetState, rules: RuleSet, v: Node) -> Option<Re
     }
 }
 
-/// Why a name does not become present, if it does not.
 pub(crate) fn join_refusal(net: &NetState, v: Node) -> Option<Refusal>
     ensures { result ≡ refuse.join_refusal net.now.state.network v }
 {
@@ -77,7 +72,6 @@ pub(crate) fn join_refusal(net: &NetState, v: Node) -> Option<Refusal>
     }
 }
 
-/// Why a look at a node's pointer, or its leave, is refused, if it is.
 pub(crate) fn show_refusal(net: &NetState, v: Node) -> Option<Refusal>
     ensures { result ≡ refuse.show_refusal net.now.state.network v }
 {

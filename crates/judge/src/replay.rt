@@ -14,9 +14,11 @@ use rule_machine::{Event, Reply, RuleSet, Want};
 use std::alloc::Global;
 use std::marker::Model;
 
-/// A network that judges replies, seen in contracts as a state. Guards and targets are found anew at each event from the neighbour
-/// lists and the registers; what a question asks for is counted on from what the last one counted. Beside that there are only the
-/// places of a choice's items, which are clear between two calls.
+/// A network that judges replies; contracts see a state.
+///
+/// Guards and targets are computed at each event from the neighbour lists and the registers. Totals are
+/// updated by what changed since the last question. The entries for a choice's items are empty between two
+/// calls.
 #[derive(Drop)]
 pub struct Judge {
     pub(crate) survey: Survey,
@@ -37,8 +39,9 @@ impl Model for Judge {
 }
 
 impl Judge {
-    /// A judge of the replies to come, at the nodes 1 to `nodes` without an edge, all pointers null and all flags false.
-    /// Takes some forty bytes a node.
+    /// Creates a judge at nodes 1 to `nodes`, without an edge, pointers null, flags false.
+    ///
+    /// At most 65,535 nodes. `Want` if memory runs out. Takes some forty bytes a node.
     pub fn new(alloc: Global, nodes: u32) -> Result<Judge, Want>
         requires { nodes ≤ 65535 }
         ensures { IfOk result (λ judge. judge ≡ opening nodes) }
@@ -46,8 +49,10 @@ impl Judge {
         Judge::with_present(alloc, nodes, nodes)
     }
 
-    /// A judge of the replies to come, at the names 1 to `nodes`, of which 1 to `present` are nodes: without an edge, all
-    /// pointers null and all flags false. Takes some forty bytes a name.
+    /// Creates a judge at names 1 to `nodes`; 1 to `present` are nodes.
+    ///
+    /// There is no edge, all pointers are null and all flags false. At most 65,535 names. `Want` if memory
+    /// runs out. Takes some forty bytes a name.
     pub fn with_present(alloc: Global, nodes: u32, present: u32) -> Result<Judge, Want>
         requires few { nodes ≤ 65535 }
         requires within { present ≤ nodes }
@@ -58,7 +63,6 @@ impl Judge {
         Judge::of_survey(alloc, survey)
     }
 
-    /// The judge in the state of a network.
     pub(crate) fn of_survey(alloc: Global, survey: Survey) -> Result<Judge, Want>
         ensures { IfOk result (λ judge. judge ≡ survey.net.state) }
     {
@@ -66,12 +70,19 @@ impl Judge {
         Ok(Judge { survey, chosen })
     }
 
-    /// Whether the machine may give this reply to the event, where these moves are spent since the last accepted
-    /// disturbance; where it may, the event is carried out as the reply says. Where no target is wished, any allowed one
-    /// is right. A wrong reply changes nothing, and neither does want of memory, which comes only where a link is rightly
-    /// accepted. A disturbance and a `Show` cost look-ups, and a step looks at the neighbours of its nodes. `Enabled`, `Matching` and
-    /// `Status` look at the nodes that changed since the last of these, at the neighbours of those, at the neighbours of each that
-    /// may marry or seduce or whose edges count otherwise, and at what their replies list.
+    /// Whether the machine may give this reply to the event; if so, carries the event out as replied.
+    ///
+    /// `spent` is the number of moves since the last accepted disturbance. If an item wishes no target, any
+    /// allowed one is right. A wrong reply changes nothing.
+    ///
+    /// `Want` if memory runs out; that changes nothing. It comes only if a link is rightly accepted.
+    ///
+    /// Cost: a disturbance and a `Show` take look-ups, and a step a look at the neighbours of its nodes.
+    /// `Enabled`, `Matching` and `Status` look at
+    ///
+    /// - what their replies list,
+    /// - the nodes that changed since the last of these, and their neighbours,
+    /// - the neighbours of each of those that may marry or seduce, or whose edges count otherwise.
     pub fn replay(
         &mut self,
         rules: RuleSet,
@@ -98,8 +109,12 @@ impl Judge {
         right
     }
 
-    /// What an event may add to the charge where it is accepted in the state as it stands: a sum of degrees of the nodes that it
-    /// touches, at most 262,144; 0 for a step and a question. A few looks, and one at each neighbour of a node that a fault hits.
+    /// Returns what an event may add to the charge if it is accepted in the present state.
+    ///
+    /// It is a sum of degrees of the nodes that the event touches, at most 262,144; 0 for a step and a
+    /// question.
+    ///
+    /// Cost: a few looks, and one at each neighbour of a node that a fault hits.
     pub fn cost_of(&self, rules: RuleSet, event: &Event) -> u32
         ensures { result ≡ cost_by rules self.now event.now }
     {

@@ -1,10 +1,9 @@
-//! Whether a reply is the one that an event has.
+//! Whether a reply is the one of an event.
 
 ghost use Rattle.std.specs.Prelude.{◌≡◌, ◌↔◌, IsTrue};
 
 use rule_machine::{Node, Refusal, Reply};
 
-/// Whether a reply accepts a disturbance.
 pub(crate) fn is_accepted(reply: &Reply) -> bool
     ensures { IsTrue result ↔ (reply.now ≡ Reply.Accepted) }
 {
@@ -14,7 +13,6 @@ pub(crate) fn is_accepted(reply: &Reply) -> bool
     }
 }
 
-/// Whether a reply is this refusal.
 pub(crate) fn is_refusal(reply: &Reply, refusal: Refusal) -> bool
     ensures { IsTrue result ↔ (reply.now ≡ Reply.Refused refusal) }
 {
@@ -24,7 +22,6 @@ pub(crate) fn is_refusal(reply: &Reply, refusal: Refusal) -> bool
     }
 }
 
-/// Whether a reply shows this pointer.
 pub(crate) fn is_shown(pointer: Option<Node>, reply: &Reply) -> bool
     ensures { IsTrue result ↔ (reply.now ≡ Reply.Shown pointer) }
 {

@@ -1,4 +1,4 @@
-//! What differs by the rule set: each question goes on to the file of the one that is asked.
+//! What differs by the rule set: each function dispatches to the file of its rules.
 
 ghost use Rattle.std.specs.Prelude.{◌≡◌, ◌≤◌, IsTrue};
 ghost use Rattle.rule_machine.specs.Network.{present};
@@ -12,7 +12,7 @@ use graph_store::End;
 use net_state::NetState;
 use rule_machine::{Act, Event, Node, RuleSet};
 
-/// The rule that is enabled at a node, if any is. Looks at the neighbours of one that points nowhere.
+/// Returns the rule that is enabled at a node, if any. Looks at its neighbours if its pointer is null.
 #[inline(always)]
 pub(crate) fn rule_at(net: &NetState, rules: RuleSet, v: Node) -> Option<Act>
     requires { IsTrue (present net.now.state.network v) }
@@ -24,7 +24,6 @@ pub(crate) fn rule_at(net: &NetState, rules: RuleSet, v: Node) -> Option<Act>
     }
 }
 
-/// Whether a node may point at another by a rule.
 pub(crate) fn is_allowed(net: &NetState, rules: RuleSet, v: Node, act: Act, w: Node) -> bool
     ensures { result ≡ (table_of rules).allowed net.now.state v act w }
 {
@@ -34,7 +33,6 @@ pub(crate) fn is_allowed(net: &NetState, rules: RuleSet, v: Node, act: Act, w: N
     }
 }
 
-/// Whether one node alone moves in a step.
 pub(crate) fn is_central(rules: RuleSet) -> bool
     ensures { result ≡ (table_of rules).central }
 {
@@ -44,7 +42,6 @@ pub(crate) fn is_central(rules: RuleSet) -> bool
     }
 }
 
-/// Whether flags are used.
 pub(crate) fn uses_flags(rules: RuleSet) -> bool
     ensures { result ≡ (table_of rules).flags }
 {
@@ -54,7 +51,6 @@ pub(crate) fn uses_flags(rules: RuleSet) -> bool
     }
 }
 
-/// What a node adds to the charge by its flag.
 #[inline(always)]
 pub(crate) fn flag_charge(net: &NetState, rules: RuleSet, v: Node) -> u8
     requires { IsTrue (present net.now.state.network v) }
@@ -79,7 +75,7 @@ pub(crate) fn closes(net: &NetState, rules: RuleSet, v: Node) -> bool
     }
 }
 
-/// What a node makes of the edges at it, where this rule is enabled at it, if any.
+/// Returns the stance of a node towards its edges, if `rule` is the rule enabled at it.
 #[inline(always)]
 pub(crate) fn end_of(net: &NetState, rules: RuleSet, v: Node, rule: Option<Act>) -> End
     requires present { IsTrue (present net.now.state.network v) }
@@ -92,7 +88,6 @@ pub(crate) fn end_of(net: &NetState, rules: RuleSet, v: Node, rule: Option<Act>)
     }
 }
 
-/// What an event may add to the charge where it is accepted.
 pub(crate) fn cost_of(net: &NetState, rules: RuleSet, event: &Event) -> u32
     ensures { result ≡ cost_by rules net.now.state event.now }
 {

@@ -1,4 +1,4 @@
-//! What a name brings to the totals of its network.
+//! What a name contributes to the totals of its network.
 
 ghost use Rattle.std.specs.Prelude.{◌≡◌, ◌≤◌, IsTrue, MatchOption, None, cond, false, is_some};
 ghost use Rattle.rule_machine.specs.Network.{present};
@@ -13,8 +13,12 @@ use graph_store::End;
 use net_state::NetState;
 use rule_machine::{Act, Node, RuleSet};
 
-/// What a node brings to the totals of its network: the rule that is enabled at it, whether it is the lower end of a mutual pair, what it
-/// adds to the charge beside its edges, and whether its pointer closes an edge that is open by its ends.
+/// What a node contributes to the totals of its network.
+///
+/// - The rule enabled at the node.
+/// - Whether the node is the lower end of a mutual pair.
+/// - What it adds to the charge apart from its edges.
+/// - Whether its pointer closes an edge that is open by its ends.
 #[derive(Clone, Copy)]
 pub(crate) struct Share {
     pub(crate) rule: Option<Act>,
@@ -23,7 +27,6 @@ pub(crate) struct Share {
     pub(crate) closes: bool,
 }
 
-/// What a name without a node brings.
 pub(crate) const NO_SHARE: Share = Share {
     rule: None,
     is_lower_end: false,
@@ -32,7 +35,6 @@ pub(crate) const NO_SHARE: Share = Share {
 };
 
 impl Share {
-    /// Whether a rule is enabled.
     #[inline(always)]
     pub(crate) fn is_enabled(&self) -> bool
         ensures { result ≡ is_some self.now.rule }
@@ -41,8 +43,10 @@ impl Share {
     }
 }
 
-/// What a name brings. Looks at the registers of the name, of its target and of that one's target, and at the neighbours of a node
-/// that points nowhere.
+/// Returns the contribution of a name.
+///
+/// Cost: looks at the registers of the name, its target and that one's target, and at the neighbours of a
+/// node whose pointer is null.
 pub(crate) fn share_of(net: &NetState, rules: RuleSet, v: Node) -> Share
     requires { v ≤ net.now.state.network.size }
     ensures share { IsShare rules net.now.state v result }
@@ -59,13 +63,12 @@ pub(crate) fn share_of(net: &NetState, rules: RuleSet, v: Node) -> Share
     }
 }
 
-/// Whether a node is the lower end of a mutual pair.
 #[inline(always)]
 fn is_lower_end(net: &NetState, v: Node) -> bool
     requires { IsTrue (present net.now.state.network v) }
     ensures { result ≡ is_some (pair_at net.now.state v) }
 {
-    // By its contract the state is sound.
+    // Gives the prover `IsState`.
     let _ = net.registers();
     match net.pointer(v) {
         Some(w) => v < w && net.points(w, v),
@@ -73,7 +76,6 @@ fn is_lower_end(net: &NetState, v: Node) -> bool
     }
 }
 
-/// Whether a node points at one that does not point back.
 #[inline(always)]
 fn is_unanswered(net: &NetState, v: Node) -> bool
     requires { IsTrue (present net.now.state.network v) }
@@ -85,7 +87,7 @@ fn is_unanswered(net: &NetState, v: Node) -> bool
     }
 }
 
-/// What the node of a name makes of the edges at it, if there is one, whose rule this is.
+/// Returns the stance of the name's node towards its edges, if there is one; `rule` is its rule.
 #[inline(always)]
 pub(crate) fn end_at(net: &NetState, rules: RuleSet, v: Node, rule: Option<Act>) -> Option<End>
     requires within { v ≤ net.now.state.network.size }

@@ -1,4 +1,4 @@
-//! What each name brings to the totals of its network, as it was when the name was last looked at.
+//! What each name contributes to the totals of its network, as of the last look at the name.
 
 ghost use Rattle.std.specs.Prelude.{◌≡◌, All, ℕ, ◌+◌, ◌<◌, ◌≤◌, true, false, length, replicate, slice_set, IfOk, IfSome};
 ghost use Rattle.enabled_set.specs.Members.{is_in};
@@ -10,8 +10,9 @@ use enabled_set::Marks;
 use rule_machine::{Node, Want};
 use std::alloc::Global;
 
-/// What each name brought when it was last looked at, with the sums. Touched names are those of which something changed since what
-/// depends on them was last marked as due; due ones have to be looked at again.
+/// What each name contributed at the last look, with the sums.
+///
+/// A touched name changed since its dependents were last marked as due. A due name needs a new look.
 #[derive(Drop)]
 pub(crate) struct Shares {
     pub(crate) each: Vec<Share>,
@@ -27,7 +28,7 @@ pub(crate) struct Shares {
 }
 
 impl Shares {
-    /// Nothing is brought as yet, and all names up to `nodes` are due. Takes eleven bytes a name.
+    /// Creates empty contributions; all names up to `nodes` are due. Takes eleven bytes a name.
     pub(crate) fn new(alloc: Global, nodes: u32) -> Result<Shares, Want>
         requires { nodes ≤ 65535 }
         ensures each { IfOk result (λ it. it.each.items ≡ replicate (nodes + 1) no_share) }
@@ -50,7 +51,6 @@ impl Shares {
         })
     }
 
-    /// A name is touched.
     #[inline(always)]
     pub(crate) fn touch(&mut self, v: Node)
         requires { v < length self.old.touched }
@@ -60,7 +60,7 @@ impl Shares {
         self.touched.mark(v);
     }
 
-    /// A node's pointer was written: it and those that the pointer was at and is at are touched.
+    /// After a write of a pointer: touches the node, the old target and the new one.
     #[inline(always)]
     pub(crate) fn touch_pointer(&mut self, v: Node, was: Option<Node>, is: Option<Node>)
         requires node { v < length self.old.touched }
@@ -79,7 +79,6 @@ impl Shares {
         }
     }
 
-    /// Keeps what a name brings now.
     pub(crate) fn put(&mut self, v: Node, share: Share)
         requires share { v < length self.old.each.items }
         requires light { IsLight share }
@@ -94,7 +93,6 @@ impl Shares {
         self.closing = self.closing - u32::from(was.closes) + u32::from(share.closes);
     }
 
-    /// All names are due.
     pub(crate) fn call_all(&mut self)
         ensures kept { (self.new.each.items ≡ self.old.each.items) × (self.new.touched ≡ self.old.touched) }
         ensures places { length self.new.due ≡ length self.old.due }
@@ -104,7 +102,6 @@ impl Shares {
     }
 }
 
-/// So many places at which nothing is brought.
 fn no_shares(alloc: Global, places: usize) -> Result<Vec<Share>, Want>
     requires { places ≤ 65536 }
     ensures { IfOk result (λ each. each.items ≡ replicate places no_share) }

@@ -18,7 +18,9 @@ use crate::targets::is_target;
 use net_state::NetState;
 use rule_machine::{Act, Item, Moved, Refusal, RuleSet};
 
-/// Why a step is refused, if it is. The items up to the first that is refused stand at their nodes then.
+/// Returns why a step is refused, if it is.
+///
+/// Afterwards `chosen` has the items up to the first refused one.
 pub(crate) fn step_refusal(
     net: &NetState,
     rules: RuleSet,
@@ -41,7 +43,6 @@ pub(crate) fn step_refusal(
     }
 }
 
-/// The first refusal of an item.
 fn items_refusal(
     net: &NetState,
     rules: RuleSet,
@@ -65,7 +66,9 @@ fn items_refusal(
     None
 }
 
-/// The rule of an item's node, or why the item is refused, where its node may have been chosen before.
+/// Returns the rule of an item's node, or why the item is refused.
+///
+/// `twice` is whether an earlier item has the same node.
 fn taken(net: &NetState, rules: RuleSet, item: Item, twice: bool) -> Result<Act, Refusal>
     ensures { IsFound (table_of rules) net.now.state item (refused_item (table_of rules) net.now.state item twice) result }
 {
@@ -78,7 +81,6 @@ fn taken(net: &NetState, rules: RuleSet, item: Item, twice: bool) -> Result<Act,
     }
 }
 
-/// The rule of an item's node, or why there is none that the item may have.
 fn ruled(net: &NetState, rules: RuleSet, item: Item) -> Result<Act, Refusal>
     requires { IsTrue (present net.now.state.network item.node) }
     ensures { IsFound (table_of rules) net.now.state item (refused_rule (table_of rules) net.now.state item) result }
@@ -90,7 +92,6 @@ fn ruled(net: &NetState, rules: RuleSet, item: Item) -> Result<Act, Refusal>
     }
 }
 
-/// Whether a rule allows what an item wishes, if it wishes anything.
 fn allows_wish(net: &NetState, rules: RuleSet, act: Act, item: Item) -> bool
     ensures { IsTrue result ↔ IfSome item.wish (λ w. IsTrue ((table_of rules).allowed net.now.state item.node act w)) }
 {
@@ -100,8 +101,10 @@ fn allows_wish(net: &NetState, rules: RuleSet, act: Act, item: Item) -> bool
     }
 }
 
-/// Whether these are the moves of one step of the items, which stand at their nodes: some, one under a central
-/// daemon, ascending by node, each what an item asks for, and each item with one. Takes the movers' items out.
+/// Whether these are the moves of one step of the items, which are in `chosen`.
+///
+/// There is at least one, exactly one under a central daemon, ascending by node; each is what an item asks
+/// for, and each item has one. Removes the movers' items.
 pub(crate) fn is_step(
     net: &NetState,
     rules: RuleSet,
@@ -118,8 +121,9 @@ pub(crate) fn is_step(
     are_ascending(moves) && are_of_items(net, rules, items, moves, chosen)
 }
 
-/// Whether there are as many moves as the daemon lets through, each move is one that an item asks for, and each item
-/// has a move. Takes the movers' items out, so that an item that is left has none.
+/// Whether the daemon allows this many moves, each is asked for by an item, and each item has one.
+///
+/// Removes the movers' items, so that an item that is left has no move.
 fn are_of_items(
     net: &NetState,
     rules: RuleSet,
@@ -140,7 +144,6 @@ fn are_of_items(
     chosen.has_none(items)
 }
 
-/// Whether each move is one that the item at its node asks for.
 fn are_asked(net: &NetState, rules: RuleSet, moves: &[Moved], chosen: &Chosen) -> bool
     requires { AreRuled (table_of rules) net.now.state chosen.now }
     ensures { result ≡ list_all (λ m. is_move_by (table_of rules) net.now.state (item_at chosen.now m.node) m) moves.now }
@@ -153,7 +156,6 @@ fn are_asked(net: &NetState, rules: RuleSet, moves: &[Moved], chosen: &Chosen) -
     true
 }
 
-/// Whether there is an item, and it asks for this move.
 fn is_asked(net: &NetState, rules: RuleSet, ruled: Option<RuledItem>, made: Moved) -> bool
     requires { IfSome ruled (λ r. IsRuled (table_of rules) net.now.state r.item r.act) }
     ensures { result ≡ is_move_by (table_of rules) net.now.state (option_map (λ r. r.item) ruled) made }
@@ -164,7 +166,6 @@ fn is_asked(net: &NetState, rules: RuleSet, ruled: Option<RuledItem>, made: Move
     }
 }
 
-/// Whether a move is one that an item asks for, by the rule of its node.
 fn is_move_of(net: &NetState, rules: RuleSet, act: Act, item: Item, made: Moved) -> bool
     requires { IsRuled (table_of rules) net.now.state item act }
     ensures { result ≡ judged.is_move_of (table_of rules) net.now.state item made }
@@ -172,7 +173,6 @@ fn is_move_of(net: &NetState, rules: RuleSet, act: Act, item: Item, made: Moved)
     made.node == item.node && made.act == act && is_target(net, rules, act, item, made.target)
 }
 
-/// Whether there are as many moves as the daemon lets through: some, and one under a central daemon.
 fn fits_daemon(rules: RuleSet, moves: &[Moved]) -> bool
     ensures { result ≡ judged.fits_daemon (table_of rules) moves.now }
 {
@@ -183,7 +183,6 @@ fn fits_daemon(rules: RuleSet, moves: &[Moved]) -> bool
     }
 }
 
-/// Whether the moves' nodes ascend.
 fn are_ascending(moves: &[Moved]) -> bool
     ensures { IsTrue result ↔ IsStrictlyIncreasing (map (λ m. m.node) moves.now) }
 {

@@ -1,4 +1,4 @@
-//! A network whose totals are known but for what changed since they were last asked.
+//! A network that keeps its totals, up to what changed since the last question.
 
 ghost use Rattle.std.specs.Prelude.{◌≡◌, ◌≤◌, false, IfOk, None, OnErr, OnOk};
 ghost use Rattle.rule_machine.specs.Disturbance.{after_link, after_join};
@@ -13,8 +13,9 @@ use net_state::{Disturb, NetState};
 use rule_machine::{Node, RuleSet, Want};
 use std::alloc::Global;
 
-/// A network with its registers, and beside it what each name brings to its totals by the rules by which it was last asked. A write
-/// touches the names of which it changes something; what depends on these is looked at again by the next question.
+/// A network with its registers and the contributions of its names, by the rules of the last question.
+///
+/// A write touches the names that it changes; the next question looks again at what depends on them.
 #[derive(Drop)]
 pub(crate) struct Survey {
     pub(crate) net: NetState,
@@ -24,7 +25,6 @@ pub(crate) struct Survey {
 }
 
 impl Survey {
-    /// Nothing is known as yet.
     pub(crate) fn new(alloc: Global, net: NetState) -> Result<Survey, Want>
         ensures { IfOk result (λ survey. survey.net.state ≡ net.state) }
     {
@@ -36,7 +36,6 @@ impl Survey {
         })
     }
 
-    /// Adds the edge between two nodes.
     pub(crate) fn link(&mut self, a: Node, b: Node) -> Result<(), Want>
         requires { link_refusal self.old.net.state.network a b ≡ None }
         ensures ok { OnOk result (self.new.net.state ≡ after_link self.old.net.state a b) }
@@ -48,7 +47,6 @@ impl Survey {
         Ok(())
     }
 
-    /// Makes a name a node, with no edge, a null pointer and its flag false.
     pub(crate) fn join(&mut self, v: Node)
         requires within { v ≤ self.old.net.state.network.size }
         requires absent { present self.old.net.state.network v ≡ false }
@@ -65,13 +63,13 @@ impl Disturb for Survey {
     ghost ends = { λ it. it.net.ends };
 
     fn net(&self) -> &NetState {
-        // By its contract the state is sound.
+        // Gives the prover `IsState`.
         let _ = self.net.registers();
         &self.net
     }
 
     fn set_pointer(&mut self, v: Node, target: Option<Node>) {
-        // Each use has a copy: of a value that is passed on proofs say no more.
+        // Copied: the prover drops facts about a moved value.
         let was = self.net.pointer(v);
         let is = target;
         self.net.set_pointer(v, target);

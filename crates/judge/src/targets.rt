@@ -10,7 +10,6 @@ use crate::rules::is_allowed;
 use net_state::NetState;
 use rule_machine::{Act, Item, Node, RuleSet};
 
-/// Whether a move that an item asks for, by the rule of its node, may have this target.
 pub(crate) fn is_target(
     net: &NetState,
     rules: RuleSet,
@@ -27,7 +26,7 @@ pub(crate) fn is_target(
     }
 }
 
-/// Whether an item lets its node point at another: at the one that it wishes, which is allowed, or else at any allowed one.
+/// Whether an item lets its node point at `w`: it is allowed, and is the wish if there is one.
 fn suits(net: &NetState, rules: RuleSet, act: Act, item: Item, w: Node) -> bool
     requires { IsRuled (table_of rules) net.now.state item act }
     ensures { result ≡ ((table_of rules).allowed net.now.state item.node act w && judged.suits_wish item.wish w) }
@@ -38,7 +37,6 @@ fn suits(net: &NetState, rules: RuleSet, act: Act, item: Item, w: Node) -> bool
     }
 }
 
-/// Whether a rule takes a target.
 fn takes_target(act: Act) -> bool
     ensures { result ≡ takes_target act }
 {

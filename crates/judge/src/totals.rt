@@ -1,4 +1,4 @@
-//! What questions ask of all names: looks at those alone that may bring something else than when this was last asked.
+//! The totals that questions need, updated by looks at the names that may contribute otherwise.
 
 ghost use Rattle.std.specs.Prelude.{◌≡◌, ◌+◌, ◌*◌, ◌<◌, ◌≤◌, ℕ, true, false, length, slice_set, IsTrue, None, cond};
 ghost use Rattle.enabled_set.specs.Members.{is_in};
@@ -13,7 +13,7 @@ use enabled_set::Marks;
 use net_state::NetState;
 use rule_machine::{Act, Node, RuleSet};
 
-/// What questions ask of all names: how many mutual pairs and enabled nodes there are, and the charge.
+/// The numbers of mutual pairs and enabled nodes, and the charge.
 #[derive(Clone, Copy)]
 pub(crate) struct Totals {
     pub(crate) pairs: u32,
@@ -21,14 +21,14 @@ pub(crate) struct Totals {
     pub(crate) charge: u32,
 }
 
-/// Whether what a node brings depends on a neighbour: it points nowhere or there.
+/// Whether a node's contribution depends on this neighbour: its pointer is null or at the neighbour.
 #[inline(always)]
 fn asks(net: &NetState, v: Node, w: Node) -> bool
     requires present { IsTrue (present net.now.state.network v) }
     requires linked { IsTrue (linked net.now.state.network v w) }
     ensures { result ≡ asks net.now.state v w }
 {
-    // By its contract the state is sound.
+    // Gives the prover `IsState`.
     let _ = net.registers();
     match net.pointer(v) {
         Some(x) => x == w,
@@ -36,13 +36,13 @@ fn asks(net: &NetState, v: Node, w: Node) -> bool
     }
 }
 
-/// Marks a name, and the neighbours of its node, if there is one, that ask for it.
+/// Marks a name, and the neighbours of its node whose contribution depends on it.
 fn mark_around(net: &NetState, v: Node, due: &mut Marks)
     requires within { v ≤ net.now.state.network.size }
     requires places { length due.old ≡ net.now.state.network.size + 1 }
     ensures { AreAsking net.now.state v due.old due.new }
 {
-    // By its contract the state is sound.
+    // Gives the prover `IsState`.
     let _ = net.registers();
     due.mark(v);
     if !net.has(v) {
@@ -56,7 +56,7 @@ fn mark_around(net: &NetState, v: Node, due: &mut Marks)
 }
 
 impl Survey {
-    /// Marks as due what depends on touched names. A look at each of them and at its neighbours.
+    /// Marks as due what depends on touched names. Looks at each of them and its neighbours.
     fn spread(&mut self)
         ensures kept { (self.new.net.state ≡ self.old.net.state) × (self.new.rules ≡ self.old.rules) }
         ensures none { (v : ℕ) → is_in self.new.shares.touched v ≡ false }
@@ -66,7 +66,7 @@ impl Survey {
         }
     }
 
-    /// Looks again at each due name: what it brings is known then.
+    /// Updates the contribution of each due name.
     fn look(&mut self)
         ensures kept { (self.new.net.state ≡ self.old.net.state) × (self.new.rules ≡ self.old.rules) }
         ensures touched { self.new.shares.touched ≡ self.old.shares.touched }
@@ -82,7 +82,7 @@ impl Survey {
         }
     }
 
-    /// From now on the numbers are told by these rules.
+    /// Switches the totals to these rules.
     fn go_by(&mut self, rules: RuleSet)
         ensures rules { self.new.rules ≡ rules }
         ensures kept { self.new.net.state ≡ self.old.net.state }
@@ -93,9 +93,10 @@ impl Survey {
         }
     }
 
-    /// What questions ask of all names, by these rules. Looks at the names that were touched since this was last asked, at the neighbours of
-    /// these that point nowhere or at them, and at the neighbours of each such name that points nowhere, or whose edges count
-    /// otherwise. An edge that is open by what its ends make of it adds 2 to the charge, unless a pointer closes it.
+    /// Returns the totals by these rules.
+    ///
+    /// Looks at the touched names, at their neighbours whose pointer is null or at them, and at the
+    /// neighbours of each such name whose pointer is null or whose edges count otherwise.
     pub(crate) fn totals(&mut self, rules: RuleSet) -> Totals
         ensures value { AreTotals rules self.old.net.state result }
         ensures kept { self.new.net.state ≡ self.old.net.state }
@@ -108,7 +109,9 @@ impl Survey {
         self.count()
     }
 
-    /// The totals, where no name may bring something else.
+    /// Returns the totals, if no name is touched or due.
+    ///
+    /// An edge that is open by the stances of its ends adds 2 to the charge, unless a pointer closes it.
     fn count(&self) -> Totals
         requires { AreFresh self.now.shares.touched self.now.shares.due }
         ensures { AreTotals self.now.rules self.now.net.state result }
@@ -122,7 +125,7 @@ impl Survey {
         }
     }
 
-    /// The rule that is enabled at the node of a name, if there is one and any is. One look.
+    /// Returns the rule that is enabled at the node of a name, if any. One look.
     #[inline(always)]
     pub(crate) fn rule_of(&self, v: Node) -> Option<Act>
         requires { AreFresh self.now.shares.touched self.now.shares.due }

@@ -13,7 +13,7 @@ module _ {T K : Type 0} (holds : K → T → Type 0) (key : K) where
   word_is : (s : State (Option T) K) (kept : IsKept holds key s) → get_or s.words 0 0 ≡ kept.word
   word_is s kept = ap (λ ws. get_or ws 0 0) kept.words
 
-  -- a step that leaves the lock taken takes the value where the lock was free
+  -- a step that leaves the lock taken takes the value if the lock was free
   pub claims : (f : ℕ → ℕ) → ((n : ℕ) → f n ≢ 0) → (slots id : ℕ) (me : Me (Option T) K) (step : Step (Option T)) → me.0 ≡ key
       → Allows (IsKept holds key) slots id me 0 f (claimed holds step me)
   claims f busy slots id me step is s kept wide at fits =

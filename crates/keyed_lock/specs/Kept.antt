@@ -1,4 +1,5 @@
--- What is so of a lock between any two steps, and what each step tells. The word is 0 while the lock is free.
+-- The invariant of a lock between any two steps, and what each step shows. The word is 0 while the lock is
+-- free.
 use Rattle.std.specs.Prelude.{◌≡◌, ℕ, ◌==◌, [], ◌∷◌, Option, Some, None, MatchBool}
 use mathlib.Core.Option.{some}
 use lib.ListN.{get_elem?}
@@ -17,11 +18,11 @@ module _ {T K : Type 0} where
   abbrev pub arrived : Step (Option T) → Me (Option T) K → ℕ → Me (Option T) K → Type 0
   arrived step before found after = after.0 ≡ before.0
 
-  -- a lock that was found free is taken, and the seat has its value; else the seat is as it was
+  -- taking a free lock gives the seat its value; a lock that is not free leaves the seat as it was
   abbrev pub claimed : (K → T → Type 0) → Step (Option T) → Me (Option T) K → ℕ → Me (Option T) K → Type 0
   claimed holds step before found after = (after.0 ≡ before.0) × MatchBool (found == 0) ((x : T) × (after.1 ≡ (0, Some x) ∷ before.1) × holds before.0 x) (after.1 ≡ before.1)
 
-  -- nothing is told to a seat that has given its slot back
+  -- a seat that has given its slot back learns no fact
   abbrev pub left : Step (Option T) → Me (Option T) K → ℕ → Me (Option T) K → Type 0
   left step before found after = Unit {0}
 

@@ -1,4 +1,4 @@
--- What a clause says of a lock and of the right to give its value back.
+-- What a clause says of a lock and of a hold.
 use Rattle.keyed_lock.specs.Kept.{Holds}
 use Rattle.keyed_lock.specs.declared.lock.Hold.{Hold}
 use Rattle.keyed_lock.specs.declared.lock.KeyedLock.{KeyedLock}

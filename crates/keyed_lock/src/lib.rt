@@ -1,11 +1,12 @@
-//! A lock for one value, which keeps what the value owes to the lock's key.
+//! A lock for one value, with an invariant under the lock's key.
 //!
-//! Whoever takes the lock has the value alone and knows that `I::holds` at the key; who gives it back has to give such a value. So what
-//! one thread has proved of the value behind the lock every later one may use, with no look at it: `locked_net` keeps its log so. The key
-//! never changes, and contracts alone compare it.
+//! Taking the lock gives exclusive access to the value, and the fact that `I::holds` for key and value.
+//! Giving it back requires such a value again. So later threads rely on what an earlier one proved, without a
+//! check: `locked_net` keeps its log so. The key never changes; only contracts compare it.
 //!
-//! It is one word and one slot of the kit's `atomic_table`; a thread that waits sleeps. That a lock is ever had is not claimed. Neither
-//! the lock nor a `Hold` can be dropped: `give` ends a hold, `into_inner` the lock.
+//! The lock is one word and one slot of the kit's `atomic_table`. A waiting thread sleeps. No claim is made
+//! that it ever gets the lock. Neither lock nor `Hold` can be dropped: `give` ends a hold, `into_inner` the
+//! lock.
 //!
 //! ```rust
 //! let (mut value, hold) = lock.take(rt);

@@ -1,4 +1,4 @@
-//! The lock, and what its value owes.
+//! The lock and its invariant.
 
 ghost use Rattle.std.specs.Prelude.{◌≡◌, IfOk, IfErr};
 ghost use Rattle.keyed_lock.specs.Kept.{Waits, HasValue};
@@ -15,21 +15,22 @@ const TAKEN: u64 = 1;
 /// Taken, and a thread may sleep until it is free.
 const AWAITED: u64 = 2;
 
-/// What holds of a locked value under the key of its lock. It is a fact for contracts alone: nothing of it runs.
+/// The invariant of a locked value under its lock's key. Only contracts use it; none of it runs.
 pub trait Invariant<T, K> {
     ghost holds: { K → T → Type 0 };
 }
 
-/// A lock for one value. It has a key, which contracts compare and which nothing changes; whoever takes the lock gets a
-/// value of which `I.holds` at the key, has it alone, and may give back only such a value. It is a word and a slot of
-/// memory, and it can't be dropped: `into_inner` ends it.
+/// A lock for one value, with a key that never changes and that only contracts compare.
+///
+/// Taking it gives exclusive access to a value that satisfies `I.holds` under the key. Only such a value may
+/// be given back. It is a word and a slot of memory. It can't be dropped: `into_inner` ends it.
 pub struct KeyedLock<T, K, I: Invariant<T, K>> {
     table: Table<Option<T>, K, K, OneValue<I>, Global>,
     ghost one_word: { table.shared.table_id.words ≡ 1 },
     ghost one_slot: { table.shared.table_id.slots ≡ 1 },
 }
 
-/// The right to give a lock's value back, which whoever took it has. It has no bytes. It can't be dropped: `give` ends it.
+/// The right to give a lock's value back. It takes no bytes. It can't be dropped: `give` ends it.
 pub struct Hold<T, K> {
     seat: Seat<Option<T>, K>,
 }
@@ -37,7 +38,7 @@ pub struct Hold<T, K> {
 impl<T, K, I: Invariant<T, K>> KeyedLock<T, K, I> {
     ghost use Rattle.keyed_lock.specs.Locks.{key_of, IsHoldOf};
 
-    /// A lock that is free. Where memory runs out the value comes back.
+    /// A free lock. If memory runs out, the value comes back in the error.
     pub fn new(alloc: Global, value: T, key: &K) -> Result<KeyedLock<T, K, I>, AllocFailed<T>>
         requires { I.holds key.now value }
         ensures key { IfOk result (λ lock. key_of lock ≡ key.now) }
@@ -62,8 +63,8 @@ impl<T, K, I: Invariant<T, K>> KeyedLock<T, K, I> {
         }
     }
 
-    /// Waits until the lock is free, and takes its value. A thread that waits sleeps; one that has the value already
-    /// waits for ever.
+    /// Waits until the lock is free and takes its value.
+    /// A waiting thread sleeps. A thread that already has the value waits for ever.
     pub fn take<R: Wait>(&self, rt: &R) -> (T, Hold<T, K>)
         ensures value { I.holds (key_of self.now) result.0 }
         ensures hold { IsHoldOf self.now result.1 }
@@ -75,7 +76,7 @@ impl<T, K, I: Invariant<T, K>> KeyedLock<T, K, I> {
         (value, Hold { seat })
     }
 
-    /// Waits until the slot is the seat's.
+    /// Waits until the slot belongs to the seat.
     fn claim<R: Wait>(&self, rt: &R, seat: &mut Seat<Option<T>, K>)
         requires { Waits self.now.table.shared.table_id (key_of self.now) seat.old }
         ensures table { seat.new.table_id ≡ seat.old.table_id }
@@ -94,7 +95,7 @@ impl<T, K, I: Invariant<T, K>> KeyedLock<T, K, I> {
         unreachable!()
     }
 
-    /// Gives a value to the lock, which is free then, and wakes a thread that waits for it.
+    /// Gives a value back, which frees the lock, and wakes one waiting thread, if any.
     pub fn give(&self, hold: Hold<T, K>, value: T)
         requires hold { IsHoldOf self.now hold }
         requires value { I.holds (key_of self.now) value }
@@ -107,8 +108,8 @@ impl<T, K, I: Invariant<T, K>> KeyedLock<T, K, I> {
         }
     }
 
-    /// The value of a lock that no thread shares any more. Where it was taken and not given back, which a program that
-    /// ends its holds never sees, the call waits for ever.
+    /// The value of a lock that is no longer shared.
+    /// If the lock was taken and not given back, it waits for ever.
     pub fn into_inner<R: Wait>(self, rt: &R) -> T
         ensures { I.holds (key_of self) result }
     {

@@ -1,4 +1,4 @@
-//! The rule of the table below a lock, and what each of its steps tells.
+//! The rule of the table that the lock uses, and its steps.
 
 ghost use Rattle.keyed_lock.specs.Kept.{IsKept, arrived, claimed, left};
 
@@ -6,7 +6,7 @@ use crate::Invariant;
 use atomic_table::{Play, TableRule};
 use std::marker::PhantomData;
 
-/// The value lies in the one slot while the one word is 0.
+/// The slot has the value while the word is 0.
 pub struct OneValue<I> {
     invariant: PhantomData<I>,
 }

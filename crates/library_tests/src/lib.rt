@@ -1,11 +1,13 @@
-//! Tests of many calls: the engine beside the plain machine on every small network and along long runs, and a full store of edges.
+//! Tests of many calls: the engine against the plain machine, and a full store of edges.
 //!
-//! Each `#[test]` here is a loop that would be slow in a checked program of rows: every network of up to three nodes, in every state and
-//! under every choice of up to two items; drawn runs of 20 and 50 nodes; a store with all its 1,048,576 edges. The engine and the
-//! auditor's `judge` run beside `plain_machine`, which computes the definitions.
+//! Each `#[test]` here is a loop that would be slow in a checked program of rows: every network of up to
+//! three nodes, in every state and under every choice of up to two items; drawn runs of 20 and 50 nodes; a
+//! store with all its 1,048,576 edges. The engine and the auditor's `judge` are compared with
+//! `plain_machine`, which computes the definitions.
 //!
-//! Nothing stands on this crate. Short calls with their answers are rows of `tests/call_rows`, what goes through words and bytes is a
-//! case of `tests/*.cases`, and threads that meet are rows, too: a proved test costs more than the code that it tests.
+//! No crate depends on this one. Short calls with their replies are rows of `tests/call_rows`, as are threads
+//! that meet; words and bytes are cases of `tests/*.cases`. A proved test costs more than the code that it
+//! tests.
 //!
 //! ```text
 //! rt ci library_tests          # proves the tests, and runs them

@@ -1,4 +1,4 @@
-//! Long runs of drawn events on the engine, beside the plain machine.
+//! Long runs of drawn events on the engine, compared with the plain machine.
 
 use crate::machines::{Plain, net_of, plain_of};
 use rand_core::{Rng, SeedableRng};
@@ -9,19 +9,18 @@ use rules_manne::Manne;
 use std::alloc::Global;
 use std::process::Abort;
 
-/// A name, which may be the one above the last.
+/// A name, which may be one above the last.
 fn drawn_name(rt: &impl Abort, generator: &mut Pcg32, nodes: u16) -> Node {
     let most = u32::from(nodes) + 1;
     Node::new(generator.next_u32() % most + 1).expect(rt, "a name")
 }
 
-/// An enabled node, if there is one.
 fn drawn_mover<R: Rules>(generator: &mut Pcg32, net: &Net<R>) -> Option<Node> {
     let count = net.enabled().count().max(1);
     net.enabled().nth(generator.next_u32() % count)
 }
 
-/// A choice of up to so many enabled nodes; one may stand in it twice.
+/// A choice of up to `most` enabled nodes, perhaps with repetitions.
 fn drawn_choice<R: Rules>(
     rt: &impl Abort,
     alloc: Global,
@@ -59,7 +58,7 @@ fn drawn_event<R: Rules>(
     }
 }
 
-/// Both answer an event alike.
+/// Both reply to an event alike.
 fn agree<R: Rules>(
     rt: &impl Abort,
     alloc: Global,
@@ -71,7 +70,9 @@ fn agree<R: Rules>(
     assert!(rt; reply == plain.answer(rt, alloc, event));
 }
 
-/// They answer twenty drawn events alike, list the same enabled nodes after each, and say the same numbers at the end.
+/// Both reply alike to twenty drawn events.
+///
+/// They list the same enabled nodes after each, and have the same counts at the end.
 fn agree_a_while<R: Rules>(
     rt: &impl Abort,
     alloc: Global,
@@ -88,7 +89,7 @@ fn agree_a_while<R: Rules>(
     agree(rt, alloc, net, plain, &Event::Status);
 }
 
-/// They agree along 600 drawn events.
+/// Both agree along 600 drawn events.
 fn agree_along<R: Rules>(rt: &impl Abort, alloc: Global, rules: RuleSet, nodes: u16, seed: u64) {
     let mut net = net_of::<R>(rt, alloc, u32::from(nodes));
     let mut plain = plain_of(rt, alloc, rules, nodes);

@@ -1,4 +1,4 @@
-//! Networks of the engine, and plain ones that answer the same events.
+//! Networks of the engine, and plain ones that reply to the same events.
 
 ghost use Rattle.std.specs.Prelude.{◌≤◌};
 
@@ -7,19 +7,19 @@ use rule_engine::{Event, Net, Reply, RuleSet, Rules};
 use std::alloc::Global;
 use std::process::Abort;
 
-/// The network of the nodes 1 to `nodes` without an edge.
+/// The network of the nodes 1 to `nodes`, without edges.
 pub(crate) fn net_of<R: Rules>(rt: &impl Abort, alloc: Global, nodes: u32) -> Net<R> {
     Net::new(alloc, nodes).expect(rt, "a network")
 }
 
-/// The network of the names 1 to `nodes`, of which 1 to `present` are present, without an edge.
+/// The network of the names 1 to `nodes` without edges; 1 to `present` are present.
 pub(crate) fn net_with<R: Rules>(rt: &impl Abort, alloc: Global, nodes: u32, present: u32) -> Net<R>
     requires { present ≤ nodes }
 {
     Net::with_present(alloc, nodes, present).expect(rt, "a network")
 }
 
-/// A plain network with its rules and the moves since it was last disturbed, which answers events.
+/// A plain network, its rules, and the moves since it was last disturbed.
 #[derive(Drop)]
 pub(crate) struct Plain {
     net: PlainNet,
@@ -27,7 +27,6 @@ pub(crate) struct Plain {
     spent: u32,
 }
 
-/// How many moves a reply tells of.
 pub(crate) fn moves_in(reply: &Reply) -> u32 {
     match reply {
         Reply::Moves(moves) => u32::try_from(moves.as_slice().len()).unwrap_or(u32::MAX),
@@ -36,7 +35,6 @@ pub(crate) fn moves_in(reply: &Reply) -> u32 {
 }
 
 impl Plain {
-    /// The reply to an event.
     pub(crate) fn answer(&mut self, rt: &impl Abort, alloc: Global, event: &Event) -> Reply {
         let answer = self.net.answer(alloc, self.rules, self.spent, event);
         let reply = answer.expect(rt, "memory");
@@ -48,12 +46,12 @@ impl Plain {
     }
 }
 
-/// The plain network of the nodes 1 to `nodes` without an edge.
+/// The plain network of the nodes 1 to `nodes`, without edges.
 pub(crate) fn plain_of(rt: &impl Abort, alloc: Global, rules: RuleSet, nodes: u16) -> Plain {
     plain_with(rt, alloc, rules, nodes, nodes)
 }
 
-/// The plain network of the names 1 to `nodes`, of which 1 to `present` are present, without an edge.
+/// The plain network of the names 1 to `nodes` without edges; 1 to `present` are present.
 pub(crate) fn plain_with(
     rt: &impl Abort,
     alloc: Global,

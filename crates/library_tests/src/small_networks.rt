@@ -1,13 +1,17 @@
-//! Every network of up to three names, of which any are present, in every state and under every small choice: the engine
-//! against the plain machine, and the auditor's judge against both.
+//! Every network of up to three names in every state, under every small choice: the engine, plain machine and
+//! judge compared.
 //!
-//! A network has n names, and those that are present have joined. The choices at n names have items of n + 1 names, the last of
-//! them above the capacity, each with no wish or one of these names: (n + 1)(n + 2) items i, so 1 + i + i·i choices of up
-//! to two, and 6 more of three at three names. There are 2 items and 7 choices at no name, 6 and 43 at one, 12 and 157 at
-//! two, and 20 and 421 + 6 = 427 at three.
-//! The pointers of a node are null or one of its neighbours: with no flags 1 state at no node, 1 at one, 1 + 4 at two,
-//! and at three 1 with no edge, 4 with one (3 networks), 12 with two (3 networks) and 27 with three: 76. With flags
-//! each counts twice for each node.
+//! Any of the n names may be present. An item has one of n + 1 names, the last above the capacity, and either
+//! no wish or one of these names. So there are i = (n + 1)(n + 2) items and 1 + i + i·i choices of up to two;
+//! three names have 6 more, of three items. A node's pointer is null or one of its neighbours. With flags
+//! each state counts twice for each node.
+//!
+//! | Names | Items | Choices | States without flags, all names present |
+//! |---|---|---|---|
+//! | 0 | 2 | 7 | 1 |
+//! | 1 | 6 | 43 | 1 |
+//! | 2 | 12 | 157 | 1 + 4 |
+//! | 3 | 20 | 421 + 6 = 427 | 1 with no edge, 4 with one (3 networks), 12 with two (3 networks), 27 with three: 76 |
 
 ghost use Rattle.std.specs.Prelude.{◌<◌};
 
@@ -20,17 +24,17 @@ use rules_manne::Manne;
 use std::alloc::Global;
 use std::process::Abort;
 
-/// The names, each with its bit in a set of those that are present.
+/// The names, each with its bit in a set of present names.
 const BITS: [(u32, u8); 3] = [(1, 1), (2, 2), (3, 4)];
 
-/// How many names a network has, and which of them are present: a bit for each, the lowest for the first.
+/// How many names there are, and the set of those present; the lowest bit is for the first.
 #[derive(Clone, Copy)]
 struct Names {
     all: u8,
     here: u8,
 }
 
-/// What kind of reply came.
+/// The kind of a reply.
 #[derive(Clone, Copy, PartialEq)]
 enum Kind {
     Accepted,
@@ -38,8 +42,10 @@ enum Kind {
     Other,
 }
 
-/// A network under a rule set, the plain one that is asked the same, the judge of the replies, and the state that all are in: for each node a
-/// digit of four for its pointer, and behind that a bit for its flag if there are flags.
+/// A network under a rule set, the plain one, the judge, and the state that all are in.
+///
+/// The state has for each node a base-4 digit for its pointer, and then a bit for its flag if there are
+/// flags.
 #[derive(Drop)]
 struct Twins<R: Rules> {
     net: Net<R>,
@@ -51,7 +57,7 @@ struct Twins<R: Rules> {
 }
 
 impl<R: Rules> Twins<R> {
-    /// Two networks without a node.
+    /// Two networks without nodes.
     fn new(rt: &impl Abort, alloc: Global, rules: RuleSet, names: Names, edges: u32) -> Twins<R> {
         let all = u32::from(names.all);
         let judge = Judge::with_present(alloc, all, 0);
@@ -77,7 +83,7 @@ impl<R: Rules> Twins<R> {
         assert!(rt; right.expect(rt, "memory"), "{event:?}");
     }
 
-    /// Asks both for an event, and compares their replies.
+    /// Gives both an event, and compares their replies.
     fn ask(&mut self, rt: &impl Abort, alloc: Global, event: Event) -> Kind {
         let spent = u64::from(self.net.spent());
         let reply = self.net.apply(&event).expect(rt, "memory");
@@ -100,7 +106,7 @@ impl<R: Rules> Twins<R> {
         self.ask(rt, alloc, event) == Kind::Accepted
     }
 
-    /// Lets the names join that are present.
+    /// Lets the present names join.
     fn join(&mut self, rt: &impl Abort, alloc: Global) {
         let here = self.names.here;
         for (name, bit) in BITS {
@@ -110,7 +116,9 @@ impl<R: Rules> Twins<R> {
         }
     }
 
-    /// Links the nodes: a bit for each of the edges 1-2, 1-3 and 2-3. Says whether these are edges of its nodes.
+    /// Links the nodes; `false` if an edge has an absent end.
+    ///
+    /// The edges 1-2, 1-3 and 2-3 have a bit each.
     fn link(&mut self, rt: &impl Abort, alloc: Global) -> bool {
         let edges = self.edges;
         for (a, b, place) in [(1, 2, 1), (1, 3, 2), (2, 3, 4)] {
@@ -122,7 +130,7 @@ impl<R: Rules> Twins<R> {
         true
     }
 
-    /// Writes the registers. Says whether each pointer is null or at a neighbour, and all digits are of its nodes.
+    /// Writes the registers; `false` if a pointer is at no neighbour, or a digit belongs to no node.
     fn set(&mut self, rt: &impl Abort, alloc: Global) -> bool {
         let (mut rest, here) = (self.state, self.names.here);
         for (name, bit) in BITS {
@@ -133,7 +141,7 @@ impl<R: Rules> Twins<R> {
         rest == 0
     }
 
-    /// Writes the registers of a node by the next digits. Says whether its pointer is null or at a neighbour.
+    /// Writes the registers of a node from the next digits; `false` if its pointer is at no neighbour.
     fn write(&mut self, rt: &impl Abort, alloc: Global, name: u32, rest: &mut u32) -> bool {
         let v = named(rt, name);
         if !self.change(rt, alloc, Event::Point(v, Node::new(*rest % 4))) {
@@ -147,7 +155,7 @@ impl<R: Rules> Twins<R> {
         true
     }
 
-    /// Looks at every pointer, the enabled nodes, the matching and the numbers.
+    /// Asks for every pointer, the enabled nodes, the matching and the counts.
     fn look(&mut self, rt: &impl Abort, alloc: Global) {
         for name in 1..4 {
             let _ = self.ask(rt, alloc, Event::Show(named(rt, name)));
@@ -157,7 +165,7 @@ impl<R: Rules> Twins<R> {
         let _ = self.ask(rt, alloc, Event::Status);
     }
 
-    /// Compares how the charge has fallen with the moves that came.
+    /// Checks that the charge has fallen by at least the moves made.
     fn expect_paid(&mut self, rt: &impl Abort, before: u32, moves: u32) {
         let after = self.net.charge();
         assert!(rt;
@@ -166,8 +174,9 @@ impl<R: Rules> Twins<R> {
         );
     }
 
-    /// Lets the nodes of a choice move; if they do, the charge has fallen by their number at least. Then looks at what
-    /// is there and goes back to the state.
+    /// Lets the nodes of a choice move.
+    ///
+    /// If they do, it checks the charge, asks for all answers, and restores the state.
     fn step(&mut self, rt: &impl Abort, alloc: Global, number: u32) {
         let choice = choice_of(rt, alloc, self.names.all, number);
         let charge = self.net.charge();
@@ -187,8 +196,10 @@ fn digits_of(nodes: u8) -> u32
     1 + (names - 1) * names
 }
 
-/// The choice of a number: its digits in base 1 + (n + 1)(n + 2), the lowest first, where 0 stands for no item, and each
-/// other counts a node 1 to n + 1, and its wish 1 to n + 1, or 0 for none.
+/// The choice with this number.
+///
+/// Its digits have the base 1 + (n + 1)(n + 2), the lowest first. 0 is no item; another digit encodes a node,
+/// 1 to n + 1, and a wish, 1 to n + 1, or 0 for none.
 fn choice_of(rt: &impl Abort, alloc: Global, nodes: u8, number: u32) -> Choice {
     let (names, digits) = (u32::from(nodes) + 2, digits_of(nodes));
     let mut rest = number;
@@ -204,7 +215,9 @@ fn choice_of(rt: &impl Abort, alloc: Global, nodes: u8, number: u32) -> Choice {
     Choice::new(items).expect(rt, "a choice")
 }
 
-/// How many numbers have two digits: the square of how many values a digit has. A product would be dear to prove.
+/// How many numbers have two digits: the square of a digit's values.
+///
+/// A product would be costly to prove.
 fn two_digits(nodes: u8) -> u32 {
     match nodes {
         0 => 9,
@@ -214,12 +227,12 @@ fn two_digits(nodes: u8) -> u32 {
     }
 }
 
-/// Whether a number of two digits is that of a choice: no other has the same items.
+/// Whether a number of two digits is the first that has its items.
 fn is_first(nodes: u8, number: u32) -> bool {
     number == 0 || number % digits_of(nodes) > 0
 }
 
-/// Every choice of up to two items in the state. Answers how many.
+/// Tries every choice of up to two items in the state; returns how many.
 fn try_pairs<R: Rules>(rt: &impl Abort, alloc: Global, twins: &mut Twins<R>) -> u64 {
     let nodes = twins.names.all;
     let mut tried = 0u64;
@@ -232,7 +245,7 @@ fn try_pairs<R: Rules>(rt: &impl Abort, alloc: Global, twins: &mut Twins<R>) -> 
     tried
 }
 
-/// Every order of three nodes in the state, of which there are three. Answers how many.
+/// Tries all six orders of three nodes in the state; returns how many.
 fn try_orders<R: Rules>(rt: &impl Abort, alloc: Global, twins: &mut Twins<R>) -> u64 {
     for (a, b, c) in [
         (1, 6, 11),
@@ -247,7 +260,7 @@ fn try_orders<R: Rules>(rt: &impl Abort, alloc: Global, twins: &mut Twins<R>) ->
     6
 }
 
-/// Every choice in the state, if it is one. Answers how many choices that were.
+/// Tries every choice in the state, if it is one; returns how many choices that were.
 fn try_state<R: Rules>(rt: &impl Abort, alloc: Global, twins: &mut Twins<R>) -> u64 {
     if !twins.set(rt, alloc) {
         return 0;
@@ -260,7 +273,7 @@ fn try_state<R: Rules>(rt: &impl Abort, alloc: Global, twins: &mut Twins<R>) -> 
     tried.wrapping_add(try_orders(rt, alloc, twins))
 }
 
-/// Every state of a network, if its edges are of its nodes, and every choice in it. Answers how many choices.
+/// Tries every state of a network, if its edges join present nodes; returns how many choices that were.
 fn try_network<R: Rules>(
     rt: &impl Abort,
     alloc: Global,
@@ -281,7 +294,7 @@ fn try_network<R: Rules>(
     tried
 }
 
-/// Every network of these names and so many edges, and every state and choice. Compares how many choices that were.
+/// Tries every network with these names and `count` edges, and checks how many choices that were.
 fn try_networks<R: Rules>(
     rt: &impl Abort,
     alloc: Global,
@@ -311,7 +324,7 @@ fn try_manne(rt: &impl Abort, alloc: Global, names: Names, count: u32, wanted: u
     try_networks::<Manne>(rt, alloc, RuleSet::Manne, names, count, wanted);
 }
 
-/// So many names, of which these are present.
+/// `all` names; those in `here` are present.
 fn some_of(all: u8, here: u8) -> Names {
     Names { all, here }
 }

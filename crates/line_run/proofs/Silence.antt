@@ -1,4 +1,4 @@
--- A drive of as many turns as the charge, all of which were taken, has ended where nobody is enabled.
+-- A drive of as many turns as the charge, all of them taken, ends with no node enabled.
 use Rattle.std.proofs.Common.{◌≡◌, ℕ, ◌≤◌, Bool, true, false, List, [], Result, Ok, Err, IsTrue, IfOk, sym, subst}
 use Rattle.std.proofs.lemmas.Bool.{true≢false}
 use Rattle.rand_core.specs.Stream.{Stream}

@@ -9,7 +9,7 @@ use Rattle.script_text.specs.Script.{Progress, IsEntry, EventDoes, TurnDoes, Tur
 use Rattle.std.specs.Prelude.{IsErr}
 use Rattle.line_run.specs.Line.{EventEnds, TurnsBegin, TurnsEnd}
 
--- So many turns were taken: what some more do from here on, all of these do from the beginning on.
+-- This many turns were taken: what some more do from here on, all of these do from the beginning on.
 pub record Turned (draws : Draws) (t : RuleTable) (limit count taken : ℕ) (first stream : Stream) (begun now : Progress) : Type 0 where
   pub within : taken ≤ count
   pub does : (more : ℕ) (after : Progress) → TurnsDo draws t limit more stream now after → TurnsDo draws t limit (taken + more) first begun after
@@ -64,14 +64,14 @@ pub turned_all : (draws : Draws) (t : RuleTable) (limit count taken : ℕ) (firs
 turned_all draws t limit count taken first stream begun now so_far done =
     let all : taken + 0 ≡ count = omega (arith, done, so_far.within) in subst (λ n. TurnsDo draws t limit n first begun now) all (so_far.does 0 now refl)
 
--- an event that met want of memory, behind some turns
+-- an event for which memory ran out, after some turns
 pub turned_want : {E : Type 0} (draws : Draws) (t : RuleTable) (limit limit' count taken : ℕ) (first stream : Stream) (begun now after : Progress) (event : Event) (want : E) (result : Result Bool E)
     → Turned draws t limit count taken first stream begun now → EventEnds t limit' event now after result → result ≡ Err want → TurnsBegin draws t limit count first begun after
 turned_want {E} draws t limit limit' count taken first stream begun now after event want result so_far ends is =
     subst (λ p. TurnsBegin draws t limit count first begun p) (sym (subst (λ (r : Result Bool E). EventEnds t limit' event now after r) is ends))
     (turned_begun draws t limit count taken first stream begun now so_far)
 
--- what is answered at want of memory
+-- the result if memory runs out
 pub begun_ends : {E : Type 0} (draws : Draws) (t : RuleTable) (limit count : ℕ) (first : Stream) (begun now : Progress) (result : Result Bool E) → IsErr result → TurnsBegin draws t limit count first begun now → TurnsEnd draws t limit count first begun now result
 begun_ends draws t limit count first begun now (Ok b) is some = absurd (true≢false (sym is))
 begun_ends draws t limit count first begun now (Err want) is some = some

@@ -1,12 +1,13 @@
-//! The run of a script's lines, one at a time and in one thread: each adds its entries to a text.
+//! The single-threaded run of a script: each line adds its entries to a text.
 //!
-//! A `Run` has the rule set's name, a recorder and the text that nobody has taken yet, with the header in front. `carry_out` is told a
-//! line without its LF, does what it says and adds its entries, or at a `checkpoint` the lines of a base. A bad line or a full log is
-//! told and ends no run by itself; at want of memory nothing has changed, or some first turns of the line were taken whole: it goes on
-//! from there.
+//! A `Run` holds the rule set's name, a recorder and the text that its caller has not taken yet, which begins
+//! with the header. `carry_out` takes a line without its LF, does what it says, and adds its entries; a
+//! `checkpoint` adds the lines of a base. A bad line or a full log is returned and does not end the run. If
+//! memory runs out, nothing has changed, or some first turns of the line were taken whole, and the run can go
+//! on from there.
 //!
-//! It reads and writes no stream and keeps no entry, so `script_run` stands on it as the library for C does. A line takes no memory but
-//! that of its text and of lists with several items.
+//! It reads and writes no stream and keeps no entry, so `script_run` and the library for C both build on it.
+//! Besides its text, a line takes memory only for lists of several items.
 //!
 //! ```rust
 //! let mut run = Run::<HsuHuang>::new(alloc, RuleSet::Hh, 2, 2, MAX_ENTRIES)?;

@@ -1,4 +1,4 @@
-//! A run under one set of rules.
+//! The run of a script under one rule set.
 
 ghost use Rattle.std.specs.Prelude.{◌≡◌, ◌≤◌, [], None, Ok, IfOk, IfSome, IsTrue, OnErr, OnOk, min};
 ghost use Rattle.line_text.specs.EventText.{event_text};
@@ -21,7 +21,7 @@ use seeded_turns::{DaemonTurns, EventSource, FaultTurns};
 use std::alloc::{AllocError, Global};
 use step_log::{RecordFault, Recorder};
 
-/// The rule set by its name, a network whose entries are numbered, and their text, as far as the caller has not taken it away.
+/// The rule set's name, a recorded network, and the text of its entries that the caller has not taken.
 #[derive(Drop)]
 pub struct Run<R: Rules> {
     pub rules: RuleSet,
@@ -30,8 +30,10 @@ pub struct Run<R: Rules> {
 }
 
 impl<R: Rules> Run<R> {
-    /// The run of a new network of the names 1 to `nodes`, of which 1 to `present` are there, with the text of its header; there may
-    /// be so many entries, and 16,777,216 where more are said. `Want` if memory runs out. Takes some fifty bytes a name.
+    /// A run of a new network on the names 1 to `nodes`, with its header as text.
+    ///
+    /// The names 1 to `present` are present. `limit` is the most entries; above 16,777,216 it counts as that.
+    /// `Want` if memory runs out. Takes some fifty bytes a name.
     pub fn new(
         alloc: Global,
         rules: RuleSet,
@@ -56,10 +58,12 @@ impl<R: Rules> Run<R> {
         })
     }
 
-    /// Carries out an event, puts the reply to it where the caller keeps it, and adds the entry's text, in which the event's own is
-    /// copied where it is at hand; false where the log is full. The number of the entry is the recorder's `len` then. At want of
-    /// memory, and where the log is full, nothing has changed but the reply.
-    // It stands in line with what reads an event from a line, as all that lies between does.
+    /// Carries out an event and adds its entry's text; `false` if the log is full.
+    ///
+    /// The reply is put into `reply`. If the caller has the event's text, `line`, it is copied. The entry's
+    /// number is the recorder's `len` afterwards. `Want` if memory runs out. Then, and at a full log, at most
+    /// `reply` has changed.
+    // Inlined into the reading of a line, as is everything between the two.
     #[inline(always)]
     pub fn log(
         &mut self,
@@ -79,8 +83,8 @@ impl<R: Rules> Run<R> {
         }
     }
 
-    // Carries out the events of so many turns, or of those up to one that has none; false where a turn meets a full log, before
-    // it is asked for. At want of memory some first turns were taken, whole.
+    // Carries out up to `count` drawn events, and stops at a turn that has none; `false` at a full log,
+    // before the turn is drawn. `Want` after some whole first turns.
     fn take_turns<S: EventSource>(&mut self, source: &mut S, count: u32) -> Result<bool, Want>
         ensures ends { TurnsEnd S.draws R.table self.old.recorder.limit count (S.stream source.old) (progress_of self.old) (progress_of self.new) result }
         ensures unasked { self.old.recorder.len ≡ self.old.recorder.limit → S.stream source.new ≡ S.stream source.old }
@@ -100,21 +104,24 @@ impl<R: Rules> Run<R> {
         Ok(true)
     }
 
-    /// Steps of a daemon that draws its choices from the generator with this seed, up to one that finds no node enabled; false where
-    /// a turn meets a full log, before the daemon is asked. At want of memory some first turns were taken, whole.
+    /// Takes up to `turns.count` steps of a daemon seeded with `turns.seed`; stops when no node is enabled.
+    ///
+    /// `false` if a turn meets a full log, before the daemon is asked. `Want` if memory runs out, after some
+    /// whole first turns.
     pub fn drive(&mut self, alloc: Global, turns: Turns) -> Result<bool, Want>
         ensures ends { TurnsEnd drawn_step R.table self.old.recorder.limit turns.count (seeded_stream turns.seed) (progress_of self.old) (progress_of self.new) result }
         ensures silent { IfOk result (λ done. IsTrue done → R.table.charge self.old.recorder.state ≤ turns.count → enabled_names R.table self.new.recorder.state ≡ []) }
         ensures limit { self.new.recorder.limit ≡ self.old.recorder.limit }
     {
-        // By its contract the state is sound.
+        // Called for its contract: the state is sound.
         let _ = self.recorder.net().registers();
         let mut daemon = DaemonTurns::new(alloc, turns.seed);
         self.take_turns(&mut daemon, turns.count)
     }
 
-    /// Register faults that are drawn from the generator with this seed, none where the network has no node; false where a turn
-    /// meets a full log. At want of memory some first turns were taken, whole.
+    /// Makes up to `turns.count` register faults drawn with `turns.seed`; none if the network has no node.
+    ///
+    /// `false` if a turn meets a full log. `Want` if memory runs out, after some whole first turns.
     pub fn scramble(&mut self, turns: Turns) -> Result<bool, Want>
         ensures ends { TurnsEnd drawn_fault R.table self.old.recorder.limit turns.count (seeded_stream turns.seed) (progress_of self.old) (progress_of self.new) result }
         ensures limit { self.new.recorder.limit ≡ self.old.recorder.limit }
@@ -123,8 +130,10 @@ impl<R: Rules> Run<R> {
         self.take_turns(&mut injector, turns.count)
     }
 
-    /// Adds the lines of the base that the network is now. No log is kept, so there are no entries to be dropped. At want of
-    /// memory nothing has changed. A look at each name and at both ends of each edge; takes the base and its text.
+    /// Adds the lines of the base of the network's state. No log is kept, so no entries are dropped.
+    ///
+    /// `Want` if memory runs out; then nothing has changed. Looks at each name and at both ends of each edge;
+    /// takes the memory of the base and its text.
     pub fn checkpoint(&mut self) -> Result<(), Want>
         ensures ok { OnOk result (progress_of self.new ≡ checkpointed (progress_of self.old)) }
         ensures err { OnErr result (progress_of self.new ≡ progress_of self.old) }
@@ -135,8 +144,10 @@ impl<R: Rules> Run<R> {
         put_base(&mut self.text, self.rules, net.store().capacity(), &base)
     }
 
-    /// Follows a command, which a line says; false where it, or a turn of it, meets a full log. At want of memory nothing has
-    /// changed, or some first turns of the command were taken, whole, and their text is there.
+    /// Carries out the command of `line`; `false` if it, or one of its turns, meets a full log.
+    ///
+    /// `Want` if memory runs out; then nothing has changed, or some first turns were taken whole and their
+    /// text is there.
     #[inline(always)]
     pub fn follow(&mut self, alloc: Global, command: &Command, line: &[u8]) -> Result<bool, Want>
         requires { Says line.now command.now }
@@ -154,9 +165,11 @@ impl<R: Rules> Run<R> {
         }
     }
 
-    /// Carries out the line with this number, which has no LF: what in it stops the run, if anything does. A bad line changes
-    /// nothing; at a full log what a line's turns have done before stays. At want of memory nothing has changed, or some first
-    /// turns of the line were taken, whole, and their text is there: the run goes on from where it stands.
+    /// Carries out line `number`, given without its LF; returns what in it stops the run, if anything does.
+    ///
+    /// `BadLine` changes nothing. At `LogFull` the turns taken before stay. `Want` if memory runs out:
+    /// nothing has changed, or some first turns were taken whole and their text is there. The run can go on
+    /// after each of these.
     #[inline(always)]
     pub fn carry_out(
         &mut self,
@@ -168,7 +181,7 @@ impl<R: Rules> Run<R> {
         ensures silent { (turns : Turns) → Says line.now (Drive turns) → result ≡ Ok None → R.table.charge self.old.recorder.state ≤ turns.count → enabled_names R.table self.new.recorder.state ≡ [] }
         ensures limit { self.new.recorder.limit ≡ self.old.recorder.limit }
     {
-        // By its contract the state is sound.
+        // Called for its contract: the state is sound.
         let _ = self.recorder.net().registers();
         if line.is_empty() {
             return Ok(None);

@@ -1,10 +1,10 @@
-//! What ends a run.
+//! What stops a run.
 
-/// What in a script ends its run.
+/// What in a script stops its run.
 #[derive(Clone, Copy, Debug, PartialEq, Eq)]
 pub enum Stop {
-    /// The line with this number, from 1, is neither empty nor a command.
+    /// This line, counted from 1, is neither empty nor a command.
     BadLine { line: u64 },
-    /// A command came when there were as many entries as there may be.
+    /// A command needs an entry, and the log is full.
     LogFull,
 }

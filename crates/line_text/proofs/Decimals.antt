@@ -6,7 +6,7 @@ use Rattle.std.proofs.lemmas.Fmt.{decimal_digit}
 use Rattle.itoa.proofs.Decimal.{pair, decimal_two, decimal_pair, decimal_four}
 use Rattle.line_text.specs.declared.room.TheConstants.{PAIRS}
 
--- the first so many pairs of the table are right
+-- the first `n` pairs of the table are right
 abbrev are_pairs : ℕ → Bool
 are_pairs zero = true
 are_pairs (suc p) = (eqb (get_or PAIRS (p * 2) 0) (48 + p / 10) && eqb (get_or PAIRS (p * 2 + 1) 0) (48 + p % 10)) && are_pairs p

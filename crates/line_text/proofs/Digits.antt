@@ -64,7 +64,7 @@ found_name bytes len n le some d e lead v f =
     let text : number_text n ≡ take len bytes = ap number_text (sym v) ∙ back in
     record { fits = f; ends = e; is = sym (take-append-drop len bytes) ∙ ap (λ (z : List ℕ). z ++ drop len bytes) (sym text) }
 
--- a name that nothing follows
+-- a name that ends the text
 pub NameThen-last : (bytes : List ℕ) (n : ℕ) → IsName n → bytes ≡ number_text n → NameThen bytes n []
 NameThen-last bytes n f e = record { fits = f; ends = λ h. omega (arith, h.0); is = e ∙ sym (append-nil (number_text n)) }
 
@@ -84,7 +84,7 @@ WordThen-from bytes n text f e = record { fits = f; is = e ∙ append_assoc (num
 
 -- ---- a run of digits that is too long for a name
 
--- no run of digits goes on where no digit stands
+-- no run of digits continues if no digit comes next
 beyond : (ds rest : List ℕ) (len : ℕ) → AllDigits 10 (take len (ds ++ rest)) → length ds < len → len ≤ length (ds ++ rest) → NoDigit rest → ⊥
 beyond [] [] len d more le none = omega (arith, more, le)
 beyond [] (b ∷ rest) zero d more le none = omega (arith, more)

@@ -16,7 +16,7 @@ use Rattle.line_text.proofs.ItemsOnce.{item_once, first_item, nil_cons}
 number_once : (m n : ℕ) → IsName m → IsName n → number_text m ≡ number_text n → m ≡ n
 number_once m n f g e = decimal_injective m n (omega arith) (omega arith) e
 
--- a name and a text behind a space
+-- a name and a text after a space
 split_once : (m n : ℕ) (x y : List ℕ) → IsName m → IsName n → number_text m ++ codes " " ++ x ≡ number_text n ++ codes " " ++ y → (m ≡ n) × (x ≡ y)
 split_once m n x y f g e =
     word_once (number_text n ++ codes " " ++ y) m n x y (WordThen-from (number_text n ++ codes " " ++ y) m x f (sym e)) (WordThen-from (number_text n ++ codes " " ++ y) n y g refl)
@@ -48,7 +48,7 @@ items_once (i ∷ is) (j ∷ js) f g e =
     let r = item_once (spaced item_text (i ∷ is)) i j (spaced item_text is) (spaced item_text js) (first_item (spaced item_text (i ∷ is)) i is f refl) (first_item (spaced item_text (i ∷ is)) j js g e) in
     ap (λ (x : Item). x ∷ is) r.0 ∙ ap (λ (xs : List Item). j ∷ xs) (items_once is js f.1 g.1 r.1)
 
--- the first three bytes, which tell the eleven commands apart
+-- the first three bytes, which distinguish the eleven commands
 abbrev head_of : List ℕ → ℕ
 head_of line = get_or line 0 0 + 256 * get_or line 1 0 + 65536 * get_or line 2 0
 

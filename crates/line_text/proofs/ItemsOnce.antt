@@ -11,7 +11,7 @@ use Rattle.line_text.specs.EventText.{IsItem, IsChoice, item_text}
 use Rattle.line_text.specs.Reading.{NoDigit, NameThen, ItemEnds, ItemThen, SpellsChoice, HasItems}
 use Rattle.line_text.proofs.Digits.{name_once}
 
--- nothing is no text that has a byte
+-- the empty text is not a text with a byte
 pub nil_cons : {c : ℕ} {x : List ℕ} → [] ≡ c ∷ x → ⊥
 nil_cons e = cc
 
@@ -24,7 +24,7 @@ pub NoDigit-wish : (wish : Option ℕ) (rest : List ℕ) → ItemEnds wish rest 
 NoDigit-wish None rest h = h.0
 NoDigit-wish (Some w) rest h = λ (p : IsInRange 48 57 62). omega (arith, p.0, p.1)
 
--- the name of the item at the front, and its wish behind it
+-- the name of the item at the front, and its wish after it
 pub item_name : (word : List ℕ) (item : Item) (rest : List ℕ) → ItemThen (32 ∷ word) item rest → NameThen word item.node (marked_text (62 ∷ []) item.wish ++ rest)
 item_name word item rest h = record {
   fits = h.fits.0;
@@ -36,7 +36,7 @@ item_name word item rest h = record {
 pub wish_name : (w : ℕ) (marked rest : List ℕ) → IsName w → NoDigit rest → 62 ∷ marked ≡ marked_text (62 ∷ []) (Some w) ++ rest → NameThen marked w rest
 wish_name w marked rest f d e = record { fits = f; ends = d; is = append_cancel_left (62 ∷ []) marked (number_text w ++ rest) e }
 
--- no item, where no name follows the mark
+-- no item, if no name follows the mark
 no_wish_by : (word : List ℕ) (node : ℕ) (marked : List ℕ) (n : ℕ) (wish : Option ℕ) (rest : List ℕ) → NameThen word node (62 ∷ marked) → ((w : ℕ) (end : List ℕ) → NameThen marked w end → ⊥) → IfSome wish IsName → ItemEnds wish rest → NameThen word n (marked_text (62 ∷ []) wish ++ rest) → ⊥
 no_wish_by word node marked n None rest a none f ends b =
     let r = name_once word node n (62 ∷ marked) rest a b in
@@ -64,7 +64,7 @@ wish_once (Some v) (Some w) x y f g a b e =
 item_same : (i j : Item) → i.node ≡ j.node → i.wish ≡ j.wish → i ≡ j
 item_same i j e f = ap (λ (n : ℕ). item_of n i.wish) e ∙ ap (λ (w : Option ℕ). item_of j.node w) f
 
--- an item behind its space
+-- an item after its space
 first_space : (bytes : List ℕ) (item : Item) (rest : List ℕ) → ItemThen bytes item rest → ItemThen (32 ∷ (item_text item ++ rest)) item rest
 first_space bytes item rest h = record { fits = h.fits; ends = h.ends; is = refl }
 
@@ -77,7 +77,7 @@ item_once bytes i j x y a b =
     let s = wish_once i.wish j.wish x y a.fits.1 b.fits.1 a.ends b.ends r.1 in
     (item_same i j r.0 s.0, s.1)
 
--- items end where a space or nothing follows
+-- items end if a space follows or the text ends
 ItemEnds-spaced : (wish : Option ℕ) (items : List Item) → ItemEnds wish (spaced item_text items)
 ItemEnds-spaced None [] = (λ p. omega (arith, p.0, p.1), λ e. omega (arith, e))
 ItemEnds-spaced None (i ∷ is) = (λ p. omega (arith, p.0, p.1), λ e. omega (arith, e))
@@ -88,8 +88,7 @@ ItemEnds-spaced (Some w) (i ∷ is) = λ p. omega (arith, p.0, p.1)
 pub first_item : (bytes : List ℕ) (item : Item) (items : List Item) → AllByRecursion IsItem (item ∷ items) → bytes ≡ spaced item_text (item ∷ items) → ItemThen bytes item (spaced item_text items)
 first_item bytes item items f e = record { fits = f.0; ends = ItemEnds-spaced item.wish items; is = e }
 
--- Some items were read, and the rest is left: whatever items the whole text spells, they are those and the ones that
--- the rest spells.
+-- Some items were read, and the rest is left: the items of the whole text are they and those of the rest.
 pub record SoFar (bytes : List ℕ) (items : List Item) (rest : List ℕ) : Type 0 where
   pub fits : AllByRecursion IsItem items
   pub read : bytes ≡ spaced item_text items ++ rest
@@ -104,7 +103,7 @@ fits_push (i ∷ is) item f g = (f.0, fits_push is item f.1 g)
 spaced_push : (items : List Item) (item : Item) → spaced item_text (items ++ item ∷ []) ≡ spaced item_text items ++ (32 ∷ item_text item)
 spaced_push items item = flat_map-append (λ (i : Item). 32 ∷ item_text i) items (item ∷ []) ∙ ap (λ (z : List ℕ). spaced item_text items ++ z) (append-nil (32 ∷ item_text item))
 
--- what is left behind one more item
+-- what is left after one more item
 left_behind : (rest : List ℕ) (item : Item) (behind : List ℕ) (more : List Item) → ItemThen rest item behind → AllByRecursion IsItem more → rest ≡ spaced item_text more → (others : List Item) × (more ≡ item ∷ others) × AllByRecursion IsItem others × (behind ≡ spaced item_text others)
 left_behind rest item behind [] h f e = absurd (nil_cons (sym e ∙ h.is))
 left_behind rest item behind (i ∷ is) h f e =
@@ -122,12 +121,12 @@ SoFar-more bytes items rest item behind s h = record {
       (b.0, l.1 ∙ ap (λ (z : List Item). items ++ z) b.1 ∙ sym (append_assoc items (item ∷ []) b.0), b.2, b.3);
 }
 
--- nothing is spelled where something is left that begins with no item
+-- no items are spelled if the rest is not empty and begins with none
 stuck : (rest : List ℕ) (more : List Item) → rest ≢ [] → ((item : Item) (end : List ℕ) → ItemThen rest item end → ⊥) → AllByRecursion IsItem more → rest ≡ spaced item_text more → ⊥
 stuck rest [] some none f e = some e
 stuck rest (i ∷ is) some none f e = none i (spaced item_text is) (first_item rest i is f e)
 
--- no items are spelled where the rest begins with none
+-- no items are spelled if the rest begins with none
 pub SoFar-stuck : (bytes : List ℕ) (items : List Item) (rest : List ℕ) → SoFar bytes items rest → rest ≢ [] → ((item : Item) (end : List ℕ) → ItemThen rest item end → ⊥) → (all : List Item) → IsChoice all → bytes ≡ spaced item_text all → ⊥
 SoFar-stuck bytes items rest s some none all f e =
     let l = s.left all f.1 e in
@@ -167,20 +166,20 @@ Counted-all bytes count c =
     let few = c.few in
     (c.items, (omega (arith, many, few), c.so_far.fits), c.so_far.read ∙ append-nil (spaced item_text c.items), c.many)
 
--- so many items are a choice
+-- this many items are a choice
 pub HasItems-choice : (bytes : List ℕ) (count : ℕ) → HasItems bytes count → SpellsChoice bytes
 HasItems-choice bytes count h = (h.0, h.1, h.2)
 
--- no choice is spelled where the rest begins with no item
+-- no choice is spelled if the rest begins with no item
 pub Counted-stuck : (bytes : List ℕ) (count : ℕ) (rest : List ℕ) → Counted bytes count rest → rest ≢ [] → ((item : Item) (end : List ℕ) → ItemThen rest item end → ⊥) → SpellsChoice bytes → ⊥
 Counted-stuck bytes count rest c some none s = SoFar-stuck bytes c.items rest c.so_far some none s.0 s.1 s.2
 
--- what is left is more than nothing
+-- what is left is not empty
 some_more : (rest : List ℕ) (more : List Item) → rest ≢ [] → rest ≡ spaced item_text more → 1 ≤ length more
 some_more rest [] some e = absurd (some e)
 some_more rest (i ∷ is) some e = omega arith
 
--- no choice is spelled where something is left behind as many items as a choice holds
+-- no choice is spelled if a rest is left after as many items as a choice holds
 pub Counted-full : (bytes : List ℕ) (rest : List ℕ) → Counted bytes 65535 rest → rest ≢ [] → SpellsChoice bytes → ⊥
 Counted-full bytes rest c some s =
     let l = c.so_far.left s.0 s.1.1 s.2 in

@@ -1,4 +1,4 @@
--- Windows: the digits in them, and where they are written.
+-- Windows: the digits in them, and how they are written.
 use Rattle.std.proofs.Common.{◌≡◌, ℕ, zero, suc, ◌+◌, ◌-◌, ◌*◌, ◌/◌, ◌%◌, ◌^◌, ◌<◌, ◌≤◌, List, [], ◌∷◌, ◌++◌, length, take, drop, refl, ap, ◌∙◌, arith, w64, get_or, inl, inr, sym}
 use Rattle.std.proofs.lemmas.Slice.{take-put_mid}
 use Rattle.std.proofs.lemmas.List.{take-take, length-take-le}
@@ -61,14 +61,14 @@ bounded : (n b : ℕ) → n < 1000000 → b < 256 → (i : ℕ) → get_or (six_
 bounded n b h k (suc (suc (suc (suc (suc (suc (suc (suc i)))))))) = omega arith
 bounded n b h k i = omega arith
 
--- a number and the byte behind it, in the window that begins behind the zeros
+-- a number and the byte after it, in the window after the zeros
 pub number_in_window : (n b v j : ℕ) → n < 1000000 → b < 256 → v ≡ from_le_bytes w64 (six_digits n ++ (b ∷ 0 ∷ [])) → j ≡ 6 - length (decimal n) → take (7 - j) (to_le_bytes w64 (v / 2 ^ (8 * j))) ≡ decimal n ++ b ∷ []
 number_in_window n b v j h k e z =
     let few : j ≤ 5 = omega (arith, decimal_nonempty n (omega arith)) in
     let bytes = le_bytes_8 (six_digits n ++ (b ∷ 0 ∷ [])) v refl (bounded n b h k) e in
     shifted_bytes v (six_digits n ++ (b ∷ 0 ∷ [])) bytes j few ∙ cut n b j few ∙ ap (λ (x : List ℕ). x ++ b ∷ []) (rw z (decimal_in_six n h))
 
--- six digits, and a byte behind them
+-- six digits, and a byte after them
 pub packed : (n b d : ℕ) → n < 1000000 → b < 256 → d ≡ from_le_bytes w64 (six_digits n ++ (0 ∷ 0 ∷ [])) → d + b * 281474976710656 % 18446744073709551616 ≡ from_le_bytes w64 (six_digits n ++ (b ∷ 0 ∷ []))
 packed n b d h k e =
     let m : b * 281474976710656 % 18446744073709551616 ≡ b * 281474976710656 = omega arith in

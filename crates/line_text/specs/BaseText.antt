@@ -8,11 +8,12 @@ use Rattle.line_text.specs.Words.{number_text, ended, joined}
 use Rattle.line_text.specs.ReplyText.{field_text}
 use Rattle.line_text.specs.EventText.{pair_text, target_text, bool_text}
 
--- the rule set, and how many names there are
+-- the rule set, and the number of names
 abbrev pub base_head : RuleSet → ℕ → List ℕ
 base_head rules size = codes "matching2 " ++ rules_word rules ++ codes " " ++ number_text size
 
--- how many entries led to it, the moves spent, and how many nodes and edges there are, all but the first with their names
+-- how many entries led to it, the moves spent, and the numbers of nodes and edges; all but the first with
+-- their names
 abbrev pub base_fields : ℕ → ℕ → ℕ → ℕ → List (List ℕ × ℕ)
 base_fields number spent nodes edges =
     (codes "", number) ∷ (codes "spent=", spent) ∷ (codes "nodes=", nodes) ∷ (codes "edges=", edges) ∷ []
@@ -20,11 +21,11 @@ base_fields number spent nodes edges =
 abbrev pub base_counts : ℕ → ℕ → ℕ → ℕ → List ℕ
 base_counts number spent nodes edges = codes "base " ++ joined field_text (base_fields number spent nodes edges)
 
--- the line of a base that has its four numbers
+-- the line with the four numbers of a base
 abbrev pub numbers_line : Base → List ℕ
 numbers_line base = base_counts base.number base.spent (length base.nodes) (length base.edges)
 
--- a node, where its pointer is, and its flag
+-- a node, its pointer, and its flag
 abbrev pub place_text : Place → List ℕ
 place_text place = codes "node " ++ number_text place.node ++ codes " " ++ target_text place.target ++ codes " " ++ bool_text place.flagged
 
@@ -32,7 +33,7 @@ place_text place = codes "node " ++ number_text place.node ++ codes " " ++ targe
 abbrev pub link_text : ℕ × ℕ → List ℕ
 link_text edge = codes "edge " ++ pair_text edge.0 edge.1
 
--- all lines of a base of so many names
+-- all lines of a base of `size` names
 abbrev pub base_text : RuleSet → ℕ → Base → List ℕ
 base_text rules size base =
     (base_head rules size ++ 10 ∷ []) ++ (numbers_line base ++ 10 ∷ []) ++ ended place_text base.nodes ++ ended link_text base.edges

@@ -9,15 +9,15 @@ use Rattle.line_text.specs.EventText.{event_text}
 use Rattle.line_text.specs.ReplyText.{reply_text}
 use Rattle.rule_machine.specs.Run.{Entry}
 
--- how many names there are and, where not all of them are present at the start, how many are
+-- the number of names and, if not all are present at the start, how many are
 abbrev pub sizes_text : ℕ → ℕ → List ℕ
 sizes_text size count = if nat_lt count size then number_text size ++ codes " " ++ number_text count else number_text size
 
--- the rule set, how many names there are, and how many of them are present at the start
+-- the rule set, the number of names, and how many of them are present at the start
 abbrev pub header_text : RuleSet → ℕ → ℕ → List ℕ
 header_text rules size count = codes "matching " ++ rules_word rules ++ codes " " ++ sizes_text size count
 
--- the header and the LF that ends its line
+-- the header and its LF
 abbrev pub header_line : RuleSet → ℕ → ℕ → List ℕ
 header_line rules size count = header_text rules size count ++ 10 ∷ []
 
@@ -29,11 +29,11 @@ numbered_text number line reply = number_text number ++ codes " " ++ line ++ cod
 abbrev pub entry_text : ℕ → Event → Reply → List ℕ
 entry_text number event reply = numbered_text number (event_text event) reply
 
--- the entry and the LF that ends its line
+-- the entry and its LF
 abbrev pub entry_line : ℕ → Event → Reply → List ℕ
 entry_line number event reply = entry_text number event reply ++ 10 ∷ []
 
--- the lines of entries, the first of which has this number
+-- the lines of entries that are numbered from this number on
 abbrev pub entry_lines : ℕ → List Entry → List ℕ
 entry_lines number [] = []
 entry_lines number (entry ∷ log) = entry_line number entry.0 entry.1 ++ entry_lines (number + 1) log

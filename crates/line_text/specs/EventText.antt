@@ -10,12 +10,12 @@ use Rattle.line_text.specs.Words.{number_text, IsName, marked_text, spaced}
 abbrev pub pair_text : ℕ → ℕ → List ℕ
 pair_text a b = number_text a ++ codes " " ++ number_text b
 
--- a name, or a dash for null
+-- a name, or `-` for null
 abbrev pub target_text : Option ℕ → List ℕ
 target_text None = codes "-"
 target_text (Some w) = number_text w
 
--- a name, and where it shall point
+-- a name, and its pointer
 abbrev pub point_text : ℕ → Option ℕ → List ℕ
 point_text v target = number_text v ++ codes " " ++ target_text target
 
@@ -23,11 +23,11 @@ abbrev pub bool_text : Bool → List ℕ
 bool_text false = codes "0"
 bool_text true = codes "1"
 
--- a name, and what its flag shall say
+-- a name, and its flag
 abbrev pub flag_text : ℕ → Bool → List ℕ
 flag_text v value = number_text v ++ codes " " ++ bool_text value
 
--- a node, and its wish behind a `>`
+-- a node, and its wish after a `>`
 abbrev pub item_text : Item → List ℕ
 item_text item = number_text item.node ++ marked_text (codes ">") item.wish
 
@@ -44,14 +44,15 @@ event_text Enabled = codes "enabled"
 event_text Matching = codes "matching"
 event_text Status = codes "status"
 
--- what each item of a step meets
+-- what each item of a step satisfies
 abbrev pub IsItem : Item → Type 0
 IsItem item = IsName item.node × IfSome item.wish IsName
 
 abbrev pub IsChoice : List Item → Type 0
 IsChoice items = (length items ≤ 65535) × AllByRecursion IsItem items
 
--- what each value of the program's type of events meets: names are 1 to 65,535, and a step has at most 65,535 items
+-- what each value of the program's type of events satisfies: names are 1 to 65,535, and a step has at most
+-- 65,535 items
 abbrev pub IsEvent : Event → Type 0
 IsEvent (Link a b) = IsName a × IsName b
 IsEvent (Unlink a b) = IsName a × IsName b

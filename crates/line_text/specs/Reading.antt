@@ -1,20 +1,20 @@
--- What the readers of a line's parts say of the bytes that they are given.
+-- What the readers of a line's parts say of their bytes.
 use Rattle.std.specs.Prelude.{◌≡◌, ◌≢◌, ◌<◌, Bool, true, false, ℕ, List, ◌++◌, length, Option, None, Some, MatchOption, slice_index, codes}
 use Rattle.std.specs.Int.{IsInRange}
 use Rattle.rule_machine.specs.declared.choice.Item.{Item}
 use Rattle.line_text.specs.Words.{number_text, IsName, spaced}
 use Rattle.line_text.specs.EventText.{IsItem, IsChoice, item_text}
 
--- the bytes are the text of what was found, or of nothing that might be found
+-- the bytes are the text of what was found; if none was found, they are the text of no such value
 abbrev pub Reads : {X : Type 0} → (X → Type 0) → (X → List ℕ) → List ℕ → Option X → Type 0
 Reads {X} fits text bytes found = MatchOption found ((x : X) → fits x → bytes ≡ text x → ⊥) (λ x. fits x × (bytes ≡ text x))
 
--- the same of two parts
+-- the same for two parts
 abbrev pub ReadsTwo : {X Y : Type 0} → (X → Y → Type 0) → (X → Y → List ℕ) → List ℕ → Option (X × Y) → Type 0
 ReadsTwo {X} {Y} fits text bytes found =
     MatchOption found ((x : X) (y : Y) → fits x y → bytes ≡ text x y → ⊥) (λ p. fits p.0 p.1 × (bytes ≡ text p.0 p.1))
 
--- the first byte is no digit
+-- the first byte is not a digit
 abbrev pub NoDigit : List ℕ → Type 0
 NoDigit bytes = IsInRange 48 57 (slice_index bytes 0) → ⊥
 
@@ -35,18 +35,18 @@ pub record WordThen (bytes : List ℕ) (name : ℕ) (rest : List ℕ) : Type 0 w
   pub fits : IsName name
   pub is : bytes ≡ number_text name ++ (codes " " ++ rest)
 
--- the rest goes on with no digit, and with no `>` where there was none
+-- the rest begins with no digit and, if there was no wish, with no `>`
 abbrev pub ItemEnds : Option ℕ → List ℕ → Type 0
 ItemEnds None rest = NoDigit rest × (slice_index rest 0 ≢ 62)
 ItemEnds (Some w) rest = NoDigit rest
 
--- the bytes are an item behind a space, and the rest
+-- the bytes are an item after a space, and the rest
 pub record ItemThen (bytes : List ℕ) (item : Item) (rest : List ℕ) : Type 0 where
   pub fits : IsItem item
   pub ends : ItemEnds item.wish rest
   pub is : bytes ≡ codes " " ++ (item_text item ++ rest)
 
--- the bytes are the items of a choice, each behind one space
+-- the bytes are the items of a choice, each after one space
 abbrev pub SpellsChoice : List ℕ → Type 0
 SpellsChoice bytes = (items : List Item) × IsChoice items × (bytes ≡ spaced item_text items)
 
@@ -54,7 +54,7 @@ SpellsChoice bytes = (items : List Item) × IsChoice items × (bytes ≡ spaced 
 abbrev pub HasItems : List ℕ → ℕ → Type 0
 HasItems bytes count = (items : List Item) × IsChoice items × (bytes ≡ spaced item_text items) × (length items ≡ count)
 
--- what was put where it is kept, if anything was
+-- the value stored, if one was
 abbrev pub kept_if : {X : Type 0} → Bool → X → Option X
 kept_if true x = Some x
 kept_if false x = None

@@ -23,7 +23,7 @@ act_word Abandon = codes "abandon"
 abbrev pub enabled_text : ℕ × Act → List ℕ
 enabled_text e = number_text e.0 ++ codes ":" ++ act_word e.1
 
--- a node, its rule, and its new target behind a `>`
+-- a node, its rule, and its new target after a `>`
 abbrev pub move_text : Moved → List ℕ
 move_text m = number_text m.node ++ codes ":" ++ act_word m.act ++ marked_text (codes ">") m.target
 
@@ -35,7 +35,7 @@ mutual_text p = number_text p.0 ++ codes "-" ++ number_text p.1
 abbrev pub refusal_words : Refusal → List ℕ
 refusal_words refusal = number_text (refusal_number refusal) ++ codes " " ++ refusal_text refusal
 
--- a number behind its name
+-- a field: its name, then its number
 abbrev pub field_text : List ℕ × ℕ → List ℕ
 field_text field = field.0 ++ number_text field.1
 
@@ -67,14 +67,14 @@ IsEnabled e = IsName e.0
 abbrev pub IsPair : ℕ × ℕ → Type 0
 IsPair p = IsName p.0 × IsName p.1 × (p.0 < p.1)
 
--- what each of the six numbers meets
+-- what each of the six numbers satisfies
 abbrev pub IsCount : ℕ → Type 0
 IsCount n = n < 4294967296
 
 abbrev pub IsCounts : Counts → Type 0
 IsCounts c = IsCount c.nodes × IsCount c.edges × IsCount c.pairs × IsCount c.enabled × IsCount c.charge × IsCount c.spent
 
--- what each value of the program's type of replies meets
+-- what each value of the program's type of replies satisfies
 abbrev pub IsReply : Reply → Type 0
 IsReply Accepted = Unit {0}
 IsReply (Refused refusal) = Unit {0}

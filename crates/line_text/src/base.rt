@@ -9,7 +9,7 @@ use crate::numbers::{put_name, put_name_then, put_number, put_target};
 use crate::replies::put_field;
 use rule_machine::{Base, Edge, Place, RuleSet, Want};
 
-/// What stands in a text as one line.
+/// A value written as one line.
 trait Line {
     // The line's text, without its LF.
     ghost text: { Self → List ℕ };
@@ -41,7 +41,6 @@ impl Line for Edge {
     }
 }
 
-// Writes lines, each with its LF.
 fn put_lines<L: Line>(out: &mut Vec<u8>, lines: &[L]) -> Result<(), Want>
     ensures ok { OnOk result (out.new.items ≡ out.old.items ++ ended L.text lines.now) }
     ensures err { OnErr result (Extends out.old.items out.new.items) }
@@ -91,8 +90,8 @@ fn append_base(out: &mut Vec<u8>, rules: RuleSet, size: u32, base: &Base) -> Res
     put_lines(out, base.edges.as_slice())
 }
 
-/// Writes the lines of a base of so many names, each with its LF: a line for the rules and the names, one for its numbers, one for
-/// each node and one for each edge. At most some 18 megabytes; at want of memory nothing is written.
+/// Appends the lines of a base, each with its LF; `size` is its number of names.
+/// At most some 18 megabytes. If memory runs out, it writes nothing.
 pub fn put_base(out: &mut Vec<u8>, rules: RuleSet, size: u32, base: &Base) -> Result<(), Want>
     requires few_nodes { length base.now.nodes ≤ 65535 }
     requires few_edges { length base.now.edges ≤ 1048576 }

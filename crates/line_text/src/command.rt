@@ -10,7 +10,6 @@ use crate::items::read_items;
 use rule_machine::{Event, Node, Want};
 use std::alloc::Global;
 
-// Reads two names.
 fn read_pair(bytes: &[u8]) -> Option<(Node, Node)>
     ensures { ReadsTwo (λ a b. IsName a × IsName b) pair_text bytes.now result }
 {
@@ -23,7 +22,7 @@ fn read_pair(bytes: &[u8]) -> Option<(Node, Node)>
     Some((a, b))
 }
 
-/// Reads a name, or a dash for null.
+/// Reads a name, or `-` for null.
 pub fn read_target(bytes: &[u8]) -> Option<Option<Node>>
     ensures { Reads (λ target. IfSome target IsName) target_text bytes.now result }
 {
@@ -36,7 +35,6 @@ pub fn read_target(bytes: &[u8]) -> Option<Option<Node>>
     }
 }
 
-// Reads a name, and where it shall point.
 fn read_point(bytes: &[u8]) -> Option<(Node, Option<Node>)>
     ensures { ReadsTwo (λ v target. IsName v × IfSome target IsName) point_text bytes.now result }
 {
@@ -49,7 +47,7 @@ fn read_point(bytes: &[u8]) -> Option<(Node, Option<Node>)>
     Some((node, target))
 }
 
-/// Reads 1 for true, or 0 for false.
+/// Reads `1` for true, or `0` for false.
 pub fn read_bool(bytes: &[u8]) -> Option<bool>
     ensures { Reads (λ (b : Bool). ⊤) bool_text bytes.now result }
 {
@@ -62,7 +60,6 @@ pub fn read_bool(bytes: &[u8]) -> Option<bool>
     None
 }
 
-// Reads a name, and what its flag shall say.
 fn read_flag(bytes: &[u8]) -> Option<(Node, bool)>
     ensures { ReadsTwo (λ v value. IsName v) flag_text bytes.now result }
 {
@@ -75,7 +72,7 @@ fn read_flag(bytes: &[u8]) -> Option<(Node, bool)>
     Some((node, value))
 }
 
-// Puts an event that was found where the caller keeps it; whether one was.
+// Stores the event found, if any; returns whether there was one.
 #[inline(always)]
 fn put(event: &mut Event, found: Option<Event>) -> bool
     ensures { kept_if result event.new ≡ found }
@@ -87,8 +84,9 @@ fn put(event: &mut Event, found: Option<Event>) -> bool
     true
 }
 
-/// Reads the command that a line is and puts it where the caller keeps it, so that none is moved; false where the line is none.
-/// Memory is for the items of a step alone, and a line that is no command wants none.
+/// Reads a line's command into `event`, which saves a move; returns false if it is no command.
+/// Takes memory only for the items of a step, and none if the line is no command.
+/// Error: out of memory.
 #[inline(always)]
 pub fn read_command_into(alloc: Global, line: &[u8], event: &mut Event) -> Result<bool, Want>
     ensures command { IfOk result
@@ -140,8 +138,7 @@ pub fn read_command_into(alloc: Global, line: &[u8], event: &mut Event) -> Resul
     Ok(put(event, None))
 }
 
-/// Reads the command that a line is; `None` where it is none. Memory is for the items of a step alone, and a line that is no
-/// command wants none.
+/// Reads a line's command; `None` if it is no command. Memory and error: as `read_command_into`.
 pub fn read_command(alloc: Global, line: &[u8]) -> Result<Option<Event>, Want>
     ensures command { IfOk result
         (λ found. MatchOption found (NotACommand line.now) (λ event. Spells line.now event)) }

@@ -15,10 +15,10 @@ use crate::room::{TOO_LONG, put_digits, put_window};
 use crate::word::Word;
 use rule_machine::{Event, Item, Moved, Reply, RuleSet, Want};
 
-// More than the entry of one item and one move takes.
+// More bytes than an entry with one item and one move has.
 const ROOM: usize = 72;
 
-// Writes how many names there are and, where not all of them are present, how many are.
+// Writes the number of names and, if not all are present, how many are.
 fn put_sizes(out: &mut Vec<u8>, size: u32, count: u32) -> Result<(), Want>
     ensures ok { OnOk result (out.new.items ≡ out.old.items ++ sizes_text size count) }
     ensures err { OnErr result (Extends out.old.items out.new.items) }
@@ -42,7 +42,7 @@ fn append_header(out: &mut Vec<u8>, rules: RuleSet, size: u32, count: u32) -> Re
     out.extend_from_slice(b"\n")
 }
 
-// Writes what stands behind an entry's event. Short replies are written with the LF behind them.
+// Writes the reply part of an entry. Short replies are written together with the LF.
 fn append_answer(out: &mut Vec<u8>, reply: &Reply) -> Result<(), Want>
     ensures ok { OnOk result (out.new.items ≡ out.old.items ++ (codes " = " ++ reply_text reply.now ++ 10 ∷ [])) }
     ensures err { OnErr result (Extends out.old.items out.new.items) }
@@ -64,7 +64,7 @@ fn append_answer(out: &mut Vec<u8>, reply: &Reply) -> Result<(), Want>
     }
 }
 
-// The item and the move of a step that has one of each.
+// The item and the move of a step with exactly one of each.
 #[inline(always)]
 fn one_move<'a>(event: &'a Event, reply: &'a Reply) -> Option<(&'a Item, &'a Moved)>
     ensures { IfSome result (λ pair. (event.now ≡ Step (pair.0.now ∷ [])) × (reply.now ≡ Moves (pair.1.now ∷ []))) }
@@ -78,7 +78,7 @@ fn one_move<'a>(event: &'a Event, reply: &'a Reply) -> Option<(&'a Item, &'a Mov
     }
 }
 
-// Writes the entry of a step that has one item and one move at a place, and gives the place behind it.
+// Writes the entry of a one-move step at `at`, and returns its end.
 #[inline(always)]
 fn put_one_move(room: &mut [u8], at: usize, number: u32, item: &Item, moved: &Moved) -> usize
     requires below { number < 1000000 }
@@ -93,7 +93,7 @@ fn put_one_move(room: &mut [u8], at: usize, number: u32, item: &Item, moved: &Mo
     moved.put(room, at, b'\n')
 }
 
-// Writes the entry of a step that has one item and one move: one look for room.
+// Appends the entry of a one-move step. One check for room.
 fn append_one_move(out: &mut Vec<u8>, number: u32, item: &Item, moved: &Moved) -> Result<(), Want>
     requires { number < 1000000 }
     ensures ok { OnOk result (out.new.items ≡ out.old.items ++ entry_line number (Step (item.now ∷ [])) (Moves (moved.now ∷ []))) }
@@ -132,7 +132,7 @@ fn append_line(out: &mut Vec<u8>, number: u32, line: &[u8], reply: &Reply) -> Re
     append_answer(out, reply)
 }
 
-/// Takes back what was half written behind so many bytes.
+/// Cuts the text back to `len` bytes if the write failed.
 pub(crate) fn whole_or_none(
     out: &mut Vec<u8>,
     len: usize,
@@ -148,8 +148,9 @@ pub(crate) fn whole_or_none(
     done
 }
 
-/// Writes a transcript's header, with its LF: the rules, how many names there are and, where not all of them are present
-/// at the start, how many are. A `count` above `size` is written as `size` is.
+/// Appends a transcript's header, with its LF.
+/// It has the rules, the number of names and, if not all are present at the start, how many are.
+/// A `count` above `size` is written as `size`. If memory runs out, it writes nothing.
 pub fn put_header(out: &mut Vec<u8>, rules: RuleSet, size: u32, count: u32) -> Result<(), Want>
     ensures ok { OnOk result (out.new.items ≡ out.old.items ++ header_line rules size count) }
     ensures err { OnErr result (out.new.items ≡ out.old.items) }
@@ -159,8 +160,8 @@ pub fn put_header(out: &mut Vec<u8>, rules: RuleSet, size: u32, count: u32) -> R
     whole_or_none(out, len, done)
 }
 
-/// Writes the entry with this number, with its LF: the event, and the reply to it. What was written are names, as each
-/// value of these types has them.
+/// Appends the entry with this number, with its LF: the event, and the reply to it.
+/// If memory runs out, it writes nothing.
 pub fn put_entry(out: &mut Vec<u8>, number: u32, event: &Event, reply: &Reply) -> Result<(), Want>
     ensures ok { OnOk result (out.new.items ≡ out.old.items ++ entry_line number event.now reply.now) }
     ensures err { OnErr result (out.new.items ≡ out.old.items) }
@@ -171,8 +172,8 @@ pub fn put_entry(out: &mut Vec<u8>, number: u32, event: &Event, reply: &Reply) -
     whole_or_none(out, len, done)
 }
 
-/// Writes the entry with this number, with its LF, of an event whose script line is at hand: that line is copied, and the
-/// reply to it written.
+/// Appends an entry like `put_entry`, but copies the event's script line.
+/// If memory runs out, it writes nothing.
 pub fn put_entry_of_line(
     out: &mut Vec<u8>,
     number: u32,

@@ -1,4 +1,4 @@
-//! Script lines at the end of a text.
+//! Script lines, appended to a text.
 
 ghost use Rattle.std.specs.Prelude.{◌≡◌, ◌++◌, IfSome, OnOk, OnErr};
 ghost use Rattle.line_text.specs.Words.{IsName, Extends};
@@ -52,7 +52,7 @@ impl Word for Item {
     }
 }
 
-/// Writes an event's script line, without its LF.
+/// Appends an event's script line, without its LF.
 pub(crate) fn put_event(out: &mut Vec<u8>, event: &Event) -> Result<(), Want>
     ensures ok { OnOk result (out.new.items ≡ out.old.items ++ event_text event.now) }
     ensures err { OnErr result (Extends out.old.items out.new.items) }

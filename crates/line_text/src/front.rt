@@ -1,4 +1,4 @@
-//! What stands at the front of a text: a given one, digits, a name.
+//! Reads the front of a text: a given text, digits, a name.
 
 ghost use Rattle.std.specs.Prelude.{◌≡◌, ℕ, ◌≤◌, List, ◌++◌, length, take, drop, MatchOption};
 ghost use Rattle.std.specs.Str.Parse.{AllDigits, digits_value};
@@ -7,16 +7,16 @@ ghost use Rattle.line_text.specs.Reading.{Reads, NoDigit, NameThen, WordThen};
 
 use rule_machine::{MAX_NAME, Node};
 
-/// The most digits that a name has.
+/// The most digits of a name.
 const NAME_DIGITS: usize = 5;
 
-/// How many bytes tell a name and where it ends.
+/// How many bytes decide on a name and its end.
 const ENOUGH: usize = 6;
 
-/// The byte of the digit 0, in as many bits as a number has.
+/// The byte of the digit 0.
 const ZERO: u32 = 48;
 
-/// What follows the given text at the front; `None` where another text stands there.
+/// What follows `front` at the front; `None` if the text begins otherwise.
 #[inline]
 pub fn after<'a>(bytes: &'a [u8], front: &[u8]) -> Option<&'a [u8]>
     ensures { MatchOption result
@@ -26,7 +26,7 @@ pub fn after<'a>(bytes: &'a [u8], front: &[u8]) -> Option<&'a [u8]>
     bytes.strip_prefix(front)
 }
 
-/// The length of the run of digits in front, and their number where they are at most eight.
+/// The number of digits at the front, and their value if they are at most eight.
 #[inline(always)]
 pub(crate) fn digits_in_front(bytes: &[u8]) -> (usize, u32)
     ensures within { result.0 ≤ length bytes.now }
@@ -45,8 +45,8 @@ pub(crate) fn digits_in_front(bytes: &[u8]) -> (usize, u32)
     (bytes.len(), number)
 }
 
-/// The same for a name: no more than six digits are counted, and of six it is not told whether more follow. Where there are six
-/// bytes no digit needs a test for the end.
+/// The same for a name: counts at most six digits. With six there may be more.
+/// If there are six bytes, no digit needs a test for the end.
 #[inline(always)]
 fn name_digits(bytes: &[u8]) -> (usize, u32)
     ensures within { result.0 ≤ length bytes.now }
@@ -60,8 +60,8 @@ fn name_digits(bytes: &[u8]) -> (usize, u32)
     digits_in_front(&bytes[..ENOUGH])
 }
 
-/// Reads the name in front in one pass over its digits, and gives what follows them; `None` where there is no name, or one with a
-/// leading zero.
+/// Reads the name at the front in one pass, and returns the rest.
+/// Returns `None` if there is no name from 1 to 65,535, or it has a leading zero.
 #[inline(always)]
 pub fn read_name(bytes: &[u8]) -> Option<(Node, &[u8])>
     ensures { MatchOption result
@@ -72,7 +72,7 @@ pub fn read_name(bytes: &[u8]) -> Option<(Node, &[u8])>
     if len == 0 || len > NAME_DIGITS || bytes[0] == b'0' {
         return None;
     }
-    // Told here, so that one test of the number is left.
+    // Tested here, so that one test of the number remains.
     if number > MAX_NAME {
         return None;
     }
@@ -82,7 +82,7 @@ pub fn read_name(bytes: &[u8]) -> Option<(Node, &[u8])>
     Some((node, &bytes[len..]))
 }
 
-/// Reads a name that nothing follows.
+/// Reads a text that is one name; `None` for any other text.
 pub fn read_last(bytes: &[u8]) -> Option<Node>
     ensures { Reads IsName number_text bytes.now result }
 {
@@ -95,7 +95,7 @@ pub fn read_last(bytes: &[u8]) -> Option<Node>
     Some(node)
 }
 
-/// Reads the name at the front and the space behind it, and gives what follows the space.
+/// Reads the name and the space at the front, and returns the rest.
 pub(crate) fn read_word(bytes: &[u8]) -> Option<(Node, &[u8])>
     ensures { MatchOption result
         ((name : ℕ) (rest : List ℕ) → WordThen bytes.now name rest → ⊥)

@@ -10,10 +10,10 @@ use crate::front::{after, read_name};
 use rule_machine::{Choice, Item, MAX_ITEMS, Want};
 use std::alloc::{AllocError, Global};
 
-/// How many bytes an item has at most where it has no wish: room is taken for items of that many, and grows for shorter ones.
+/// The most bytes of an item without a wish. Room made for such items grows if they are shorter.
 const WIDTH: usize = 6;
 
-// Reads the space and the item at the front, and gives what follows the item.
+// Reads the space and the item at the front, and returns the rest.
 fn read_item(bytes: &[u8]) -> Option<(Item, &[u8])>
     ensures { MatchOption result
         ((item : Item) (rest : List ℕ) → ItemThen bytes.now item rest → ⊥)
@@ -40,7 +40,7 @@ fn read_item(bytes: &[u8]) -> Option<(Item, &[u8])>
     ))
 }
 
-// How many items stand there, each behind one space; `None` where they are no choice.
+// How many items there are, each after one space; `None` if they are not a choice.
 fn count_items(bytes: &[u8]) -> Option<usize>
     ensures { MatchOption result
         (SpellsChoice bytes.now → ⊥)
@@ -61,7 +61,7 @@ fn count_items(bytes: &[u8]) -> Option<usize>
     Some(count)
 }
 
-// What is read where there is no memory for items: want of it, or `None` where they are no choice.
+// The result if there is no memory for items: an error, or `None` if they are not a choice.
 fn read_none(bytes: &[u8]) -> Result<Option<Choice>, Want>
     ensures items { IfOk result (Reads IsChoice (spaced item_text) bytes.now) }
     ensures memory { OnErr result (SpellsChoice bytes.now) }
@@ -72,7 +72,7 @@ fn read_none(bytes: &[u8]) -> Result<Option<Choice>, Want>
     }
 }
 
-// Reads an item behind one space, which nothing follows.
+// Reads a single item after one space.
 fn read_one(bytes: &[u8]) -> Option<Choice>
     ensures { IfSome result (λ choice. IsChoice choice × (bytes.now ≡ spaced item_text choice)) }
 {
@@ -82,8 +82,9 @@ fn read_one(bytes: &[u8]) -> Option<Choice>
     }
 }
 
-/// Reads items, each behind one space; `None` where anything else stands there, or more items than a choice holds.
-/// Memory is for two items and more, and a line that is no choice wants none. Each item but the first is read once.
+/// Reads items, each after one space; `None` for any other text, and above 65,535 items.
+/// Takes memory for two or more items; a line that is no choice needs none.
+/// Each item but the first is read once.
 pub(crate) fn read_items(alloc: Global, bytes: &[u8]) -> Result<Option<Choice>, Want>
     ensures items { IfOk result (Reads IsChoice (spaced item_text) bytes.now) }
     ensures memory { OnErr result (SpellsChoice bytes.now) }

@@ -1,4 +1,4 @@
-//! What holds of all lines.
+//! A law of all lines.
 
 ghost use Rattle.std.specs.Prelude.{◌≡◌, ℕ, List};
 ghost use Rattle.rule_machine.specs.declared.event.Event.{Event};

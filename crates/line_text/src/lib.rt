@@ -1,10 +1,10 @@
-//! The text of scripts and transcripts: commands are read exactly, and entries written exactly.
+//! The text of scripts and transcripts: reads commands and writes entries.
 //!
-//! Each event, reply, entry and base has one spelling, which `specs/` define; a line is read as an event exactly where it is that event's
-//! text (`read_command_into`), and is the text of one at most (the law `one_reading`). Writers add a whole line behind what a buffer has,
-//! or at want of memory leave it as it was.
+//! Each event, reply, entry and base has one spelling, defined in `specs/`. `read_command_into` accepts
+//! exactly the texts of events, and a line is the text of at most one (the law `one_reading`). Writers append
+//! a whole line, or leave the buffer unchanged if memory runs out.
 //!
-//! Reading takes memory for the items of a step alone. Lines of a transcript are read one crate up, in `entry_grammar`.
+//! Reading takes memory only for the items of a step. One crate up, `entry_grammar` reads transcripts.
 //!
 //! ```rust
 //! let mut event = Event::Status;

@@ -1,4 +1,4 @@
-//! Numbers and names at the end of a text.
+//! Numbers and names, appended to a text.
 
 ghost use Rattle.std.specs.Prelude.{◌≡◌, ◌<◌, [], ◌∷◌, ◌++◌, IfSome, OnOk, OnErr};
 ghost use Rattle.line_text.specs.Words.{number_text, IsName};
@@ -8,7 +8,7 @@ use crate::room::{TOO_LONG, WINDOW, put_digits};
 use itoa::Buffer;
 use rule_machine::{Node, Want};
 
-// Writes a number of more than six digits, and the byte behind it.
+// Appends a number of more than six digits, and a byte.
 fn put_longest(out: &mut Vec<u8>, number: u32, behind: u8) -> Result<(), Want>
     ensures ok { OnOk result (out.new.items ≡ out.old.items ++ (number_text number ++ behind ∷ [])) }
     ensures err { OnErr result (out.new.items ≡ out.old.items) }
@@ -21,7 +21,6 @@ fn put_longest(out: &mut Vec<u8>, number: u32, behind: u8) -> Result<(), Want>
     Ok(())
 }
 
-// Writes a number of at most six digits, and the byte behind it.
 #[inline(always)]
 fn append_digits(out: &mut Vec<u8>, number: u32, behind: u8) -> Result<(), Want>
     requires { number < 1000000 }
@@ -35,8 +34,8 @@ fn append_digits(out: &mut Vec<u8>, number: u32, behind: u8) -> Result<(), Want>
     Ok(())
 }
 
-// Writes a number that is long, or for which there is no room yet, and the byte behind it. It stands apart, as what is rare: so
-// what is not saves no registers for it.
+// Appends a long number, or one without room yet, and a byte.
+// Out of line: it is rare, so the common path saves no registers for it.
 #[cold]
 #[inline(never)]
 fn put_rare(out: &mut Vec<u8>, number: u32, behind: u8) -> Result<(), Want>
@@ -49,8 +48,8 @@ fn put_rare(out: &mut Vec<u8>, number: u32, behind: u8) -> Result<(), Want>
     append_digits(out, number, behind)
 }
 
-/// Writes a number in decimal, and the byte behind it: one look for room. A call of its own, so that what writes an entry's number
-/// stays short enough to stand in its caller.
+/// Appends a number in decimal and a byte. One check for room.
+/// Not inlined, so that the writer of entry numbers is small enough to inline.
 #[inline(never)]
 pub(crate) fn put_number_then(out: &mut Vec<u8>, number: u32, behind: u8) -> Result<(), Want>
     ensures ok { OnOk result (out.new.items ≡ out.old.items ++ (number_text number ++ behind ∷ [])) }
@@ -62,7 +61,6 @@ pub(crate) fn put_number_then(out: &mut Vec<u8>, number: u32, behind: u8) -> Res
     append_digits(out, number, behind)
 }
 
-/// Writes a number in decimal.
 pub(crate) fn put_number(out: &mut Vec<u8>, number: u32) -> Result<(), Want>
     ensures ok { OnOk result (out.new.items ≡ out.old.items ++ number_text number) }
     ensures err { OnErr result (out.new.items ≡ out.old.items) }
@@ -72,7 +70,6 @@ pub(crate) fn put_number(out: &mut Vec<u8>, number: u32) -> Result<(), Want>
     Ok(())
 }
 
-/// Writes a node's name.
 pub(crate) fn put_name(out: &mut Vec<u8>, node: Node) -> Result<(), Want>
     ensures ok { OnOk result (out.new.items ≡ out.old.items ++ number_text node) }
     ensures err { OnErr result (out.new.items ≡ out.old.items) }
@@ -81,7 +78,6 @@ pub(crate) fn put_name(out: &mut Vec<u8>, node: Node) -> Result<(), Want>
     put_number(out, node.name())
 }
 
-/// Writes a node's name, and the byte behind it.
 pub(crate) fn put_name_then(out: &mut Vec<u8>, node: Node, behind: u8) -> Result<(), Want>
     ensures ok { OnOk result (out.new.items ≡ out.old.items ++ (number_text node ++ behind ∷ [])) }
     ensures err { OnErr result (out.new.items ≡ out.old.items) }
@@ -90,7 +86,7 @@ pub(crate) fn put_name_then(out: &mut Vec<u8>, node: Node, behind: u8) -> Result
     put_number_then(out, node.name(), behind)
 }
 
-/// Writes a name, or a dash for null.
+/// Appends a name, or `-` for null.
 pub(crate) fn put_target(out: &mut Vec<u8>, target: Option<Node>) -> Result<(), Want>
     ensures ok { OnOk result (out.new.items ≡ out.old.items ++ target_text target) }
     ensures err { OnErr result (out.new.items ≡ out.old.items) }

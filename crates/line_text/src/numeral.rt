@@ -11,8 +11,8 @@ use std::str;
 /// The most digits that are read in one pass.
 const FEW_DIGITS: usize = 8;
 
-/// Reads the number of at most eight digits in front in one pass over them, and gives what follows; `None` where there is none,
-/// or one with a leading zero.
+/// Reads the number at the front in one pass over its digits, and returns the rest.
+/// Returns `None` if there is no digit, above eight digits, and for a leading zero.
 #[inline]
 pub fn number_in_front(bytes: &[u8]) -> Option<(u32, &[u8])>
     ensures { MatchOption result
@@ -29,7 +29,6 @@ pub fn number_in_front(bytes: &[u8]) -> Option<(u32, &[u8])>
     Some((number, &bytes[len..]))
 }
 
-// Reads a number of at most eight digits.
 fn read_short(bytes: &[u8]) -> Option<u32>
     ensures { Reads (λ n. n < 100000000) number_text bytes.now result }
 {
@@ -42,7 +41,7 @@ fn read_short(bytes: &[u8]) -> Option<u32>
     Some(number)
 }
 
-// Reads a number of any length.
+// Reads a number below 2^64.
 fn read_long(bytes: &[u8]) -> Option<u64>
     ensures { Reads (λ n. n < 2 ^ 64) number_text bytes.now result }
 {
@@ -58,7 +57,6 @@ fn read_long(bytes: &[u8]) -> Option<u64>
     Some(number)
 }
 
-// Reads a number.
 fn read_any(bytes: &[u8]) -> Option<u64>
     ensures { Reads (λ n. n < 2 ^ 64) number_text bytes.now result }
 {
@@ -71,8 +69,8 @@ fn read_any(bytes: &[u8]) -> Option<u64>
     Some(u64::from(number))
 }
 
-/// Reads a number up to a greatest one; `None` for a greater one, and for any text that is not a number's one spelling, with
-/// a sign or a leading zero. Takes no memory.
+/// Reads a number up to `most`; `None` for a greater one, and for any other text.
+/// A sign or a leading zero is refused. Takes no memory.
 pub fn read_number(bytes: &[u8], most: u64) -> Option<u64>
     ensures { Reads (λ n. n ≤ most) number_text bytes.now result }
 {

@@ -1,4 +1,4 @@
-//! Replies at the end of a text.
+//! Replies, appended to a text.
 
 ghost use Rattle.std.specs.Prelude.{◌≡◌, [], ◌∷◌, ◌++◌, ◌+◌, ◌≤◌, length, take, OnOk, OnErr};
 ghost use Rattle.line_text.specs.ReplyText.{IsCount, IsCounts, IsEnabled, IsMoved, IsPair, IsReply, act_word, counts_text, enabled_text, field_text, move_text, mutual_text, refusal_words, reply_text};
@@ -22,7 +22,6 @@ fn act_window(act: Act) -> [u8; 8]
     }
 }
 
-// How many bytes a rule's word has.
 #[inline(always)]
 fn act_length(act: Act) -> usize
     ensures { result ≡ length (act_word act) }
@@ -34,7 +33,7 @@ fn act_length(act: Act) -> usize
     }
 }
 
-// Writes a rule's word and the byte behind it at a place, and gives the place behind them. No branch tells the rule.
+// Writes a rule's word and a byte at `at`, and returns their end. Branch-free.
 #[inline(always)]
 fn put_act(room: &mut [u8], at: usize, act: Act, behind: u8) -> usize
     requires { at + 8 ≤ length room.old }
@@ -95,7 +94,7 @@ impl Word for Edge {
     }
 }
 
-// Writes a number behind its name.
+// Appends a field's name and its number.
 pub(crate) fn put_field(out: &mut Vec<u8>, name: &[u8], number: u32) -> Result<(), Want>
     ensures ok { OnOk result (out.new.items ≡ out.old.items ++ field_text (name.now, number)) }
     ensures err { OnErr result (Extends out.old.items out.new.items) }
@@ -118,7 +117,7 @@ fn put_counts(out: &mut Vec<u8>, counts: Counts) -> Result<(), Want>
     put_field(out, b" spent=", counts.spent)
 }
 
-/// Writes a reply as a transcript spells it.
+/// Appends a reply as transcripts spell it.
 pub(crate) fn put_reply(out: &mut Vec<u8>, reply: &Reply) -> Result<(), Want>
     ensures ok { OnOk result (out.new.items ≡ out.old.items ++ reply_text reply.now) }
     ensures err { OnErr result (Extends out.old.items out.new.items) }

@@ -1,4 +1,4 @@
-//! Short texts, written into room that is there.
+//! Short texts, written into room that was made before.
 
 ghost use Rattle.std.specs.Prelude.{◌≡◌, ℕ, ◌+◌, ◌-◌, ◌*◌, ◌/◌, ◌%◌, ◌^◌, ◌<◌, ◌≤◌, [], ◌∷◌, ◌++◌, length, take};
 ghost use Rattle.std.specs.Int.{w64, from_le_bytes};
@@ -6,17 +6,17 @@ ghost use Rattle.line_text.specs.Words.{number_text, six_digits, IsName};
 
 use rule_machine::Node;
 
-/// How many bytes are written at once: what is shorter is cut to its length.
+/// How many bytes are written at once. Shorter texts are cut to their length.
 pub(crate) const WINDOW: usize = 8;
 
-/// The least number that is too long for a window with a byte behind it.
+/// The least number that is too long for a window together with a byte.
 pub(crate) const TOO_LONG: u32 = 1_000_000;
 
 /// The two digits of each number below 100.
 static PAIRS: [u8; 200] =
     *b"00010203040506070809101112131415161718192021222324252627282930313233343536373839404142434445464748495051525354555657585960616263646566676869707172737475767778798081828384858687888990919293949596979899";
 
-// The two digits of a number below 100, the first of them in the lower byte.
+// The two digits of a number below 100, the first in the low byte.
 #[inline(always)]
 fn pair(number: u32) -> u64
     requires { number < 100 }
@@ -26,10 +26,10 @@ fn pair(number: u32) -> u64
     u64::from(u16::from_le_bytes([PAIRS[at], PAIRS[at + 1]]))
 }
 
-// What takes the code of 0 off six digits, and sets the highest bit of the last: that one counts where it is 0, too.
+// Added to six digits, takes the code of `0` off each, and sets the top bit of the last: it counts even if 0.
 const LAST_COUNTS: u64 = (0x80 << 40) - 0x3030_3030_3030;
 
-// A number's six digits, the first of them in the lowest byte.
+// The six digits of a number, the first in the lowest byte.
 #[inline(always)]
 fn digits(number: u32) -> u64
     requires { number < 1000000 }
@@ -39,7 +39,7 @@ fn digits(number: u32) -> u64
     pair(first) + (pair(front - first * 100) << 16) + (pair(number - front * 100) << 32)
 }
 
-// How many zeros lead six digits: eight bits each are clear below the first that is not 0.
+// How many of six digits are leading zeros: below the first other digit, eight bits each are clear.
 #[inline(always)]
 fn leading_zeros(digits: u64) -> u32
     requires { digits < 2 ^ 48 }
@@ -48,7 +48,7 @@ fn leading_zeros(digits: u64) -> u32
     (digits + LAST_COUNTS).trailing_zeros() / 8
 }
 
-// A number's digits and the byte behind them in a window, and how many bytes these are.
+// A window with a number's digits and a byte, and its length.
 #[inline(always)]
 fn number_window(number: u32, behind: u8) -> ([u8; 8], usize)
     requires { number < 1000000 }
@@ -61,7 +61,7 @@ fn number_window(number: u32, behind: u8) -> ([u8; 8], usize)
     (window.to_le_bytes(), 7 - zeros as usize)
 }
 
-// Writes a window over as many bytes: an array at once, since a copy of a slice looks whether the two overlap.
+// Writes a window over eight bytes. As an array: a copy of a slice tests for overlap.
 #[inline(always)]
 fn put_whole(place: &mut [u8], window: [u8; 8])
     requires { length place.old ≡ 8 }
@@ -73,7 +73,7 @@ fn put_whole(place: &mut [u8], window: [u8; 8])
     }
 }
 
-/// Writes the first bytes of a window at a place, and gives the place behind them. No branch tells how many they are.
+/// Writes the first bytes of a window at `at`, and returns their end. Branch-free.
 #[inline(always)]
 pub(crate) fn put_window(room: &mut [u8], at: usize, window: [u8; 8], count: usize) -> usize
     requires space { at + 8 ≤ length room.old }
@@ -86,7 +86,7 @@ pub(crate) fn put_window(room: &mut [u8], at: usize, window: [u8; 8], count: usi
     at + count
 }
 
-/// Writes a number of at most six digits and the byte behind it at a place, and gives the place behind them.
+/// Writes a number of at most six digits and a byte at `at`, and returns their end.
 #[inline(always)]
 pub(crate) fn put_digits(room: &mut [u8], at: usize, number: u32, behind: u8) -> usize
     requires below { number < 1000000 }
@@ -99,7 +99,7 @@ pub(crate) fn put_digits(room: &mut [u8], at: usize, number: u32, behind: u8) ->
     put_window(room, at, window, count)
 }
 
-/// Writes a node's name and the byte behind it at a place, and gives the place behind them.
+/// Writes a node's name and a byte at `at`, and returns their end.
 #[inline(always)]
 pub(crate) fn put_node(room: &mut [u8], at: usize, node: Node, behind: u8) -> usize
     requires { at + 8 ≤ length room.old }

@@ -1,4 +1,4 @@
-//! Words, and lists of them, at the end of a text.
+//! Words and lists of words, appended to a text.
 
 ghost use Rattle.std.specs.Prelude.{◌≡◌, [], ◌∷◌, ◌++◌, ◌+◌, ◌*◌, ◌≤◌, List, ℕ, length, take, OnOk, OnErr};
 ghost use Rattle.std.specs.List.{AllByRecursion};
@@ -6,15 +6,15 @@ ghost use Rattle.line_text.specs.Words.{space_ended, spaced, joined, joined_or, 
 
 use rule_machine::Want;
 
-/// What stands in a line as one word.
+/// A value written as one word.
 pub(crate) trait Word {
     // The word's text.
     ghost text: { Self → List ℕ };
 
-    // What each value of the type meets.
+    // What each value of the type satisfies.
     ghost fits: { Self → Type 0 };
 
-    /// Writes the word and the byte behind it at a place, and gives the place behind them.
+    /// Writes the word and a byte at `at`, and returns their end.
     fn put(&self, room: &mut [u8], at: usize, behind: u8) -> usize
         requires { at + 24 ≤ length room.old }
         ensures text { take result room.new ≡ take at room.old ++ (text self.now ++ behind ∷ []) }
@@ -23,13 +23,13 @@ pub(crate) trait Word {
         ensures fit { fits self.now };
 }
 
-// More than any word and the byte behind it take.
+// More bytes than any word and a byte have.
 const ROOM: usize = 24;
 
-// For how many words room is made at once: what is asked for ahead stays small.
+// For how many words room is made at once: bounds the room made ahead.
 const BATCH: usize = 64;
 
-// Writes each word and one space behind it at a place, and gives the place behind them.
+// Writes each word and a space at `at`, and returns their end.
 #[inline(always)]
 fn put_words<W: Word>(room: &mut [u8], at: usize, words: &[W]) -> usize
     requires { at + 24 * length words.now ≤ length room.old }
@@ -43,7 +43,7 @@ fn put_words<W: Word>(room: &mut [u8], at: usize, words: &[W]) -> usize
     end
 }
 
-// Writes a batch of words, and one space behind each: one look for room.
+// Appends a batch of words, each with a space after it. One check for room.
 fn put_batch<W: Word>(out: &mut Vec<u8>, words: &[W]) -> Result<(), Want>
     requires { length words.now ≤ 64 }
     ensures ok { OnOk result (out.new.items ≡ out.old.items ++ space_ended W.text words.now) }
@@ -57,7 +57,7 @@ fn put_batch<W: Word>(out: &mut Vec<u8>, words: &[W]) -> Result<(), Want>
     Ok(())
 }
 
-// Writes each word, and one space behind it.
+// Appends each word with a space after it.
 fn put_each<W: Word>(out: &mut Vec<u8>, words: &[W]) -> Result<(), Want>
     ensures ok { OnOk result (out.new.items ≡ out.old.items ++ space_ended W.text words.now) }
     ensures err { OnErr result (Extends out.old.items out.new.items) }
@@ -72,7 +72,7 @@ fn put_each<W: Word>(out: &mut Vec<u8>, words: &[W]) -> Result<(), Want>
     Ok(())
 }
 
-/// Writes each word behind one space.
+/// Appends each word with a space before it.
 pub(crate) fn put_spaced<W: Word>(out: &mut Vec<u8>, words: &[W]) -> Result<(), Want>
     ensures ok { OnOk result (out.new.items ≡ out.old.items ++ spaced W.text words.now) }
     ensures err { OnErr result (Extends out.old.items out.new.items) }
@@ -84,7 +84,7 @@ pub(crate) fn put_spaced<W: Word>(out: &mut Vec<u8>, words: &[W]) -> Result<(), 
     Ok(())
 }
 
-/// Writes the words, joined by one space.
+/// Appends the words, joined by one space.
 pub(crate) fn put_joined<W: Word>(out: &mut Vec<u8>, words: &[W]) -> Result<(), Want>
     ensures ok { OnOk result (out.new.items ≡ out.old.items ++ joined W.text words.now) }
     ensures err { OnErr result (Extends out.old.items out.new.items) }
@@ -98,7 +98,7 @@ pub(crate) fn put_joined<W: Word>(out: &mut Vec<u8>, words: &[W]) -> Result<(), 
     Ok(())
 }
 
-/// Writes the words, joined by one space, or another text where there is none.
+/// Appends the words, joined by one space; `none` if there are no words.
 pub(crate) fn put_joined_or<W: Word>(
     out: &mut Vec<u8>,
     none: &[u8],

@@ -1,5 +1,5 @@
--- What is kept of a whole log: how many entries there are, what the next one's receipt is, and that it is a part of the log behind
--- the next entry and behind a checkpoint.
+-- What is kept of a whole log: its number of entries, the next receipt, and that it stays a part of the log
+-- after the next entry and after a checkpoint.
 use Rattle.std.proofs.Common.{◌≡◌, ℕ, ◌+◌, ◌<◌, [], ◌∷◌, ◌++◌, length, refl, sym, ap, ap₂, ◌∙◌, subst, append_assoc, length-append, arith}
 use Rattle.std.proofs.lemmas.List.{append-nil}
 use Rattle.rule_machine.specs.declared.event.Event.{Event}
@@ -17,11 +17,11 @@ use Rattle.step_log.specs.Kept.{Kept, checkpointed, kept_with, last_number, mome
 use Rattle.step_log.specs.Log.{Log, IsLog, entry_of, recorded}
 use Rattle.locked_net.specs.Above.{IsAbove, TellsEnd}
 
--- where a log ends
+-- the moment at a log's end
 abbrev pub end_of : Log → Moment
 end_of log = record { state = log.state; spent = log.spent }
 
--- the log has as many entries as the last number that is kept says
+-- the log has as many entries as the last number says
 pub above_len : (t : RuleTable) (log : Log) (kept : Kept) → IsAbove t log kept → length log.entries ≡ last_number kept
 above_len t log kept above =
     ap length above.splits ∙ length-append above.below kept.entries ∙ ap (λ n. n + length kept.entries) above.count
@@ -29,7 +29,7 @@ above_len t log kept above =
 pub same_end : (t : RuleTable) (log : Log) (kept : Kept) → IsAbove t log kept → moment_in kept ≡ end_of log
 same_end t log kept above = ap₂ (λ (s : State) (n : ℕ). record { state = s; spent = n }) above.state above.spent
 
--- the base at which the network stands
+-- the base at the network's moment
 pub base_above : (t : RuleTable) (log : Log) (kept : Kept) → IsAbove t log kept → base_of (last_number kept) (moment_in kept) ≡ base_of (length log.entries) (end_of log)
 base_above t log kept above = ap₂ base_of (sym (above_len t log kept above)) (same_end t log kept above)
 

@@ -1,4 +1,5 @@
--- A clerk that adds the receipt of an entry behind all that it has seen, and a note of what is published then, is one.
+-- A clerk that adds the receipt of an entry after all that it has seen, and a note of the log then, is a
+-- clerk.
 use Rattle.std.proofs.Common.{◌≡◌, ℕ, ◌+◌, ◌-◌, ◌<◌, ◌≤◌, Bool, true, false, List, [], ◌∷◌, ◌++◌, length, Option, None, Some, Result, Ok, Err, OnOk, if◌then◌else◌, nat_eq, nat_lt, refl, sym, ap, ◌∙◌, subst, arith, length-append}
 use Rattle.std.specs.List.{slice_get}
 use Rattle.std.proofs.lemmas.Bool.{ltb-false, le-ltb}
@@ -19,7 +20,7 @@ not_first : (b : Bool) (fault : CallFault) (other : Option CallFault) → (if b 
 not_first true fault other e = absurd (none-some fault (sym e))
 not_first false fault other e = refl
 
--- a clerk who may call has seen no more entries than there are
+-- a clerk that may call has seen at most all entries
 pub seen_few : (seen : ℕ) (log : Log) → call_fault seen log ≡ None → seen ≤ length log.entries
 seen_few seen log none =
     ltb-false (length log.entries) seen (not_first (nat_lt (length log.entries) seen) (Behind (length log.entries) seen) (if nat_eq (length log.entries) log.limit then Some LogFull else None) none)
@@ -45,7 +46,7 @@ pub ok_less : {A E : Type 0} (less seen : ℕ) (log : Log) (result : Result A E)
 ok_less less seen log (Ok done) few none = less_seen less seen log few none
 ok_less less seen log (Err fault) few none = tt
 
--- one receipt more, with a number above the last
+-- one more receipt, with a number above the last
 rise_more : (low : ℕ) (receipts : List Receipt) (receipt : Receipt) → RiseAbove low receipts → front_from low receipts < receipt.seq → RiseAbove low (receipts ++ receipt ∷ [])
 rise_more low [] receipt rise above = (above, tt)
 rise_more low (first ∷ receipts) receipt rise above = (rise.0, rise_more first.seq receipts receipt rise.1 above)
@@ -55,13 +56,13 @@ pub front_more : (low : ℕ) (receipts : List Receipt) (receipt : Receipt) → f
 front_more low [] receipt = refl
 front_more low (first ∷ receipts) receipt = front_more first.seq receipts receipt
 
--- so it is of who has the receipt of the next entry
+-- the same of a clerk with the receipt of the next entry
 pub front_after : (t : RuleTable) (log : Log) (event : Event) (old new : List Receipt) → new ≡ old ++ receipt_of t log event ∷ [] → front_of new ≡ length log.entries + 1
 front_after t log event old new added = ap front_of added ∙ front_more 0 old (receipt_of t log event)
 
 -- ---- the last receipt
 
--- an entry stands at the end of a log to which it was added
+-- an entry is at the end of a log to which it was added
 last_entry : (log : List Entry) (entry : Entry) → slice_get (log ++ entry ∷ []) (length log) ≡ Some entry
 last_entry log entry =
     slice_get-get_or (log ++ entry ∷ []) (length log) entry (omega (arith, length-append log (entry ∷ []))) ∙ ap Some (get_or-append_seam log entry [] entry)

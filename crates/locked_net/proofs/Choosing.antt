@@ -1,4 +1,4 @@
--- What is told of an event that somebody else chose, and of a call that is not answered.
+-- Events that a daemon or an injector chose, and calls that fail.
 use Rattle.std.proofs.Common.{◌≡◌, ◌∷◌, ◌++◌, [], ℕ, Bool, List, Option, None, Some, Result, Ok, Err, IfOk, IfErr, IfSome, OnOk, IsNone, MatchOption, ◌↔◌, ◌+◌, ◌≤◌, length, refl, ap, sym, ◌∙◌, subst, arith}
 use Rattle.std.proofs.lemmas.Result.{IfErr-weaker}
 use Rattle.rule_machine.specs.declared.choice.Item.{Item}
@@ -30,17 +30,17 @@ choice_on t log Chooses names central found items old new reply enabled same som
   is_told = (ap (λ r. Some r) told, receipt);
 }
 
--- a log to which an event was added begins what is told then
+-- a log to which an event was added is a prefix of the note then
 pub begins_in : (t : RuleTable) (log after : Log) (event : Event) (note : Option Told) → after ≡ recorded t log event → noted note ≡ after.entries → IsPrefix log.entries (noted note)
 begins_in t log after event note is tells = (entry_of t log event ∷ [], sym (tells ∙ ap (λ (l : Log). l.entries) is))
 
--- on a log behind the lock
+-- on a log under the lock
 pub takes : (setting : Setting) (Chooses : State → Option Event → Type 0) (log : Log) (old new : List Receipt) (note : Option Told) (result : Result (Option Reply) CallFault) → IsLogIn setting log
     → OnOk result (call_fault (front_of old) log ≡ None) → IfOk result (ChoosesOn setting.table log Chooses old new) → IfOk result (λ told. IfSome told (λ _. IsPrefix log.entries (noted note))) → IfOk result (TakesChoice setting Chooses old new note)
 takes setting Chooses log old new note (Ok told) own free taken begins = record { log = log; own = own; free = free; taken = taken; begins = begins }
 takes setting Chooses log old new note (Err fault) own free taken begins = tt
 
--- nothing was chosen exactly where there is no node
+-- nothing was chosen exactly if there is no node
 pub finds_none : (setting : Setting) (Chooses : State → Option Event → Type 0) (log : Log) (old new : List Receipt) (note : Option Told) (result : Result (Option Reply) CallFault) → IsLogIn setting log
     → OnOk result (call_fault (front_of old) log ≡ None) → IfOk result (ChoosesOn setting.table log Chooses old new) → IfOk result (λ told. IsNone told ↔ (node_count log.state.network ≡ 0))
     → IfOk result (λ told. IfSome told (λ _. IsPrefix log.entries (noted note))) → IfOk result (λ told. TakesChoice setting (λ s _. IsNone told ↔ (node_count s.network ≡ 0)) old new note told)

@@ -38,7 +38,7 @@ pub parts_kept : (book : Book) (olds left right ours theirs : List ClerkView) �
 parts_kept book olds left right ours theirs whole kept rest =
     subst (λ rs. AllKeepNotes book rs (ours ++ theirs)) (sym whole) (notes_joined book left right ours theirs kept rest)
 
--- nobody's note and nobody's base changes where nobody roams
+-- no note and no base changes if no clerk roams
 pub notes_stay : (book : Book) (clerks : List ClerkView) → AllKeepNotes book clerks clerks
 notes_stay book [] = tt
 notes_stay book (clerk ∷ clerks) = (record { note = inl refl; base = refl }, notes_stay book clerks)

@@ -1,4 +1,4 @@
--- What is settled has no stranger, and where numbers rise a clerk does not clash with itself.
+-- A settled log has no stranger; a clerk whose numbers rise does not clash with itself.
 use Rattle.std.proofs.Common.{◌≡◌, ℕ, zero, suc, ◌<◌, ◌↔◌, List, [], ◌∷◌, Some, sym, subst, ◌∙◌, refl, inl, ⊎_elim, arith}
 use Rattle.std.specs.List.{slice_get}
 use Rattle.std.proofs.lemmas.Option.{same_Some}
@@ -9,7 +9,7 @@ use Rattle.locked_net.specs.declared.settle_fault.SettleFault.TheVariants.{Count
 use Rattle.locked_net.specs.Receipts.{ClerkView, RiseAbove}
 use Rattle.locked_net.specs.Settled.{StandsAt, Holds, IsEntryAbove, Agrees, Settled, Unsettles}
 
--- each number is above where the rise begins
+-- each number is above the start of the rise
 above : (low : ℕ) (receipts : List Receipt) (p : ℕ) (receipt : Receipt) → RiseAbove low receipts → slice_get receipts p ≡ Some receipt → low < receipt.seq
 above low [] p receipt rises at = cc
 above low (first ∷ receipts) zero receipt rises at = subst (λ (r : Receipt). low < r.seq) (same_Some first receipt at) rises.0

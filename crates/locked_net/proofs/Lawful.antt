@@ -1,6 +1,6 @@
--- A daemon's choice among the enabled nodes is accepted as a step.
--- Each item's node is enabled, hence present with a rule, and has no wish; ascending nodes differ, so none was chosen before; there is an
--- item, and one alone where the daemon is central. That is all that a step is judged by.
+-- A daemon's choice among the enabled nodes is accepted as a step. Each item's node is enabled, hence present
+-- with a rule, and has no wish. Ascending nodes differ, so none was chosen before. There is an item, and only
+-- one if the daemon is central. A step is judged by nothing else.
 use Rattle.std.proofs.Common.{◌≡◌, ℕ, suc, ◌<◌, Bool, true, false, not, ◌&&◌, ◌||◌, List, [], ◌∷◌, ◌++◌, length, get_or, Option, None, Some, is_some, IsTrue, nat_eq, nat_lt, if◌then◌else◌, refl, sym, ap, ◌∙◌, subst, arith}
 use Rattle.std.specs.List.{list_any, range_with_len, AllByRecursion, IsDistinct}
 use Rattle.std.specs.Option.{option_or}
@@ -42,7 +42,7 @@ member_enabled t s bits v same on =
 
 -- ---- the items
 
--- what an item of a choice is judged by, but for those before it
+-- what an item of a choice is judged by, apart from the items before it
 record IsFine (t : RuleTable) (s : State) (item : Item) : Type 0 where
   has : present s.network item.node ≡ true
   rule : is_some (rule_at t s item.node) ≡ true

@@ -1,12 +1,14 @@
 -- One receipt after another is settled, and one clerk after another.
 --
--- At each place these hold: all receipts before it agree, the marks that are set are the numbers of these receipts, and there
--- are as many of either. A receipt that is the log's entry at its number, with a mark that is clear, agrees, since a receipt
--- before it with its number would have set the mark; and once its mark is set, all three hold at the next place. A receipt
--- that is not the entry does not agree, and one whose mark is set does not, since a receipt before it set it.
+-- At each place three facts hold: all receipts before it agree, the marks that are set are the numbers of
+-- these receipts, and both are equally many. A receipt that is the log's entry with its number and whose mark
+-- is clear agrees: an earlier receipt with its number would have set the mark. Once its mark is set, all
+-- three hold at the next place. A receipt that is not the entry does not agree; nor does one whose mark is
+-- set, since an earlier receipt set it.
 --
--- At the end as many marks are set as there are receipts. That is as many as entries, so all marks are set: each entry has a
--- receipt, and so a clerk. It has no second clerk, since of two receipts with one number the later would not agree.
+-- At the end as many marks are set as there are receipts. That is as many as entries, so all marks are set:
+-- each entry has a receipt, and so a clerk. It has no second clerk, since of two receipts with one number the
+-- later would not agree.
 use Rattle.std.proofs.Common.{◌≡◌, ℕ, zero, suc, ◌+◌, ◌-◌, ◌<◌, ◌≤◌, ◌⊎◌, Bool, true, false, cond, List, [], ◌∷◌, length, take, set, get_or, Some, refl, sym, ap, subst, ◌∙◌, inl, inr, ⊎_elim, arith}
 use Rattle.std.specs.List.{slice_get, sum_by, count_by}
 use Rattle.std.proofs.lemmas.Bool.{cases_lt, cases_eq, cases_order, false≢true}
@@ -23,13 +25,13 @@ use Rattle.locked_net.specs.Marks.{mark_of, IsMarked}
 
 -- ---- places
 
--- at one place stands one receipt
+-- one place has one receipt
 pub same_receipt : (clerks : List ClerkView) (c p : ℕ) (a b : Receipt) → StandsAt clerks c p a → StandsAt clerks c p b → a ≡ b
 same_receipt clerks c p a b one other =
     let same : one.clerk ≡ other.clerk = same_Some one.clerk other.clerk (sym one.of_clerk ∙ other.of_clerk) in
     same_Some a b (sym one.at_place ∙ subst (λ (k : ClerkView). slice_get k.receipts p ≡ Some b) (sym same) other.at_place)
 
--- what comes before the next place comes before this one, or stands there
+-- what comes before the next place comes before this one, or is there
 before_more : (d q c p : ℕ) → IsBefore d q c (p + 1) → IsBefore d q c p ⊎ ((d ≡ c) × (q ≡ p))
 before_more d q c p before =
     ⊎_elim
@@ -77,7 +79,7 @@ still_set marks i k inside there =
     (λ (ne : k ≡ i → ⊥). get_or-set_other marks i k true false ne ∙ there)
     (cases_eq k i)
 
--- one mark more
+-- one more mark
 count_set : (marks : List Bool) (i : ℕ) → i < length marks → get_or marks i false ≡ false → count_by (λ mark. mark) (set marks i true) ≡ count_by (λ mark. mark) marks + 1
 count_set marks i inside clear =
     let one : Bool → ℕ = λ mark. cond mark 1 0 in
@@ -204,8 +206,9 @@ stranger_found kept clerks c p marks receipt so_far here taken = record {
 
 -- ---- the end
 
--- All receipts agree, and there are as many as entries, and the base is the clerks': all is settled. Each mark is set, since as many are set as there are
--- marks, so each entry has a receipt; and no receipt has the number of an earlier one, so no entry has two clerks.
+-- All receipts agree, they are as many as entries, and the base is the clerks': all is settled. As many marks
+-- are set as there are, so each is, and each entry has a receipt. No receipt has the number of an earlier
+-- one, so no entry has two clerks.
 pub settles : (kept : Kept) (clerks : List ClerkView) (marks : List Bool) → receipt_count clerks ≡ last_number kept → base_number kept.base ≡ greatest_base clerks → IsMarked kept clerks (length clerks) 0 marks → Settled kept clerks
 settles kept clerks marks counted based all =
     let agree : (c p : ℕ) (receipt : Receipt) → StandsAt clerks c p receipt → Agrees kept clerks c p receipt = λ c p receipt stands.
@@ -240,7 +243,7 @@ is_kept kept receipt entry above there same =
     let within = slice_get_within kept.entries (receipt.seq - dropped kept.base - 1) entry there in
     record { numbered = omega (arith, above); within = omega (arith, within, above); same = λ _. there ∙ ap Some same }
 
--- the receipt that is read at a place of a clerk's list stands there
+-- the receipt that is read at a place of a clerk's list is there
 pub standing : (clerks : List ClerkView) (c p : ℕ) (clerk : ClerkView) (items : List Receipt) (receipt : Receipt) → c < length clerks → clerk ≡ get_or clerks c clerk → items ≡ clerk.receipts → p < length items → receipt ≡ get_or items p receipt → StandsAt clerks c p receipt
 standing clerks c p clerk items receipt there is same inside read = record {
   clerk = clerk;

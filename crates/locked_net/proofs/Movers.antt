@@ -1,5 +1,5 @@
--- The step of an enabled node alone, with no wish, is answered by its one move.
--- Its node is present and has a rule, there is one item, and no target is wished: so nothing refuses it, and its own move is all that is made.
+-- The step of an enabled node alone, with no wish, is answered by its one move. Its node is present and has a
+-- rule, there is one item, and no target is wished. So nothing refuses it, and its own move is the only one.
 use Rattle.std.proofs.Common.{◌≡◌, ℕ, ◌%◌, true, false, ◌&&◌, [], ◌∷◌, length, Option, None, Some, is_some, nat_lt, if◌then◌else◌, refl, sym, ap, ◌∙◌}
 use Rattle.std.specs.Option.{option_or}
 use Rattle.std.proofs.lemmas.Bool.{true≢false, cond-false}

@@ -1,4 +1,4 @@
--- What a clerk's note tells, beside a later note and beside the log.
+-- A clerk's note, a later note, and the log.
 use Rattle.std.proofs.Common.{◌≡◌, ℕ, ◌≤◌, List, [], ◌∷◌, ◌++◌, length, Option, None, Some, Result, Ok, Err, IfOk, IfErr, MatchOption, inl, inr, ⊎_elim, refl, sym, ap, subst, arith}
 use Rattle.std.specs.List.{All}
 use mathlib.Core.List.{IsPrefix}
@@ -14,7 +14,7 @@ use Rattle.locked_net.specs.Settings.{Setting}
 use Rattle.logbook.specs.Pages.{Book}
 use Rattle.step_log.specs.Kept.{Kept}
 
--- what no note tells begins each log
+-- without a note, the empty log is a prefix of each log
 pub none_begins : (note : Option Told) (other : List Entry) → ((told : Told) → note ≡ Some told → ⊥) → AreComparable (noted note) other
 none_begins None other none = inl (other, refl)
 none_begins (Some told) other none = absurd (none told refl)
@@ -25,12 +25,12 @@ none_follows (Some a) Has note other none is = absurd (none a refl)
 
 -- ---- the log
 
--- what is kept is a part of the log that is noted, and each clerk's note tells a beginning of that
+-- what is kept is a part of the noted log, and each clerk's note is of a prefix of that
 pub part_noted : (setting : Setting) (book : Book) (kept : Kept) (note : Told) (clerks : List ClerkView) → IsPublished setting book kept note → All (λ clerk. IsPrefix (noted clerk.note) note.log) clerks → IsPartNoted setting kept clerks
 part_noted setting book kept note clerks is begin =
     record { part = is.part; begins = subst (λ (log : List Entry). All (λ clerk. IsPrefix (noted clerk.note) log) clerks) is.published begin }
 
--- ---- what holds of a journal holds of it where it comes back
+-- ---- what holds of a journal holds of it if it comes back
 
 pub holds_at_ok : {A E : Type 0} (P : A → Type 0) (whole : A) (result : Result A E) → P whole → IfOk result (λ a. a ≡ whole) → IfOk result P
 holds_at_ok P whole (Ok a) holds same = subst P (sym same) holds

@@ -1,4 +1,4 @@
--- What a desk publishes is a run of the rules, and it is a desk behind the next entry, and behind a checkpoint.
+-- A desk publishes a run of the rules, and stays a desk after the next entry and after a checkpoint.
 use Rattle.std.proofs.Common.{◌≡◌, ◌+◌, ◌<◌, ℕ, [], ◌∷◌, ◌++◌, length, Result, Ok, Err, OnOk, OnErr, refl, sym, ap, ◌∙◌, subst, arith}
 use Rattle.rule_machine.specs.declared.event.Event.{Event}
 use Rattle.rule_machine.specs.RuleTable.{RuleTable}
@@ -48,7 +48,7 @@ desk_after t table kept after board now event entry desk below next told shown =
     subst (λ (k : Kept). IsDesk t k now) (sym told)
     (subst (IsDesk t (kept_with t kept event)) (sym (shown ∙ ap (λ (e : Entry). record { list = board.list ++ e ∷ []; posted = []; name = board.name }) next)) there)
 
--- behind a checkpoint
+-- after a checkpoint
 pub desk_checkpointed : (t : RuleTable) (kept after : Kept) (board : Standing) → IsDesk t kept board → after ≡ checkpointed kept → IsDesk t after board
 desk_checkpointed t kept after board desk told =
     subst (λ (k : Kept). IsDesk t k board) (sym told)

@@ -1,4 +1,4 @@
--- What a look at a board says of the log that the board shows.
+-- A look at a board, and the log that the board shows.
 use Rattle.std.proofs.Common.{◌≡◌, ℕ, ◌+◌, ◌<◌, ◌≤◌, ◌⊎◌, ⊎_elim, inl, inr, Bool, true, false, IsTrue, nat_le, slice_index_or, le-leb, List, [], ◌∷◌, ◌++◌, length, fold, Option, None, Some, IfSome, if◌then◌else◌, nat_lt, refl, sym, ap, ◌∙◌, subst, arith, length-append}
 use Rattle.std.specs.List.{slice_get}
 use Rattle.std.specs.Prelude.{replicate}
@@ -54,7 +54,7 @@ missing_where : (row : Row) (here : List Bool) (place : ℕ) (b : Bool) → slic
 missing_where row here place false is e = inl is
 missing_where row here place true is e = inr (not_held row place (nat_lt place (length row)) refl (pointer_in row place, partner_in row place) e)
 
--- ---- who is present
+-- ---- present nodes
 
 is_present : (net : Network) (v : ℕ) → 1 ≤ v → v ≤ net.size → slice_index_or net.here v false ≡ true → present net v ≡ true
 is_present net v low high there =
@@ -68,7 +68,7 @@ not_named net v far = and_right (nat_le 1 v) _ (and_left (nat_le v net.size) _ (
 
 -- ---- the run
 
--- a state with the pointers and the nodes that the log makes
+-- a state with the pointers and the nodes of the log
 pub record IsEnd (extent : Extent) (log : List Entry) (s : State) : Type 0 where
   pub pointers : s.registers.pointers ≡ pointers_after extent.places log
   pub here : s.network.here ≡ here_after extent log
@@ -91,7 +91,7 @@ pub record IsLooked (t : RuleTable) (extent : Extent) (place : ℕ) (log : List 
   pub run : IsRun t extent log
   pub is : found ≡ found_after extent log place
 
--- so did a reader's that was the one handed in, where the board's reader inside looked
+-- the same of a reader's look, if the board's reader inside looked
 pub looked : (t : RuleTable) (inside reader : Reading) (name : Name) (at place : ℕ) (log : List Entry) (found : Option (Option ℕ × Option ℕ)) → inside ≡ reader → name ≡ inside.name → at ≡ place
     → IsRun t name.extent log → found ≡ found_after name.extent log at → IsLooked t reader.name.extent place log found
 looked t inside reader name at place log found same kept placed run is =
@@ -101,7 +101,7 @@ looked t inside reader name at place log found same kept placed run is =
       is = subst (λ v. found ≡ found_after reader.name.extent log v) placed (subst (λ (n : Name). found ≡ found_after n.extent log at) named is);
     }
 
--- nothing is found only where no node has the name
+-- nothing is found only if no node has the name
 pub absent : (t : RuleTable) (extent : Extent) (place : ℕ) (log : List Entry) (found : Option (Option ℕ × Option ℕ)) → IsLooked t extent place log found → ((here : Option ℕ × Option ℕ) → found ≡ Some here → ⊥)
     → Shows t extent log (λ s. present s.network place ≡ false)
 absent t extent place log (Some here) look none = absurd (none here refl)
@@ -138,7 +138,7 @@ is_shown t extent place log found held low look some =
       partner_is = shows t extent log (λ s. held.1 ≡ partner_in s.registers.pointers place) look.run (λ s end. at.partner_is ∙ ap (λ (r : Row). partner_in r place) (sym end.pointers));
     }
 
--- so is what a reader finds where the board's reader inside looked
+-- the same of what a reader finds, if the board's reader inside looked
 pub shown_by : (t : RuleTable) (inside reader : Reading) (name : Name) (at place : ℕ) (log : List Entry) (found : Option (Option ℕ × Option ℕ)) (held : Option ℕ × Option ℕ) → inside ≡ reader → name ≡ inside.name → at ≡ place
     → 1 ≤ at → IsRun t name.extent log → found ≡ found_after name.extent log at → found ≡ Some held → IsShown t reader.name.extent place log held
 shown_by t inside reader name at place log found held same kept placed low run is some =
@@ -160,7 +160,7 @@ stays_from : (some all : List Entry) (first : Receipt) (receipts : List Receipt)
 stays_from some all first [] p is = receipt_stays some all first p is
 stays_from some all first (next ∷ receipts) p is = stays_from some all next receipts p is
 
--- the last receipt stands in each log that goes on from one where it stands
+-- the last receipt's entry is in each log that continues one with it
 pub stays_last : (some all : List Entry) (receipts : List Receipt) → IsPrefix some all → StandsLast some receipts → StandsLast all receipts
 stays_last some all [] p is = tt
 stays_last some all (first ∷ receipts) p is = stays_from some all first receipts p is
@@ -169,7 +169,7 @@ last_of : (receipts : List Receipt) (note : Option Told) (all : List Entry) → 
 last_of receipts None all none p = subst (StandsLast all) (sym none) tt
 last_of receipts (Some told) all stands p = stays_last told.log all receipts p stands
 
--- so it does in each that goes on from a clerk's note
+-- and in each that continues a clerk's note
 pub noted_last : (clerk : ClerkView) (all : List Entry) → IsClerk clerk → IfSome clerk.note (λ told. IsPrefix told.log all) → StandsLast all clerk.receipts
 noted_last clerk all is p = last_of clerk.receipts clerk.note all is.last p
 
@@ -177,6 +177,6 @@ last_in : (receipts : List Receipt) (note : Option Told) (all : List Entry) → 
 last_in receipts None all none p = subst (StandsLast all) (sym none) tt
 last_in receipts (Some told) all stands p = stays_last told.log all receipts p stands
 
--- a clerk stays one with a note that tells more
+-- a clerk stays a clerk with a note of more entries
 pub sees_more : (clerk : ClerkView) (told : Told) → IsClerk clerk → IsPrefix (noted clerk.note) told.log → IsClerk (record { receipts = clerk.receipts; note = Some told; base = clerk.base })
 sees_more clerk told is p = record { rise = is.rise; last = last_in clerk.receipts clerk.note told.log is.last p }

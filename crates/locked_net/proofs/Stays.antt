@@ -1,4 +1,4 @@
--- What clerks that roamed turn for turn have, and what is told of their fault.
+-- The receipts of clerks that roamed turn by turn, and their fault.
 use Rattle.std.proofs.Common.{◌≡◌, ◌∙◌, ℕ, zero, suc, ◌+◌, ◌<◌, ◌≤◌, Bool, true, false, List, [], ◌∷◌, ◌++◌, length, take, drop, min, Option, None, Some, if◌then◌else◌, nat_eq, nat_lt, refl, sym, ap, subst, ⊎_elim, append_assoc, length-append, arith}
 use Rattle.std.specs.List.{All, slice_get}
 use Rattle.std.proofs.lemmas.Bool.{cases_lt, ltb-true}
@@ -20,7 +20,7 @@ use Rattle.locked_net.proofs.Movers.{mover_answers}
 
 -- ---- receipts
 
--- what a turn tells
+-- a turn's result
 record IsTold (told : List Receipt) : Type 0 where
   few : length told ≤ 1
   lone : All IsLoneStep told
@@ -60,7 +60,7 @@ all_roam setting turns (old ∷ olds) (new ∷ news) fault (own, others, is, end
 
 -- ---- the first of them
 
--- a list in two parts, the first of which has n, or fewer and all
+-- a list in two parts; the first has n, or fewer and all
 front_part : {X : Type 0} (n : ℕ) (part rest : List X) → length part ≤ n → (length part < n → rest ≡ []) → take n (part ++ rest) ≡ part
 front_part n part rest few all =
     ⊎_elim (λ (less : length part < n). ap (λ xs. take n (part ++ xs)) (all less) ∙ ap (take n) (append-nil part) ∙ take_all n part few) (λ (full : n ≤ length part). take_at part rest n (omega (arith, few, full))) (cases_lt (length part) n)
@@ -104,7 +104,7 @@ first_roamed setting turns count whole part new rest fault value size few same e
       others = rows.others;
     }
 
--- where there was no fault, each took all its turns
+-- if there was no fault, each took all its turns
 all_taken : (setting : Setting) (turns : ℕ) (olds news : List ClerkView) (fault : Option CallFault) → fault ≡ None → AllEnd setting turns olds news fault → AllTakeTurns setting turns olds news
 all_taken setting turns [] [] fault none ends = tt
 all_taken setting turns [] (new ∷ news) fault none ends = absurd ends

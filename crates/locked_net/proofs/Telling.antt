@@ -1,4 +1,4 @@
--- What is told of an event that a daemon chose.
+-- Events that a daemon chose.
 use Rattle.std.proofs.Common.{◌≡◌, Bool, List, ap, ◌∙◌}
 use Rattle.rule_machine.specs.declared.choice.Item.{Item}
 use Rattle.rule_machine.specs.declared.event.Event.TheVariants.{Step}

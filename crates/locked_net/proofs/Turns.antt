@@ -9,7 +9,7 @@ use Rattle.locked_net.specs.declared.call_fault.CallFault.{CallFault}
 use Rattle.locked_net.specs.Roaming.{receipts_of_turn, fault_of_turn, FaultInTurn}
 use Rattle.locked_net.specs.Roamed.{TakesTurn, MeetsFault}
 
--- what was told on a log
+-- the result on a log
 pub turn_taken : {A B : Type 0} (setting : Setting) (turn : ℕ) (result : Result A B) (log : Log) (old new : List Receipt) → IsLogIn setting log
     → OnOk result (fault_of_turn setting.table (front_of old) log turn ≡ None) → OnOk result (new ≡ old ++ receipts_of_turn setting.table log turn) → OnOk result (TakesTurn setting turn old new)
 turn_taken setting turn (Ok a) log old new own free added = record { log = log; own = own; free = free; added = added }

@@ -1,4 +1,4 @@
--- A whole log, with each entry from the opening state on, and what a journal keeps of it: the part above its base.
+-- A whole log from the opening state, and the part of it above a journal's base.
 use Rattle.std.specs.Prelude.{◌≡◌, ℕ, ◌++◌, List, Option, None, Some, length}
 use Rattle.std.specs.List.{All}
 use mathlib.Core.List.{IsPrefix}
@@ -12,12 +12,13 @@ use Rattle.step_log.specs.Kept.{Kept, IsKept}
 use Rattle.locked_net.specs.Receipts.{ClerkView, noted}
 use Rattle.locked_net.specs.Settings.{Setting, IsLogIn}
 
--- the base, if there is one, tells the moment to which these entries lead
+-- the base, if any, is that of the moment to which these entries lead
 abbrev pub TellsEnd : RuleTable → Moment → List Entry → Option Base → Type 0
 TellsEnd t start entries None = Unit {0}
 TellsEnd t start entries (Some base) = (m : Moment) × Run t start entries m × (base ≡ base_of (length entries) m)
 
--- The entries of the log that are kept are those above the base, which tells where those below lead. All else is the log's.
+-- The log's entries that are kept are those above the base, which is the moment after those below. All else
+-- is the log's.
 pub record IsAbove (t : RuleTable) (log : Log) (kept : Kept) : Type 0 where
   pub below : List Entry
   pub splits : log.entries ≡ below ++ kept.entries
@@ -33,19 +34,20 @@ abbrev pub log_over : Kept → List Entry → Log
 log_over kept entries =
     record { state = kept.state; spent = kept.spent; entries = entries; limit = kept.limit; present = kept.present }
 
--- There is a whole log in the setting, of which the part above the base is kept.
+-- There is a whole log in the setting, and its part above the base is kept.
 pub record IsPart (setting : Setting) (kept : Kept) : Type 0 where
   pub log : Log
   pub own : IsLogIn setting log
   pub above : IsAbove setting.table log kept
 
--- a journal that comes back keeps a run that upholds the rules, and it is a part of a log in the setting, of its size
+-- a journal that comes back keeps a run of the rules, the part above its base of a log in the setting, with
+-- its sizes
 abbrev pub IsBack : Setting → ℕ → Held → Type 0
 IsBack setting weight journal =
     IsKept setting.table weight (kept_of journal) × IsPart setting (kept_of journal)
     × (journal.state.network.size ≡ setting.nodes) × (journal.present ≡ setting.present) × (journal.limit ≡ setting.limit)
 
--- What the note of each of these clerks tells begins this log.
+-- The log of each clerk's note is a prefix of this log.
 pub record IsPartNoted (setting : Setting) (kept : Kept) (clerks : List ClerkView) : Type 0 where
   pub part : IsPart setting kept
   pub begins : All (λ clerk. IsPrefix (noted clerk.note) part.log.entries) clerks

@@ -1,4 +1,4 @@
--- What a call makes of a clerk's receipts, and which call is not answered.
+-- The receipts after a call, and the faults of calls.
 use Rattle.std.specs.Prelude.{◌≡◌, ℕ, zero, suc, ◌<◌, List, [], ◌∷◌, ◌++◌, length, Option, None, Some, if◌then◌else◌, nat_eq, nat_lt, IsTrue, Bool}
 use Rattle.rule_machine.specs.declared.choice.Item.{Item}
 use Rattle.rule_machine.specs.declared.act.Moved.{Moved}
@@ -21,29 +21,29 @@ use Rattle.locked_net.specs.declared.call_fault.CallFault.TheVariants.{Behind, L
 use Rattle.locked_net.specs.declared.step_fault.StepFault.{StepFault}
 use Rattle.locked_net.specs.declared.step_fault.StepFault.TheVariants.{Call, Pool}
 
--- why a clerk who has seen that many entries is not answered, before anything is asked of memory
+-- the fault for a clerk that has seen `seen` entries, before memory matters
 abbrev pub call_fault : ℕ → Log → Option CallFault
 call_fault seen log =
     if nat_lt (length log.entries) seen then Some (Behind (length log.entries) seen)
     else (if nat_eq (length log.entries) log.limit then Some LogFull else None)
 
--- why it gets no checkpoint, which a full log does not refuse
+-- the fault of a checkpoint, which a full log does not refuse
 abbrev pub checkpoint_fault : ℕ → Log → Option CallFault
 checkpoint_fault seen log =
     if nat_lt (length log.entries) seen then Some (Behind (length log.entries) seen) else None
 
--- an answer is the fault in the call, and want of memory only where there is none
+-- the fault is the call's, and `Memory` only if there is none
 abbrev pub Explains : Option CallFault → CallFault → Type 0
 Explains None fault = fault ≡ Memory
 Explains (Some found) fault = fault ≡ found
 
--- what a clerk who does not see the log can tell of a fault
+-- the faults that a clerk can expect without seeing the log
 abbrev pub MayAnswer : ℕ → CallFault → Type 0
 MayAnswer seen (Behind front told) = (told ≡ seen) × (front < seen)
 MayAnswer seen LogFull = Unit {0}
 MayAnswer seen Memory = Unit {0}
 
--- the same of a fault of a checkpoint
+-- the same of a checkpoint
 abbrev pub MayRefuseCheckpoint : ℕ → CallFault → Type 0
 MayRefuseCheckpoint seen (Behind front told) = (told ≡ seen) × (front < seen)
 MayRefuseCheckpoint seen LogFull = ⊥
@@ -60,7 +60,7 @@ pub record Keeps (old new : List Receipt) (event : Event) (reply : Reply) : Type
   pub above : front_of old < seq
   pub added : new ≡ old ++ record { seq = seq; event = event; reply = reply } ∷ []
 
--- One was added, of a step with the moves that it was answered by, and of one node where the daemon is central.
+-- One was added, of a step with its moves; of one node if the daemon is central.
 pub record KeepsStep (central : Bool) (old new : List Receipt) (reply : Reply) : Type 0 where
   pub items : List Item
   pub moves : List Moved
@@ -75,13 +75,13 @@ pub record KeepsFault (old new : List Receipt) (reply : Reply) : Type 0 where
   pub register : IsTrue (is_register_fault event)
   pub accepted : reply ≡ Accepted
 
--- An event was recorded, and its receipt added; it has this reply.
+-- An event was recorded with this reply, and its receipt added.
 pub record Tells (t : RuleTable) (before after : Log) (old new : List Receipt) (event : Event) (reply : Reply) : Type 0 where
   pub log : after ≡ recorded t before event
   pub receipt : new ≡ old ++ receipt_of t before event ∷ []
   pub reply_is : reply ≡ (receipt_of t before event).reply
 
--- So was a step with its moves, of one node where the daemon is central.
+-- The event is a step with its moves, of one node if the daemon is central.
 pub record Drives (t : RuleTable) (before after : Log) (old new : List Receipt) (reply : Reply) : Type 0 where
   pub items : List Item
   pub moves : List Moved
@@ -89,22 +89,22 @@ pub record Drives (t : RuleTable) (before after : Log) (old new : List Receipt) 
   pub moved : reply ≡ Moves moves
   pub one : IsTrue t.central → length items ≡ 1
 
--- So was an accepted change of a register.
+-- The event is an accepted change of a register.
 pub record Breaks (t : RuleTable) (before after : Log) (old new : List Receipt) (reply : Reply) : Type 0 where
   pub event : Event
   pub told : Tells t before after old new event reply
   pub register : IsTrue (is_register_fault event)
   pub accepted : reply ≡ Accepted
 
--- ---- where workers judge a step
+-- ---- steps that workers judge
 
--- an answer is the fault in the call, then that there are no workers, and want of memory only where it is neither
+-- the fault is the call's, then no workers, and `Memory` only if it is neither
 abbrev pub ExplainsStep : Option CallFault → ℕ → StepFault → Type 0
 ExplainsStep (Some found) workers fault = fault ≡ Call found
 ExplainsStep None zero fault = fault ≡ Pool ZeroWorkers
 ExplainsStep None (suc others) fault = fault ≡ Call Memory
 
--- what a clerk who does not see the log can tell of a fault
+-- the faults that a clerk can expect without seeing the log
 abbrev pub MayAnswerStep : ℕ → ℕ → StepFault → Type 0
 MayAnswerStep seen workers (Call (Behind front told)) = (told ≡ seen) × (front < seen)
 MayAnswerStep seen workers (Call LogFull) = Unit {0}

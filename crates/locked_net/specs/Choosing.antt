@@ -1,7 +1,7 @@
--- What a clerk is told where somebody else chooses the event, and of a checkpoint, and why it is not answered.
+-- Calls whose event a daemon or an injector chooses, checkpoints, and their faults.
 --
--- Who calls sees no log. So a clause says that there is one, which lay behind the lock: a run of the network's rules, of its nodes and with
--- its limit.
+-- A caller does not see the log. So a clause says that there is one under the lock: a run of the network's
+-- rules, with its nodes and limit.
 use Rattle.std.specs.Prelude.{◌≡◌, ◌↔◌, ◌≤◌, ℕ, Bool, List, [], ◌∷◌, ◌++◌, length, Option, None, Some, IfSome, IsNone}
 use Rattle.std.specs.Option.{option_map}
 use mathlib.Core.List.{IsPrefix}
@@ -23,28 +23,28 @@ use Rattle.locked_net.specs.Calls.{call_fault, checkpoint_fault, Explains, Expla
 use Rattle.locked_net.specs.declared.call_fault.CallFault.{CallFault}
 use Rattle.locked_net.specs.declared.step_fault.StepFault.{StepFault}
 
--- the choice of one who chooses among the enabled nodes of a state, as an event
+-- a choice among the enabled nodes of a state, as an event
 abbrev pub ChoosesStep : RuleTable → (List ℕ → Option (List Item) → Type 0) → State → Option Event → Type 0
 ChoosesStep t Chooses s event =
     (choice : Option (List Item)) × (event ≡ option_map (λ items. Step items) choice) × Chooses (enabled_names t s) choice
 
--- a daemon's choice, which takes it on, as an event
+-- a daemon's choice, which advances the daemon, as an event
 abbrev pub ByDaemon : {D : Type 0} → (List ℕ → Bool → D → Option (List Item) → D → Type 0) → RuleTable → D → D → State → Option Event → Type 0
 ByDaemon chooses t old new s event = ChoosesStep t (λ names choice. chooses names t.central old choice new) s event
 
--- the fault that these words draw, and those are left
+-- the fault that these words draw, and the words left
 abbrev pub DrawsFault : RuleTable → Stream → Stream → State → Option Event → Type 0
 DrawsFault t words left s event = (event, left) ≡ drawn s.network t.flags words
 
--- the fault that an injector draws by the words to come, which takes these on, as an event
+-- an injector's fault, which advances the injector, as an event
 abbrev pub ByInjector : {G : Type 0} → (G → Stream) → RuleTable → G → G → State → Option Event → Type 0
 ByInjector stream t old new s event = DrawsFault t (stream old) (stream new) s event
 
--- nothing was answered exactly where there is no node
+-- there is no answer exactly if there is no node
 abbrev pub NoneIfEmpty : Option Reply → State → Option Event → Type 0
 NoneIfEmpty told s event = IsNone told ↔ (node_count s.network ≡ 0)
 
--- the reply and the receipt of the event that was chosen on a log; neither where none was
+-- the reply and the receipt of the event chosen on a log; neither if none was chosen
 abbrev pub IsTold : RuleTable → Log → Option Event → List Receipt → List Receipt → Option Reply → Type 0
 IsTold t log None old new told = (told ≡ None) × (new ≡ old)
 IsTold t log (Some event) old new told = (told ≡ Some (receipt_of t log event).reply) × (new ≡ old ++ receipt_of t log event ∷ [])
@@ -55,8 +55,8 @@ pub record ChoosesOn (t : RuleTable) (log : Log) (Chooses : State → Option Eve
   pub chosen : Chooses log.state event
   pub is_told : IsTold t log event old new told
 
--- So it was on a log that holds all that the clerk has seen, and has room for an entry; where the event was recorded, what the clerk's note
--- tells then begins with this log.
+-- The log includes all that the clerk has seen and has room for an entry. If the event was recorded, this log
+-- is a prefix of the clerk's note.
 pub record TakesChoice (setting : Setting) (Chooses : State → Option Event → Type 0) (old new : List Receipt) (note : Option Told) (told : Option Reply) : Type 0 where
   pub log : Log
   pub own : IsLogIn setting log
@@ -64,30 +64,30 @@ pub record TakesChoice (setting : Setting) (Chooses : State → Option Event →
   pub taken : ChoosesOn setting.table log Chooses old new told
   pub begins : IfSome told (λ _. IsPrefix log.entries (noted note))
 
--- the same of a clerk as it was and as it is
+-- the same of a clerk before and after
 abbrev pub ClerkTakes : Setting → (State → Option Event → Type 0) → ClerkView → ClerkView → Option Reply → Type 0
 ClerkTakes setting Chooses old new told = TakesChoice setting Chooses old.receipts new.receipts new.note told
 
--- A log has this fault for a clerk who has seen so many entries, and gives it for want of memory where it has none.
+-- A log has this fault for a clerk that has seen `seen` entries; `Memory` only if it has none.
 pub record Refuses (setting : Setting) (seen : ℕ) (fault : CallFault) : Type 0 where
   pub log : Log
   pub own : IsLogIn setting log
   pub explained : Explains (call_fault seen log) fault
 
--- So many entries a log had, which holds all that the clerk has seen.
+-- A log of `number` entries includes all that the clerk has seen.
 pub record HoldsAll (setting : Setting) (seen number : ℕ) : Type 0 where
   pub log : Log
   pub own : IsLogIn setting log
   pub count : number ≡ length log.entries
   pub all : seen ≤ number
 
--- A log gives this fault in place of a checkpoint.
+-- A log gives this fault for a checkpoint.
 pub record RefusesCheckpoint (setting : Setting) (seen : ℕ) (fault : CallFault) : Type 0 where
   pub log : Log
   pub own : IsLogIn setting log
   pub explained : Explains (checkpoint_fault seen log) fault
 
--- So it does where workers judge a step.
+-- The same for a step that workers judge.
 pub record RefusesStep (setting : Setting) (seen workers : ℕ) (fault : StepFault) : Type 0 where
   pub log : Log
   pub own : IsLogIn setting log

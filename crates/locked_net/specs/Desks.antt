@@ -1,5 +1,5 @@
--- What lies behind a network's lock, as contracts see it: a whole log, the base of what is kept of it, and what is published of it; and
--- which of that no event changes.
+-- What a network's lock guards, as contracts see it: a whole log, the base of what is kept, what is
+-- published, and what no event changes.
 use Rattle.std.specs.Prelude.{◌≡◌, ◌+◌, [], length, Option, Some}
 use Rattle.rule_machine.specs.declared.base.Base.{Base}
 use Rattle.rule_machine.specs.Base.{base_of}
@@ -10,28 +10,28 @@ use Rattle.step_log.specs.Log.{Log, IsLog}
 use Rattle.locked_net.specs.Above.{IsAbove, log_over}
 use Rattle.locked_net.specs.declared.key.NetKey.{NetKey}
 
--- the log, with the entries that were dropped too; the base, if there is one; and the name of the board that has the log
+-- the log, with dropped entries; the base, if any; and the name of the board that has the log
 pub record DeskView : Type 0 where
   pub log : Log
   pub base : Option Base
   pub name : Name
 
--- it, where the base is that of the log's end
+-- the same, with the log's end as the base
 abbrev pub based : DeskView → DeskView
 based desk = record desk { base = Some (base_of (length desk.log.entries) (record { state = desk.log.state; spent = desk.log.spent })) }
 
--- The board has published just the log, of which the journal keeps the part above its base. The board has a place for each name, and
--- place 0, which is nobody's; it began with the log's nodes.
+-- The board has published exactly the log, whose part above its base the journal keeps. The board has a place
+-- for each name, and the unused place 0; it began with the log's nodes.
 pub record IsDesk (t : RuleTable) (kept : Kept) (board : Standing) : Type 0 where
   pub is_log : IsLog t (log_over kept board.list)
   pub above : IsAbove t (log_over kept board.list) kept
   pub posted : board.posted ≡ []
   pub extent : board.name.extent ≡ record { places = kept.state.network.size + 1; present = kept.present }
 
--- ---- what no event changes: how many names there are, how many nodes there were at the start, how many entries the log may hold, and
--- which board publishes it; and, beside the lock's key, the base
+-- ---- what no event changes: the numbers of names and of nodes at the start, the log's limit, and its board;
+-- and, besides the lock's key, the base
 
--- the board's history, and a place for each name, and place 0, which is nobody's; the nodes of the start
+-- the board's history, a place for each name and the unused place 0, and the nodes of the start
 abbrev pub name_from : NetKey → Name
 name_from key = record { book = key.opening.book; extent = record { places = key.nodes + 1; present = key.present } }
 
@@ -41,7 +41,7 @@ pub record IsOfKey (key : NetKey) (desk : DeskView) : Type 0 where
   pub limit : desk.log.limit ≡ key.limit
   pub name : desk.name ≡ name_from key
 
--- all five are as they were
+-- all five are unchanged
 pub record KeepsKey (old new : DeskView) : Type 0 where
   pub nodes : new.log.state.network.size ≡ old.log.state.network.size
   pub present : new.log.present ≡ old.log.present

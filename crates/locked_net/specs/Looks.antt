@@ -1,4 +1,4 @@
--- What a call tells that looks behind a network's lock and records nothing.
+-- Calls that look at the log under the lock and record nothing.
 use Rattle.std.specs.Prelude.{◌≡◌, ℕ}
 use Rattle.rule_machine.specs.declared.event.Event.{Event}
 use Rattle.rule_machine.specs.State.{State}
@@ -10,8 +10,8 @@ use Rattle.step_log.specs.Log.{Log}
 use Rattle.locked_net.specs.Above.{IsPart}
 use Rattle.locked_net.specs.Settings.{Setting, IsLogIn}
 
--- The log that lay behind the lock was just what the note tells, published in this history. In the state in which it ends the event costs so
--- much, and where it is accepted the charge grows by no more.
+-- The log under the lock is exactly the note's, published in this history. After it the event costs this, and
+-- if it is accepted the charge grows by at most this.
 pub record IsCostSeen (setting : Setting) (book : Book) (weighs : State → Event → ℕ) (event : Event) (cost : ℕ) (note : Told) : Type 0 where
   pub log : Log
   pub own : IsLogIn setting log
@@ -20,7 +20,7 @@ pub record IsCostSeen (setting : Setting) (book : Book) (weighs : State → Even
   pub costs : cost ≡ cost_of setting.table weighs log.state event
   pub grows : BoundsGrowth setting.table log.state log.spent event cost
 
--- What is kept is the part above its base of just the log that the note tells, published in this history.
+-- What is kept is the part above its base of exactly the note's log, published in this history.
 pub record IsPublished (setting : Setting) (book : Book) (kept : Kept) (note : Told) : Type 0 where
   pub part : IsPart setting kept
   pub published : note.log ≡ part.log.entries

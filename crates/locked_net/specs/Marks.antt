@@ -1,5 +1,4 @@
--- How receipts are settled: they are looked at in order, and a table has a mark for each entry that a receipt before this one
--- has named.
+-- How receipts are settled, in order: a table has a mark for each entry that an earlier receipt has named.
 use Rattle.std.specs.Prelude.{◌≡◌, ℕ, ◌+◌, ◌-◌, ◌<◌, Bool, true, false, List, Some, length, take, slice_get, slice_index_or}
 use Rattle.std.specs.List.{sum_by, count_by}
 use Rattle.step_log.specs.Kept.{Kept, last_number}
@@ -20,7 +19,8 @@ pub record IsNumbered (clerks : List ClerkView) (c p n : ℕ) : Type 0 where
 abbrev pub mark_of : List Bool → ℕ → Bool
 mark_of marks number = slice_index_or marks (number - 1) false
 
--- All receipts before place p of clerk c agree, the clerks before c rise, and the marks are those of these receipts, one each.
+-- All receipts before place p of clerk c agree, the clerks before c rise, and the marks are those of these
+-- receipts, one each.
 pub record IsMarked (kept : Kept) (clerks : List ClerkView) (c p : ℕ) (marks : List Bool) : Type 0 where
   pub size : length marks ≡ last_number kept
   pub agree : (d q : ℕ) (other : Receipt) → IsBefore d q c p → StandsAt clerks d q other → Agrees kept clerks d q other

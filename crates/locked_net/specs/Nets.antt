@@ -1,4 +1,4 @@
--- What a clause says of a locked network.
+-- A locked network in contracts.
 use Rattle.std.specs.Prelude.{◌≡◌, ℕ}
 use Rattle.rule_machine.specs.RuleTable.{RuleTable}
 use Rattle.logbook.specs.Pages.{Book}
@@ -18,7 +18,7 @@ module _ {R : Type 0} where
   abbrev pub nodes_of : LockedNet R → ℕ
   nodes_of net = (net_key_of net).nodes
 
-  -- how many nodes it had at the start: those with the names from 1 on
+  -- how many nodes it had at the start, named from 1
   abbrev pub present_of : LockedNet R → ℕ
   present_of net = (net_key_of net).present
 
@@ -26,19 +26,20 @@ module _ {R : Type 0} where
   abbrev pub limit_of : LockedNet R → ℕ
   limit_of net = (net_key_of net).limit
 
-  -- all three, with the rules that it is under
+  -- all three, with its rules
   abbrev pub setting_of : RuleTable → LockedNet R → Setting
   setting_of t net = record { table = t; nodes = nodes_of net; present = present_of net; limit = limit_of net }
 
-  -- which history its readers see
+  -- the history that its readers see
   abbrev pub book_of : LockedNet R → Book
   book_of net = (net_key_of net).opening.book
 
-  -- that, how many places its copies have (one for each name, and place 0, which is nobody's), and how many nodes there were at the start
+  -- that history, the number of places of its copies (one for each name, and the unused place 0), and the
+  -- number of nodes at the start
   abbrev pub name_of : LockedNet R → Name
   name_of net = name_from (net_key_of net)
 
-  -- The reader has seen, and learnt, just the log that lay behind the net's lock at one moment: a run of the rules from the opening state of
-  -- its names and nodes, within its limit.
+  -- The reader has seen, and learnt, exactly the log under the net's lock at one moment: a run of the rules
+  -- from the opening state of its names and nodes, within its limit.
   abbrev pub HasSeenLog : RuleTable → LockedNet R → Reading → Type 0
   HasSeenLog t net reader = (log : Log) × IsLogIn (setting_of t net) log × (reader.list ≡ log.entries) × (reader.learnt ≡ log.entries)

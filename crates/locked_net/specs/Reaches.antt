@@ -1,4 +1,4 @@
--- What a look behind a network's lock tells of who is at rest, and of whom an event would reach.
+-- Looks under a network's lock: nodes at rest, and nodes that an event would reach.
 use Rattle.std.specs.Prelude.{◌≡◌, ℕ, Bool, List}
 use Rattle.rule_machine.specs.declared.event.Event.{Event}
 use Rattle.containment_laws.specs.Rest.{is_at_rest}
@@ -8,8 +8,8 @@ use Rattle.board.specs.Views.{Told}
 use Rattle.step_log.specs.Log.{Log}
 use Rattle.locked_net.specs.Settings.{Setting, IsLogIn}
 
--- The log that lay behind the lock was just what the note tells, published in this history. In the state in which it ends the node is at
--- rest, or is not.
+-- The log under the lock is exactly the note's, published in this history. After it the node is at rest, or
+-- is not.
 pub record IsRestSeen (setting : Setting) (book : Book) (v : ℕ) (rests : Bool) (note : Told) : Type 0 where
   pub log : Log
   pub own : IsLogIn setting log
@@ -17,7 +17,8 @@ pub record IsRestSeen (setting : Setting) (book : Book) (v : ℕ) (rests : Bool)
   pub in_book : note.book ≡ book
   pub rests_is : rests ≡ is_at_rest setting.table.flags log.state v
 
--- In that state the event would reach these nodes, and if it is accepted, whoever is at rest and not among them stays so.
+-- After that log the event would reach these nodes; if it is accepted, each node at rest and not among them
+-- stays at rest.
 pub record IsReachSeen (setting : Setting) (book : Book) (event : Event) (reach : List ℕ) (note : Told) : Type 0 where
   pub log : Log
   pub own : IsLogIn setting log

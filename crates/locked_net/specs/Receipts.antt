@@ -1,26 +1,26 @@
--- What a clerk keeps: a receipt for each reply that it got, oldest first, each with the number of its entry in the log; a note of what was
--- published when it got the last, or when it saw more; and the greatest number that a checkpoint answered it.
+-- What a clerk keeps: a receipt for each reply, oldest first, with its entry's number in the log; a note of
+-- what was published at the last receipt or later; and the greatest number that a checkpoint returned.
 use Rattle.std.specs.Prelude.{◌≡◌, ℕ, ◌<◌, ◌-◌, max, List, [], ◌∷◌, Option, None, Some, IfSome, IsSomeAnd, slice_get}
 use Rattle.rule_machine.specs.Run.{Entry}
 use Rattle.step_log.specs.declared.receipt.Receipt.{Receipt}
 use Rattle.logbook.specs.Pages.{Book}
 use Rattle.board.specs.Views.{Told}
 
--- the number of the last receipt, and the number handed in where there is none
+-- the number of the last receipt; `front` if there is none
 abbrev pub front_from : ℕ → List Receipt → ℕ
 front_from front [] = front
 front_from front (receipt ∷ receipts) = front_from receipt.seq receipts
 
--- the number of a clerk's last receipt, 0 where it has none
+-- the number of a clerk's last receipt; 0 if it has none
 abbrev pub front_of : List Receipt → ℕ
 front_of receipts = front_from 0 receipts
 
--- the numbers rise strictly, and each is above the number handed in
+-- the numbers rise strictly, and each is above `low`
 abbrev pub RiseAbove : ℕ → List Receipt → Type 0
 RiseAbove low [] = Unit {0}
 RiseAbove low (receipt ∷ receipts) = (low < receipt.seq) × RiseAbove receipt.seq receipts
 
--- The receipt is the log's entry at its number, counted from 1: the same event with the same reply.
+-- The receipt is the log's entry with its number, from 1: the same event with the same reply.
 pub record IsEntry (log : List Entry) (receipt : Receipt) : Type 0 where
   pub numbered : 0 < receipt.seq
   pub same : slice_get log (receipt.seq - 1) ≡ Some (receipt.event, receipt.reply)
@@ -31,35 +31,35 @@ pub record ClerkView : Type 0 where
   pub note : Option Told
   pub base : Option ℕ
 
--- the number of a base, 0 where there is none
+-- the number of a base; 0 if there is none
 abbrev pub base_from : Option ℕ → ℕ
 base_from None = 0
 base_from (Some number) = number
 
--- the greatest entry number that a clerk has seen: that of its last receipt, or that which its checkpoint answered, where it is greater
+-- the greatest entry number that a clerk has seen, in its last receipt or from a checkpoint
 abbrev pub seen_by : ClerkView → ℕ
 seen_by clerk = max (front_of clerk.receipts) (base_from clerk.base)
 
--- one who has called nobody
+-- a clerk that has made no call
 abbrev pub fresh : ClerkView
 fresh = record { receipts = []; note = None; base = None }
 
--- the last receipt is the log's entry at its number
+-- the last receipt is the log's entry with its number
 abbrev pub StandsLastFrom : List Entry → Receipt → List Receipt → Type 0
 StandsLastFrom log receipt [] = IsEntry log receipt
 StandsLastFrom log receipt (next ∷ receipts) = StandsLastFrom log next receipts
 
--- so it is, if there is one
+-- the same, if there is a receipt
 abbrev pub StandsLast : List Entry → List Receipt → Type 0
 StandsLast log [] = Unit {0}
 StandsLast log (receipt ∷ receipts) = StandsLastFrom log receipt receipts
 
--- who has a receipt has a note, in whose log the last one stands
+-- a clerk with a receipt has a note, and its log has the last receipt's entry
 abbrev pub NotesLast : List Receipt → Option Told → Type 0
 NotesLast receipts None = receipts ≡ []
 NotesLast receipts (Some told) = StandsLast told.log receipts
 
--- the entries that a note tells; none where there is no note
+-- the entries of a note; none if there is no note
 abbrev pub noted : Option Told → List Entry
 noted None = []
 noted (Some told) = told.log
@@ -69,7 +69,7 @@ pub record IsClerk (clerk : ClerkView) : Type 0 where
   pub rise : RiseAbove 0 clerk.receipts
   pub last : NotesLast clerk.receipts clerk.note
 
--- the greater of two numbers, where there is any
+-- the greater of two numbers, if there is any
 abbrev pub greater_base : Option ℕ → Option ℕ → Option ℕ
 greater_base None other = other
 greater_base (Some one) None = Some one

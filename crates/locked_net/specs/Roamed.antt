@@ -1,8 +1,8 @@
--- What clerks that roam leave behind.
+-- The receipts and notes of clerks that roam.
 --
--- A clerk that roams takes its turns one after another, each under one hold of the network's lock: between two of them anybody may
--- have recorded anything. So a turn is taken on some log, a run of the rule machine, and what it tells the clerk is what this log
--- makes of it.
+-- A clerk that roams takes its turns one after another, each under one hold of the network's lock. Between
+-- two turns any caller may have recorded anything. So a turn is taken on some log, a run of the rule machine,
+-- and its result is that of this log.
 use Rattle.std.specs.Prelude.{◌≡◌, ℕ, zero, suc, ◌<◌, ◌≤◌, ◌⊎◌, List, [], ◌∷◌, ◌++◌, length, take, drop, slice_get, Option, None, Some}
 use Rattle.std.specs.List.{All}
 use Rattle.std.specs.Option.{option_or}
@@ -19,7 +19,7 @@ use Rattle.locked_net.specs.declared.call_fault.CallFault.TheVariants as call_fa
 use Rattle.locked_net.specs.declared.roam_fault.RoamFault.{RoamFault}
 use Rattle.locked_net.specs.declared.roam_fault.RoamFault.TheVariants.{ZeroWorkers, Thread, Behind, LogFull, Memory}
 
--- ---- what a caller is promised
+-- ---- promises to a caller
 
 -- The receipt of an accepted step of one node, which moved to any target.
 pub record IsLoneStep (receipt : Receipt) : Type 0 where
@@ -29,25 +29,25 @@ pub record IsLoneStep (receipt : Receipt) : Type 0 where
   pub moved : receipt.reply ≡ Moves (move ∷ [])
   pub own : move.node ≡ node
 
--- A clerk has the receipts that it had, and behind them at most so many, each of an accepted step of one node.
+-- A clerk has its old receipts, then at most `turns` more, each of an accepted step of one node.
 pub record Roams (turns : ℕ) (old new : List Receipt) : Type 0 where
   pub own : List Receipt
   pub added : new ≡ old ++ own
   pub few : length own ≤ turns
   pub lone : All IsLoneStep own
 
--- so has each of these clerks
+-- the same of each of these clerks
 abbrev pub AllRoam : ℕ → List ClerkView → List ClerkView → Type 0
 AllRoam turns [] [] = Unit {0}
 AllRoam turns (old ∷ olds) (new ∷ news) = Roams turns old.receipts new.receipts × AllRoam turns olds news
 AllRoam turns olds news = ⊥
 
--- So has each of the first 64 clerks; the others are as before.
+-- The same of each of the first 64 clerks; the others are unchanged.
 pub record Roamed (turns : ℕ) (old new : List ClerkView) : Type 0 where
   pub workers : AllRoam turns (take 64 old) (take 64 new)
   pub others : drop 64 new ≡ drop 64 old
 
--- One of the first 64 clerks has seen so many entries, and met a log of fewer.
+-- One of the first 64 clerks has seen `seen` entries, and met a log of fewer.
 pub record IsBehind (clerks : List ClerkView) (front seen : ℕ) : Type 0 where
   pub clerk : ℕ
   pub view : ClerkView
@@ -56,18 +56,18 @@ pub record IsBehind (clerks : List ClerkView) (front seen : ℕ) : Type 0 where
   pub own : seen ≡ front_of view.receipts
   pub fewer : front < seen
 
--- A clerk's note is as it was, or one of this history; its base is as it was.
+-- A clerk's note is unchanged, or one of this history; its base is unchanged.
 pub record KeepsNote (book : Book) (old new : ClerkView) : Type 0 where
   pub note : (new.note ≡ old.note) ⊎ HasNoteOf book new
   pub base : new.base ≡ old.base
 
--- so is each of these
+-- the same of each of these
 abbrev pub AllKeepNotes : Book → List ClerkView → List ClerkView → Type 0
 AllKeepNotes book [] [] = Unit {0}
 AllKeepNotes book (old ∷ olds) (new ∷ news) = KeepsNote book old new × AllKeepNotes book olds news
 AllKeepNotes book olds news = ⊥
 
--- what can be told of a fault without a look at the log
+-- what a fault says without a look at the log
 abbrev pub MayStop : List ClerkView → RoamFault → Type 0
 MayStop clerks ZeroWorkers = clerks ≡ []
 MayStop clerks Thread = ⊥
@@ -75,7 +75,7 @@ MayStop clerks (Behind front seen) = IsBehind clerks front seen
 MayStop clerks LogFull = Unit {0}
 MayStop clerks Memory = Unit {0}
 
--- ---- turn for turn
+-- ---- turn by turn
 
 -- A turn was taken.
 pub record TakesTurn (setting : Setting) (turn : ℕ) (old new : List Receipt) : Type 0 where
@@ -90,12 +90,12 @@ pub record MeetsFault (setting : Setting) (turn : ℕ) (receipts : List Receipt)
   pub own : IsLogIn setting log
   pub met : FaultInTurn setting.table (front_of receipts) log turn fault
 
--- so many turns were taken, from turn 0
+-- this number of turns were taken, from turn 0
 abbrev pub TakesTurns : Setting → ℕ → List Receipt → List Receipt → Type 0
 TakesTurns setting zero old new = new ≡ old
 TakesTurns setting (suc turn) old new = (before : List Receipt) × TakesTurns setting turn old before × TakesTurn setting turn before new
 
--- each of these clerks took so many
+-- each of these clerks took this number of turns
 abbrev pub AllTakeTurns : Setting → ℕ → List ClerkView → List ClerkView → Type 0
 AllTakeTurns setting turns [] [] = Unit {0}
 AllTakeTurns setting turns (old ∷ olds) (new ∷ news) = TakesTurns setting turns old.receipts new.receipts × AllTakeTurns setting turns olds news
@@ -113,7 +113,8 @@ abbrev pub MayEnd : Setting → ℕ → List Receipt → List Receipt → Option
 MayEnd setting turns old new None = TakesTurns setting turns old new
 MayEnd setting turns old new (Some fault) = BreaksOff setting turns old new fault
 
--- Each clerk roamed; the fault is the first that a clerk met, in their order, and there is none where each took all its turns.
+-- Each clerk roamed; the fault is the first that a clerk met, in their order; none if each took all its
+-- turns.
 abbrev pub AllEnd : Setting → ℕ → List ClerkView → List ClerkView → Option CallFault → Type 0
 AllEnd setting turns [] [] fault = fault ≡ None
 AllEnd setting turns (old ∷ olds) (new ∷ news) fault =

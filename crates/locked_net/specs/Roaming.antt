@@ -1,4 +1,4 @@
--- What clerks that roam are told: in each turn one enabled node moves alone, if any is enabled.
+-- Turns of clerks that roam: in each, one enabled node moves alone, if any is enabled.
 use Rattle.std.specs.Prelude.{ℕ, ◌%◌, List, [], ◌∷◌, length, slice_get, Option, None, Some}
 use Rattle.rule_machine.specs.declared.choice.Item.{Item}
 use Rattle.rule_machine.specs.declared.event.Event.{Event}
@@ -10,7 +10,7 @@ use Rattle.step_log.specs.Log.{Log, recorded, receipt_of}
 use Rattle.locked_net.specs.declared.call_fault.CallFault.{CallFault}
 use Rattle.locked_net.specs.Calls.{call_fault, Explains}
 
--- the node whose turn it is: the (turn mod count)-th that is enabled, ascending from 0, if any is
+-- the node whose turn it is: the (turn mod count)-th enabled one, ascending from 0, if any
 abbrev pub mover : RuleTable → State → ℕ → Option ℕ
 mover t s turn = slice_get (enabled_names t s) (turn % length (enabled_names t s))
 
@@ -21,7 +21,7 @@ lone_items v = record { node = v; wish = None } ∷ []
 abbrev pub lone_step : ℕ → Event
 lone_step v = Step (lone_items v)
 
--- what the step of a node, if there is one, makes of the log
+-- the log after the step of a node, if there is one
 abbrev pub log_by : RuleTable → Log → Option ℕ → Log
 log_by t log None = log
 log_by t log (Some v) = recorded t log (lone_step v)
@@ -31,12 +31,12 @@ abbrev pub receipts_by : RuleTable → Log → Option ℕ → List Receipt
 receipts_by t log None = []
 receipts_by t log (Some v) = receipt_of t log (lone_step v) ∷ []
 
--- why it is not recorded; where there is no node, nothing is asked
+-- why it is not recorded; no fault if there is no node
 abbrev pub fault_by : ℕ → Log → Option ℕ → Option CallFault
 fault_by seen log None = None
 fault_by seen log (Some v) = call_fault seen log
 
--- an answer is the fault of a step that there is, and want of memory only where it has none
+-- the fault is that of a step, if there is one, and `Memory` only if it has none
 abbrev pub FaultBy : ℕ → Log → Option ℕ → CallFault → Type 0
 FaultBy seen log None fault = ⊥
 FaultBy seen log (Some v) fault = Explains (call_fault seen log) fault

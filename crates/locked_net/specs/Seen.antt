@@ -7,19 +7,19 @@ use Rattle.board.specs.Row.{Extent}
 use Rattle.locked_net.specs.declared.read_fault.ReadFault.{ReadFault}
 use Rattle.locked_net.specs.declared.read_fault.ReadFault.TheVariants.{UnknownNode, NoView}
 
--- the entries that were seen are a run of the rules from the opening state of the names that the places are for, the first of them
--- present, and the state where it ends is as told
+-- the entries seen are a run of the rules from the opening state of the places' names, the first of them
+-- present, and P holds of the state at its end
 abbrev pub Shows : RuleTable → Extent → List Entry → (State → Type 0) → Type 0
 Shows t extent seen P =
     (size : ℕ) × (end : Moment) × (extent.places ≡ size + 1) × Run t (beginning_with size extent.present) seen end × P end.state
 
--- P wherever there was a view: at an answer, and where no node has the name
+-- P if there was a view: at an answer, and if no node has the name
 abbrev pub OnView : {A : Type 0} → Result A ReadFault → Type 0 → Type 0
 OnView (Ok answer) P = P
 OnView (Err (UnknownNode front)) P = P
 OnView (Err NoView) P = Unit {0}
 
--- P of the number of entries of the view in which no node has the name
+-- P of the view's number of entries, if no node has the name
 abbrev pub IfUnknown : {A : Type 0} → Result A ReadFault → (ℕ → Type 0) → Type 0
 IfUnknown (Ok answer) P = Unit {0}
 IfUnknown (Err (UnknownNode front)) P = P front

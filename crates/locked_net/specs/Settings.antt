@@ -1,5 +1,5 @@
--- What no call of a network changes, in the words of its logs: the rules, how many names there are, how many nodes were present at the
--- start, and how many entries there may be.
+-- What no call of a network changes, as its logs have it: the rules, the numbers of names and of nodes at the
+-- start, and the limit of entries.
 use Rattle.std.specs.Prelude.{◌≡◌, ℕ}
 use Rattle.rule_machine.specs.RuleTable.{RuleTable}
 use Rattle.step_log.specs.Log.{Log, IsLog}
@@ -10,7 +10,7 @@ pub record Setting : Type 0 where
   pub present : ℕ
   pub limit : ℕ
 
--- A log is a run of these rules, of as many names, from as many nodes, and with this limit.
+-- A log is a run of these rules, with these names, these nodes at the start, and this limit.
 pub record IsLogIn (setting : Setting) (log : Log) : Type 0 where
   pub run : IsLog setting.table log
   pub nodes : log.state.network.size ≡ setting.nodes

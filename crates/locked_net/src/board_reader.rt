@@ -1,4 +1,4 @@
-//! Who looks at a network and waits for nobody.
+//! Wait-free readers of a network.
 
 ghost use Rattle.std.specs.Prelude.{◌≡◌, false, length, IsTrue, IfOk, IfSome, OnOk, OnErr, IsErrOf};
 ghost use mathlib.Core.List.{IsPrefix};
@@ -20,7 +20,7 @@ use std::marker::Model;
 pub struct SeenPointer {
     /// How many entries were published then.
     pub front: u32,
-    /// Where the node pointed.
+    /// The node that it pointed at, if any.
     pub pointer: Option<Node>,
 }
 
@@ -29,13 +29,14 @@ pub struct SeenPointer {
 pub struct SeenPartner {
     /// How many entries were published then.
     pub front: u32,
-    /// The node at which it pointed, if that pointed back.
+    /// The node that it pointed at, if that pointed back.
     pub partner: Option<Node>,
 }
 
-/// A reader of a network. It waits for nobody and takes no memory. Contracts see the entries that it saw last, which are its view,
-/// those that each later view has at least, and whose they are. A view is a beginning of the network's whole log, and grows. A
-/// checkpoint is not seen: the journal's entries are the part of that log above its base.
+/// A wait-free reader of a network. It takes no memory.
+/// Contracts see its view, which is the entries that it saw last; those that each later view includes; and
+/// the network's name. A view is a prefix of the network's whole log, and grows. It does not see a
+/// checkpoint.
 #[derive(Drop)]
 pub struct BoardReader<R: Rules> {
     reader: Reader<Runs<R>>,
@@ -83,10 +84,12 @@ impl<R: Rules> BoardReader<R> {
         Ok((front, seen))
     }
 
-    /// Where a node points, after the first `front` entries of the log: a view that has all that this reader has seen and all that
-    /// it has learnt, and is a run of the rules. `UnknownNode`, of such a view too, with its number of entries, exactly where no node has the name
-    /// then, unless `NoView` comes: where the network has ended, or what is published lacks a part of what was learnt, which never comes; the view
-    /// stays then. A few steps.
+    /// A node's pointer after the first `front` entries of the log. Costs a few steps.
+    /// These entries are a view: a run of the rules that includes all this reader has seen or learnt.
+    /// `NoView` if the network has ended, or if what is published lacks a part of what was learnt, which
+    /// never happens.
+    /// The view stays then. Otherwise `UnknownNode` exactly if no node has the name in the view, with its
+    /// number of entries.
     pub fn pointer(&mut self, v: Node) -> Result<SeenPointer, ReadFault>
         ensures view { IsPrefix self.old.list self.new.list }
         ensures kept { (self.new.learnt ≡ self.old.learnt) × (self.new.name ≡ self.old.name) }
@@ -103,8 +106,8 @@ impl<R: Rules> BoardReader<R> {
         Ok(SeenPointer { front, pointer })
     }
 
-    /// The node with which a node is paired, after the first `front` entries of the log, as `pointer` does: that at which it points,
-    /// if that points back at the same moment.
+    /// A node's partner after the first `front` entries of the log: its target, if that points back then.
+    /// Views, faults and cost are those of `pointer`.
     pub fn partner(&mut self, v: Node) -> Result<SeenPartner, ReadFault>
         ensures view { IsPrefix self.old.list self.new.list }
         ensures kept { (self.new.learnt ≡ self.old.learnt) × (self.new.name ≡ self.old.name) }
@@ -121,7 +124,8 @@ impl<R: Rules> BoardReader<R> {
         Ok(SeenPartner { front, partner })
     }
 
-    /// How many entries are published, as `pointer` does.
+    /// How many entries are published. Views and cost are those of `pointer`.
+    /// `NoView` as in `pointer`.
     pub fn front(&mut self) -> Result<u32, NoView>
         ensures view { IsPrefix self.old.list self.new.list }
         ensures kept { (self.new.learnt ≡ self.old.learnt) × (self.new.name ≡ self.old.name) }
@@ -136,7 +140,8 @@ impl<R: Rules> BoardReader<R> {
         Ok(front)
     }
 
-    /// What two readers of one network have seen is of one log, and so is what they have learnt. Nothing runs.
+    /// What two readers of one network have seen is of one log, and so is what they have learnt.
+    /// Nothing runs.
     pub fn agrees_with(&self, other: &BoardReader<R>)
         requires { other.now.name.book ≡ self.now.name.book }
         ensures views { AreOneLog self.now.list other.now.list }
@@ -146,9 +151,9 @@ impl<R: Rules> BoardReader<R> {
         self.reader.agrees_with(&other.reader);
     }
 
-    /// Takes in a clerk's note: each later view has all that was published when the clerk got its last receipt, and so the
-    /// entry of that receipt. What the note tells and the view are of one log. The clerk must be one that has called the reader's
-    /// own network, or nobody; it stays as it is.
+    /// Takes in a clerk's note: each later view includes all that was published at the clerk's last receipt.
+    /// So it includes that receipt's entry. The note's log and the view are of one log.
+    /// The clerk must have called only the reader's network, or none. It stays unchanged.
     #[tactic(auto, using(crate::proofs::Seeing::noted_last))]
     pub fn learn(&mut self, clerk: &mut Clerk)
         requires { IfSome clerk.old.note (λ told. told.book ≡ self.old.name.book) }

@@ -1,10 +1,10 @@
-//! Why a call is not answered.
+//! Why a call fails.
 
 use std::alloc::AllocError;
 use step_log::RecordFault;
 use thiserror::Error;
 
-/// Why a network did not answer a call, the first of these that is so. Log and clerk are as before.
+/// Why a network did not carry out a call: the first of these that applies. Log and clerk are unchanged.
 #[derive(Clone, Copy, Debug, PartialEq, Eq, Error)]
 pub enum CallFault {
     /// The log holds fewer entries than the clerk has seen: it has called another network.
@@ -15,10 +15,10 @@ pub enum CallFault {
         /// The greatest entry number that the clerk has seen.
         seen: u32,
     },
-    /// The log holds as many entries as it may.
+    /// The log has reached its limit of entries.
     #[error("log full")]
     LogFull,
-    /// A growth of memory was refused.
+    /// Memory ran out.
     #[error("out of memory")]
     Memory,
 }

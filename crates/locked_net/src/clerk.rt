@@ -1,4 +1,4 @@
-//! Who calls a network and keeps what it was told.
+//! A clerk: it calls a network and keeps the receipts.
 
 ghost use Rattle.std.specs.Prelude.{◌≡◌, None, Some, IfSome, MatchOption};
 ghost use Rattle.board.specs.History.{AreComparable};
@@ -18,9 +18,11 @@ mod seeing;
 pub(crate) use calls::admit;
 pub(crate) use checkpoint::greater;
 
-/// A caller of a network, seen in contracts as its receipts, oldest first (one for each of its calls that was answered; their
-/// numbers rise strictly), its note of what was published when it got the last, or of more that it `sees`, and the greatest number
-/// that its `checkpoint` answered.
+/// A caller of a network. Contracts see three things:
+///
+/// - its receipts, oldest first: one for each answered call, with strictly rising numbers;
+/// - its note of what was published at its last receipt, or of more that it `sees`;
+/// - the greatest number that its `checkpoint` returned.
 #[derive(Drop)]
 pub struct Clerk {
     receipts: Vec<Receipt>,
@@ -43,7 +45,6 @@ impl Model for Clerk {
 }
 
 impl Clerk {
-    /// A clerk without receipts. It takes no memory.
     pub(crate) fn new(alloc: Global) -> Clerk
         ensures { result ≡ fresh }
     {
@@ -54,7 +55,7 @@ impl Clerk {
         }
     }
 
-    /// The number of this clerk's last receipt, 0 where it has none.
+    /// The number of this clerk's last receipt; 0 if it has none.
     pub fn front(&self) -> u32
         ensures { result ≡ front_of self.now.receipts }
     {
@@ -64,16 +65,15 @@ impl Clerk {
         }
     }
 
-    /// The greatest entry number that this clerk has seen: that of its last receipt, or that which its `checkpoint` answered, where it
-    /// is greater; 0 where it has neither.
+    /// The greatest entry number that this clerk has seen, in a receipt or from `checkpoint`; 0 if none.
     pub fn seen(&self) -> u32
         ensures { result ≡ seen_by self.now }
     {
         self.front().max(self.base.unwrap_or(0))
     }
 
-    /// The greatest number that this clerk's `checkpoint` answered; `None` before the first. No other call changes it. It takes no
-    /// memory.
+    /// The greatest number that this clerk's `checkpoint` returned; `None` before the first.
+    /// No other call changes it. Takes no memory.
     pub fn base(&self) -> Option<u32>
         ensures { result ≡ self.now.base }
     {
@@ -88,7 +88,7 @@ impl Clerk {
         &self.receipts
     }
 
-    /// The note that it got with its last receipt, or of more that it has seen.
+    /// Its note.
     pub(crate) fn note(&self) -> Option<&Note>
         ensures note { MatchOption result (self.now.note ≡ None) (λ note. self.now.note ≡ Some note.now) }
         ensures clerk { IsClerk self.now }
@@ -96,8 +96,8 @@ impl Clerk {
         self.note.as_ref()
     }
 
-    /// A copy of the note that it got with its last receipt, or of more that it has seen since: what it tells has the entry of that
-    /// receipt. It takes no memory.
+    /// A copy of its note, whose log has the entry of its last receipt. Takes no memory.
+    /// It came with that receipt, or is of more that the clerk has seen since.
     pub fn noted(&self) -> Option<Note>
         ensures note { result ≡ self.now.note }
         ensures clerk { IsClerk self.now }
@@ -106,7 +106,8 @@ impl Clerk {
         Some(note.again())
     }
 
-    /// Of what another note of its network tells and what its own tells, one begins the other. Nothing runs.
+    /// Of the logs of another note of its network and of its own note, one is a prefix of the other.
+    /// Nothing runs.
     pub fn follows(&self, before: &Option<Note>)
         requires { IfSome before.now (λ told. IsOfBook told.book self.now) }
         ensures notes { AreComparable (noted before.now) (noted self.now.note) }

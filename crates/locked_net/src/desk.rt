@@ -1,4 +1,4 @@
-//! What lies behind a network's lock.
+//! What a network's lock guards.
 
 ghost use Rattle.std.specs.Prelude.{◌≡◌, ◌+◌, ◌≤◌, ◌↔◌, length, min, IfOk, IfErr, OnOk, OnErr, IsErrOf, IsTrue};
 ghost use Rattle.graph_store.specs.Fault.{nodes_fault, Explains};
@@ -24,8 +24,9 @@ use step_log::{Journal, Prepared, Receipt, RecordFault};
 /// How many readers of a network there may be at once.
 const READERS: usize = 64;
 
-/// A journal and the board that publishes it: whatever is recorded is published. Contracts see the whole log, with the entries that a
-/// checkpoint dropped, which is what is published; the journal's base; and the board's name. It can't be dropped: `close` ends it.
+/// A journal and the board that publishes all its entries. It cannot be dropped: `close` ends it.
+/// Contracts see the whole log, with dropped entries, which is what is published; the journal's base; and the
+/// board's name.
 pub(crate) struct Desk<R: Rules> {
     journal: Journal<R>,
     board: Board<Runs<R>>,
@@ -48,7 +49,7 @@ impl<R: Rules> Model for Desk<R> {
     ghost invariant = { λ d. IsDesk R.table (kept_of d.journal) d.board };
 }
 
-/// What came of an event: the receipt of its entry, the reply, and a note of what is published, with the entry at its end.
+/// The result of an event: the receipt of its entry, the reply, and a note that ends with the entry.
 #[derive(Drop)]
 pub(crate) struct Recorded {
     pub(crate) receipt: Receipt,
@@ -57,8 +58,6 @@ pub(crate) struct Recorded {
 }
 
 impl<R: Rules> Desk<R> {
-    /// A new network of the names 1 to `nodes`, of which those up to `present` are nodes, with a limit on its entries, none of which is
-    /// there yet.
     pub(crate) fn new<W: Wait>(
         alloc: Global,
         rt: &W,
@@ -81,7 +80,6 @@ impl<R: Rules> Desk<R> {
         }
     }
 
-    /// How many entries there are, with those that were dropped.
     pub(crate) fn len(&self) -> u32
         ensures count { result ≡ length self.now.log.entries }
         ensures run { IsLog R.table self.now.log }
@@ -89,14 +87,12 @@ impl<R: Rules> Desk<R> {
         self.journal.len()
     }
 
-    /// Whether there are as many entries as there may be.
     pub(crate) fn is_full(&self) -> bool
         ensures { IsTrue result ↔ (length self.now.log.entries ≡ self.now.log.limit) }
     {
         self.journal.is_full()
     }
 
-    /// The network as the entries have left it.
     pub(crate) fn net(&self) -> &Net<R>
         ensures state { result.now.state ≡ self.now.log.state }
         ensures run { IsLog R.table self.now.log }
@@ -104,14 +100,12 @@ impl<R: Rules> Desk<R> {
         self.journal.net()
     }
 
-    /// Tells what is published.
     pub(crate) fn note(&self) -> Note
         ensures { (result.log ≡ self.now.log.entries) × (result.book ≡ self.now.name.book) }
     {
         self.board.note()
     }
 
-    /// What an event would cost, with a note of what is published.
     pub(crate) fn cost_of(&self, event: &Event) -> SeenCost
         ensures cost { result.cost ≡ cost_of R.table R.cost self.now.log.state event.now }
         ensures grows { BoundsGrowth R.table self.now.log.state self.now.log.spent event.now result.cost }
@@ -124,7 +118,6 @@ impl<R: Rules> Desk<R> {
         }
     }
 
-    /// The nodes that an event would reach.
     pub(crate) fn reach_of(&self, event: &Event) -> Result<Vec<Node>, Want>
         ensures reach { IfOk result (λ list. list.items ≡ reach_of R.table self.now.log.state event.now) }
         ensures spares { IfOk result (λ list. Spares R.table self.now.log.state self.now.log.spent event.now list.items) }
@@ -132,7 +125,7 @@ impl<R: Rules> Desk<R> {
         self.journal.reach_of(event)
     }
 
-    /// Carries out an event, records it and publishes its entry. At a fault nothing has changed.
+    /// Carries out an event, records it and publishes its entry. A fault changes nothing.
     pub(crate) fn record<W: Wait>(&mut self, rt: &W, event: Event) -> Result<Recorded, RecordFault>
         ensures log { OnOk result (self.new.log ≡ recorded R.table self.old.log event) }
         ensures receipt { IfOk result (λ told. told.receipt ≡ receipt_of R.table self.old.log event) }
@@ -146,7 +139,7 @@ impl<R: Rules> Desk<R> {
         Ok(finish(&mut self.journal, &mut self.board, rt, prepared)?)
     }
 
-    /// Carries out a step from the verdicts of its items, records it and publishes its entry. At a fault nothing has changed.
+    /// Does what `record` does, for a step, from the verdicts of its items.
     pub(crate) fn record_step<W: Wait>(
         &mut self,
         rt: &W,
@@ -166,8 +159,9 @@ impl<R: Rules> Desk<R> {
         Ok(finish(&mut self.journal, &mut self.board, rt, prepared)?)
     }
 
-    /// Makes the present state the base of the journal, which drops its entries. Answers how many entries there are, with those that
-    /// were dropped. What is published stays. At want of memory nothing has changed.
+    /// Makes the present state the base of the journal, and drops its entries.
+    /// Returns how many entries there were, dropped ones included. What is published stays. If memory runs
+    /// out, nothing has changed.
     pub(crate) fn checkpoint(&mut self) -> Result<u32, Want>
         ensures number { IfOk result (λ number. number ≡ length self.old.log.entries) }
         ensures base { OnOk result (self.new ≡ based self.old) }
@@ -176,7 +170,6 @@ impl<R: Rules> Desk<R> {
         self.journal.checkpoint()
     }
 
-    /// A reader of what is published.
     pub(crate) fn reader(&mut self) -> Result<Reader<Runs<R>>, NoPlace>
         ensures kept { self.new ≡ self.old }
         ensures name { IfOk result (λ reader. reader.name ≡ self.old.name) }
@@ -186,7 +179,6 @@ impl<R: Rules> Desk<R> {
         self.board.reader()
     }
 
-    /// The journal; nothing is published any more.
     pub(crate) fn close<W: Wait>(self, rt: &W) -> Journal<R>
         ensures kept { IsKept R.table R.NODE_WEIGHT (kept_of result) }
         ensures above { IsAbove R.table self.log (kept_of result) }
@@ -199,7 +191,7 @@ impl<R: Rules> Desk<R> {
     }
 }
 
-/// Records what is prepared, and publishes it: once its entry is posted nothing fails.
+/// Records what is prepared, and publishes it. Once its entry is posted nothing fails.
 fn finish<R: Rules, W: Wait>(
     journal: &mut Journal<R>,
     board: &mut Board<Runs<R>>,

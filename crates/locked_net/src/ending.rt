@@ -20,13 +20,16 @@ use std::alloc::Global;
 use std::sync::Wait;
 use step_log::Journal;
 
-/// Takes the journal out of a network that nobody calls any more, and settles its clerks against it.
+/// Takes the journal out of a network that no thread shares, and settles its clerks against it.
 ///
-/// Where a checkpoint dropped entries, the journal's base has to be the greatest that a checkpoint answered one of these clerks: so
-/// nobody has made one who is not handed in. Receipts at or below the base are compared by their numbers alone, and each number up
-/// to the last has to be there once; those above it are compared with the entries. `CountDiffers` where there are not as many
-/// receipts as entries, kept or dropped, then `BaseDiffers`, then `Stranger`; `Memory` in place of any answer. The journal comes back
-/// with each fault.
+/// Each receipt must be the log's entry with its number, and each entry must belong to one clerk. After a
+/// checkpoint the base must be the greatest that a checkpoint returned to one of these clerks: so no clerk
+/// that made a greater one is missing. Up to the base receipts are compared by number only, and each number
+/// must occur once.
+///
+/// `CountDiffers` if receipts and entries, kept or dropped, differ in number; then `BaseDiffers`; then
+/// `Stranger`, the first receipt that does not agree. `Memory` may come in place of any result. The journal
+/// comes back with each fault.
 pub fn settle<R: Rules, W: Wait>(
     rt: &W,
     net: LockedNet<R>,
@@ -44,10 +47,10 @@ pub fn settle<R: Rules, W: Wait>(
     settle_journal(alloc, net.into_journal(rt), &clerks)
 }
 
-/// Takes the journal out of a network that nobody calls any more, and settles its clerks against it, of whom each has called
-/// this network, or nobody: what each one's note tells is then a beginning of the whole log, of which the journal keeps the part
-/// above its base. So it is of the journal that comes back with a fault, but for `Memory`, which stands for a note that is no such
-/// beginning too: that never comes. All else as `settle` says.
+/// Does what `settle` does, for clerks that have called only this network or none.
+/// Each clerk's note then is of a prefix of the whole log, whose part above the base the journal keeps. This
+/// holds also of a journal that comes back, except at `Memory`.
+/// `Memory` also reports a note that is of no such prefix, which never happens.
 pub fn settle_own<R: Rules, W: Wait>(
     rt: &W,
     net: LockedNet<R>,
@@ -73,7 +76,6 @@ pub fn settle_own<R: Rules, W: Wait>(
     settle_journal(alloc, journal, &clerks)
 }
 
-/// Whether what each clerk's note tells is seen to begin what another note of its network tells.
 fn all_begin(clerks: &[Clerk], last: &Note) -> bool
     requires { All (IsOfBook last.now.book) clerks.now }
     ensures yes { IsTrue result → All (λ clerk. IsPrefix (noted clerk.note) last.now.log) clerks.now }
@@ -86,7 +88,7 @@ fn all_begin(clerks: &[Clerk], last: &Note) -> bool
     true
 }
 
-/// Whether what a clerk's note tells is seen to begin what another note of its network tells.
+/// Whether the log of a clerk's note is known to be a prefix of the log of `last`.
 pub(crate) fn begins(clerk: &Clerk, last: &Note) -> bool
     requires { IsOfBook last.now.book clerk.now }
     ensures yes { IsTrue result → IsPrefix (noted clerk.now.note) last.now.log }
@@ -99,7 +101,6 @@ pub(crate) fn begins(clerk: &Clerk, last: &Note) -> bool
     }
 }
 
-/// Settles clerks against a journal.
 fn settle_journal<R: Rules>(
     alloc: Global,
     journal: Journal<R>,

@@ -1,4 +1,4 @@
-//! How many clerks roam at once.
+//! How clerks roam at once.
 
 ghost use Rattle.std.specs.Prelude.{◌+◌, ◌<◌, ◌^◌, length};
 ghost use Rattle.std.specs.Thread.{IsSync, IsSend};
@@ -12,7 +12,6 @@ use std::sync::Wait;
 use std::thread::{Threads, join_mut};
 use steal_pool::Gate;
 
-/// Lets the clerk roam, if there is one.
 fn roam_first<R: Rules, G: Gate, W: Wait>(
     rt: &W,
     round: &Round<R, G>,
@@ -29,8 +28,7 @@ fn roam_first<R: Rules, G: Gate, W: Wait>(
     take_turns(rt, round, worker, &mut clerks[0]).err()
 }
 
-/// Lets each clerk roam, all at once where threads can be had, and answers the first fault in their order. The first clerk's
-/// worker has the number handed in.
+/// Lets each clerk roam, at once if threads are available, and returns the first fault in their order.
 #[cycle(forks)]
 pub(crate) fn roam_all<R: Rules + Send, G: Gate + Sync, T: Threads + Wait + Sync>(
     rt: &T,
@@ -51,7 +49,7 @@ pub(crate) fn roam_all<R: Rules + Send, G: Gate + Sync, T: Threads + Wait + Sync
     fault.or(other)
 }
 
-/// Lets two rows of clerks roam at once, where a thread can be had.
+/// Lets two rows of clerks roam, at once if a thread is available.
 #[cycle(forks)]
 fn roam_halves<R: Rules + Send, G: Gate + Sync, T: Threads + Wait + Sync>(
     rt: &T,

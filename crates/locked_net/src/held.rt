@@ -20,9 +20,9 @@ mod lone;
 mod looks;
 mod reach;
 
-/// A network whose lock its holder has, who alone calls it until `free`. Contracts see what lies behind the lock: the whole log, with
-/// the entries that a checkpoint dropped, just as it is published; the base of what is kept of it; and the name of its board. It can't
-/// be dropped: `free` ends it.
+/// A network whose lock the holder has until `free`. It cannot be dropped: `free` ends it.
+/// Contracts see the whole log, with dropped entries, exactly as published; the base of the kept part; and
+/// the board's name.
 pub struct HeldNet<'a, R: Rules> {
     net: &'a LockedNet<R>,
     desk: Desk<R>,
@@ -53,7 +53,7 @@ impl<R: Rules> LockedNet<R> {
         ensures name { result.name ≡ name_of self.now }
     {
         let (desk, hold) = self.take(rt);
-        // It ensures that the log is a run.
+        // Called for its contract: the log is a run.
         let _count = desk.len();
         HeldNet {
             net: self,

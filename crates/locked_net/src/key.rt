@@ -5,8 +5,8 @@ use board::Note;
 use keyed_lock::Invariant;
 use rule_engine::Rules;
 
-/// How many names a network has, how many nodes it had at the start, how many entries its log may hold, and a note of its board when
-/// that was made: the key of its lock.
+/// The key of a network's lock: its names, its nodes at the start, the log's limit, and a note.
+/// The note is of the board when it was made.
 #[derive(Drop)]
 pub(crate) struct NetKey {
     pub(crate) nodes: u32,
@@ -15,7 +15,7 @@ pub(crate) struct NetKey {
     pub(crate) opening: Note,
 }
 
-/// The log behind the lock is of the size that the lock's key has, and is published by the board that the key has a note of.
+/// The log under the lock has the key's sizes, and the board of the key's note publishes it.
 pub(crate) struct OfKey;
 
 impl<R: Rules> Invariant<Desk<R>, NetKey> for OfKey {

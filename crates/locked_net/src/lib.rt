@@ -1,13 +1,14 @@
-//! One network for many callers, each of whom keeps receipts, and the settling of these against the log.
+//! One network for many callers with receipts, and the settling of these receipts against the log.
 //!
-//! A `LockedNet` is a network behind a lock. Each caller has a `Clerk`, whose `call` waits for the lock, records one event and keeps the
-//! receipt; a worker `roam`s with one of its own. Who `hold`s the lock for several calls has a `HeldNet`, of which contracts see the log.
-//! In the end `settle` takes the network and all clerks: at `Ok` the log is a run of the rule machine, each receipt is the log's entry at
-//! its number, and each entry is one clerk's. That is the claim of the whole, the clause `headline`. A `BoardReader` asks where a node
-//! points without lock, memory or waiting, and is answered from a run with all that it has seen.
+//! A `LockedNet` is a network behind a lock. Each caller has a `Clerk`, whose `call` waits for the lock,
+//! records one event and keeps the receipt. A worker `roam`s with a clerk of its own. `hold` keeps the lock
+//! for several calls on a `HeldNet`, whose log contracts see. In the end `settle` takes the network and all
+//! clerks. `Ok` means (clause `headline`): the log is a run of the rule machine; each receipt is the log's
+//! entry with its number; each entry belongs to one clerk. A `BoardReader` asks for a node's pointer without
+//! lock, memory or waiting, and gets its answers from a run that includes all it has seen.
 //!
-//! A call costs what recording costs and a publication. That a lock is had, and in which order, is not claimed. A network can't be
-//! dropped: `settle` or `into_journal` ends it.
+//! A call costs as much as recording and a publication. The contracts do not promise that a caller gets the
+//! lock, or any order. A network cannot be dropped: `settle` or `into_journal` ends it.
 //!
 //! ```rust
 //! let net = LockedNet::<HsuHuang>::new(alloc, &rt, 3)?;

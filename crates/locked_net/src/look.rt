@@ -1,4 +1,4 @@
-//! What a network tells of what an event would cost.
+//! What an event would cost.
 
 ghost use Rattle.locked_net.specs.Looks.{IsCostSeen};
 ghost use Rattle.locked_net.specs.Nets.{book_of, setting_of};
@@ -11,15 +11,15 @@ use std::sync::Wait;
 /// What an event would cost at one moment, with a note of the log then.
 #[derive(Drop)]
 pub struct SeenCost {
-    /// By how many moves it would let the charge grow at most.
+    /// The most that it would add to the charge, in moves.
     pub cost: u32,
     /// What was published then: the whole log.
     pub note: Note,
 }
 
 impl<R: Rules> LockedNet<R> {
-    /// What an event would cost if it were called now, by `Net::cost_of`, in the state in which the log then ends: just the log that is
-    /// published, of which the note tells. Nothing is recorded, and no memory taken. Waits for the network's lock.
+    /// What an event would cost after the present log, in moves; see `Net::cost_of`.
+    /// The note is of exactly this log. Records nothing and takes no memory. Waits for the network's lock.
     pub fn cost_of<W: Wait>(&self, rt: &W, event: &Event) -> SeenCost
         ensures { IsCostSeen (setting_of R.table self.now) (book_of self.now) R.cost event.now result.cost result.note }
     {

@@ -15,10 +15,12 @@ use std::alloc::{AllocFailed, Global};
 use std::sync::Wait;
 use step_log::{Journal, MAX_ENTRIES};
 
-/// A network under the rules `R` with its log, behind one lock, for callers in any threads, and with a published
-/// copy of its pointers, and of who is present, for readers that wait for nobody: whoever has the lock has the journal and the board, so whenever the lock
-/// is free the log is a run of the rule machine, and just this log is published, also where a checkpoint dropped entries of the
-/// journal: published copies do not see a checkpoint. It can't be dropped: `into_journal` ends it.
+/// A network under the rules `R` with its log, behind one lock, for callers in any threads.
+///
+/// A copy of its pointers and present nodes is published for wait-free readers. Whoever holds the lock has
+/// the journal and the board: whenever it is free, the log is a run of the rule machine and exactly this log
+/// is published. A checkpoint drops only the journal's entries, not published ones. Cannot be dropped:
+/// `into_journal` ends it.
 pub struct LockedNet<R: Rules> {
     alloc: Global,
     lock: KeyedLock<Desk<R>, NetKey, OfKey>,
@@ -35,8 +37,8 @@ impl<R: Rules> LockedNet<R> {
     ghost use Rattle.step_log.specs.Held.{kept_of};
     ghost use Rattle.step_log.specs.Kept.{IsKept};
 
-    /// A new network of the nodes 1 to `nodes`, whose log may hold 16,777,216 entries. `TooManyNodes` above 65,535 nodes,
-    /// and `Memory` if memory runs out.
+    /// A new network of the nodes 1 to `nodes`, with a limit of 16,777,216 entries.
+    /// `TooManyNodes` above 65,535 nodes; `Memory` if memory runs out.
     pub fn new<W: Wait>(alloc: Global, rt: &W, nodes: u32) -> Result<LockedNet<R>, GraphFault>
         ensures nodes { IfOk result (λ net. nodes_of net ≡ nodes) }
         ensures present { IfOk result (λ net. present_of net ≡ nodes) }
@@ -47,8 +49,7 @@ impl<R: Rules> LockedNet<R> {
         LockedNet::with_limit(alloc, rt, nodes, MAX_ENTRIES)
     }
 
-    /// A new network of the nodes 1 to `nodes`, whose log may hold `limit` entries; a limit above 16,777,216 counts as that.
-    /// `TooManyNodes` above 65,535 nodes, and `Memory` if memory runs out.
+    /// Like `new`, with a limit of `limit` entries; a limit above 16,777,216 counts as that.
     pub fn with_limit<W: Wait>(
         alloc: Global,
         rt: &W,
@@ -64,9 +65,8 @@ impl<R: Rules> LockedNet<R> {
         LockedNet::with_present(alloc, rt, nodes, nodes, limit)
     }
 
-    /// A new network of the names 1 to `nodes`, of which 1 to `present` are nodes and those from there on absent, whose log may
-    /// hold `limit` entries; a limit above 16,777,216 counts as that. `TooManyNodes` above 65,535 names, and `Memory` if memory
-    /// runs out.
+    /// Like `with_limit`, but only the names 1 to `present` are nodes; the others are absent.
+    /// `TooManyNodes` above 65,535 names; `Memory` if memory runs out.
     pub fn with_present<W: Wait>(
         alloc: Global,
         rt: &W,
@@ -97,15 +97,16 @@ impl<R: Rules> LockedNet<R> {
         }
     }
 
-    /// A new clerk, who has called nobody.
+    /// A new clerk, without receipts.
     pub fn clerk(&self) -> Result<Clerk, Want>
         ensures { IfOk result (λ clerk. clerk ≡ fresh) }
     {
         Ok(Clerk::new(self.alloc))
     }
 
-    /// A reader of this network, who has seen the log as it is now, and sees at least that. There are places for 64 readers at once; a reader keeps
-    /// its place until it is dropped. Nothing is said of when no place is found. Waits for the network's lock.
+    /// A reader of this network that has seen the present log. Waits for the network's lock.
+    /// At most 64 readers have a place at once, each until it is dropped.
+    /// `NoPlace` if no place is found; when that happens is unspecified.
     pub fn reader<W: Wait>(&self, rt: &W) -> Result<BoardReader<R>, ReaderFault>
         ensures name { IfOk result (λ reader. reader.name ≡ name_of self.now) }
         ensures seen { IfOk result (λ reader. HasSeenLog R.table self.now reader) }
@@ -120,7 +121,6 @@ impl<R: Rules> LockedNet<R> {
         }
     }
 
-    /// Its allocator.
     pub(crate) fn alloc(&self) -> Global {
         self.alloc
     }
@@ -141,9 +141,10 @@ impl<R: Rules> LockedNet<R> {
         self.lock.give(hold, desk);
     }
 
-    /// The journal of a network that no thread shares any more: a run of the rule machine. Where a checkpoint dropped entries, what it
-    /// keeps is the part above its base of a whole log, which was published, and its base tells where the entries below lead. It
-    /// would wait for a call that is still under the lock, which a network that is owned never has.
+    /// The journal of a network that no thread shares: a run of the rule machine.
+    /// After a checkpoint it keeps only the part of the whole, published log above its base, the moment after
+    /// the entries below.
+    /// It would wait for a call under the lock; a network that is owned has none.
     pub fn into_journal<W: Wait>(self, rt: &W) -> Journal<R>
         ensures run { IsKept R.table R.NODE_WEIGHT (kept_of result) }
         ensures whole { IsPart (setting_of R.table self) (kept_of result) }
@@ -154,8 +155,8 @@ impl<R: Rules> LockedNet<R> {
         self.into_desk(rt).close(rt)
     }
 
-    /// Takes the journal out of a network that no thread shares any more, with a note of all that was published in the end: just the
-    /// log of which the journal keeps the part above its base.
+    /// The journal of a network that no thread shares, with a note of the published log.
+    /// The journal keeps exactly the part of this log above its base.
     pub fn into_noted<W: Wait>(self, rt: &W) -> (Journal<R>, Note)
         ensures published { IsPublished (setting_of R.table self) (book_of self) (kept_of result.0) result.1 }
         ensures run { IsKept R.table R.NODE_WEIGHT (kept_of result.0) }
@@ -168,7 +169,6 @@ impl<R: Rules> LockedNet<R> {
         (desk.close(rt), last)
     }
 
-    /// The desk of a network that no thread shares any more, as `into_journal` takes it.
     fn into_desk<W: Wait>(self, rt: &W) -> Desk<R>
         ensures { IsOfKey (net_key_of self) result }
     {

@@ -1,22 +1,22 @@
-//! Why a reader was not made, and why it is not answered.
+//! Why a reader is not made, and why it gets no answer.
 
 use thiserror::Error;
 
 /// Why a network gave no reader.
 #[derive(Clone, Copy, Debug, PartialEq, Eq, Error)]
 pub enum ReaderFault {
-    /// The board gave no place: each was taken, or memory for it ran out.
+    /// The board gave no place: each is taken, or memory for it ran out.
     #[error("no place for another reader")]
     NoPlace,
-    /// A growth of memory was refused. `reader` answers it never: the board does not tell it from a place that is taken.
+    /// Memory ran out. `reader` never returns it: the board reports `NoPlace` then.
     #[error("out of memory")]
     Memory,
 }
 
-/// Why a reader was not answered.
+/// Why a reader got no answer.
 #[derive(Clone, Copy, Debug, PartialEq, Eq, Error)]
 pub enum ReadFault {
-    /// No node of the network had this name in the view that was read.
+    /// No node of the network had this name in the view.
     #[error("no node has this name")]
     UnknownNode {
         /// How many entries were published then.

@@ -9,7 +9,7 @@ pub enum RoamFault {
     /// There were no clerks.
     #[error("no workers")]
     ZeroWorkers,
-    /// A thread could not be started. `roam` answers it never: clerks roam one after another then.
+    /// A thread could not be started. `roam` never returns it: clerks roam one after another then.
     #[error("no thread")]
     Thread,
     /// The log holds fewer entries than a clerk has seen: it has called another network.
@@ -20,10 +20,10 @@ pub enum RoamFault {
         /// The greatest entry number that the clerk has seen.
         seen: u32,
     },
-    /// The log holds as many entries as it may.
+    /// The log has reached its limit of entries.
     #[error("log full")]
     LogFull,
-    /// A growth of memory was refused.
+    /// Memory ran out.
     #[error("out of memory")]
     Memory,
 }

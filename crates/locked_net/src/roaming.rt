@@ -16,20 +16,21 @@ use steal_pool::Gate;
 /// The most clerks that roam at once.
 pub const MAX_WORKERS: usize = 64;
 
-/// Lets the first 64 of these clerks roam, all at once where threads can be had, each by a worker of its own. In each of its turns,
-/// from 0, a worker passes the gate with its number, from 0, and that of the turn; then, under one hold of the network's lock, it
-/// records for its clerk the step of one node: the (turn mod count)-th of the nodes that are enabled then, ascending from 0, to the
-/// least target. Where none is enabled, nothing is recorded, and nothing asked of the log or of memory.
+/// Lets the first 64 of these clerks roam, each by its own worker, at once if threads are available.
+/// In each turn, from 0, a worker passes the gate with its number, from 0, and the turn's. Then, under one
+/// hold of the network's lock, it records a step of one node to the least target: the (turn mod count)-th
+/// enabled node, ascending from 0. If none is enabled, it records nothing and meets no fault.
 ///
-/// A worker that meets a fault ends there, and the others go on; the answer is the first fault by the clerks' order. What was
-/// recorded before stays, with its receipts; each clerk's note is as it was or one of this network's, and its base is as it was.
-/// `ZeroWorkers` where there is no clerk; in a turn `Behind` where the log holds fewer entries than the clerk has seen, then
-/// `LogFull`, then `Memory`.
-/// Where no thread can be had, clerks roam one after another: so `Thread` never comes, and a gate that holds one worker until
-/// another has come holds it for ever then.
+/// A worker that meets a fault ends; the others go on. The result is the first fault in the clerks' order.
+/// What was recorded stays, with its receipts. Each clerk's note is unchanged or one of this network's; its
+/// base is unchanged.
 ///
-/// It waits for the network's lock, for the gate, and for the threads that it starts: one for each clerk but one. A turn takes the
-/// memory of a call.
+/// `ZeroWorkers` if there is no clerk. In a turn, the faults of `Clerk::call`. `Thread` never comes: without
+/// a thread, clerks roam one after another. A gate that holds one worker until another comes then holds it
+/// forever.
+///
+/// Waits for the lock, for the gate, and for its threads, one fewer than clerks. A turn takes the memory of a
+/// call.
 pub fn roam<R: Rules + Send, G: Gate + Sync, T: Threads + Wait + Sync>(
     rt: &T,
     net: &LockedNet<R>,

@@ -10,7 +10,7 @@ use rule_engine::Rules;
 use std::sync::Wait;
 use steal_pool::Gate;
 
-/// The network in which clerks roam, the gate that they pass, and how many turns each has.
+/// The network of the clerks that roam, the gate that they pass, and their number of turns.
 #[derive(Drop)]
 pub(crate) struct Round<'a, R: Rules, G: Gate> {
     pub net: &'a LockedNet<R>,
@@ -36,8 +36,8 @@ fn take_turn<R: Rules, W: Wait>(
     answer
 }
 
-/// Takes a clerk's turns in order, up to the last or a fault. Before each, the gate is passed with the number of the worker and
-/// that of the turn.
+/// Takes a clerk's turns in order, up to the last or to a fault.
+/// Before each turn it passes the gate with the worker's number and the turn's.
 pub(crate) fn take_turns<R: Rules, G: Gate, W: Wait>(
     rt: &W,
     round: &Round<R, G>,

@@ -1,4 +1,4 @@
-//! Why receipts do not settle, and the journal then.
+//! Why receipts do not settle.
 
 use rule_engine::Rules;
 use std::alloc::AllocError;
@@ -8,22 +8,23 @@ use thiserror::Error;
 /// Why clerks were not settled against a journal.
 #[derive(Clone, Copy, Debug, PartialEq, Eq, Error)]
 pub enum SettleFault {
-    /// The clerks' receipts are not as many as the log's entries, with those that were dropped.
+    /// The number of the clerks' receipts differs from that of the log's entries, dropped ones included.
     #[error("count-differs")]
     CountDiffers,
-    /// The journal's base is not the greatest that a checkpoint answered one of the clerks.
+    /// The journal's base is not the greatest that a checkpoint returned to one of the clerks.
     #[error("base-differs")]
     BaseDiffers,
-    /// The first receipt, in the order of the clerks and then of each clerk's receipts, that is not the log's entry at its
-    /// number, or whose number a receipt before it has. At or below the journal's base it is the number alone that is compared.
+    /// The first receipt that does not agree, in the order of the clerks and then of their receipts.
+    /// It is not the log's entry with its number, or an earlier receipt has that number. Up to the journal's
+    /// base only the number is compared.
     #[error("stranger")]
     Stranger {
-        /// The place of its clerk, from 0.
+        /// The index of its clerk, from 0.
         clerk: u32,
-        /// Its place among that clerk's receipts, from 0.
+        /// Its index among that clerk's receipts, from 0.
         place: u32,
     },
-    /// A growth of memory was refused.
+    /// Memory ran out.
     #[error("out of memory")]
     Memory,
 }
@@ -39,7 +40,7 @@ impl From<AllocError> for SettleFault {
     }
 }
 
-/// A journal that did not settle, handed back with the reason.
+/// A journal that did not settle, returned with the reason.
 #[derive(Drop)]
 pub struct Unsettled<R: Rules> {
     /// Why it did not settle.

@@ -17,10 +17,8 @@ use rule_engine::Rules;
 use std::alloc::Global;
 use step_log::{Journal, NoEntry, Receipt};
 
-/// Whether the clerks account for the journal's log: each receipt is the log's entry at its number, and each entry belongs to
-/// one clerk. `CountDiffers` where there are not as many receipts as entries, kept or dropped; else `BaseDiffers` where the journal's
-/// base is not the greatest of the clerks'; else `Stranger`, the first receipt that does not agree; `Memory` in place of any answer. It
-/// takes a byte for each entry, and costs a look at each of them, each clerk and each receipt.
+/// Whether the clerks account for the journal's log; see `settle` for the faults and their order.
+/// Takes a byte an entry, and looks at each entry, clerk and receipt.
 pub(crate) fn settled_with<R: Rules>(
     alloc: Global,
     journal: &Journal<R>,
@@ -46,7 +44,7 @@ pub(crate) fn settled_with<R: Rules>(
     Ok(())
 }
 
-/// The fault of a stranger; `Memory` where the place of its clerk fits no `u32`.
+/// The fault of a stranger; `Memory` if its clerk's index does not fit a `u32`.
 fn stranger(clerk: usize, place: usize) -> SettleFault
     requires { place < 2 ^ 32 }
     ensures { ((clerk < 2 ^ 32) × (result ≡ Stranger clerk place)) ⊎ ((2 ^ 32 ≤ clerk) × (result ≡ Memory)) }
@@ -60,7 +58,6 @@ fn stranger(clerk: usize, place: usize) -> SettleFault
     }
 }
 
-/// Whether the clerks have this many receipts together.
 fn has_count(clerks: &[Clerk], count: usize) -> bool
     ensures { IsTrue result ↔ (receipt_count clerks.now ≡ count) }
 {
@@ -75,14 +72,13 @@ fn has_count(clerks: &[Clerk], count: usize) -> bool
     left == 0
 }
 
-/// The number of the last entry that was dropped.
+/// The number of the last dropped entry.
 fn last_base<R: Rules>(journal: &Journal<R>) -> Option<u32>
     ensures { result ≡ base_number journal.now.base }
 {
     journal.base()
 }
 
-/// The greatest number that a checkpoint answered one of the clerks.
 fn greatest(clerks: &[Clerk]) -> Option<u32>
     ensures { result ≡ greatest_base clerks.now }
 {
@@ -93,8 +89,8 @@ fn greatest(clerks: &[Clerk]) -> Option<u32>
     found
 }
 
-/// The place of a clerk's first receipt that does not agree, where all those of the clerks before it do and have their marks.
-/// Marks this clerk's.
+/// The index of the clerk's first receipt that does not agree. Marks this clerk's receipts.
+/// All receipts of the clerks before it agree and are marked.
 fn first_stranger<R: Rules>(
     journal: &Journal<R>,
     clerks: &[Clerk],
@@ -120,7 +116,6 @@ fn first_stranger<R: Rules>(
     None
 }
 
-/// Whether a receipt is the log's entry at its number, or has the number of an entry that was dropped.
 fn is_entry<R: Rules>(journal: &Journal<R>, receipt: &Receipt) -> bool
     ensures { IsTrue result ↔ IsEntryAbove (kept_of journal.now) receipt.now }
 {
@@ -133,15 +128,15 @@ fn is_entry<R: Rules>(journal: &Journal<R>, receipt: &Receipt) -> bool
     }
 }
 
-/// Where a log and clerks are settled, nothing but want of memory keeps them from settling: their numbers agree, so do their bases, and
-/// none of their receipts is a stranger.
+/// If a log and clerks are settled, only `Memory` can keep them from settling.
 pub fn settling_is_exact()
     ensures { (kept : Kept) (clerks : List ClerkView) (why : SettleFault)
         → Settled kept clerks → Unsettles kept clerks why → why ≡ Memory }
 {}
 
-/// Since numbers rise within each clerk, a receipt agrees exactly where it is the log's entry at its number, or has the number of one
-/// that was dropped, and no earlier clerk has that number.
+/// When a receipt agrees, given that the numbers of each clerk rise.
+/// It is the log's entry with its number, or has the number of a dropped one, and no earlier clerk has that
+/// number.
 pub fn own_numbers_never_clash()
     ensures { (kept : Kept) (clerks : List ClerkView) (c p : ℕ) (receipt : Receipt)
         → ((d : ℕ) (clerk : ClerkView) → slice_get clerks d ≡ Some clerk → RiseAbove 0 clerk.receipts)

@@ -5,13 +5,13 @@ use std::alloc::AllocError;
 use steal_pool::PoolFault;
 use thiserror::Error;
 
-/// Why a network did not carry out a step that workers judge. Log and clerk are as before.
+/// Why a network did not carry out a step that workers judge. Log and clerk are unchanged.
 #[derive(Clone, Copy, Debug, PartialEq, Eq, Error)]
 pub enum StepFault {
-    /// What any call may be answered; want of memory of the workers, too.
+    /// A fault of any call; also if memory runs out for the workers.
     #[error("{0}")]
     Call(CallFault),
-    /// There were no workers: no other fault of theirs comes.
+    /// There were no workers. No other fault of the pool comes.
     #[error("{0}")]
     Pool(PoolFault),
 }

@@ -1,4 +1,4 @@
--- How many entries a log holds, and which replies are of an event's kind, whatever they say.
+-- How many entries a log holds, and which replies are of an event's kind.
 use Rattle.std.specs.Prelude.{ℕ, Bool, true, false, cond, ◌&&◌, List, is_some, is_none, length, nat_le}
 use Rattle.std.specs.List.{list_all}
 use Rattle.rule_machine.specs.declared.act.Moved.{Moved}
@@ -12,11 +12,11 @@ pub use Rattle.rule_machine.specs.Step.{takes_target}
 abbrev pub max_entries : ℕ
 max_entries = 16777216
 
--- a move has a target exactly where its rule takes one
+-- a move has a target if and only if its rule takes one
 abbrev pub is_move : Moved → Bool
 is_move m = cond (takes_target m.act) (is_some m.target) (is_none m.target)
 
--- at least one move, and no more than there are names
+-- at least one move, and at most as many as there are names
 abbrev pub are_moves : List Moved → Bool
 are_moves moves = nat_le 1 (length moves) && nat_le (length moves) 65535 && list_all is_move moves
 

@@ -7,10 +7,10 @@ use crate::kinds::fits;
 use rule_machine::{Event, Reply};
 use std::marker::Model;
 
-/// The most entries that a log holds, and so the greatest number of one.
+/// The most entries of a log, and so the greatest entry number.
 pub const MAX_ENTRIES: u32 = 16_777_216;
 
-/// An event and the reply to it, which is of the event's kind: seen in contracts as the pair of both.
+/// An event with a reply of its kind. Contracts see the pair.
 #[derive(Debug, Drop, PartialEq, Eq)]
 pub struct Entry {
     event: Event,
@@ -33,9 +33,11 @@ impl Model for Entry {
 }
 
 impl Entry {
-    /// The entry of an event and a reply; `None` where the reply is not of the event's kind: a disturbance is accepted,
-    /// a step has 1 to 65,535 moves, each with a target exactly where its rule takes one, a question has its answer of
-    /// at most 65,535 items, and any of these but `Enabled`, `Matching` and `Status` may be refused.
+    /// The entry of an event and a reply; `None` if the reply is not of the event's kind.
+    /// - A disturbance is accepted or refused.
+    /// - A step is refused, or has 1 to 65,535 moves, each with a target if and only if its rule takes one.
+    /// - `Show` is refused, or answered with a pointer.
+    /// - `Enabled`, `Matching` and `Status` are answered, with at most 65,535 items, and never refused.
     #[inline(always)]
     pub fn new(event: Event, reply: Reply) -> Option<Entry>
         ensures { SomeIff result (IsTrue (fits event reply)) (event, reply) }
@@ -46,7 +48,7 @@ impl Entry {
         Some(Entry { event, reply })
     }
 
-    /// What was asked.
+    /// The event.
     pub fn event(&self) -> &Event
         ensures value { result.now ≡ self.now.0 }
         ensures fits { IsTrue (fits self.now.0 self.now.1) }
@@ -54,7 +56,7 @@ impl Entry {
         &self.event
     }
 
-    /// What was answered.
+    /// The reply.
     pub fn reply(&self) -> &Reply
         ensures value { result.now ≡ self.now.1 }
         ensures fits { IsTrue (fits self.now.0 self.now.1) }

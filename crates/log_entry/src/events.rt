@@ -1,12 +1,12 @@
-//! Whether two events are one.
+//! Equality of events.
 
 ghost use Rattle.std.specs.Prelude.{◌≡◌, ◌↔◌, IsTrue};
 ghost use Rattle.rule_machine.specs.declared.event.Event.TheVariants.{Link, Unlink, Point, Flag, Step, Show, Enabled, Matching, Status, Join, Leave};
 
 use rule_machine::{Choice, Event, Item, Node};
 
-/// Whether the events are one: of the same kind, with the same nodes, values and items, these in the same order. Takes no
-/// memory; a step costs a look at each item.
+/// Whether two events are equal: kind, nodes, values, and items in order.
+/// Takes no memory. A step costs a look at each item.
 pub fn same_event(a: &Event, b: &Event) -> bool
     ensures { IsTrue result ↔ (a.now ≡ b.now) }
 {

@@ -1,14 +1,13 @@
-//! An entry of a log: an event, and a reply of its kind; and equality of events and of replies, as contracts see them.
+//! Entries of a log, and equality of events and of replies.
 //!
-//! An `Entry` can't be made of parts that don't go together: a disturbance is accepted, a step has 1 to 65,535 moves with a target
-//! exactly where the rule takes one, a question has its answer; all but `Enabled`, `Matching` and `Status` may be refused. Whether the
-//! reply is the machine's it does not say: that is a run's, a judge's or a journal's.
+//! An `Entry` is an event with a reply of its kind: `Entry::new` checks this, and lists the kinds.
+//! Whether the machine may give that reply is left to runs, judges and journals.
 //!
-//! It stands below the journal and the auditor, so that transcripts are read without the engine. `same_event` and `same_reply` look at
-//! each item of a list; making an entry moves its parts and takes no memory.
+//! Journal and auditor build on this crate, so transcripts are read without the engine.
+//! Making an entry takes no memory. `same_event` and `same_reply` look at each item of a list.
 //!
 //! ```rust
-//! let entry = Entry::new(Event::Link(a, b), Reply::Accepted);       // `None` where the reply is of another kind
+//! let entry = Entry::new(Event::Link(a, b), Reply::Accepted);      // `None` if the reply is of another kind
 //! ```
 #![tactic(auto)]
 

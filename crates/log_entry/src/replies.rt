@@ -1,4 +1,4 @@
-//! Whether two replies are one.
+//! Equality of replies.
 
 ghost use Rattle.std.specs.Prelude.{◌≡◌, ◌↔◌, IsTrue};
 ghost use Rattle.rule_machine.specs.declared.reply.Reply.TheVariants.{Accepted, Refused, Moves, Shown, EnabledAre, Pairs};
@@ -6,8 +6,8 @@ ghost use Rattle.rule_machine.specs.declared.reply.Reply.TheVariants as reply_is
 
 use rule_machine::{Act, Counts, Edge, Listing, Moved, Node, Refusal, Reply};
 
-/// Whether the replies are one: of the same kind, with the same refusal, target, numbers or items, these in the same
-/// order. Takes no memory; a list costs a look at each item.
+/// Whether two replies are equal: kind, refusal, target, numbers, and items in order.
+/// Takes no memory. A list costs a look at each item.
 pub fn same_reply(a: &Reply, b: &Reply) -> bool
     ensures { IsTrue result ↔ (a.now ≡ b.now) }
 {

@@ -1,4 +1,4 @@
--- What an event that is not refused has, and that it leaves a state.
+-- What an event that is not refused guarantees, and that it leads to a state.
 use Rattle.std.proofs.Common.{nat_le, leb-true, ◌≡◌, ℕ, zero, suc, ◌<◌, Bool, true, false, cond, not, ◌&&◌, List, [], ◌∷◌, ◌++◌, length, Option, None, Some, IsTrue, nat_eq, nat_lt, refl, sym, ap, ◌∙◌, subst, get_or, arith, eq-eqb}
 use Rattle.std.specs.List.{list_any}
 use Rattle.std.specs.Option.{option_or}
@@ -24,7 +24,7 @@ use Rattle.machine_laws.specs.LeastMoves.{IsTable, step_keeps}
 
 -- ---- refusals
 
--- where no reason is given, the test before it did not fail
+-- if no reason is given, the test before it did not fail
 pub cond_none : {X : Type 0} (b : Bool) (x : X) (o : Option X) → cond b (Some x) o ≡ None → (b ≡ false) × (o ≡ None)
 cond_none true x o e = absurd (none-some x (sym e))
 cond_none false x o e = (refl, e)
@@ -64,7 +64,7 @@ refusal_by_present : (b twice : Bool) (refusal : Option Refusal) (o : Outcome) �
 refusal_by_present true twice refusal o e = ap (λ r. cond twice (Some ChosenTwice) r) e
 refusal_by_present false twice refusal o e = refl
 
--- An item is refused where its node is not present, then where the node was chosen before, and else by its outcome.
+-- An item is refused if its node is absent, then if the node was chosen before, and else by its outcome.
 pub outcome_refusal : (t : RuleTable) (s : State) (earlier : List Item) (item : Item) → item_refusal t s earlier item ≡ cond (not (present s.network item.node)) (Some UnknownNode) (cond (list_any (λ i. nat_eq i.node item.node) earlier) (Some ChosenTwice) (refusal_in (outcome_of t s item)))
 outcome_refusal t s earlier item =
     refusal_by_present (present s.network item.node) (list_any (λ i. nat_eq i.node item.node) earlier) (rule_refusal t s item (rule_at t s item.node)) (outcome_at t s item (rule_at t s item.node)) (refusal_by_rule t s item (rule_at t s item.node))
@@ -75,7 +75,8 @@ move_from_none outcome.Idle e = absurd (none-some NotEnabled (sym e))
 move_from_none outcome.Wrong e = absurd (none-some BadTarget (sym e))
 move_from_none (outcome.Moves m) e = (m, refl)
 
--- an item that is not refused behind the earlier ones: its node is present and was not chosen before, and it makes a move
+-- an item that is not refused after the earlier ones: its node is present and was not chosen before, and it
+-- makes a move
 pub record IsTaken (t : RuleTable) (s : State) (earlier : List Item) (item : Item) : Type 0 where
   pub has : IsTrue (present s.network item.node)
   pub fresh : list_any (λ i. nat_eq i.node item.node) earlier ≡ false
@@ -91,8 +92,9 @@ taken_from_none t s earlier item e =
       move = move_from_none (outcome_of t s item) then.1;
     }
 
--- Each item of a choice that is not refused is taken, and is the first of its node. By induction: the head is found at
--- once; a later item is fresh behind the head too, so that the head has another node, and the search goes on behind it.
+-- Each item of a choice that is not refused is taken, and is the first of its node. By induction: the head is
+-- found at once; a later item is fresh after the head too, so the head has another node, and the search
+-- continues after it.
 pub taken_at : (t : RuleTable) (s : State) (earlier items : List Item) → items_refusal t s earlier items ≡ None → (k : ℕ) (d : Item) → k < length items → IsTaken t s earlier (get_or items k d) × (item_of items (get_or items k d).node ≡ Some (get_or items k d))
 taken_at t s earlier [] e k d below = absurd (omega arith)
 taken_at t s earlier (item ∷ items) e zero d below =

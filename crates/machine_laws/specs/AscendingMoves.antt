@@ -1,4 +1,4 @@
--- What a look at each two moves in a row says of the order of their nodes.
+-- The order of moves' nodes, from a look at each two moves in a row.
 use Rattle.std.proofs.Common.{◌≡◌, ℕ, ◌+◌, ◌<◌, Bool, true, false, List, length, map, get_or, None, IsTrue, ◌↔◌, refl, sym, arith}
 use Rattle.std.specs.Prelude.{nat_lt}
 use Rattle.std.specs.List.{IsAllAdjacentAnswer}

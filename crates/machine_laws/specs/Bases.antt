@@ -60,7 +60,7 @@ place_found s v has =
     (λ some. found_place s (names s.network) v some.0 some.1 ∙ ap (λ y. Some (place_at s y)) (eqb-true some.0 v (names_some s.network (λ x. nat_eq x v) some.0 some.1).1))
     (option_cases (find (λ x. nat_eq x v) (names s.network)))
 
--- who is present in one is present in the other
+-- a node present in one is present in the other
 present_in : (s u : State) → places s ≡ places u → (v : ℕ) → present s.network v ≡ true → present u.network v ≡ true
 present_in s u same v has =
     ⊎_elim

@@ -46,7 +46,7 @@ still_inserted m k q h = contains-insert m k q ∙ or_right (eq_by_cmp pair_cmp 
 pub removed_was : (m : PairSet) (k q : ℕ × ℕ) → IsTrue (map.contains_key (map.remove m k) q) → IsTrue (map.contains_key m q)
 removed_was m k q h = (and_parts (not (eq_by_cmp pair_cmp q k)) (map.contains_key m q) (sym (contains-remove m k q) ∙ h)).1
 
--- what was there and is not the removed pair is there still
+-- a pair that is not the removed one is still there
 pub still_removed : (m : PairSet) (k q : ℕ × ℕ) → (q ≡ k → ⊥) → IsTrue (map.contains_key m q) → IsTrue (map.contains_key (map.remove m k) q)
 still_removed m k q apart h =
     contains-remove m k q
@@ -111,11 +111,11 @@ without_edge_is_network net a b good = record {
   high_present = λ x y h. good.high_present x y (removed_was net.edges (edge a b) (x, y) h);
 }
 
--- the test of a name where the row has changed at another
+-- the test of a name after a change of another's entry
 pub present_other : (net : Network) (v : ℕ) (b : Bool) (w : ℕ) → (w ≡ v → ⊥) → present (record net { here = set net.here v b }) w ≡ present net w
 present_other net v b w apart = ap (λ c. nat_le 1 w && (nat_le w net.size && c)) (get_or-set_other net.here v w b false apart)
 
--- who was present is so where one more is
+-- a present node is present after another joins
 pub still_present : (net : Network) (v w : ℕ) → IsNetwork net → IsTrue (present net w) → IsTrue (present (with_node net v) w)
 still_present net v w good has =
     let parts = and_parts _ _ has in

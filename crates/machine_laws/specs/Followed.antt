@@ -1,4 +1,4 @@
--- Where a reply leaves the machine that may give it.
+-- The state after a reply that the machine may give.
 use Rattle.rule_machine.specs.declared.event.Event.{Event}
 use Rattle.rule_machine.specs.declared.event.Event.TheVariants.{Link, Unlink, Point, Flag, Step, Show, Enabled, Matching, Status, Join, Leave}
 use Rattle.rule_machine.specs.declared.reply.Reply.{Reply}
@@ -21,7 +21,7 @@ disturbed s Enabled = s
 disturbed s Matching = s
 disturbed s Status = s
 
--- the state that a reply says
+-- the state after a reply
 abbrev pub followed : State → Event → Reply → State
 followed s event Accepted = disturbed s event
 followed s event (Moves moves) = after_moves s moves

@@ -13,7 +13,7 @@ abbrev pub AreApart : List (ℕ × ℕ) → Type 0
 AreApart [] = Unit {0}
 AreApart (e ∷ edges) = All (λ f. ShareAnEnd e f → ⊥) edges × AreApart edges
 
--- edges of the network no two of which share an end
+-- edges of the network that share no end
 pub record IsMatching (net : Network) (matching : List (ℕ × ℕ)) : Type 0 where
   pub of_edges : All (λ e. IsTrue (map.contains_key net.edges e)) matching
   pub apart : AreApart matching
@@ -55,7 +55,8 @@ still_touches xs e f v h (inl is) apart (inr at) = inr (still_among xs v h f.1 a
 still_touches xs e f v h (inr is) apart (inl at) = inl (still_among xs v h f.0 at (λ same. apart (inr (inr (inl (sym is ∙ same))))))
 still_touches xs e f v h (inr is) apart (inr at) = inr (still_among xs v h f.1 at (λ same. apart (inr (inr (inr (sym is ∙ same))))))
 
--- Edges that share no ends and have each an end among the names are no more than these: the first takes its end away.
+-- Edges that share no ends and each have an end among the names are at most as many as the names: the first
+-- removes its end.
 no_more_than_names : (edges : List (ℕ × ℕ)) (xs : List ℕ) → AreApart edges → All (Touches xs) edges → length edges ≤ length xs
 no_more_than_names [] xs apart touch = omega arith
 no_more_than_names (e ∷ edges) xs apart touch = let one = by_end (λ ys. no_more_than_names edges ys apart.1) (All-head (Touches xs) e edges touch) in omega (arith, one)
@@ -88,7 +89,7 @@ ends_have (f ∷ edges) e c =
     (λ there. let rest = ends_have edges e there in (inr (inr rest.0), inr (inr rest.1)))
     (contains_cases f e edges c)
 
--- who shares an end with an edge of the list has it among the ends
+-- an edge that shares an end with one of the list has it among the ends
 shares_touches : (edges : List (ℕ × ℕ)) (e : ℕ × ℕ) → Any (ShareAnEnd e) edges → Touches (ends edges) e
 shares_touches edges e (k, f, below, at, shared) =
     let have = ends_have edges f (k, below, at) in
@@ -105,7 +106,7 @@ shares_touches edges e (k, f, below, at, shared) =
     )
     shared
 
--- No matching has more than twice the edges of a maximal one: each of its edges has an end of that one to itself.
+-- No matching has more than twice the edges of a maximal one: each of its edges has its own end of that one.
 pub maximal_is_half : (net : Network) (maximal other : List (ℕ × ℕ)) → IsMaximalMatching net maximal → IsMatching net other → length other ≤ 2 * length maximal
 maximal_is_half net maximal other most is =
     let fits = no_more_than_names other (ends maximal) is.apart (λ k d below. shares_touches maximal _ (most.maximal _ (is.of_edges k d below))) in

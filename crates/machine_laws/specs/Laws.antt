@@ -17,8 +17,8 @@ pairs_are_edges s is_state k d within =
     let e = pair_from s _ (Contains-get_or (mutual_pairs s) k d within) in
     sym (linked_pair s.network _ _ e.ordered) ∙ pointer_linked s _ _ is_state e.there
 
--- Two pairs that share an end are one: the end points at the other end of both. If it is the lower end of one and the
--- higher end of the other, that other end is both above and below it.
+-- Two pairs that share an end are equal: the end points at the other end of both. If it is the lower end of
+-- one and the higher end of the other, that other end is both above and below it.
 same_pair : (s : State) (e f : ℕ × ℕ) → IsPair s e → IsPair s f → ShareAnEnd e f → e ≡ f
 same_pair s e f pe pf shared =
     ⊎_elim

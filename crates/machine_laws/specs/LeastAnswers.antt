@@ -58,8 +58,8 @@ is_target t table s good v Marry wish target rule e = allowed_target t table s g
 is_target t table s good v Seduce wish target rule e = allowed_target t table s good v Seduce wish target rule e refl
 is_target t table s good v Abandon wish target rule e = null_target t table s v Abandon wish target e refl
 
--- What an item makes is a move that it asks for: a target that the rule takes is there and allowed, by the table's laws,
--- and a rule that takes none has none allowed.
+-- An item's move is one that it asks for: by the table's laws a target that the rule takes exists and is
+-- allowed, and a rule that takes none has none allowed.
 pub makes_move_of : (t : RuleTable) → IsTable t → (s : State) → IsState s → (item : Item) (m : Moved) → Makes t s item m → IsMoveOf t s item m
 makes_move_of t table s good item m makes = record {
   node = makes.node;
@@ -98,7 +98,7 @@ cons_option_nodes : (o : Option Moved) (v : ℕ) (ms : List Moved) (vs : List �
 cons_option_nodes None v ms vs same e = e
 cons_option_nodes (Some m) v ms vs same e = ap₂ ◌∷◌ (same m refl) e
 
--- moves that stand at their nodes' names have the nodes at which there is one
+-- moves at their own nodes have exactly the nodes that have one
 pub filter_map_nodes : (h : ℕ → Option Moved) → ((v : ℕ) (m : Moved) → h v ≡ Some m → m.node ≡ v) → (vs : List ℕ) → map (λ m. m.node) (filter_map h vs) ≡ filter (λ v. is_some (h v)) vs
 filter_map_nodes h same [] = refl
 filter_map_nodes h same (v ∷ vs) = cons_option_nodes (h v) v (filter_map h vs) (filter (λ v. is_some (h v)) vs) (same v) (filter_map_nodes h same vs)
@@ -184,7 +184,8 @@ some_of_all P (item ∷ items) ms some all none =
     let empty : length ms ≡ 0 = ap length none in
     omega (arith, empty, there.2)
 
--- Under a central daemon the choice is one item, each move is of its node, and rising names of one node are one at most.
+-- Under a central daemon the choice is one item, each move is of its node, so ascending names have at most
+-- one.
 least_alone : (t : RuleTable) (s : State) (items : List Item) (ms : List Moved) → IsChoice t s items → ms ≢ [] → IsStrictlyIncreasing (map (λ m. m.node) ms) → All (λ m. Any (λ item. IsMoveOf t s item m) items) ms → IsTrue t.central → length ms ≡ 1
 least_alone t s [] ms choice some up each central = absurd (true≢false choice.some)
 least_alone t s (item ∷ []) [] choice some up each central = absurd (some refl)
@@ -197,8 +198,9 @@ least_alone t s (item ∷ []) (m ∷ ms) choice some up each central =
 least_alone t s (a ∷ b ∷ items) ms choice some up each central =
     absurd (true≢false (sym (and_from t.central (nat_lt 1 (length (a ∷ b ∷ items))) central (lt-ltb 1 (length (a ∷ b ∷ items)) (omega arith))) ∙ choice.alone))
 
--- The moves with the least targets are a step of a choice that is not refused. They stand at the ascending names, each
--- made by the first item of its node; and each item is present and the first of its node, so that its move stands there.
+-- The moves with the least targets are a step of a choice that is not refused. They are at the ascending
+-- names, each made by the first item of its node. Each item is present and the first of its node, so its move
+-- is there.
 pub least_step : (t : RuleTable) → IsTable t → (s : State) → IsState s → (items : List Item) → IsChoice t s items → IsStep t s items (least_moves t s items) (after_moves s (least_moves t s items))
 least_step t table s good items choice =
     let all = least_all t table s good items choice in

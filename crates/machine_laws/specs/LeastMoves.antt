@@ -1,4 +1,4 @@
--- What the moves with the least targets are, and that they leave a state.
+-- The moves with the least targets, and that they lead to a state.
 use Rattle.std.proofs.Common.{◌≡◌, ℕ, Bool, true, false, cond, List, [], ◌∷◌, Option, None, Some, IsSome, IsTrue, refl, sym, ap, ◌∙◌, subst, ⊎_elim, find, filter_map, option_and_then}
 use Rattle.std.specs.List.{AllByRecursion, cons_option}
 use Rattle.std.proofs.lemmas.Bool.{cases_Bool, cond-true, cond-false}
@@ -15,8 +15,8 @@ use Rattle.rule_machine.specs.Least.{outcome_by, outcome_at, outcome_of, move_in
 use Rattle.rule_set.specs.Target.{target_by, takes_target}
 use Rattle.machine_laws.specs.Keeps.{IsMoveIn, moves_keep}
 
--- what every set of rules keeps: an allowed target is a neighbour and its rule takes one, and an enabled rule that takes
--- a target has one
+-- what every set of rules guarantees: an allowed target is a neighbour and its rule takes one, and an enabled
+-- rule that takes a target has one
 pub record IsTable (t : RuleTable) : Type 0 where
   pub allowed_is_neighbour : (s : State) (v : ℕ) (act : Act) (w : ℕ) → IsTrue (t.allowed s v act w) → IsTrue (linked s.network v w)
   pub allowed_takes_target : (s : State) (v : ℕ) (act : Act) (w : ℕ) → IsTrue (t.allowed s v act w) → IsTrue (takes_target act)
@@ -40,7 +40,7 @@ pub filter_map_all : {X Y : Type 0} (h : X → Option Y) (P : Y → Type 0) → 
 filter_map_all h P holds [] = tt
 filter_map_all h P holds (x ∷ xs) = cons_option_all P (h x) (filter_map h xs) (holds x) (filter_map_all h P holds xs)
 
--- the move that an item makes alone: its node is present, and its target is what the rule takes at the item's wish
+-- the move that an item makes alone: its node is present, and its target is the rule's at the item's wish
 pub record Makes (t : RuleTable) (s : State) (item : Item) (m : Moved) : Type 0 where
   pub has : IsTrue (present s.network item.node)
   pub node : m.node ≡ item.node
@@ -104,7 +104,7 @@ least_moves_in t table s items =
     (λ v m e. option_and_then_some (λ item. move_in (outcome_of t s item)) (item_of items v) m e (λ item found move. makes_is_move_in t table s item m (makes_from_outcome t s item m move)))
     (names s.network)
 
--- A step leaves a state: its moves are of present nodes, and their targets are allowed ones, which are neighbours. Such
--- moves keep a state.
+-- A step leads to a state: its moves are of present nodes, and their targets are allowed ones, which are
+-- neighbours.
 pub step_keeps : (t : RuleTable) → IsTable t → (s : State) → IsState s → (items : List Item) → IsState (after_moves s (least_moves t s items))
 step_keeps t table s good items = moves_keep s (least_moves t s items) good (least_moves_in t table s items)

@@ -142,8 +142,8 @@ nothing_left (Some y) h = absurd (h y refl)
 unless_at_is : (v : ℕ) (o : Option ℕ) (b : Bool) → is_at o v ≡ b → unless_at v o ≡ cond b None o
 unless_at_is v o b e = ap (λ t. cond t None o) e
 
--- A node leaves where edges of it go one after another, in any order, each with the pointers that cross it, until none is left,
--- and then its name: since it has no edge then, it has no pointer, and none is at it.
+-- A node leaves if its edges go one after another, in any order, each with the pointers that cross it, and
+-- then its name. By then it has no edge, so no pointer, and none is at it.
 pub leaves_by_unlinks : (s : State) (v : ℕ) (others : List ℕ) → IsState s → ((w : ℕ) → linked (unlinked_all s v others).network v w ≡ false) → after_leave s v ≡ after_parting (unlinked_all s v others) v
 leaves_by_unlinks s v others good none =
     λ i. record {

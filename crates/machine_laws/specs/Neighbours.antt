@@ -32,7 +32,7 @@ names_some net p v e =
     let all = sym (find-filter p (present net) (range_with_len 1 net.size)) ∙ e in
     and_parts _ _ (range_some (λ x. present net x && p x) 1 net.size v all).2
 
--- one in which no node passes
+-- a search over names that no node passes
 pub names_fails : (net : Network) (p : ℕ → Bool) → ((v : ℕ) → IsTrue (present net v) → p v ≡ false) → find p (names net) ≡ None
 names_fails net p h =
     find-filter p (present net) (range_with_len 1 net.size)
@@ -86,7 +86,7 @@ near_some net p v w e =
     let all = sym (find-filter p (linked net v) (names net)) ∙ e in
     and_parts _ _ (names_some net (λ x. linked net v x && p x) w all).1
 
--- a search among the neighbours in which one passes
+-- a search over neighbours that one passes
 pub near_found : (net : Network) (p : ℕ → Bool) (v w : ℕ) → IsNetwork net → IsTrue (linked net v w) → IsTrue (p w) → (x : ℕ) × (find p (neighbours net v) ≡ Some x)
 near_found net p v w is_network h passes =
     ⊎_elim
@@ -94,7 +94,7 @@ near_found net p v w is_network h passes =
     (λ some. some)
     (option_cases (find p (neighbours net v)))
 
--- one in which none does
+-- a search over neighbours that none passes
 pub near_fails : (net : Network) (p : ℕ → Bool) (v : ℕ) → ((w : ℕ) → IsTrue (linked net v w) → p w ≡ false) → find p (neighbours net v) ≡ None
 near_fails net p v h =
     ⊎_elim

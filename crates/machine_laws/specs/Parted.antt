@@ -16,7 +16,7 @@ pub no_edge : (net : Network) (v : ℕ) → IsNetwork net → neighbours net v �
 no_edge net v good none w =
     false_from_ne_true (linked net v w) (λ h. true≢false (near_none net (λ x. true) v good (ap (find (λ x. true)) none) w h))
 
--- what is left where a node goes is the same after one of its edges went
+-- after one of a node's edges went, its leave has the same result
 pub leave_after_unlink : (s : State) (v w : ℕ) → IsState s → after_leave (after_unlink s v w) v ≡ after_leave s v
 leave_after_unlink s v w good =
     let u = after_unlink s v w in

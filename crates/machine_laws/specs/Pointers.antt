@@ -26,7 +26,7 @@ points_from s v w h = is_at_from_some (pointer s v) w h
 pub pointer_linked : (s : State) (v w : ℕ) → IsState s → pointer s v ≡ Some w → IsTrue (linked s.network v w)
 pointer_linked s v w is_state e = if_some_at (pointer s v) (λ x. IsTrue (linked s.network v x)) w e (is_state.neighbourly v)
 
--- who points at v is a neighbour of v
+-- a node that points at v is a neighbour of v
 pub suitor_linked : (s : State) (v w : ℕ) → IsState s → pointer s w ≡ Some v → IsTrue (linked s.network v w)
 suitor_linked s v w is_state e = linked_back s.network v w ∙ pointer_linked s w v is_state e
 

@@ -39,7 +39,8 @@ asked_is_move_in t table s items choice m (k, item, below, at, is) =
     let taken = taken_at t s [] items choice.taken k item below in
     move_of_is_move_in t table s item m (subst (λ i. IsTrue (present s.network i.node)) at taken.0.has) is
 
--- Whatever allowed targets a step takes, it leaves a state: its items are present, and what they allow is a neighbour.
+-- Whatever allowed targets a step takes, it leads to a state: its items are present, and what they allow is a
+-- neighbour.
 pub any_step_keeps : (t : RuleTable) → IsTable t → (s : State) → IsState s → (items : List Item) → IsChoice t s items → (moves : List Moved) (s' : State) → IsStep t s items moves s' → IsState s'
 any_step_keeps t table s good items choice moves s' step =
     let all = All-weaker (λ m. Any (λ item. IsMoveOf t s item m) items) (IsMoveIn s.network) (asked_is_move_in t table s items choice) moves step.each in
@@ -73,7 +74,7 @@ runs_end_in_states t table start good [] end run = subst (λ m. IsState m.state)
 runs_end_in_states t table start good (entry ∷ log) end (next, answers, run) =
     runs_end_in_states t table (record { state = next; spent = spent_after start.spent entry.1 }) (answers_keep t table start.state good start.spent entry.0 entry.1 next answers) log end run
 
--- a run goes on by one answer of the machine
+-- a run continues by one answer of the machine
 pub run_add : (t : RuleTable) (start end : Moment) (log : List Entry) (entry : Entry) (s : State) → Run t start log end → Answers t end.state end.spent entry.0 entry.1 s → Run t start (log ++ entry ∷ []) (record { state = s; spent = spent_after end.spent entry.1 })
 run_add t start end [] entry s run answers =
     subst (λ (m : Moment). Run t m (entry ∷ []) (record { state = s; spent = spent_after end.spent entry.1 })) run (s, answers, refl)

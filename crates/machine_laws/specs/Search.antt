@@ -1,4 +1,4 @@
--- What `find` and `filter` say of the numbers that they go over.
+-- Properties of `find` and `filter` over a range of numbers.
 use Rattle.std.proofs.Common.{◌≡◌, ℕ, zero, suc, ◌+◌, ◌<◌, ◌≤◌, Bool, true, false, cond, ◌&&◌, List, [], ◌∷◌, Option, None, Some, find, filter, refl, ap, ◌∙◌, subst, inl, inr, ⊎_elim, ◌⊎◌, arith}
 use Rattle.std.specs.List.{range_with_len}
 use Rattle.std.proofs.lemmas.Bool.{cases_eq}
@@ -27,7 +27,7 @@ pub find-agree : {X : Type 0} (p q : X → Bool) (xs : List X) → ((x : X) → 
 find-agree p q [] h = refl
 find-agree p q (x ∷ xs) h = ap (λ b. cond b (Some x) (find p xs)) (h x) ∙ ap (cond (q x) (Some x)) (find-agree p q xs h)
 
--- what a filter keeps is nothing just where a search finds nothing
+-- a filter keeps nothing exactly if the search finds nothing
 pub find_from_empty : {X : Type 0} (p : X → Bool) (xs : List X) → filter p xs ≡ [] → find p xs ≡ None
 find_from_empty p [] e = refl
 find_from_empty p (x ∷ xs) e =
@@ -60,7 +60,7 @@ range_some p a (suc n) x e =
     (λ rest. let more = range_some p (a + 1) n x rest.1 in (omega arith, omega arith, more.2))
     (cond-some (p a) a x (find p (range_with_len (a + 1) n)) e)
 
--- a search in which no number passes
+-- a search that no number passes
 pub range_fails : (p : ℕ → Bool) (a n : ℕ) → ((x : ℕ) → a ≤ x → x < a + n → p x ≡ false) → find p (range_with_len a n) ≡ None
 range_fails p a zero h = refl
 range_fails p a (suc n) h =

@@ -1,4 +1,4 @@
--- What two states that show the same at a node agree on there.
+-- Two states with the same local view of a node agree there.
 use Rattle.std.proofs.Common.{◌≡◌, ℕ, Bool, ◌&&◌, is_some, find, IsTrue, refl, ap, ap₂, ◌∙◌, inl, inr}
 use Rattle.rule_machine.specs.Network.{linked, neighbours}
 use Rattle.rule_machine.specs.State.{State, pointer, is_at, suits, has_suitor, is_mutual, married}

@@ -1,4 +1,4 @@
--- The tests of a step's moves are true where the definitions hold.
+-- The tests of a step's moves are true if the definitions hold.
 use Rattle.std.proofs.Common.{◌≡◌, ◌≢◌, ℕ, Bool, true, false, cond, not, ◌&&◌, List, [], ◌∷◌, length, map, All, Any, Option, None, Some, IsSome, IsTrue, Decides, nat_eq, refl, sym, ap, ◌∙◌, subst, eq-eqb, eqb-true, arith}
 use Rattle.std.specs.List.{list_any, list_all}
 use Rattle.std.specs.List.Sorted.{IsStrictlyIncreasing}

@@ -1,4 +1,4 @@
--- Where no flags are used, none is ever set.
+-- If flags are not used, none is ever set.
 use Rattle.std.proofs.Common.{◌≡◌, ◌≢◌, ℕ, ◌+◌, Bool, true, false, cond, not, List, [], ◌∷◌, fold, set, get_or, Option, None, Some, Any, refl, sym, ap, ◌∙◌, ⊎_elim}
 use Rattle.std.specs.List.{AllByRecursion}
 use Rattle.std.proofs.lemmas.List.Elements.{All-weaker, recursion_from_All}
@@ -32,7 +32,7 @@ IsUnflagged r = (v : ℕ) → flag_of r v ≡ false
 abbrev pub NeverUpdates : RuleTable → Type 0
 NeverUpdates t = (s : State) (v : ℕ) → t.guard s v Update ≡ false
 
--- a table by which flags are not used writes none
+-- a table that does not use flags writes none
 abbrev pub IsFlagless : RuleTable → Type 0
 IsFlagless t = t.flags ≡ false → NeverUpdates t
 
@@ -87,6 +87,6 @@ runs_stay_unflagged t unused never start down (entry ∷ log) end (next, answers
     runs_stay_unflagged t unused never (record { state = next; spent = spent_after start.spent entry.1 })
     (by_refusal t unused never start.state down start.spent entry.0 (refusal_of t start.state entry.0) entry.1 next refl answers) log end run
 
--- where a journal begins no flag is set
+-- at the start of a journal no flag is set
 pub opening_is_unflagged : (size count : ℕ) → IsUnflagged (opening_with size count).registers
 opening_is_unflagged size count v = blank_flag (size + 1) v

@@ -1,4 +1,4 @@
-//! Laws of the definitions: each function does nothing, and its contract is the law.
+//! Laws of the rule machine's definitions; the functions do nothing and their contracts are the laws.
 
 ghost use Rattle.std.specs.Prelude.{◌≡◌, ℕ, ◌*◌, ◌≤◌, Bool, List, length, Some, IfSome, IsTrue, All, Contains};
 ghost use Rattle.std.specs.FinMap as map;
@@ -15,13 +15,14 @@ pub fn mutual_pairs_apart()
     ensures apart { (s : State) (e f : ℕ × ℕ) → Contains (mutual_pairs s) e → Contains (mutual_pairs s) f → ShareAnEnd e f → e ≡ f }
 {}
 
-/// Where a network is stable its mutual pairs are a maximal matching.
+/// In a stable network the mutual pairs are a maximal matching.
 pub fn stable_is_maximal()
     ensures { (uses_flags : Bool) (s : State) → IsState s → IsStable uses_flags s → IsMaximalMatching s.network (mutual_pairs s) }
 {}
 
-/// Where the mutual pairs are a maximal matching, every pointer is null or answered and the flags are right where they
-/// are used, a network is stable.
+/// A network whose mutual pairs are a maximal matching is stable if its registers are consistent.
+///
+/// That is: every pointer is null or answered, and every flag is right if flags are used.
 pub fn maximal_is_stable()
     ensures { (uses_flags : Bool) (s : State) → IsState s
         → ((v : ℕ) → IfSome (pointer s v) (λ w. pointer s w ≡ Some v))
@@ -29,19 +30,21 @@ pub fn maximal_is_stable()
         → IsMaximalMatching s.network (mutual_pairs s) → IsStable uses_flags s }
 {}
 
-/// For names up to the same size a base is that of one moment: its nodes and edges tell the state.
+/// A base determines its moment: for the same capacity, equal bases have equal states.
 pub fn base_tells()
     ensures { (number : ℕ) (m o : Moment) → IsState m.state → IsState o.state
         → m.state.network.size ≡ o.state.network.size → base_of number m ≡ base_of number o → m ≡ o }
 {}
 
-/// No matching has more than twice as many edges as a maximal one: a maximal matching is at least half of the best.
+/// No matching has more than twice as many edges as a maximal one.
+///
+/// So a maximal matching is at least half of the best.
 pub fn maximal_is_half()
     ensures { (net : Network) (maximal other : List (ℕ × ℕ))
         → IsMaximalMatching net maximal → IsMatching net other → length other ≤ 2 * length maximal }
 {}
 
-/// Where a network is stable its mutual pairs are at least half as many as the edges of any matching.
+/// In a stable network there are at least half as many mutual pairs as edges in any matching.
 pub fn stable_is_half()
     ensures { (uses_flags : Bool) (s : State) → IsState s → IsStable uses_flags s
         → (other : List (ℕ × ℕ)) → IsMatching s.network other → length other ≤ 2 * length (mutual_pairs s) }

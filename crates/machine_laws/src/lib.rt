@@ -1,12 +1,17 @@
-//! Laws of the rule machine: what holds of its states and keeps them states, when moves are those of a step, that the answers with the
-//! least targets are a run, and what a stable network has to do with a maximal matching.
+//! Laws of the rule machine: invariants of its states and steps, runs by least targets, and maximal
+//! matchings.
 //!
-//! Nothing of this crate runs. Each public function has an empty body and a law as its contract; beside them stand the lemmas of
-//! `proofs/` that other crates cite. They are proved here, beside the crates that run, and not in the chain above these.
+//! Laws only: each public function is empty and its contract is the law. `specs/` has the lemmas that other
+//! crates cite.
 //!
-//! The laws to know: the mutual pairs of any state share no end; in a stable network they are a maximal matching, and where they are one,
-//! every pointer is null or answered and the flags that are used are right, the network is stable; no matching has more than twice as
-//! many edges as a maximal one; a base is that of one moment.
+//! The main laws:
+//!
+//! - The mutual pairs of any state share no end.
+//! - In a stable network the mutual pairs are a maximal matching.
+//! - A network is stable if its pairs are a maximal matching, every pointer is null or answered, and the
+//!   flags in use are right.
+//! - No matching has more than twice as many edges as a maximal one.
+//! - A base determines its moment.
 //!
 //! ```rust
 //! stable_is_maximal();                              // from here on the prover knows the law

@@ -1,4 +1,4 @@
--- What a new edge says of its ends, and pointers that do not cross.
+-- The ends of a new edge, and pointers that do not cross it.
 use Rattle.std.proofs.Common.{◌≡◌, ℕ, false, cond, not, ◌&&◌, ◌||◌, None, Result, Ok, Err, OnOk, OnErr, IsTrue, nat_eq, sym, ap, subst, ◌∙◌, ⊎_elim, arith}
 use Rattle.std.specs.Ordering.{eq_by_cmp}
 use Rattle.std.proofs.lemmas.Bool.{true≢false, false_from_ne_true, eq-eqb, ne_eqb}
@@ -24,7 +24,7 @@ pub record IsNewEdge (net : Network) (a b : ℕ) : Type 0 where
 pub new_edge : (net : Network) (a b : ℕ) → link_fault net a b ≡ None → IsNewEdge net a b
 new_edge net a b none = record { accepted = grind arith; lower = grind arith; upper = grind arith; apart = grind arith }
 
--- where an edge is put in, or nothing changes, a state stays one
+-- if an edge is added, or nothing changes, a state stays a state
 pub linked_sound : {T E : Type 0} (result : Result T E) (net after : Network) (r : Registers) (a b : ℕ) → OnOk result ((link_fault net a b ≡ None) × (after ≡ with_edge net a b)) → OnErr result (after ≡ net) → IsState (state_of net r) → IsState (state_of after r)
 linked_sound (Ok x) net after r a b done kept good =
     let ends = new_edge net a b done.0 in
@@ -35,7 +35,7 @@ linked_sound (Err e) net after r a b done kept good = subst (λ (n : Network). I
 pub stays : (r : Registers) (v w : ℕ) → points r v w ≡ false → without_pointer r v w ≡ r
 stays r v w e = ap (λ t. cond t (with_pointer r v None) r) e
 
--- pointers across an edge that are cleared one after the other: neither is there any more
+-- pointers across an edge, cleared one after the other: both are gone
 pub crossing_cleared : (r : Registers) (a b : ℕ) → points (without_pointer (without_pointer r a b) b a) a b ≡ false
 crossing_cleared r a b =
     false_from_ne_true _ (λ at. without_pointer_gone r a b (without_pointer_was (without_pointer r a b) b a a b (some_from_is_at (pointer_of (without_pointer (without_pointer r a b) b a) a) b at)))
@@ -59,11 +59,11 @@ linked_without_other net a b k x not_ab not_ba =
 
 -- ---- an edge that goes
 
--- one whose removal is not refused is there
+-- an edge whose removal is not refused exists
 pub unrefused_linked : (net : Network) (a b : ℕ) → unlink_refusal net a b ≡ None → IsTrue (linked net a b)
 unrefused_linked net a b none = grind arith
 
--- an edge that is there may be removed
+-- an edge that exists may be removed
 pub may_unlink : (net : Network) (v w : ℕ) → IsNetwork net → IsTrue (linked net v w) → unlink_refusal net v w ≡ None
 may_unlink net v w good near =
     let here = linked_present net v w good near in

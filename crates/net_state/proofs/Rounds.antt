@@ -1,4 +1,5 @@
--- What is round a name in two states (its registers, its neighbours, who points at it), and which writes leave that as it is.
+-- The surroundings of a name in two states (its registers, its neighbours, the nodes that point at it), and
+-- which writes leave them as they are.
 use Rattle.std.proofs.Common.{◌≡◌, ◌≢◌, ℕ, ◌<◌, Bool, ◌&&◌, length, set, filter, find, Option, is_some, sym, refl, ap, ◌∙◌, ⊎_elim}
 use Rattle.std.proofs.lemmas.Bool.{cases_eq}
 use Rattle.rule_machine.specs.Network.{Network, PairSet, IsNetwork, linked, names, neighbours, present, with_edge, without_edge}

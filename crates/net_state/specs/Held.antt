@@ -8,7 +8,7 @@ use Rattle.rule_machine.specs.declared.base.Place.{Place}
 use Rattle.graph_store.specs.declared.ends.End.{End}
 use Rattle.graph_store.specs.Ends.{end_code}
 
--- a state, for how many more neighbours each name has room, and what each name makes of the edges at it
+-- a state, how many more neighbours each name has room for, and the stance of each name towards its edges
 pub record Held : Type 0 where
   pub state : State
   pub room : List ℕ
@@ -21,11 +21,11 @@ held_code =
 abbrev pub state_of : Network → Registers → State
 state_of net registers = record { network = net; registers = registers }
 
--- the state in which a name is free, and all else as it was
+-- the state with a name freed, and all else unchanged
 abbrev pub without_place : State → ℕ → State
 without_place s v = record s { network = record s.network { here = slice_set s.network.here v false } }
 
--- a name with its registers, where it is a node of the state
+-- a name with its registers, if it is a node of the state
 abbrev pub place_in : State → ℕ → Option Place
 place_in s v = if present s.network v then Some (place_at s v) else None
 

@@ -1,4 +1,4 @@
-//! Disturbances of several steps.
+//! Disturbances and moves that take several steps, for any type that keeps a state.
 
 ghost use Rattle.std.specs.Prelude.{◌≡◌, All, IfSome, IsTrue, List, MatchOption, None, [], false, fold};
 ghost use Rattle.graph_store.specs.declared.ends.End.{End};
@@ -14,16 +14,17 @@ ghost use Rattle.net_state.specs.Held.{without_place};
 use crate::NetState;
 use rule_machine::{Act, Moved, Node};
 
-/// Who keeps a state, with whatever else goes by it: each of these steps writes the state and brings the rest up to date. The
-/// disturbances and moves that are made of them are `unlink`, `leave` and `make_moves`.
+/// A type that keeps a state; each step writes the state and updates what depends on it.
+///
+/// `unlink`, `leave` and `make_moves` are built from these steps.
 pub trait Disturb {
     /// The state.
     ghost state: { Self → State };
 
-    /// What each name makes of the edges at it.
+    /// The stance of each name towards its edges.
     ghost ends: { Self → List End };
 
-    /// The network with its registers.
+    /// Returns the network with its registers.
     fn net(&self) -> &NetState
         ensures state { result.now.state ≡ state self.now }
         ensures sound { IsState (state self.now) };
@@ -41,7 +42,9 @@ pub trait Disturb {
         ensures value { state self.new ≡ after_flag (state self.old) v value }
         ensures sound { IsState (state self.new) };
 
-    /// Removes an edge that no pointer crosses: a shift in two neighbour lists. Takes no memory.
+    /// Removes an edge that no pointer crosses.
+    ///
+    /// Cost: a shift in two neighbour lists; no memory.
     fn take_out(&mut self, a: Node, b: Node)
         requires linked { IsTrue (linked (state self.old).network a b) }
         requires not_there { points (state self.old).registers a b ≡ false }
@@ -60,7 +63,6 @@ pub trait Disturb {
         ensures sound { IsState (state self.new) };
 }
 
-/// The last neighbour of a node.
 fn last_neighbour<D: Disturb>(it: &D, v: Node) -> Option<Node>
     requires { IsTrue (present (D.state it.now).network v) }
     ensures last { MatchOption result (neighbours (D.state it.now).network v ≡ []) (λ w. IsTrue (linked (D.state it.now).network v w)) }
@@ -69,7 +71,6 @@ fn last_neighbour<D: Disturb>(it: &D, v: Node) -> Option<Node>
     it.net().neighbours(v).last().copied()
 }
 
-/// Sets a node's pointer to null if it is at the other node.
 fn clear_pointer<D: Disturb>(it: &mut D, v: Node, w: Node)
     requires { IsTrue (present (D.state it.old).network v) }
     ensures { D.state it.new ≡ record (D.state it.old) { registers = without_pointer (D.state it.old).registers v w } }
@@ -79,20 +80,20 @@ fn clear_pointer<D: Disturb>(it: &mut D, v: Node, w: Node)
     }
 }
 
-/// Removes the edge between two nodes, and sets to null the pointers that crossed it. A shift in two neighbour lists; takes no
-/// memory.
+/// Removes the edge between two nodes, and sets to null the pointers that crossed it.
+///
+/// Cost: a shift in two neighbour lists; no memory.
 pub fn unlink<D: Disturb>(it: &mut D, a: Node, b: Node)
     requires { unlink_refusal (D.state it.old).network a b ≡ None }
     ensures { D.state it.new ≡ after_unlink (D.state it.old) a b }
 {
-    // By its contract the state is sound.
+    // Gives the prover `IsState`.
     let _ = it.net();
     clear_pointer(it, a, b);
     clear_pointer(it, b, a);
     it.take_out(a, b);
 }
 
-/// Removes the edges of a node, and sets to null the pointers that crossed them.
 fn unlink_all<D: Disturb>(it: &mut D, v: Node)
     requires { IsTrue (present (D.state it.old).network v) }
     ensures left { after_leave (D.state it.new) v ≡ after_leave (D.state it.old) v }
@@ -105,8 +106,9 @@ fn unlink_all<D: Disturb>(it: &mut D, v: Node)
     }
 }
 
-/// Makes a node absent, with its edges, its pointer and those at it, and its flag: for each neighbour a look-up and a shift in that
-/// one's list. Takes no memory.
+/// Makes a node absent: its edges go, its pointer and those at it become null, its flag false.
+///
+/// Cost: for each neighbour a look-up and a shift in its list; no memory.
 pub fn leave<D: Disturb>(it: &mut D, v: Node)
     requires { IsTrue (present (D.state it.old).network v) }
     ensures { D.state it.new ≡ after_leave (D.state it.old) v }
@@ -116,7 +118,6 @@ pub fn leave<D: Disturb>(it: &mut D, v: Node)
     it.free_name(v);
 }
 
-/// Writes the flags of moves that update, from the pointers as they are.
 fn write_flags<D: Disturb>(it: &mut D, moves: &[Moved])
     requires { All (IsMoveIn (D.state it.old).network) moves.now }
     ensures registers { (D.state it.new).registers ≡ fold flag_read (D.state it.old).registers moves.now }
@@ -130,7 +131,6 @@ fn write_flags<D: Disturb>(it: &mut D, moves: &[Moved])
     }
 }
 
-/// Writes the pointers of moves.
 fn write_pointers<D: Disturb>(it: &mut D, moves: &[Moved])
     requires { All (IsMoveIn (D.state it.old).network) moves.now }
     ensures registers { (D.state it.new).registers ≡ fold pointer_written (D.state it.old).registers moves.now }
@@ -145,12 +145,14 @@ fn write_pointers<D: Disturb>(it: &mut D, moves: &[Moved])
     }
 }
 
-/// Carries out the moves of one step: flags first, since they are read from the pointers of before.
+/// Carries out the moves of one step.
+///
+/// Flags come first, since they are computed from the pointers before the step.
 pub fn make_moves<D: Disturb>(it: &mut D, moves: &[Moved])
     requires { All (IsMoveIn (D.state it.old).network) moves.now }
     ensures { D.state it.new ≡ after_moves (D.state it.old) moves.now }
 {
-    // By its contract the state is sound.
+    // Gives the prover `IsState`.
     let _ = it.net();
     write_flags(it, moves);
     write_pointers(it, moves);
@@ -162,7 +164,7 @@ impl Disturb for NetState {
     ghost ends = { λ n. n.ends };
 
     fn net(&self) -> &NetState {
-        // By the invariant, which a look at a field opens, the state is sound.
+        // Reading a field gives the prover the invariant, `IsState`.
         let _ = &self.store;
         self
     }

@@ -1,11 +1,14 @@
 //! A network with its registers: a state of the rule machine, and the disturbances that it takes.
 //!
-//! `NetState` is a state before and after each call, which its type says: every pointer is null or at a neighbour, an absent name has no
-//! edge, no pointer and no flag. It checks nothing that its caller owes: refusals are found above. `Disturb` is what whoever keeps a
-//! state owes (to write a pointer and a flag, to take out an edge, to free a name); `unlink`, `leave` and `make_moves` are written once,
-//! of these four, for the judge, the index, the indexed state and the engine alike.
+//! `NetState` is a valid state before and after each call, as its type guarantees: every pointer is null or
+//! at a neighbour, and an absent name has no edge, no pointer and no flag. It does not check what its caller
+//! must ensure: the crates above it refuse events.
 //!
-//! Only a new state, `reserve_link` and lists take memory.
+//! `Disturb` has four write steps: a pointer, a flag, the removal of an edge, the release of a name.
+//! `unlink`, `leave` and `make_moves` are written once, from these four. The judge, the index, the indexed
+//! state and the engine share them.
+//!
+//! Only a new state, `reserve_link`, `link` and lists take memory.
 //!
 //! ```rust
 //! net.reserve_link(a, b)?;                          // may refuse, and changes nothing

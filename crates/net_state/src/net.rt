@@ -12,8 +12,10 @@ use rule_machine::{Edge, Node, Want};
 use std::alloc::Global;
 use std::marker::Model;
 
-/// The neighbour lists and the registers of a network, seen in contracts as a state, for how many more neighbours each name has
-/// room, and what each name makes of the edges at it.
+/// The neighbour lists and the registers of a network.
+///
+/// Contracts see the state, how many more neighbours each name has room for, and the stance of each name
+/// towards its edges.
 #[derive(Drop)]
 pub struct NetState {
     pub(crate) store: EdgeStore,
@@ -34,8 +36,9 @@ impl Model for NetState {
 }
 
 impl NetState {
-    /// The nodes 1 to `present`, for names up to `nodes`, without an edge, all pointers null and all flags false. `TooManyNodes`
-    /// above 65,535 names, and `Memory` if memory runs out.
+    /// Creates names 1 to `nodes`; 1 to `present` are nodes, without an edge, pointers null, flags false.
+    ///
+    /// `TooManyNodes` above 65,535 names; `Memory` if memory runs out.
     pub fn with_present(alloc: Global, nodes: u32, present: u32) -> Result<NetState, GraphFault>
         requires within { present ≤ nodes }
         ensures ok { IfOk result (λ net. net.state ≡ state.opening_with nodes present) }
@@ -49,7 +52,7 @@ impl NetState {
         Ok(NetState { store, registers })
     }
 
-    /// The edges.
+    /// Returns the edges.
     #[inline(always)]
     pub fn store(&self) -> &EdgeStore
         ensures network { result.now.network ≡ self.now.state.network }
@@ -60,7 +63,7 @@ impl NetState {
         &self.store
     }
 
-    /// The registers.
+    /// Returns the registers.
     #[inline(always)]
     pub fn registers(&self) -> &Registers
         ensures value { result.now ≡ self.now.state.registers }
@@ -69,7 +72,7 @@ impl NetState {
         &self.registers
     }
 
-    /// How many nodes there are, at most 65,535.
+    /// Returns the number of nodes, at most 65,535.
     pub fn nodes(&self) -> u32
         ensures count { result ≡ network.node_count self.now.state.network }
         ensures few { result ≤ 65535 }
@@ -77,7 +80,7 @@ impl NetState {
         self.store.nodes()
     }
 
-    /// The greatest name that a node may have, at most 65,535.
+    /// Returns the greatest name that a node may have, at most 65,535.
     #[inline(always)]
     pub fn capacity(&self) -> u32
         ensures size { result ≡ self.now.state.network.size }
@@ -87,7 +90,7 @@ impl NetState {
         self.store.capacity()
     }
 
-    /// How many edges there are, at most 1,048,576.
+    /// Returns the number of edges, at most 1,048,576.
     pub fn edges(&self) -> u32
         ensures count { result ≡ network.edge_count self.now.state.network }
         ensures few { result ≤ 1048576 }
@@ -95,7 +98,9 @@ impl NetState {
         self.store.edges()
     }
 
-    /// The edges, by rising lower ends, and those of one lower end by rising higher ends; takes four bytes an edge.
+    /// Returns the edges, by ascending lower end, then by ascending higher end.
+    ///
+    /// Takes four bytes an edge; fails only if memory runs out.
     pub fn list_edges(&self) -> Result<Vec<Edge>, Want>
         ensures list { IfOk result (λ edges. edges.items ≡ network.edge_list self.now.state.network) }
         ensures few { IfOk result (λ edges. length edges.items ≤ 1048576) }
@@ -103,7 +108,7 @@ impl NetState {
         self.store.list()
     }
 
-    /// How many edges are open by what their ends make of them. One look.
+    /// Returns how many edges are open by the stances of their ends. One look.
     pub fn open_edges(&self) -> u32
         ensures count { result ≡ open_edges self.now.state.network self.now.ends }
         ensures few { result ≤ 1048576 }
@@ -119,7 +124,7 @@ impl NetState {
         self.store.has(v)
     }
 
-    /// Whether a node may have this name, as one has or may come to have: it is not above the greatest.
+    /// Whether the name is within the capacity, so that a node has or may have it.
     pub fn is_name(&self, v: Node) -> bool
         ensures { result ≡ (nat_le 1 v && nat_le v self.now.state.network.size) }
     {
@@ -127,7 +132,7 @@ impl NetState {
         v.name() <= self.capacity()
     }
 
-    /// Whether there is an edge between two names: a look-up by halves.
+    /// Whether there is an edge between two names. A binary search.
     pub fn linked(&self, a: Node, b: Node) -> bool
         ensures value { result ≡ network.linked self.now.state.network a b }
         ensures present { IsTrue result → IsTrue (network.present self.now.state.network a) × IsTrue (network.present self.now.state.network b) }
@@ -135,7 +140,7 @@ impl NetState {
         self.store.linked(a, b)
     }
 
-    /// A node's neighbours, ascending.
+    /// Returns a node's neighbours, ascending.
     #[inline(always)]
     pub fn neighbours(&self, v: Node) -> &[Node]
         requires { IsTrue (network.present self.now.state.network v) }
@@ -146,7 +151,7 @@ impl NetState {
         self.store.neighbours(v)
     }
 
-    /// Where the node of a name points, if there is one and it points anywhere: a look at its register alone.
+    /// Returns a node's pointer; `None` if it is null or the name is absent. One look.
     #[inline(always)]
     pub fn pointer(&self, v: Node) -> Option<Node>
         requires { v ≤ self.now.state.network.size }
@@ -155,7 +160,7 @@ impl NetState {
         self.registers.pointer(v)
     }
 
-    /// The flag of the node of a name, if there is one: a look at its register alone.
+    /// Returns a node's flag; false if the name is absent. One look.
     #[inline(always)]
     pub fn flag(&self, v: Node) -> bool
         requires { v ≤ self.now.state.network.size }

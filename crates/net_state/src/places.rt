@@ -1,4 +1,4 @@
-//! What a base tells of a network.
+//! The nodes of a base.
 
 ghost use Rattle.std.specs.Prelude.{◌≡◌, ◌≤◌, IfOk, length};
 ghost use Rattle.rule_machine.specs.Base.{places};
@@ -9,7 +9,6 @@ use rule_machine::{Node, Place, Want};
 use std::alloc::Global;
 
 impl NetState {
-    /// A node with its registers; none where the name is absent.
     fn place_of(&self, v: Node) -> Option<Place>
         ensures { result ≡ place_in self.now.state v }
     {
@@ -23,7 +22,9 @@ impl NetState {
         })
     }
 
-    /// The nodes with their registers, by rising names. A look at each name.
+    /// Returns the nodes with their registers, ascending.
+    ///
+    /// A look at each name; fails only if memory runs out.
     pub fn list_places(&self, alloc: Global) -> Result<Vec<Place>, Want>
         ensures places { IfOk result (λ v. v.items ≡ places self.now.state) }
         ensures few { IfOk result (λ v. length v.items ≤ 65535) }

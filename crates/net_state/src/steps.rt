@@ -1,4 +1,4 @@
-//! The steps of which disturbances are made, and those that are one step.
+//! The basic steps of disturbances, and the disturbances that are a single step.
 
 ghost use Rattle.std.specs.Prelude.{◌≡◌, ◌≤◌, IfErr, IfSome, IsTrue, None, OnErr, OnOk, false, slice_set};
 ghost use Rattle.rule_machine.specs.Network.{present, linked};
@@ -13,8 +13,12 @@ use graph_store::{End, GraphFault};
 use rule_machine::Node;
 
 impl NetState {
-    /// Adds the edge between two nodes: a look-up by halves and a shift in two neighbour lists. `UnknownNode`, `SelfLoop`,
-    /// `AlreadyLinked`, `TooManyEdges`, `Memory`, in that order; no fault changes anything.
+    /// Adds the edge between two nodes.
+    ///
+    /// Errors, checked in this order: `UnknownNode`, `SelfLoop`, `AlreadyLinked`, `TooManyEdges`, `Memory`.
+    /// An error changes nothing.
+    ///
+    /// Cost: a binary search and a shift in two neighbour lists.
     pub fn link(&mut self, a: Node, b: Node) -> Result<(), GraphFault>
         ensures ok { OnOk result ((link_fault self.old.state.network a b ≡ None) × (self.new.state ≡ after_link self.old.state a b)) }
         ensures fault { IfErr result (λ fault. Explains (link_fault self.old.state.network a b) fault) }
@@ -25,9 +29,12 @@ impl NetState {
         self.store.link(a, b)
     }
 
-    /// Makes room for the edge between two nodes, so that `link_reserved` of them takes no memory: a look-up by halves, and the
-    /// growth of at most two neighbour lists. `UnknownNode`, `SelfLoop`, `AlreadyLinked`, `TooManyEdges`, `Memory`, in that
-    /// order; the state stays.
+    /// Makes room for the edge between two nodes, so that `link_reserved` takes no memory.
+    ///
+    /// Errors, checked in this order: `UnknownNode`, `SelfLoop`, `AlreadyLinked`, `TooManyEdges`, `Memory`.
+    /// The state never changes.
+    ///
+    /// Cost: a binary search, and the growth of at most two neighbour lists.
     pub fn reserve_link(&mut self, a: Node, b: Node) -> Result<(), GraphFault>
         ensures ok { OnOk result ((link_fault self.old.state.network a b ≡ None) × HasRoomFor self.new.room a b) }
         ensures fault { IfErr result (λ fault. Explains (link_fault self.old.state.network a b) fault) }
@@ -37,8 +44,9 @@ impl NetState {
         self.store.reserve_link(a, b)
     }
 
-    /// Adds the edge between two nodes for which there is room: a look-up by halves and a shift in two neighbour lists. Takes no
-    /// memory.
+    /// Adds the edge between two nodes that have room for it.
+    ///
+    /// Cost: a binary search and a shift in two neighbour lists; no memory.
     pub fn link_reserved(&mut self, a: Node, b: Node)
         requires free { link_fault self.old.state.network a b ≡ None }
         requires room { HasRoomFor self.old.room a b }
@@ -70,7 +78,7 @@ impl NetState {
         self.registers.set_flag(v, value);
     }
 
-    /// Makes a name a node, with no edge, a null pointer and its flag false. Takes no memory.
+    /// Makes a name a node, without an edge, its pointer null and its flag false. Takes no memory.
     pub fn join(&mut self, v: Node)
         requires within { v ≤ self.old.state.network.size }
         requires absent { present self.old.state.network v ≡ false }
@@ -82,8 +90,9 @@ impl NetState {
         self.store.join(v).unwrap();
     }
 
-    /// Says what a name makes of the edges at it from now on, where at first each name shuts them: one look where that was said
-    /// before, else one at each neighbour. Takes no memory.
+    /// Sets the stance of a name towards its edges; at first every name shuts them.
+    ///
+    /// Cost: one look if the stance is the same as before, else one at each neighbour; no memory.
     pub fn turn(&mut self, v: Node, end: End)
         requires { v ≤ self.old.state.network.size }
         ensures told { end_at self.new.ends v ≡ end }

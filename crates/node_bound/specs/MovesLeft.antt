@@ -1,4 +1,4 @@
--- How many moves can still come: no more than the charge, nor than the number of nodes alone allows.
+-- How many moves can still come: at most the charge, and at most what the number of nodes alone allows.
 use Rattle.std.specs.Prelude.{◌≡◌, ℕ, ◌≤◌, min, List, Option, None, Some}
 use Rattle.rule_machine.specs.Network.{node_count}
 use Rattle.rule_machine.specs.State.{State, IsState}

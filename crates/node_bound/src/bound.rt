@@ -1,4 +1,4 @@
-//! A bound by nodes alone.
+//! A bound on moves by nodes alone.
 
 ghost use Rattle.std.specs.Prelude.{◌≡◌, ℕ, ◌≤◌, Option};
 ghost use Rattle.node_bound.specs.MovesLeft.{BoundsByNodes};
@@ -9,8 +9,9 @@ use rule_set::Rules;
 pub trait NodeBound: Rules {
     ghost most: { ℕ → Option ℕ };
 
-    /// The most moves that can come between two disturbances among this many nodes, whatever the edges, the state and the daemon; `None`
-    /// if no such bound is known.
+    /// Returns the most moves between two disturbances among this many nodes.
+    ///
+    /// Holds whatever the edges, the state and the daemon. `None` if no such bound is known.
     fn most_moves(nodes: u32) -> Option<u32>
         requires few { nodes ≤ 65535 }
         ensures { result ≡ most nodes };

@@ -19,7 +19,7 @@ total_set f [] port v w at = absurd (some-ne-none v (sym at))
 total_set f (x ∷ xs) zero v w at = let e : f x ≡ f v = ap f (some-injective x v at) in omega (arith, sum_by-cons f x xs, sum_by-cons f w xs)
 total_set f (x ∷ xs) (suc port) v w at = omega (arith, total_set f xs port v w at, sum_by-cons f x xs, sum_by-cons f x (set xs port w))
 
--- where no pass has any of f, and g is 0 where f is, none has any of g
+-- if no pass has any of f, and g is 0 if f is, none has any of g
 none_of : (f g : Ledger → ℕ) (views : List Ledger) → sum_by f views ≡ 0 → ((j : ℕ) (u : Ledger) → get_elem? views j ≡ some u → f u ≡ 0 → g u ≡ 0) → sum_by g views ≡ 0
 none_of f g [] none too = refl
 none_of f g (x ∷ xs) none too =
@@ -28,7 +28,7 @@ none_of f g (x ∷ xs) none too =
     let rest = none_of f g xs (omega arith) (λ j u. too (suc j) u) in
     omega (arith, sum_by-cons g x xs)
 
--- where one pass has the whole, no other has a part
+-- if one pass has the whole, no other has a part
 no_part : (views : List Ledger) (port : ℕ) (v : Ledger) → get_elem? views port ≡ some v → sum_by (λ u. u.parts) views ≡ v.parts → (j : ℕ) (u : Ledger) → j ≢ port → get_elem? views j ≡ some u → u.parts ≡ 0
 no_part views port v at all j u other there =
     let gone = ledger 0 0 [] in
@@ -36,7 +36,7 @@ no_part views port v at all j u other there =
     let most = total_set (λ (x : Ledger). x.parts) (set views port gone) j u gone (set_else views port j gone other ∙ there) in
     omega arith
 
--- numbers behind others weigh both
+-- numbers after others weigh both
 behind : (h : ℕ → ℕ) (a n m all b : ℕ) → n + m ≡ all → a + n ≡ b → sum_by h (range_with_len a all) ≡ sum_by h (range_with_len a n) + sum_by h (range_with_len b m)
 behind h a zero m all b size next =
     let more : sum_by h (range_with_len a all) ≡ sum_by h (range_with_len a m) = (let same : all ≡ m = omega arith in ap (λ (n : ℕ). sum_by h (range_with_len a n)) same) in
@@ -188,12 +188,12 @@ merges port v other w part items views b at apart theirs =
           (λ j u _ here. known_set b.count views port both ((λ none. absurd (omega arith)), λ _. size) (λ k y _ there. b.known k y there) j u here);
     }
 
--- a list weighs its length where each weighs one
+-- a list weighs its length if each item weighs one
 ones : (xs : List ℕ) → sum_by (λ _. 1) xs ≡ length xs
 ones [] = refl
 ones (x ∷ xs) = omega (arith, ones xs, sum_by-cons (λ (_ : ℕ). 1) x xs)
 
--- the places taken are some that were put, and no more are taken than were put
+-- the places taken are some that were put, and at most as many
 pub within : (count : ℕ) (block : Block) (before taken : List ℕ) → taken ≡ before ++ places_in (block ∷ []) → ArePlaces count taken → (block.end ≤ count) × (length taken ≤ count)
 within count block before taken is are = (
   (let above : ℕ → ℕ = λ y. y + 1 - count in

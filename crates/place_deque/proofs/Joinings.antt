@@ -20,7 +20,7 @@ use Rattle.place_deque.specs.Ends.{DequeName, owner_deque, owner_ledger, thief_d
 sum_map : (f : Hold → ℕ) (xs : List DequeEnd) → sum_by f (map end_hold xs) ≡ sum_by (λ e. f (end_hold e)) xs
 sum_map f xs = fold-map (λ a h. a + f h) end_hold 0 xs
 
--- what all names say, said of whose names they are
+-- a fact of all names, applied to one
 pub all_unmap : {X : Type 0} (f : X → Hold) (P : Hold → Type 0) (xs : List X) → All P (map f xs) → All (λ x. P (f x)) xs
 all_unmap f P xs all k d within = subst P (get_or-map f xs k d (f d) within) (all k (f d) (omega (arith, length-map xs f)))
 
@@ -34,7 +34,7 @@ sum_parts deque count (x ∷ xs) all =
     let here : (end_ledger x).parts ≡ 1 = ap (λ (v : Ledger). v.parts) (all 0 x (omega arith)).1 in
     omega (arith, sum_parts deque count xs (λ k d within. all (suc k) d (omega arith)), sum_by-cons (λ (e : DequeEnd). (end_ledger e).parts) x xs)
 
--- the ends of thieves and the owner's behind them
+-- the ends of thieves, then the owner's
 pub made_all : (count made : ℕ) (o : Owner) (xs ys : List DequeEnd) → All (IsPart (owner_deque o) count) xs → length xs + 1 ≡ made → made ≤ 64 → owner_ledger o ≡ ledger (65 - made) count [] → ys ≡ xs ++ end.Owner o ∷ [] → AreAllEnds count (map end_hold ys)
 made_all count made o xs ys parts size few known is =
     let All_of : (P : Hold → Type 0) → ((e : DequeEnd) → IsPart (owner_deque o) count e → P (end_hold e)) → P (end_hold (end.Owner o)) → All P (map end_hold ys) = λ P thieves own.

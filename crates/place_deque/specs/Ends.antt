@@ -1,4 +1,4 @@
--- What clauses say of the ends of a deque.
+-- The ends of a deque in contracts.
 use Rattle.std.specs.Prelude.{◌≡◌, ℕ, List, All}
 use Rattle.std.specs.List.{sum_by}
 use Rattle.std.specs.declared.alloc.Global.{Global}
@@ -9,7 +9,7 @@ use Rattle.place_deque.specs.declared.handles.Thief.{Thief}
 use Rattle.place_deque.specs.declared.end.DequeEnd.{DequeEnd}
 use Rattle.place_deque.specs.declared.end.DequeEnd.TheVariants as end
 
--- which deque it is
+-- the identity of a deque
 abbrev pub DequeName : Type 0
 DequeName = (ℕ × ℕ) × Global
 
@@ -38,8 +38,8 @@ abbrev pub end_owners : DequeEnd → ℕ
 end_owners (end.Owner o) = 1
 end_owners (end.Thief t) = 0
 
--- what stays of an end while it takes: of which deque it is, how many places were put on that, its parts of the 64 that make up the whole, and
--- whether it is the owner's
+-- what stays of an end while it takes: its deque, how many places were put, its parts of the 64 that make the
+-- whole, and whether it is the owner's
 pub record Hold : Type 0 where
   pub deque : DequeName
   pub count : ℕ
@@ -49,18 +49,18 @@ pub record Hold : Type 0 where
 abbrev pub end_hold : DequeEnd → Hold
 end_hold e = record { deque = end_deque e; count = (end_ledger e).count; parts = (end_ledger e).parts; owners = end_owners e }
 
--- what an end has taken, in that order
+-- the places that an end has taken, in that order
 abbrev pub end_taken : DequeEnd → List ℕ
 end_taken e = (end_ledger e).taken
 
--- these are all ends of one deque, on which so many places were put
+-- these are all ends of one deque, on which `count` places were put
 pub record AreAllEnds (count : ℕ) (holds : List Hold) : Type 0 where
   pub one : (deque : DequeName) × All (λ h. h.deque ≡ deque) holds
   pub size : All (λ h. h.count ≡ count) holds
   pub whole : sum_by (λ h. h.parts) holds ≡ 64
   pub owner : sum_by (λ h. h.owners) holds ≡ 1
 
--- so much is known by whoever has joined these ends: what each of them took, and it has the whole
+-- after joining these ends: it knows what each of them took, and has the whole
 pub record AreJoined (count : ℕ) (ends : List DequeEnd) (v : Ledger) : Type 0 where
   pub size : v.count ≡ count
   pub whole : v.parts ≡ 64

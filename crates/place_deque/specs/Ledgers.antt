@@ -1,4 +1,4 @@
--- The rule of a deque of places, over what it holds and over what each pass knows.
+-- The rule of a deque of places: what it holds and what each pass knows.
 use Rattle.std.specs.Prelude.{◌≡◌, ℕ, ◌+◌, ◌-◌, ◌<◌, ◌≤◌, List, [], ◌∷◌, ◌++◌, length}
 use Rattle.std.specs.List.{sum_by, range_with_len}
 use mathlib.Core.Option.{some}
@@ -26,8 +26,8 @@ places_in (b ∷ bs) = block_places b ++ places_in bs
 abbrev pub Knows : ℕ → Ledger → Type 0
 Knows count v = (v.parts ≡ 0 → v.taken ≡ []) × (0 < v.parts → v.count ≡ count)
 
--- However places are weighed, the places that were put weigh what the passes have taken and what the deque holds: each is in one of them, once.
--- The parts of all passes make up the whole.
+-- For any weight of places, those that the passes took and those on the deque together weigh as much as those
+-- put: each is in one of them, once. The parts of all passes make the whole.
 pub record Balanced (items : List Block) (views : List Ledger) : Type 0 where
   pub count : ℕ
   pub whole : sum_by (λ v. v.parts) views ≡ 64
@@ -47,7 +47,7 @@ ArePlaces count taken = (h : ℕ → ℕ) → sum_by h taken ≤ sum_by h (place
 abbrev pub Takes : Ledger → List Block → Ledger → Type 0
 Takes v xs w = (w ≡ ledger v.parts v.count (v.taken ++ places_in xs)) × ArePlaces v.count w.taken
 
--- the block lies among the places that were put, and no more were taken than these
+-- the block lies among the places that were put, and at most that many were taken
 abbrev pub IsWithin : Ledger → Ledger → Block → Type 0
 IsWithin before after block = (block.end ≤ before.count) × (length after.taken ≤ before.count)
 
@@ -55,11 +55,11 @@ IsWithin before after block = (block.end ≤ before.count) × (length after.take
 abbrev pub AreAllPlaces : ℕ → List ℕ → Type 0
 AreAllPlaces count taken = (h : ℕ → ℕ) → sum_by h taken ≡ sum_by h (places count)
 
--- whoever has the whole and finds no place knows that all were taken
+-- if a pass has the whole and finds no place, it knows that all were taken
 abbrev pub KnowsAll : Ledger → Type 0
 KnowsAll v = v.parts ≡ 64 → AreAllPlaces v.count v.taken
 
--- what a pass keeps when it is shared out in two, and what the other has
+-- what a pass keeps when it is split in two, and what the other gets
 abbrev pub rest_of : Ledger → Ledger
 rest_of v = ledger (v.parts - 1) v.count v.taken
 

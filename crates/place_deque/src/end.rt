@@ -18,7 +18,7 @@ pub enum DequeEnd {
 }
 
 impl DequeEnd {
-    /// Takes the block in front; `None` where there was none at one moment of the call.
+    /// Takes the block in front; `None` if there was none at one moment of the call.
     pub fn take<W: Wait>(&mut self, rt: &W) -> Option<Block>
         ensures hold { end_hold self.new ≡ end_hold self.old }
         ensures taken { MatchOption result (end_taken self.new ≡ end_taken self.old) (λ block. end_taken self.new ≡ end_taken self.old ++ block_places block) }
@@ -32,8 +32,9 @@ impl DequeEnd {
     }
 }
 
-/// So many ends of one new deque, which holds the places 0 to `count - 1`. The blocks in front have one place each, as many as there may be
-/// ends; of what is left then each has a sixty-fourth at most, and one place at least.
+/// `workers` ends of one new deque that holds the places 0 to `count - 1`.
+/// The first 64 blocks have one place each, later ones a 64th of the places left, but 1 to 64.
+/// `AllocError` if memory runs out.
 pub fn ends(alloc: Global, count: u32, workers: u32) -> Result<Vec<DequeEnd>, AllocError>
     requires some { 0 < workers }
     requires few { workers ≤ 64 }

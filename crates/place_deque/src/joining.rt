@@ -1,4 +1,4 @@
-//! What all ends of a deque took, joined.
+//! Joins what all ends of a deque took.
 
 ghost use Rattle.std.specs.Prelude.{◌≡◌, ◌<◌, length, map, slice_index_or};
 ghost use Rattle.std.specs.List.{sum_by};
@@ -24,7 +24,6 @@ pub fn gather(mut ends: Vec<DequeEnd>, count: u32) -> Owner
     owner
 }
 
-// Where the owner's end stands.
 fn owner_at(ends: &[DequeEnd]) -> usize
     requires { sum_by end_owners ends.now ≡ 1 }
     ensures within { result < length ends.now }

@@ -1,18 +1,18 @@
-//! What is known at an end of the deque, and the rule that every end keeps.
+//! What an end of the deque knows, and the rule that every end keeps.
 
 use crate::Block;
 use crossbeam_deque::protocol::{Join, Outcome, Protocol, Split};
 use std::collections::LinkedList;
 
-/// What a pass knows: its parts of the 64 that make up the whole, how many places were put, and which it has taken. No value
-/// of it is made.
+/// What a pass knows. No value of it is made.
+/// Its parts of the 64 that make the whole, how many places were put, and which it has taken.
 pub struct Ledger {
     pub parts: u64,
     pub count: u64,
     pub taken: LinkedList<u32>,
 }
 
-/// The rule: what was put is what was taken and what the deque holds, each place once.
+/// The rule: the places put are those taken and those on the deque, each once.
 pub struct EachOnce;
 
 impl Protocol<Block, Ledger> for EachOnce {
@@ -47,7 +47,7 @@ impl Outcome<Block, Ledger> for Took {
     ghost empty = { KnowsAll };
 }
 
-/// A pass is shared out in two, or joined to another.
+/// A pass is split in two, or joined to another.
 pub(crate) struct Cut;
 
 impl Split<Ledger> for Cut {

@@ -1,11 +1,12 @@
-//! The places of a list on one deque, in blocks, which workers take from its ends: each place is taken once.
+//! A deque of the places of a list, in blocks; workers take each place once from its ends.
 //!
-//! `ends` puts the places 0 to n - 1 on one work-stealing deque and gives each worker an `End`, from which it takes blocks until it finds
-//! none; `gather` joins all ends again. That every place was taken once needs no case in the code: each end carries a ledger with no
-//! bytes, and the deque's rule says that what all ends took and what is left weigh together what was put, however places are weighed.
+//! `ends` puts the places 0 to n - 1 on one work-stealing deque and gives each worker a `DequeEnd`, to take
+//! blocks until none is left. `gather` joins all ends again. No code checks that each place was taken once:
+//! the deque's rule says so, by a ledger of no bytes at each end. For any weight of places, those taken and
+//! those left weigh as much as those put.
 //!
-//! The first blocks have one place each, as many as there may be ends, so that a worker that is held holds back no other; later ones have
-//! 64 at most. Taking takes no memory.
+//! The first 64 blocks, one for each possible end, have one place, so that a held worker delays no other.
+//! Later blocks have at most 64. Taking takes no memory.
 //!
 //! ```rust
 //! let mut ends = ends(alloc, n, workers)?;

@@ -1,4 +1,4 @@
-//! The end that puts the blocks, shares the whole out and joins it again.
+//! The end that puts the blocks, splits the whole and joins it again.
 
 ghost use Rattle.std.specs.Prelude.{◌≡◌, ◌<◌, [], ◌∷◌, IfOk, IfSome, MatchOption};
 ghost use Rattle.place_deque.specs.Ledgers.{ledger, rest_of, part_of, joined, IsWithin, KnowsAll, Takes};
@@ -10,11 +10,12 @@ use crate::{Block, Owner, Thief};
 use crossbeam_deque::Worker;
 use std::alloc::{AllocError, Global};
 
-// For how many blocks a deque has room from the start: more than 65,535 places want. It grows beyond.
+// How many blocks a new deque has room for: enough for more than 65,535 places. It can grow.
 const MOST_AT_FIRST: u32 = 2_048;
 
 impl Owner {
     /// A new deque that holds the places 0 to `count - 1`, the least in front.
+    /// `AllocError` if memory runs out.
     pub fn filled(alloc: Global, count: u32) -> Result<Owner, AllocError>
         ensures { IfOk result (λ owner. owner_ledger owner ≡ ledger 64 count []) }
     {
@@ -31,7 +32,7 @@ impl Owner {
         Ok(Owner { worker })
     }
 
-    /// Another end of the deque, with one part of the whole.
+    /// Another end of the deque, with one part of the whole. `AllocError` if memory runs out.
     pub fn thief(&mut self) -> Result<Thief, AllocError>
         requires { 1 < (owner_ledger self.old).parts }
         ensures part { IfOk result (λ thief. (thief_deque thief ≡ owner_deque self.old) × (thief_ledger thief ≡ part_of (owner_ledger self.old))) }
@@ -42,7 +43,7 @@ impl Owner {
         Ok(Thief::of(stealer, pass))
     }
 
-    /// Takes the block in front; `None` where there was none at one moment of the call.
+    /// Takes the block in front; `None` if there was none at one moment of the call.
     pub fn take(&mut self) -> Option<Block>
         ensures same { owner_deque self.new ≡ owner_deque self.old }
         ensures taken { MatchOption result

@@ -31,8 +31,8 @@ impl Thief {
         pass
     }
 
-    /// Takes the block in front; `None` where there was none at one moment of the call. Another thread that takes a block
-    /// first makes it look again.
+    /// Takes the block in front; `None` if there was none at one moment of the call.
+    /// It tries again if another thread takes a block first.
     pub fn take<W: Wait>(&mut self, rt: &W) -> Option<Block>
         ensures same { thief_deque self.new ≡ thief_deque self.old }
         ensures taken { MatchOption result

@@ -1,4 +1,4 @@
--- The set of a list of pairs that strictly rise: its entries are the list.
+-- The set of a list of strictly ascending pairs: its entries are the list.
 use Rattle.std.proofs.Common.{min, max, add_comm, add-one, ◌≡◌, ℕ, ◌+◌, ◌<◌, ◌≤◌, Bool, true, false, cond, not, ◌||◌, List, [], ◌∷◌, map, length, eqb, ltb, IsTrue, T, Option, Some, None, refl, sym, ap, ◌∙◌, subst, arith}
 use Rattle.std.specs.List.{list_any, filter, insert, position_or_len}
 use Rattle.std.specs.Option.{unwrap_or}
@@ -30,7 +30,7 @@ put_below pair [] below = refl
 put_below pair (next ∷ pairs) below =
     ap (λ r. by_order r ((pair, tt) ∷ marked (next ∷ pairs)) ((next, tt) ∷ marked pairs) ((next, tt) ∷ put pair_cmp pair tt (marked pairs))) (less_is _ (and_parts (is_lt (pair_cmp pair next)) _ below).0)
 
--- the entries of the set of a rising list are the list
+-- the entries of the set of an ascending list are the list
 pub entries-pair_set : (pairs : List (ℕ × ℕ)) → IsTrue (finite.is_sorted pair_cmp (marked pairs)) → finite.entries (pair_set pairs) ≡ marked pairs
 entries-pair_set [] rising = nil_from_length _ (sym (finite.len-entries (pair_set [])) ∙ finite.len-empty pair_cmp (Unit {0}))
 entries-pair_set (pair ∷ pairs) rising =
@@ -38,12 +38,12 @@ entries-pair_set (pair ∷ pairs) rising =
     ∙ ap (put pair_cmp pair tt) (entries-pair_set pairs (and_parts (below_all pair_cmp pair (marked pairs)) _ rising).1)
     ∙ put_below pair pairs (and_parts (below_all pair_cmp pair (marked pairs)) _ rising).0
 
--- a list is back where its marks are dropped
+-- a list is restored if its marks are dropped
 firsts : (pairs : List (ℕ × ℕ)) → map (λ e. e.0) (marked pairs) ≡ pairs
 firsts [] = refl
 firsts (pair ∷ pairs) = ap (λ rest. pair ∷ rest) (firsts pairs)
 
--- the set of a rising list has that list as its keys
+-- the set of an ascending list has that list as its keys
 pub keys-pair_set : (pairs : List (ℕ × ℕ)) → IsAscending pairs → finite.keys (pair_set pairs) ≡ pairs
 keys-pair_set pairs up = ap (map (λ e. e.0)) (entries-pair_set pairs up.rising) ∙ firsts pairs
 
@@ -52,11 +52,11 @@ length-marked : (pairs : List (ℕ × ℕ)) → length (marked pairs) ≡ length
 length-marked [] = refl
 length-marked (pair ∷ pairs) = omega (arith, length-marked pairs)
 
--- the set of a rising list is as large as the list is long
+-- the set of an ascending list is as large as the list is long
 pub len-pair_set : (pairs : List (ℕ × ℕ)) → IsAscending pairs → finite.len (pair_set pairs) ≡ length pairs
 len-pair_set pairs up = finite.len-entries (pair_set pairs) ∙ ap length (entries-pair_set pairs up.rising) ∙ length-marked pairs
 
--- pairs tie where they are one
+-- pairs tie if they are equal
 pub eq_by_cmp-same_pair : (p q : ℕ × ℕ) → eq_by_cmp pair_cmp q p ≡ same_pair p q
 eq_by_cmp-same_pair p q =
     (eq_by_cmp_equiv pair_total).symm q p
@@ -67,13 +67,13 @@ any_alike : {X : Type 0} (p q : X → Bool) → ((x : X) → p x ≡ q x) → (x
 any_alike p q alike [] = refl
 any_alike p q alike (x ∷ xs) = λ i. alike x i || any_alike p q alike xs i
 
--- a pair is in the set where the list has it
+-- a pair is in the set if it is in the list
 pub contains_key-pair_set : (pairs : List (ℕ × ℕ)) (q : ℕ × ℕ) → IsAscending pairs → finite.contains_key (pair_set pairs) q ≡ list_any (λ p. same_pair p q) pairs
 contains_key-pair_set pairs q up =
     finite.contains_key-keys (pair_set pairs) q ∙ ap (list_any (eq_by_cmp pair_cmp q)) (keys-pair_set pairs up)
     ∙ any_alike _ _ (λ p. eq_by_cmp-same_pair p q) pairs
 
--- what a failed disjunction says of its parts
+-- the parts of a failed disjunction
 neither : (a b : Bool) → (a || b) ≡ false → (a ≡ false) × (b ≡ false)
 neither a b h = grind arith
 
@@ -81,7 +81,7 @@ neither a b h = grind arith
 same_if_equal : (p pair : ℕ × ℕ) → pair_cmp pair p ≡ Equal → same_pair p pair ≡ true
 same_if_equal p pair e = sym (eq_by_cmp-same_pair p pair) ∙ ap is_eq e
 
--- an insertion behind the first
+-- an insertion after the first
 insert_behind : (p : ℕ × ℕ) (pairs : List (ℕ × ℕ)) (at : ℕ) (pair : ℕ × ℕ) → p ∷ insert pairs at pair ≡ insert (p ∷ pairs) (1 + at) pair
 insert_behind p pairs at pair = rw (add_comm 1 at, add-one)
 
@@ -151,7 +151,7 @@ pair_set-filter pairs pair up = finite.same_map pair_total pair_exact _ _ (λ q.
     ∙ ap (cond (eq_by_cmp pair_cmp q pair) None) (ap (finite.find pair_cmp q) (sym (entries-pair_set pairs up.rising)) ∙ sym (finite.get-entries (pair_set pairs) q))
     ∙ sym (finite.get-remove pair_total (pair_set pairs) pair q))
 
--- a filtered list can still stand for edges
+-- a filtered list still represents edges
 pub filter_ascending : (test : ℕ × ℕ → Bool) (pairs : List (ℕ × ℕ)) → IsAscending pairs → IsAscending (filter test pairs)
 filter_ascending test pairs up = record {
   rising = rising_filter test pairs up.rising;
@@ -166,7 +166,7 @@ position_or_len-le test (x ∷ xs) = elim (test x) as (λ b. cond (not b) (1 + p
   | false ↦ omega (arith, position_or_len-le test xs)
 ]
 
--- with room, the list with a pair in its place can still stand for edges
+-- with room, the list with a pair inserted still represents edges
 pub insert_ascending : (pairs : List (ℕ × ℕ)) (pair : ℕ × ℕ) → IsAscending pairs → list_any (λ p. same_pair p pair) pairs ≡ false → length pairs < 1048576 → IsAscending (insert pairs (position_or_len (is_below pair) pairs) pair)
 insert_ascending pairs pair up absent room = record {
   rising = rising_insert pairs pair up absent;
@@ -188,7 +188,7 @@ edge_above a b h =
     let high : max a b ≡ a = omega (arith, le) in
     λ i. (low i, high i)
 
--- the place of the first that passes, or the length where none does
+-- the index of the first that passes, or the length if none does
 pub unwrap_position : (at len : ℕ) → at ≤ len → unwrap_or (cond (ltb at len) (Some at) None) len ≡ at
 unwrap_position at len within = elim (ltb at len) as (λ b. ltb at len ≡ b → unwrap_or (cond b (Some at) None) len ≡ at) [
   | true ↦ λ e. refl

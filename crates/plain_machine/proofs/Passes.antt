@@ -1,7 +1,7 @@
--- A pass over a list that writes each element anew.
+-- A pass over a list that rewrites each element.
 use Rattle.std.proofs.Common.{◌≡◌, ℕ, zero, suc, ◌+◌, ◌<◌, List, [], ◌∷◌, ◌++◌, length, map, take, drop, get_or, set, refl, ap, arith, add-one}
 
--- the list after so many of its elements are written
+-- the list after its first k elements are written
 abbrev pub passed : {X : Type 0} → (X → X) → List X → ℕ → List X
 passed f xs k = map f (take k xs) ++ drop k xs
 

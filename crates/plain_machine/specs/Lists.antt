@@ -1,4 +1,4 @@
--- Lists that can stand for a network's names, and for its edges.
+-- Lists that can represent a network's names, and its edges.
 use Rattle.std.specs.Prelude.{◌≡◌, ℕ, ◌≤◌, Bool, ◌&&◌, List, map, length, IsTrue, nat_eq}
 use Rattle.std.specs.List.{range_with_len}
 use Rattle.std.specs.Ordering.{is_lt}
@@ -27,7 +27,7 @@ is_below p q = is_lt (pair_cmp p q)
 abbrev pub marked : List (ℕ × ℕ) → List ((ℕ × ℕ) × Unit {0})
 marked pairs = map (λ pair. (pair, tt)) pairs
 
--- the pairs strictly rise, and there are no more than a network has
+-- the pairs strictly ascend, and there are at most as many as a network may have
 pub record IsAscending (pairs : List (ℕ × ℕ)) : Type 0 where
   pub rising : IsTrue (finite.is_sorted pair_cmp (marked pairs))
   pub few : length pairs ≤ 1048576

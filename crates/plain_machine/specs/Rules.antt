@@ -1,4 +1,4 @@
--- What the two rule sets make of edges, flags and pointers.
+-- How the two rule sets treat edges, flags and pointers.
 use Rattle.std.specs.Prelude.{ℕ, Bool, not, ◌&&◌, ◌||◌, nat_le, sum_by}
 use Rattle.rule_machine.specs.declared.rules.RuleSet.{RuleSet}
 use Rattle.rule_machine.specs.declared.rules.RuleSet.TheVariants.{Hh, Manne}
@@ -16,6 +16,7 @@ abbrev pub flag_charges : RuleSet → State → ℕ
 flag_charges Hh s = 0
 flag_charges Manne s = sum_by (manne_node_charge s) (names s.network)
 
--- whether Manne's rules take a pointer back: it is at a node that does not point back, and that is flagged or not above v
+-- whether Manne's rules take a pointer back: it is at a node that does not point back, and that is flagged or
+-- not above v
 abbrev pub is_spurned : State → ℕ → Bool
 is_spurned s v = holds_at (λ w. not (points s.registers w v) && (flag s w || nat_le w v)) (pointer s v)

@@ -10,9 +10,13 @@ use rule_machine::{Event, Listing, Reply, RuleSet, Want};
 use std::alloc::Global;
 
 impl PlainNet {
-    /// Answers an event, in which each free target is the least allowed one, where these moves are spent since the last
-    /// accepted disturbance. An event that is refused changes nothing, and neither does one that fails for want of
-    /// memory. A step takes some n·n·m steps for each chosen node, with n names and m edges, and `Status` n·m·m.
+    /// Answers an event; each free target is the least allowed one.
+    ///
+    /// `spent` is the number of moves since the last accepted disturbance.
+    ///
+    /// A refused event changes nothing. `Want` if memory runs out; that changes nothing either.
+    ///
+    /// Cost with n names and m edges: some n·n·m for each chosen node of a step, and n·m·m for `Status`.
     pub fn answer(
         &mut self,
         alloc: Global,
@@ -30,7 +34,6 @@ impl PlainNet {
         }
     }
 
-    /// Answers an event that is not refused.
     fn accept(
         &mut self,
         alloc: Global,

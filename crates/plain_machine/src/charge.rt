@@ -10,7 +10,9 @@ use crate::PlainNet;
 use rule_machine::RuleSet;
 
 impl PlainNet {
-    /// The charge, which each move lowers; at most 2,293,757. Takes some n·m·m steps.
+    /// Returns the charge (the potential), which each move lowers; at most 2,293,757.
+    ///
+    /// Cost: some n·m·m with n names and m edges.
     pub fn charge(&self, rules: RuleSet) -> u64
         ensures value { result ≡ (table_of rules).charge self.now }
         ensures few { result ≤ 2293757 }
@@ -18,7 +20,6 @@ impl PlainNet {
         2 * self.open_edges(rules) + self.unanswered() + self.flag_charges(rules)
     }
 
-    /// How many edges are open.
     fn open_edges(&self, rules: RuleSet) -> u64
         ensures count { result ≡ count_by (λ e. not (is_closed rules self.now e)) (edge_list self.now.network) }
         ensures few { result ≤ 1048576 }
@@ -32,7 +33,6 @@ impl PlainNet {
         open
     }
 
-    /// How many pointers are unanswered.
     fn unanswered(&self) -> u64
         ensures count { result ≡ count_by (state.is_unanswered self.now) (names self.now.network) }
         ensures few { result ≤ 65535 }

@@ -1,4 +1,4 @@
-//! Where the network stands, in numbers.
+//! The counts of a network.
 
 ghost use Rattle.std.specs.Prelude.{◌≡◌, ◌&&◌, length, is_some};
 ghost use Rattle.rule_machine.specs.Answer.{counts_of};
@@ -13,7 +13,9 @@ use crate::lists::pair_above;
 use rule_machine::{Counts, Node, RuleSet};
 
 impl PlainNet {
-    /// Where the network stands, where these moves are spent. Takes some n·m·m steps, with n names and m edges.
+    /// Returns the counts of the network, with `spent` moves since the last accepted disturbance.
+    ///
+    /// Cost: some n·m·m with n names and m edges.
     pub fn counts(&self, rules: RuleSet, spent: u32) -> Counts
         ensures { result ≡ counts_of (table_of rules) self.now spent }
     {
@@ -27,7 +29,6 @@ impl PlainNet {
         }
     }
 
-    /// How many nodes there are.
     fn node_count(&self) -> u32
         ensures { result ≡ node_count self.now.network }
     {
@@ -40,7 +41,6 @@ impl PlainNet {
         nodes
     }
 
-    /// How many mutual pairs there are.
     fn pair_count(&self) -> u32
         ensures { result ≡ length (mutual_pairs self.now) }
     {
@@ -53,14 +53,12 @@ impl PlainNet {
         pairs
     }
 
-    /// Whether a name is present, and the lower one of a mutual pair.
     fn heads_pair(&self, v: Node) -> bool
         ensures { result ≡ (present self.now.network v && is_some (pair_above v (partner self.now v))) }
     {
         self.has(v) && pair_above(v, self.partner(v)).is_some()
     }
 
-    /// How many nodes are enabled.
     fn enabled_count(&self, rules: RuleSet) -> u32
         ensures { result ≡ length (enabled_names (table_of rules) self.now) }
     {

@@ -10,7 +10,7 @@ use rule_machine::{Edge, Node, Want};
 use std::alloc::Global;
 use std::marker::Model;
 
-/// A set of edges, ascending by lower end, then by higher end; seen in contracts as the set of its pairs.
+/// A set of edges, ascending by lower end, then by higher end; contracts see the set of its pairs.
 #[derive(Drop)]
 pub struct EdgeSet {
     edges: Vec<Edge>,
@@ -30,7 +30,7 @@ impl Model for EdgeSet {
 }
 
 impl EdgeSet {
-    /// No edge.
+    /// Creates the empty set.
     pub fn new(alloc: Global) -> EdgeSet
         ensures { result ≡ map.empty }
     {
@@ -39,7 +39,7 @@ impl EdgeSet {
         }
     }
 
-    /// How many edges there are.
+    /// Returns the number of edges.
     pub fn len(&self) -> usize
         ensures count { result ≡ map.len self.now }
         ensures few { result ≤ 1048576 }
@@ -47,7 +47,7 @@ impl EdgeSet {
         self.edges.len()
     }
 
-    /// The edges in their order.
+    /// Returns the edges in order.
     pub fn as_slice(&self) -> &[Edge]
         ensures list { result.now ≡ map.keys self.now }
         ensures few { length result.now ≤ 1048576 }
@@ -66,7 +66,7 @@ impl EdgeSet {
         }
     }
 
-    /// Adds an edge.
+    /// Adds an edge. `Want` if memory runs out; the set is unchanged then.
     pub fn insert(&mut self, e: Edge) -> Result<(), Want>
         requires room { map.len self.old < 1048576 }
         requires absent { map.contains_key self.old e ≡ false }
@@ -78,7 +78,7 @@ impl EdgeSet {
         Ok(())
     }
 
-    /// Removes an edge, where it is there.
+    /// Removes an edge, if it is in the set.
     pub fn remove(&mut self, e: Edge)
         ensures { self.new ≡ map.remove self.old e }
     {
@@ -93,7 +93,6 @@ impl EdgeSet {
     }
 }
 
-/// Whether an edge with these ends is among the edges.
 fn has_pair(edges: &[Edge], low: Node, high: Node) -> bool
     ensures { result ≡ list_any (λ p. same_pair p (low, high)) edges.now }
 {
@@ -105,7 +104,7 @@ fn has_pair(edges: &[Edge], low: Node, high: Node) -> bool
     false
 }
 
-/// Where the edges after this one begin.
+/// Returns the index of the first edge after this one.
 fn place_for(edges: &[Edge], e: Edge) -> usize
     ensures { result ≡ position_or_len (is_below e) edges.now }
 {
@@ -115,21 +114,18 @@ fn place_for(edges: &[Edge], e: Edge) -> usize
         .unwrap_or(edges.len())
 }
 
-/// Whether an edge stands before another in their order.
 fn comes_before(e: Edge, x: Edge) -> bool
     ensures { result ≡ is_below e x }
 {
     e < x
 }
 
-/// Drops an edge from the list, wherever it stands.
 fn keep_others(edges: &mut Vec<Edge>, e: Edge)
     ensures { edges.new.items ≡ filter (λ p. not (same_pair p e)) edges.old.items }
 {
     edges.retain(|x| *x != e);
 }
 
-/// Drops the edges of a node from the list.
 fn keep_elsewhere(edges: &mut Vec<Edge>, v: Node)
     ensures { edges.new.items ≡ filter (λ e. not (is_end v e)) edges.old.items }
 {

@@ -8,16 +8,12 @@ ghost use Rattle.rule_machine.specs.HsuHuang.{hsu_huang_allowed, hsu_huang_guard
 use crate::PlainNet;
 use rule_machine::{Act, Edge, Node};
 
-/// Whether one node alone moves in a step.
 pub(crate) const IS_CENTRAL: bool = true;
 
-/// Whether flags are used.
 pub(crate) const USES_FLAGS: bool = false;
 
-/// What the nodes add to the charge by their flags.
 pub(crate) const FLAG_CHARGES: u64 = 0;
 
-/// Whether a rule is enabled at a node.
 pub(crate) fn guard(net: &PlainNet, v: Node, act: Act) -> bool
     ensures { result ≡ hsu_huang_guard net.now v act }
 {
@@ -34,7 +30,6 @@ pub(crate) fn guard(net: &PlainNet, v: Node, act: Act) -> bool
     }
 }
 
-/// Whether a node may point at another by a rule.
 pub(crate) fn is_allowed(net: &PlainNet, v: Node, act: Act, w: Node) -> bool
     ensures { result ≡ hsu_huang_allowed net.now v act w }
 {
@@ -45,7 +40,6 @@ pub(crate) fn is_allowed(net: &PlainNet, v: Node, act: Act, w: Node) -> bool
     }
 }
 
-/// Whether an edge adds nothing to the charge.
 pub(crate) fn is_closed(net: &PlainNet, e: Edge) -> bool
     ensures { result ≡ charge.hsu_huang_closed net.now e }
 {
@@ -57,21 +51,18 @@ pub(crate) fn is_closed(net: &PlainNet, e: Edge) -> bool
         || (is_courted(net, low) && is_courted(net, high))
 }
 
-/// Whether a node points at another that points nowhere.
 fn awaits(net: &PlainNet, v: Node, w: Node) -> bool
     ensures { result ≡ charge.awaits net.now v w }
 {
     net.points(v, w) && net.pointer(w).is_none()
 }
 
-/// Whether a node points nowhere and has a suitor.
 fn is_courted(net: &PlainNet, w: Node) -> bool
     ensures { result ≡ charge.is_courted net.now w }
 {
     net.pointer(w).is_none() && net.has_suitor(w)
 }
 
-/// The first neighbour that points nowhere.
 fn first_null(net: &PlainNet, v: Node) -> Option<Node>
     ensures { result ≡ first_open hsu_huang_opens net.now v }
 {

@@ -15,11 +15,15 @@ use crate::replies::{is_refusal, may_accept};
 use rule_machine::{Event, Reply, RuleSet, Want};
 use std::alloc::Global;
 
-/// Whether the machine may give this reply to the event, where these moves are spent since the last accepted
-/// disturbance; where it may, the event is carried out as the reply says. Where no target is wished, any allowed one is
-/// right. A wrong reply changes nothing, and neither does want of memory, which comes only at an event that is not
-/// refused, where the reply accepts a link, has moves or is a list. A step of k moves takes some k·k comparisons of
-/// nodes, and n·m steps for each move, with n names and m edges.
+/// Whether the machine may give this reply to the event; if so, carries the event out as replied.
+///
+/// `spent` is the number of moves since the last accepted disturbance. If an item wishes no target, any
+/// allowed one is right. A wrong reply changes nothing.
+///
+/// `Want` if memory runs out; that changes nothing either. It comes only at an event that is not refused, if
+/// the reply accepts a link, has moves or is a list.
+///
+/// Cost: a step of k moves takes some k·k comparisons, and n·m for each move, with n names and m edges.
 pub fn replay(
     net: &mut PlainNet,
     alloc: Global,
@@ -43,7 +47,6 @@ pub fn replay(
     Ok(true)
 }
 
-/// Carries out an event as a reply says.
 fn follow(net: &mut PlainNet, alloc: Global, event: &Event, reply: &Reply) -> Result<(), Want>
     requires { (t : RuleTable) × (refusal_of t net.old event.now ≡ None) }
     ensures ok { OnOk result (net.new ≡ followed net.old event.now reply.now) }
@@ -57,7 +60,6 @@ fn follow(net: &mut PlainNet, alloc: Global, event: &Event, reply: &Reply) -> Re
     }
 }
 
-/// Carries out a disturbance. A step and a question do nothing.
 fn disturb(net: &mut PlainNet, event: &Event) -> Result<(), Want>
     requires { (t : RuleTable) × (refusal_of t net.old event.now ≡ None) }
     ensures ok { OnOk result (net.new ≡ disturbed net.old event.now) }

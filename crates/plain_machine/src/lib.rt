@@ -1,11 +1,12 @@
-//! A plain, slow interpreter of the rule machine, and a judge of replies by it: each function scans all names or all edges, and is its
-//! definition.
+//! A plain, slow interpreter of the rule machine, and a judge of replies: its code is the definitions, by
+//! scans.
 //!
-//! `PlainNet` is a network whose code says what the definitions say, charge included, with no index, no set of the enabled nodes and no
-//! sorted rows. It is what tests compare the engine and the auditor with, on every small network and along long runs, and what computes
-//! the worked examples; it shares no code with either but the plain types.
+//! `PlainNet` is a network without an index, a set of enabled nodes or sorted rows: each function scans all
+//! names or all edges. Tests compare the engine and the auditor with it, on every small network and along
+//! long runs, and it computes the worked examples. It shares no code with either except the plain types.
 //!
-//! A step costs some n·n·m for each chosen node and a status n·m·m, with n names and m edges: so it is for small networks.
+//! It is for small networks. With n names and m edges a step costs some n·n·m for each chosen node, and a
+//! status n·m·m.
 //!
 //! ```rust
 //! let mut net = PlainNet::new(alloc, 3)?;

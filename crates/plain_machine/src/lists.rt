@@ -10,8 +10,9 @@ use rule_machine::{Act, Edge, Node, RuleSet, Want};
 use std::alloc::Global;
 
 impl PlainNet {
-    /// The enabled nodes, ascending, each with its rule. Fails only for want of memory. Takes some n·n·m steps, with n
-    /// names and m edges.
+    /// Returns the enabled nodes, ascending, each with its rule.
+    ///
+    /// `Want` only if memory runs out. Cost: some n·n·m with n names and m edges.
     pub fn enabled(&self, alloc: Global, rules: RuleSet) -> Result<Vec<(Node, Act)>, Want>
         ensures { IfOk result (λ nodes. nodes.items ≡ enabled (table_of rules) self.now) }
     {
@@ -23,8 +24,9 @@ impl PlainNet {
             .collect(alloc)
     }
 
-    /// The mutual pairs, ascending by lower end. Fails only for want of memory. Takes some n·n·m steps, with n names and
-    /// m edges.
+    /// Returns the mutual pairs, ascending by lower end.
+    ///
+    /// `Want` only if memory runs out. Cost: some n·n·m with n names and m edges.
     pub fn mutual_pairs(&self, alloc: Global) -> Result<Vec<Edge>, Want>
         ensures { IfOk result (λ pairs. pairs.items ≡ mutual_pairs self.now) }
     {
@@ -37,7 +39,6 @@ impl PlainNet {
     }
 }
 
-/// A node's mutual pair, at its lower end.
 pub(crate) fn pair_above(v: Node, partner: Option<Node>) -> Option<Edge>
     ensures { result ≡ pair_above v partner }
 {

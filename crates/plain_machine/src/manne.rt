@@ -1,4 +1,5 @@
-//! The rules of Manne, Mjelde, Pilard and Tixeuil: any set of nodes moves at once, and flags tell who is married.
+//! The rules of Manne, Mjelde, Pilard and Tixeuil: any set of nodes moves at once, and flags show who is
+//! married.
 
 ghost use Rattle.std.specs.Prelude.{◌≡◌, ◌≤◌, ◌&&◌, find, nat_lt, sum_by};
 ghost use Rattle.rule_machine.specs.Network.{names, neighbours};
@@ -10,13 +11,10 @@ ghost use Rattle.plain_machine.specs.Rules.{is_spurned};
 use crate::PlainNet;
 use rule_machine::{Act, Edge, Node};
 
-/// Whether one node alone moves in a step.
 pub(crate) const IS_CENTRAL: bool = false;
 
-/// Whether flags are used.
 pub(crate) const USES_FLAGS: bool = true;
 
-/// Whether a rule is enabled at a node.
 pub(crate) fn guard(net: &PlainNet, v: Node, act: Act) -> bool
     ensures { result ≡ manne_guard net.now v act }
 {
@@ -33,7 +31,6 @@ pub(crate) fn guard(net: &PlainNet, v: Node, act: Act) -> bool
     }
 }
 
-/// Whether a node may point at another by a rule.
 pub(crate) fn is_allowed(net: &PlainNet, v: Node, act: Act, w: Node) -> bool
     ensures { result ≡ manne_allowed net.now v act w }
 {
@@ -46,7 +43,6 @@ pub(crate) fn is_allowed(net: &PlainNet, v: Node, act: Act, w: Node) -> bool
     }
 }
 
-/// Whether an edge adds nothing to the charge.
 pub(crate) fn is_closed(net: &PlainNet, e: Edge) -> bool
     ensures { result ≡ charge.manne_closed net.now e }
 {
@@ -54,7 +50,6 @@ pub(crate) fn is_closed(net: &PlainNet, e: Edge) -> bool
     net.married(low) || net.married(high) || (net.points(low, high) && !net.flag(high))
 }
 
-/// What the nodes add to the charge by their flags.
 pub(crate) fn flag_charges(net: &PlainNet) -> u64
     ensures total { result ≡ sum_by (charge.manne_node_charge net.now) (names net.now.network) }
     ensures few { result ≤ 131070 }
@@ -68,7 +63,7 @@ pub(crate) fn flag_charges(net: &PlainNet) -> u64
     total
 }
 
-/// What a node adds by its flag.
+/// Returns what a node adds by its flag, 0 to 2.
 fn flag_charge(net: &PlainNet, v: Node) -> u64
     ensures value { result ≡ charge.manne_node_charge net.now v }
     ensures small { result ≤ 2 }
@@ -80,7 +75,7 @@ fn flag_charge(net: &PlainNet, v: Node) -> u64
     }
 }
 
-/// Whether a node's flag says whether it is married.
+/// Whether a node's flag is right: true exactly if it is married.
 fn is_settled(net: &PlainNet, v: Node) -> bool
     ensures { result ≡ state.is_settled net.now v }
 {
@@ -97,14 +92,13 @@ fn is_spurned(net: &PlainNet, v: Node) -> bool
     }
 }
 
-/// Whether a node may court another: that one is above it, points nowhere and is not flagged.
+/// Whether a node may court another: one above it, with a null pointer and no flag.
 fn may_court(net: &PlainNet, v: Node, w: Node) -> bool
     ensures { result ≡ may_court net.now v w }
 {
     net.pointer(w).is_none() && !net.flag(w) && v < w
 }
 
-/// The first neighbour that a node may court.
 fn first_to_court(net: &PlainNet, v: Node) -> Option<Node>
     ensures { result ≡ find (may_court net.now v) (neighbours net.now.network v) }
 {
@@ -116,7 +110,6 @@ fn first_to_court(net: &PlainNet, v: Node) -> Option<Node>
     None
 }
 
-/// The first neighbour above another that a node may court.
 fn first_to_court_above(net: &PlainNet, v: Node, w: Node) -> Option<Node>
     ensures { result ≡ find (λ x. may_court net.now v x && nat_lt w x) (neighbours net.now.network v) }
 {

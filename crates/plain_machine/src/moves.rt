@@ -11,16 +11,19 @@ use crate::PlainNet;
 use crate::rules::is_central;
 use rule_machine::{Act, Item, Moved, Node, RuleSet};
 
-/// Whether these are the moves of one step of the items: some, one under a central daemon, ascending by node, each
-/// what an item asks for, and each item with one. Every move is held against every item.
+/// Whether these are the moves of one step of the items.
+///
+/// There is at least one, exactly one under a central daemon, ascending by node; each is what an item asks
+/// for, and each item has one.
+///
+/// Cost: every move is compared with every item.
 pub(crate) fn is_step(net: &PlainNet, rules: RuleSet, items: &[Item], moves: &[Moved]) -> bool
     ensures { IsTrue result ↔ IsStep (table_of rules) net.now items.now moves.now (after_moves net.now moves.now) }
 {
     are_ascending(moves) && are_of_items(net, rules, items, moves)
 }
 
-/// Whether there are as many moves as the daemon lets through, each move is one that an item asks for, and each item
-/// has a move.
+/// Whether the daemon allows this many moves, each is asked for by an item, and each item has one.
 fn are_of_items(net: &PlainNet, rules: RuleSet, items: &[Item], moves: &[Moved]) -> bool
     ensures { result ≡ judged.are_of_items (table_of rules) net.now items.now moves.now }
 {
@@ -29,7 +32,6 @@ fn are_of_items(net: &PlainNet, rules: RuleSet, items: &[Item], moves: &[Moved])
         && are_answered(net, rules, moves, items)
 }
 
-/// Whether each move is one that an item asks for.
 fn are_asked(net: &PlainNet, rules: RuleSet, items: &[Item], moves: &[Moved]) -> bool
     ensures { result ≡ list_all (λ m. judged.is_asked (table_of rules) net.now items.now m) moves.now }
 {
@@ -41,7 +43,6 @@ fn are_asked(net: &PlainNet, rules: RuleSet, items: &[Item], moves: &[Moved]) ->
     true
 }
 
-/// Whether each item has a move.
 fn are_answered(net: &PlainNet, rules: RuleSet, moves: &[Moved], items: &[Item]) -> bool
     ensures { result ≡ list_all (λ item. judged.is_answered (table_of rules) net.now moves.now item) items.now }
 {
@@ -53,21 +54,18 @@ fn are_answered(net: &PlainNet, rules: RuleSet, moves: &[Moved], items: &[Item])
     true
 }
 
-/// Whether an item asks for a move.
 fn is_asked(net: &PlainNet, rules: RuleSet, items: &[Item], made: Moved) -> bool
     ensures { result ≡ judged.is_asked (table_of rules) net.now items.now made }
 {
     items.iter().any(|item| is_move_of(net, rules, *item, made))
 }
 
-/// Whether one of the moves is an item's.
 fn is_answered(net: &PlainNet, rules: RuleSet, moves: &[Moved], item: Item) -> bool
     ensures { result ≡ judged.is_answered (table_of rules) net.now moves.now item }
 {
     moves.iter().any(|made| is_move_of(net, rules, item, *made))
 }
 
-/// Whether a move is one that an item asks for.
 fn is_move_of(net: &PlainNet, rules: RuleSet, item: Item, made: Moved) -> bool
     ensures { result ≡ judged.is_move_of (table_of rules) net.now item made }
 {
@@ -76,7 +74,6 @@ fn is_move_of(net: &PlainNet, rules: RuleSet, item: Item, made: Moved) -> bool
         && is_target(net, rules, made.act, item, made.target)
 }
 
-/// Whether a move that an item asks for, by a rule, may have this target.
 fn is_target(net: &PlainNet, rules: RuleSet, act: Act, item: Item, target: Option<Node>) -> bool
     ensures { result ≡ judged.is_target (table_of rules) net.now item.node act item.wish target }
 {
@@ -90,7 +87,6 @@ fn is_target(net: &PlainNet, rules: RuleSet, act: Act, item: Item, target: Optio
     }
 }
 
-/// Whether a node's rule is this one.
 fn is_rule(rule: Option<Act>, act: Act) -> bool
     ensures { result ≡ judged.is_rule rule act }
 {
@@ -100,7 +96,6 @@ fn is_rule(rule: Option<Act>, act: Act) -> bool
     }
 }
 
-/// Whether a rule takes a target.
 fn takes_target(act: Act) -> bool
     ensures { result ≡ takes_target act }
 {
@@ -110,7 +105,6 @@ fn takes_target(act: Act) -> bool
     }
 }
 
-/// Whether a wish, if there is one, is for a node.
 fn suits_wish(wish: Option<Node>, w: Node) -> bool
     ensures { result ≡ judged.suits_wish wish w }
 {
@@ -120,7 +114,6 @@ fn suits_wish(wish: Option<Node>, w: Node) -> bool
     }
 }
 
-/// Whether there are as many moves as the daemon lets through: some, and one under a central daemon.
 fn fits_daemon(rules: RuleSet, moves: &[Moved]) -> bool
     ensures { result ≡ judged.fits_daemon (table_of rules) moves.now }
 {
@@ -131,7 +124,6 @@ fn fits_daemon(rules: RuleSet, moves: &[Moved]) -> bool
     }
 }
 
-/// Whether the moves' nodes ascend.
 fn are_ascending(moves: &[Moved]) -> bool
     ensures { IsTrue result ↔ IsStrictlyIncreasing (map (λ m. m.node) moves.now) }
 {

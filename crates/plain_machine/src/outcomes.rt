@@ -9,7 +9,7 @@ use crate::PlainNet;
 use rule_machine::{Act, Item, Moved, Node, Outcome, RuleSet};
 
 impl PlainNet {
-    /// What an item would do alone. Where it wishes no target, it takes the least one.
+    /// Returns what an item would do alone. If it wishes no target, it takes the least one.
     pub fn outcome(&self, rules: RuleSet, item: Item) -> Outcome
         ensures { result ≡ outcome_of (table_of rules) self.now item }
     {
@@ -22,7 +22,6 @@ impl PlainNet {
         }
     }
 
-    /// What a node does by a rule, with a wish.
     fn outcome_by(&self, rules: RuleSet, v: Node, act: Act, wish: Option<Node>) -> Outcome
         ensures { result ≡ outcome_by (table_of rules) self.now v act wish }
     {
@@ -38,7 +37,7 @@ impl PlainNet {
         })
     }
 
-    /// The move that the first item at a node makes, if there is one and it makes one.
+    /// Returns the move of the first item at a node, if there is one and it makes one.
     pub(crate) fn move_of(&self, rules: RuleSet, items: &[Item], v: Node) -> Option<Moved>
         ensures { result ≡ option_and_then (λ item. move_in (outcome_of (table_of rules) self.now item)) (item_of items.now v) }
     {
@@ -49,7 +48,6 @@ impl PlainNet {
     }
 }
 
-/// The first item that names a node.
 fn item_of(items: &[Item], v: Node) -> Option<Item>
     ensures { result ≡ item_of items.now v }
 {
@@ -61,7 +59,6 @@ fn item_of(items: &[Item], v: Node) -> Option<Item>
     None
 }
 
-/// The move, where the outcome is one.
 fn move_in(outcome: Outcome) -> Option<Moved>
     ensures { result ≡ move_in outcome }
 {

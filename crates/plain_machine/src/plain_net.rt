@@ -13,8 +13,10 @@ use rule_machine::{Edge, Node, Want};
 use std::alloc::Global;
 use std::marker::Model;
 
-/// A network and its registers, seen in contracts as a state. Nothing is kept beside what the state has, so every
-/// answer is found by a look at all names or all edges: with n names and m edges, a node's rule takes some n·m steps.
+/// A network and its registers; contracts see a state.
+///
+/// It has no index, so every answer is a scan of all names or all edges: a node's rule costs some n·m with n
+/// names and m edges.
 #[derive(Drop)]
 pub struct PlainNet {
     names: Vec<Node>,
@@ -42,7 +44,9 @@ impl Model for PlainNet {
 }
 
 impl PlainNet {
-    /// The nodes 1 to `nodes` without an edge, all pointers null and all flags false.
+    /// Creates nodes 1 to `nodes`, at most 65,535, without an edge, pointers null, flags false.
+    ///
+    /// `Want` if memory runs out.
     pub fn new(alloc: Global, nodes: u32) -> Result<PlainNet, Want>
         requires { nodes ≤ 65535 }
         ensures { IfOk result (λ net. net ≡ opening nodes) }
@@ -50,8 +54,9 @@ impl PlainNet {
         PlainNet::with_present(alloc, nodes, nodes)
     }
 
-    /// A network of the names 1 to `nodes`, of which 1 to `present` are present: without an edge, all pointers null and
-    /// all flags false.
+    /// Creates names 1 to `nodes`; 1 to `present` are nodes, without an edge, pointers null, flags false.
+    ///
+    /// At most 65,535 names. `Want` if memory runs out.
     pub fn with_present(alloc: Global, nodes: u32, present: u32) -> Result<PlainNet, Want>
         requires few { nodes ≤ 65535 }
         requires within { present ≤ nodes }
@@ -68,7 +73,7 @@ impl PlainNet {
         })
     }
 
-    /// The greatest name that a node may have, 0 to 65,535.
+    /// Returns the greatest name that a node may have, 0 to 65,535.
     pub fn capacity(&self) -> u32
         ensures value { result ≡ self.now.network.size }
         ensures few { result ≤ 65535 }
@@ -76,7 +81,6 @@ impl PlainNet {
         self.names.len() as u32
     }
 
-    /// All names, ascending, present or not.
     pub(crate) fn all_names(&self) -> &[Node]
         ensures list { result.now ≡ range_with_len 1 self.now.network.size }
         ensures few { length result.now ≤ 65535 }
@@ -84,56 +88,50 @@ impl PlainNet {
         &self.names
     }
 
-    /// The edges.
     pub(crate) fn edges(&self) -> &EdgeSet
         ensures { result.now ≡ self.now.network.edges }
     {
         &self.edges
     }
 
-    /// The registers once more.
     pub(crate) fn copied_registers(&self, alloc: Global) -> Result<RegisterTable, Want>
         ensures { IfOk result (λ registers. registers ≡ self.now.registers) }
     {
         self.registers.copy(alloc)
     }
 
-    /// Whether a node has this name.
     pub(crate) fn has(&self, v: Node) -> bool
         ensures { result ≡ network.present self.now.network v }
     {
         v.place() <= self.names.len() && self.here.get(v.place()).copied().unwrap_or(false)
     }
 
-    /// Whether there is an edge between two names.
     pub(crate) fn linked(&self, a: Node, b: Node) -> bool
         ensures { result ≡ network.linked self.now.network a b }
     {
         self.edges.contains(a, b)
     }
 
-    /// Where a node points, if anywhere; a name that is not present points nowhere.
+    /// Returns a node's pointer; `None` if it is null or the name is absent.
     pub fn pointer(&self, v: Node) -> Option<Node>
         ensures { result ≡ pointer_of self.now.registers v }
     {
         self.registers.pointer(v)
     }
 
-    /// A node's flag.
     pub(crate) fn flag(&self, v: Node) -> bool
         ensures { result ≡ flag_of self.now.registers v }
     {
         self.registers.flag(v)
     }
 
-    /// Whether a node points at another.
     pub(crate) fn points(&self, v: Node, w: Node) -> bool
         ensures { result ≡ points self.now.registers v w }
     {
         self.registers.points(v, w)
     }
 
-    /// Adds the edge between two nodes. Want of memory changes nothing.
+    /// Adds the edge between two nodes. `Want` if memory runs out; that changes nothing.
     pub fn link(&mut self, a: Node, b: Node) -> Result<(), Want>
         requires { link_refusal self.old.network a b ≡ None }
         ensures ok { OnOk result (self.new ≡ after_link self.old a b) }
@@ -145,7 +143,7 @@ impl PlainNet {
         }
     }
 
-    /// Removes the edge between two nodes, and the pointers that cross it.
+    /// Removes the edge between two nodes, and sets to null the pointers that cross it.
     pub fn unlink(&mut self, a: Node, b: Node)
         requires { unlink_refusal self.old.network a b ≡ None }
         ensures { self.new ≡ after_unlink self.old a b }
@@ -171,16 +169,18 @@ impl PlainNet {
         self.registers.set_flag(v, value);
     }
 
-    /// Makes a name present; a name above the capacity has no place, and nothing changes. Nothing is written of its
-    /// registers: an absent name's pointer is null and its flag false.
+    /// Makes a name present; does nothing for a name above the capacity.
+    ///
+    /// Writes no register: an absent name's pointer is null and its flag false.
     pub fn join(&mut self, v: Node)
         ensures { self.new ≡ after_join self.old v }
     {
         self.mark(v, true);
     }
 
-    /// Takes a node out of the network, with its edges: its pointer and every pointer at it become null, and its flag
-    /// false. Takes a pass over all names and one over all edges, and no memory.
+    /// Makes a node absent: its edges go, its pointer and those at it become null, its flag false.
+    ///
+    /// Cost: a pass over all names and one over all edges; no memory.
     pub fn leave(&mut self, v: Node)
         ensures { self.new ≡ after_leave self.old v }
     {
@@ -189,7 +189,6 @@ impl PlainNet {
         self.mark(v, false);
     }
 
-    /// Writes whether a name is present, where it has a place.
     fn mark(&mut self, v: Node, here: bool)
         ensures { self.new ≡ record self.old { network = record self.old.network { here = slice_set self.old.network.here v here } } }
     {
@@ -199,7 +198,6 @@ impl PlainNet {
         }
     }
 
-    /// Writes all registers anew.
     pub(crate) fn set_registers(&mut self, registers: RegisterTable)
         ensures { self.new ≡ record self.old { registers = registers } }
     {
@@ -207,7 +205,6 @@ impl PlainNet {
     }
 }
 
-/// The names 1 to `nodes`.
 fn all_names(alloc: Global, nodes: u32) -> Result<Vec<Node>, Want>
     requires { nodes ≤ 65535 }
     ensures { IfOk result (λ names. names.items ≡ range_with_len 1 nodes) }
@@ -221,7 +218,7 @@ fn all_names(alloc: Global, nodes: u32) -> Result<Vec<Node>, Want>
     Ok(names)
 }
 
-/// A place for each name up to `nodes`, and place 0 for nobody: the names 1 to `present` are marked.
+/// Returns entries 0 to `nodes`; those of the names 1 to `present` are true.
 fn first_row(alloc: Global, nodes: u32, present: u32) -> Result<Vec<bool>, Want>
     requires { nodes ≤ 65535 }
     ensures { IfOk result (λ row. row.items ≡ first_names nodes present) }
@@ -233,7 +230,7 @@ fn first_row(alloc: Global, nodes: u32, present: u32) -> Result<Vec<bool>, Want>
     Ok(row)
 }
 
-/// Whether a name is one of the first, so many; 0 is nobody's.
+/// Whether a name is one of the first `present`; 0 is no name.
 fn is_among_first(name: u32, present: u32) -> bool
     ensures { result ≡ (nat_le 1 name && nat_le name present) }
 {

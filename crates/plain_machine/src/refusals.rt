@@ -11,7 +11,7 @@ use crate::rules::{is_central, uses_flags};
 use rule_machine::{Act, Event, Item, MAX_EDGES, Node, Refusal, RuleSet};
 
 impl PlainNet {
-    /// Why an event is refused, if it is: the first reason in their fixed order.
+    /// Returns why an event is refused, if it is: the first reason in the fixed order.
     pub fn refusal(&self, rules: RuleSet, event: &Event) -> Option<Refusal>
         ensures { result ≡ refuse.refusal_of (table_of rules) self.now event.now }
     {
@@ -112,7 +112,6 @@ impl PlainNet {
         }
     }
 
-    /// The first refusal of an item.
     fn items_refusal(&self, rules: RuleSet, items: &[Item]) -> Option<Refusal>
         ensures { result ≡ refuse.items_refusal (table_of rules) self.now [] items.now }
     {
@@ -125,7 +124,7 @@ impl PlainNet {
         None
     }
 
-    /// Why an item is refused that stands behind these.
+    /// Returns why an item is refused that comes after `earlier`.
     fn item_refusal(&self, rules: RuleSet, earlier: &[Item], item: Item) -> Option<Refusal>
         ensures { result ≡ refuse.item_refusal (table_of rules) self.now earlier.now item }
     {
@@ -138,7 +137,6 @@ impl PlainNet {
         }
     }
 
-    /// Why the rule of an item's node refuses it.
     fn rule_refusal(&self, rules: RuleSet, item: Item) -> Option<Refusal>
         ensures { result ≡ refuse.rule_refusal (table_of rules) self.now item (rule_at (table_of rules) self.now item.node) }
     {
@@ -148,7 +146,6 @@ impl PlainNet {
         }
     }
 
-    /// Why a rule refuses an item's wish.
     fn wish_refusal(&self, rules: RuleSet, act: Act, item: Item) -> Option<Refusal>
         ensures { result ≡ refuse.wish_refusal ((table_of rules).allowed self.now item.node act) item.wish }
     {
@@ -159,7 +156,6 @@ impl PlainNet {
     }
 }
 
-/// Whether an item names a node.
 fn names_node(items: &[Item], v: Node) -> bool
     ensures { result ≡ list_any (λ item. nat_eq item.node v) items.now }
 {

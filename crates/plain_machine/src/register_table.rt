@@ -8,7 +8,7 @@ use rule_machine::{Node, Want};
 use std::alloc::Global;
 use std::marker::Model;
 
-/// Where each node points and what its flag says; a node that has no place points nowhere and is not flagged.
+/// Each name's pointer and flag; null and false for a name above the capacity.
 #[derive(Drop)]
 pub struct RegisterTable {
     pointers: Vec<Option<Node>>,
@@ -26,7 +26,9 @@ impl Model for RegisterTable {
 }
 
 impl RegisterTable {
-    /// The registers of these many names, all pointers null and all flags false.
+    /// Creates the registers of names up to `size`, at most 65,535: pointers null, flags false.
+    ///
+    /// `Want` if memory runs out.
     pub fn new(alloc: Global, size: usize) -> Result<RegisterTable, Want>
         requires { size ≤ 65535 }
         ensures { IfOk result (λ r. r ≡ blank size) }
@@ -36,7 +38,7 @@ impl RegisterTable {
         Ok(RegisterTable { pointers, flags })
     }
 
-    /// A copy of the registers. `Err` if memory runs out.
+    /// Returns a copy of the registers. `Want` if memory runs out.
     pub fn copy(&self, alloc: Global) -> Result<RegisterTable, Want>
         ensures { IfOk result (λ r. r ≡ self.now) }
     {
@@ -45,14 +47,14 @@ impl RegisterTable {
         Ok(RegisterTable { pointers, flags })
     }
 
-    /// Where a node points, if anywhere.
+    /// Returns a node's pointer.
     pub fn pointer(&self, v: Node) -> Option<Node>
         ensures { result ≡ pointer_of self.now v }
     {
         self.pointers.get(v.place()).copied().flatten()
     }
 
-    /// A node's flag.
+    /// Returns a node's flag.
     pub fn flag(&self, v: Node) -> bool
         ensures { result ≡ flag_of self.now v }
     {
@@ -66,7 +68,7 @@ impl RegisterTable {
         self.pointer(v) == Some(w)
     }
 
-    /// Writes a node's pointer, where it has a place.
+    /// Writes a node's pointer; does nothing for a name above the capacity.
     pub fn set_pointer(&mut self, v: Node, target: Option<Node>)
         ensures { self.new ≡ with_pointer self.old v target }
     {
@@ -76,7 +78,7 @@ impl RegisterTable {
         }
     }
 
-    /// Sets a node's pointer to null, where it points at another.
+    /// Sets a node's pointer to null, if it is at `w`.
     pub fn drop_pointer(&mut self, v: Node, w: Node)
         ensures { self.new ≡ without_pointer self.old v w }
     {
@@ -94,14 +96,13 @@ impl RegisterTable {
         self.set_flag(v, false);
     }
 
-    /// Sets every pointer at a node to null.
     fn drop_pointers_at(&mut self, v: Node)
         ensures { self.new ≡ record self.old { pointers = map (unless_at v) self.old.pointers } }
     {
         drop_at(&mut self.pointers, v);
     }
 
-    /// Writes a node's flag, where it has a place.
+    /// Writes a node's flag; does nothing for a name above the capacity.
     pub fn set_flag(&mut self, v: Node, value: bool)
         ensures { self.new ≡ with_flag self.old v value }
     {
@@ -112,7 +113,6 @@ impl RegisterTable {
     }
 }
 
-/// Sets every pointer at a node to null, in one pass.
 fn drop_at(pointers: &mut [Option<Node>], v: Node)
     ensures { pointers.new ≡ map (unless_at v) pointers.old }
 {
@@ -121,7 +121,6 @@ fn drop_at(pointers: &mut [Option<Node>], v: Node)
     }
 }
 
-/// A pointer, or null where it is at this node.
 fn unless_at(pointer: Option<Node>, v: Node) -> Option<Node>
     ensures { result ≡ unless_at v pointer }
 {

@@ -13,7 +13,6 @@ use crate::moves::is_step;
 use rule_machine::{Act, Edge, Event, Item, Node, Refusal, Reply, RuleSet, Want};
 use std::alloc::Global;
 
-/// Whether an event that is not refused may have this reply.
 pub(crate) fn may_accept(
     net: &PlainNet,
     alloc: Global,
@@ -40,7 +39,6 @@ pub(crate) fn may_accept(
     }
 }
 
-/// Whether a reply has the moves of a step of these items.
 fn may_move(net: &PlainNet, rules: RuleSet, items: &[Item], reply: &Reply) -> bool
     ensures { (spent : ℕ) → IsTrue result ↔ Does (table_of rules) net.now spent (Event.Step items.now) reply.now (followed net.now (Event.Step items.now) reply.now) }
 {
@@ -50,7 +48,6 @@ fn may_move(net: &PlainNet, rules: RuleSet, items: &[Item], reply: &Reply) -> bo
     }
 }
 
-/// Whether a reply has the enabled nodes.
 fn are_enabled(net: &PlainNet, alloc: Global, rules: RuleSet, reply: &Reply) -> Result<bool, Want>
     ensures right { IfOk result (λ right. IsTrue right ↔ (reply.now ≡ Reply.EnabledAre (enabled (table_of rules) net.now))) }
     ensures want { OnErr result (IsTrue (takes_memory Event.Enabled reply.now)) }
@@ -64,7 +61,6 @@ fn are_enabled(net: &PlainNet, alloc: Global, rules: RuleSet, reply: &Reply) -> 
     }
 }
 
-/// Whether a reply has the mutual pairs.
 fn are_mutual(net: &PlainNet, alloc: Global, reply: &Reply) -> Result<bool, Want>
     ensures right { IfOk result (λ right. IsTrue right ↔ (reply.now ≡ Reply.Pairs (mutual_pairs net.now))) }
     ensures want { OnErr result (IsTrue (takes_memory Event.Matching reply.now)) }
@@ -78,7 +74,6 @@ fn are_mutual(net: &PlainNet, alloc: Global, reply: &Reply) -> Result<bool, Want
     }
 }
 
-/// Whether a reply has the numbers of the network, where these moves are spent.
 fn has_counts(net: &PlainNet, rules: RuleSet, spent: u64, reply: &Reply) -> bool
     ensures { IsTrue result ↔ (reply.now ≡ Reply.Counts (counts_of (table_of rules) net.now spent)) }
 {
@@ -90,7 +85,6 @@ fn has_counts(net: &PlainNet, rules: RuleSet, spent: u64, reply: &Reply) -> bool
     }
 }
 
-/// Whether a reply accepts a disturbance.
 fn is_accepted(reply: &Reply) -> bool
     ensures { IsTrue result ↔ (reply.now ≡ Reply.Accepted) }
 {
@@ -100,7 +94,6 @@ fn is_accepted(reply: &Reply) -> bool
     }
 }
 
-/// Whether a reply is this refusal.
 pub(crate) fn is_refusal(reply: &Reply, refusal: Refusal) -> bool
     ensures { IsTrue result ↔ (reply.now ≡ Reply.Refused refusal) }
 {
@@ -110,7 +103,6 @@ pub(crate) fn is_refusal(reply: &Reply, refusal: Refusal) -> bool
     }
 }
 
-/// Whether a reply shows this pointer.
 fn is_shown(pointer: Option<Node>, reply: &Reply) -> bool
     ensures { IsTrue result ↔ (reply.now ≡ Reply.Shown pointer) }
 {
@@ -120,14 +112,12 @@ fn is_shown(pointer: Option<Node>, reply: &Reply) -> bool
     }
 }
 
-/// Whether two lists of nodes with their rules are one.
 fn same_nodes(given: &[(Node, Act)], nodes: &[(Node, Act)]) -> bool
     ensures { IsTrue result ↔ (given.now ≡ nodes.now) }
 {
     given == nodes
 }
 
-/// Whether two lists of pairs are one.
 fn same_pairs(given: &[Edge], pairs: &[Edge]) -> bool
     ensures { IsTrue result ↔ (given.now ≡ pairs.now) }
 {

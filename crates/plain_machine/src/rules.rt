@@ -1,4 +1,4 @@
-//! What differs by the rule set: each question goes on to the file of the one that is asked.
+//! What differs by the rule set: each function dispatches to the file of its rules.
 
 ghost use Rattle.std.specs.Prelude.{◌≡◌, ◌≤◌};
 ghost use Rattle.rule_machine.specs.Tables.{table_of};
@@ -8,7 +8,6 @@ use crate::{PlainNet, hsu_huang, manne};
 use rule_machine::{Act, Edge, Node, RuleSet};
 
 impl PlainNet {
-    /// Whether a rule is enabled at a node.
     pub(crate) fn guard(&self, rules: RuleSet, v: Node, act: Act) -> bool
         ensures { result ≡ (table_of rules).guard self.now v act }
     {
@@ -18,7 +17,7 @@ impl PlainNet {
         }
     }
 
-    /// Whether a node may point at another by a rule.
+    /// Whether a rule allows a node to point at another.
     pub fn is_allowed(&self, rules: RuleSet, v: Node, act: Act, w: Node) -> bool
         ensures { result ≡ (table_of rules).allowed self.now v act w }
     {
@@ -28,7 +27,6 @@ impl PlainNet {
         }
     }
 
-    /// Whether an edge adds nothing to the charge.
     pub(crate) fn is_closed(&self, rules: RuleSet, e: Edge) -> bool
         ensures { result ≡ is_closed rules self.now e }
     {
@@ -38,7 +36,6 @@ impl PlainNet {
         }
     }
 
-    /// What the nodes add to the charge by their flags.
     pub(crate) fn flag_charges(&self, rules: RuleSet) -> u64
         ensures value { result ≡ flag_charges rules self.now }
         ensures few { result ≤ 131070 }
@@ -50,7 +47,6 @@ impl PlainNet {
     }
 }
 
-/// Whether one node alone moves in a step.
 pub(crate) fn is_central(rules: RuleSet) -> bool
     ensures { result ≡ (table_of rules).central }
 {
@@ -60,7 +56,6 @@ pub(crate) fn is_central(rules: RuleSet) -> bool
     }
 }
 
-/// Whether flags are used.
 pub(crate) fn uses_flags(rules: RuleSet) -> bool
     ensures { result ≡ (table_of rules).flags }
 {

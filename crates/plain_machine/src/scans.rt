@@ -7,7 +7,6 @@ use crate::PlainNet;
 use rule_machine::Node;
 
 impl PlainNet {
-    /// The first neighbour that points at a node, if any does.
     pub(crate) fn first_suitor(&self, v: Node) -> Option<Node>
         ensures { result ≡ state.first_suitor self.now v }
     {
@@ -19,14 +18,12 @@ impl PlainNet {
         None
     }
 
-    /// Whether a neighbour points at a node.
     pub(crate) fn has_suitor(&self, v: Node) -> bool
         ensures { result ≡ state.has_suitor self.now v }
     {
         self.first_suitor(v).is_some()
     }
 
-    /// The neighbour with which a node is a mutual pair, if there is one.
     pub(crate) fn partner(&self, v: Node) -> Option<Node>
         ensures { result ≡ state.partner self.now v }
     {
@@ -38,7 +35,6 @@ impl PlainNet {
         None
     }
 
-    /// Whether a node is in a mutual pair.
     pub(crate) fn married(&self, v: Node) -> bool
         ensures { result ≡ state.married self.now v }
     {

@@ -10,7 +10,7 @@ use rule_machine::{Act, Item, Moved, RuleSet, Want};
 use std::alloc::Global;
 
 impl PlainNet {
-    /// Makes the moves of a choice, and says which they are.
+    /// Makes the moves of a choice and returns them. An error changes nothing.
     pub(crate) fn step(
         &mut self,
         alloc: Global,
@@ -26,8 +26,10 @@ impl PlainNet {
         Ok(moves)
     }
 
-    /// Makes these moves of one step, whether or not a rule allows them. Want of memory changes nothing. Takes some n·m
-    /// steps for each move, with n names and m edges.
+    /// Makes the moves of one step, whether or not a rule allows them.
+    ///
+    /// `Want` if memory runs out; that changes nothing. Cost: some n·m for each move, with n names and m
+    /// edges.
     pub fn make_moves(&mut self, alloc: Global, moves: &[Moved]) -> Result<(), Want>
         ensures ok { OnOk result (self.new ≡ after_moves self.old moves.now) }
         ensures err { OnErr result (self.new ≡ self.old) }
@@ -37,7 +39,6 @@ impl PlainNet {
         Ok(())
     }
 
-    /// The moves that a choice makes, ascending.
     fn least_moves(&self, alloc: Global, rules: RuleSet, items: &[Item]) -> Result<Vec<Moved>, Want>
         ensures { IfOk result (λ moves. moves.items ≡ least_moves (table_of rules) self.now items.now) }
     {
@@ -49,7 +50,9 @@ impl PlainNet {
             .collect(alloc)
     }
 
-    /// The registers after these moves. What each node is to write of its marriage is read before any of them.
+    /// Returns the registers after these moves.
+    ///
+    /// A node that updates its flag reads the pointers before all moves.
     fn registers_after(&self, alloc: Global, moves: &[Moved]) -> Result<RegisterTable, Want>
         ensures { IfOk result (λ registers. registers ≡ registers_after self.now moves.now) }
     {
@@ -60,7 +63,6 @@ impl PlainNet {
         Ok(registers)
     }
 
-    /// Writes what a move writes.
     fn carry_out(&self, registers: &mut RegisterTable, made: Moved)
         ensures { registers.new ≡ after_move self.now registers.old made }
     {

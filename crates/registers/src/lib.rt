@@ -1,9 +1,10 @@
-//! Where each node of a matching network points, and what its married flag says.
+//! Each node's pointer and married flag.
 //!
-//! `Registers` are two tables with a place for each name: a pointer, null or a node, and a flag. They keep what was written and nothing
-//! else; that a pointer is at a neighbour, and that an absent name has none, is what a state says of them, one crate up (`net_state`).
+//! `Registers` are two tables with an entry for each name: a pointer, null or a node, and a flag.
+//! One crate up, `net_state` adds that pointers are at neighbours and that absent names have null pointers.
 //!
-//! Each call is one look or one write, `married` two looks. Only `new` takes memory: a pointer and a flag for each name.
+//! Each call costs one look or one write; `married` costs two looks.
+//! Only `new` takes memory: a pointer and a flag for each name.
 //!
 //! ```rust
 //! let mut registers = Registers::new(alloc, 3)?;

@@ -1,4 +1,4 @@
-//! The registers of all nodes, a place for each name.
+//! The table of registers.
 
 ghost use Rattle.std.specs.Prelude.{◌≡◌, ◌<◌, ◌≤◌, length, IfOk};
 ghost use Rattle.rule_machine.specs.State.{blank, pointer_of, flag_of, with_pointer, with_flag, holds_at, points};
@@ -7,7 +7,7 @@ use rule_machine::{Node, Want};
 use std::alloc::Global;
 use std::marker::Model;
 
-/// Each node's pointer and married flag, seen in contracts as the tables of both.
+/// Each node's pointer and married flag. Contracts see both tables.
 #[derive(Drop)]
 pub struct Registers {
     pointers: Vec<Option<Node>>,
@@ -25,7 +25,8 @@ impl Model for Registers {
 }
 
 impl Registers {
-    /// The registers of the names 1 to `size`, at most 65,535: all pointers null and all flags false.
+    /// The registers of the names 1 to `size`, at most 65,535: all null and all false.
+    /// Error: out of memory.
     pub fn new(alloc: Global, size: u32) -> Result<Registers, Want>
         requires { size ≤ 65535 }
         ensures { IfOk result (λ r. r ≡ blank size) }
@@ -36,7 +37,7 @@ impl Registers {
         Ok(Registers { pointers, flags })
     }
 
-    /// Where a node points, if anywhere.
+    /// A node's pointer; `None` for null.
     pub fn pointer(&self, v: Node) -> Option<Node>
         requires { v < length self.now.pointers }
         ensures { result ≡ pointer_of self.now v }
@@ -52,14 +53,14 @@ impl Registers {
         self.flags[v.place()]
     }
 
-    /// Where each name points, at its place; place 0 is nobody's.
+    /// All pointers, each at its name's index; index 0 belongs to no node.
     pub fn pointers(&self) -> &[Option<Node>]
         ensures { result.now ≡ self.now.pointers }
     {
         &self.pointers
     }
 
-    /// Whether a node points at another. A node that has no place points nowhere.
+    /// Whether `v` points at `w`; `false` if `v` has no entry.
     pub fn points_at(&self, v: Node, w: Node) -> bool
         ensures { result ≡ points self.now v w }
     {
@@ -69,7 +70,7 @@ impl Registers {
         }
     }
 
-    /// Whether the node at which a node points points back.
+    /// Whether `v`'s target points back at `v`.
     pub fn married(&self, v: Node) -> bool
         requires { v < length self.now.pointers }
         ensures { result ≡ holds_at (λ w. points self.now w v) (pointer_of self.now v) }
@@ -80,7 +81,7 @@ impl Registers {
         }
     }
 
-    /// Writes a node's pointer: `None` for null.
+    /// Writes a node's pointer; `None` for null.
     pub fn set_pointer(&mut self, v: Node, target: Option<Node>)
         requires { v < length self.old.pointers }
         ensures { self.new ≡ with_pointer self.old v target }

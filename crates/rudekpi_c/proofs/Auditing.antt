@@ -1,4 +1,4 @@
--- What a piece that was fed, and a verdict, say of an audit that C keeps.
+-- What a piece that was fed, and a verdict, mean for an audit that C keeps.
 use Rattle.std.proofs.Common.{◌≡◌, ◌∙◌, ◌++◌, ℕ, List, Option, Some, Result, refl, sym, ap, subst}
 use Rattle.auditor.specs.declared.damage.Damage.{Damage}
 use Rattle.auditor.specs.declared.damage.JudgeFault.{JudgeFault}

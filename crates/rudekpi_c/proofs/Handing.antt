@@ -13,7 +13,7 @@ handed_none out {new = new} {s = s} {text = text} was is same less =
     subst (λ (o : Option Session). Handed out out (length text) o new) (sym was)
     (ap length same, record { t = s; is = is; goes_on = stays s; lines_is = refl; answer_is = refl; all = λ fits. absurd (omega (arith, fits, less)); none = λ _. (refl, refl) })
 
--- there is enough, and what lies behind it is as it was
+-- there is enough, and what follows it is unchanged
 pub handed_all : (out : List ℕ) {old new : Option Session} {s t borrowed : Session} {text copied : List ℕ} → old ≡ Some s → new ≡ Some t → borrowed ≡ s → stands t ≡ shown false (stands borrowed)
     → rules_of t ≡ rules_of borrowed → limit_of t ≡ limit_of borrowed → t.keeps ≡ borrowed.keeps → t.lines ≡ borrowed.lines → t.answer ≡ borrowed.answer → text ≡ (stands s).text → copied ≡ text → length text ≤ length out
     → Handed out (copied ++ drop (length text) out) (length text) old new

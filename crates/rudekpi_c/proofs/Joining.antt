@@ -1,4 +1,4 @@
--- What a joined verdict says.
+-- What a joined verdict means.
 use Rattle.std.proofs.Common.{◌≤◌, ◌≡◌, ◌⊎◌, ◌++◌, ◌∙◌, ℕ, List, Ok, Err, inl, inr, refl, sym, ap, subst}
 use Rattle.auditor.specs.declared.damage.Damage.{Damage}
 use Rattle.auditor.specs.declared.damage.Damage.TheVariants.{BadHeader, NotALine, OutOfOrder, NotTheMachines, BadBase}
@@ -15,7 +15,7 @@ use Rattle.rudekpi_c.specs.Joined.{IsJoined, IsUnjoined, said_by}
 use Rattle.rudekpi_c.specs.Judged.{JudgedAs, accepted, damaged, unjudged, verdict_of}
 use Rattle.rudekpi_c.proofs.Judging.{judged_as}
 
--- a verdict of a text says what was found in it
+-- a verdict of a text is what was found in it
 pub record Found (bytes : List ℕ) (v : Verdict) : Type 0 where
   pub found : seams.Verdict
   pub is : v ≡ verdict_of found
@@ -35,7 +35,7 @@ lines_before lines own old next (Ok c) (Err (Damaged d)) e f before = before c d
 lines_before lines own old next (Ok c) (Err Memory) e f before = tt
 lines_before lines own old next (Err fault) w e f before = tt
 
--- what is said of a text is read in its verdict
+-- the verdict of a result gives the result back
 said_once : (said : seams.Verdict) → said_by (verdict_of said) ≡ said
 said_once (Ok c) = refl
 said_once (Err (Damaged BadHeader)) = refl

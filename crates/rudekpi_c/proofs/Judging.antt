@@ -1,4 +1,4 @@
--- What an audit has found, as C is told of it.
+-- The result of an audit, for C.
 use Rattle.std.proofs.Common.{◌≡◌, ◌⊎◌, ℕ, List, Result, Ok, Err, inl, inr, refl, sym, ap, subst}
 use Rattle.auditor.specs.declared.damage.Damage.{Damage}
 use Rattle.auditor.specs.declared.damage.JudgeFault.{JudgeFault}

@@ -1,4 +1,5 @@
--- A function that moves an address and an allocator from one struct into another: what the one owned, as a box does, the other owns.
+-- A function that moves an address and an allocator between structs: as a box does, the second then owns what
+-- the first owned.
 use Rattle.rudekpi_c.proofs.Walks.{◌≡◌, refl, sym, subst, List, [], ◌∷◌, ◌++◌, Ura, Sym, Callee, Fn, place, copy, assign, rv_opd, aggregate, field, seq, return, local, value_local, ty_ptr, Val, SProp, ent, ftrue, fsep, fact, Tables, WpFn, WpFn-mono, Closed, Logic, sem, Item, ‵, raw, ◌⊛◌, ◌$◌, ◌∵◌, !, qed, by, move, drop, use1, join, split, fsplit, fjoin, suffices, done, whole, sub, agg, stop, fld, no_more, and_then, of_opd, returns, enter, alloc_all, pass_all, free_all, look_at, get, get_in, sets, RattleType, yes, Last, plain, heard, nothing, Ended, Clauses, closing, triple_of, Triple, entered, says, Stays, Silent, stay_dropped, walk_of, ends_at, Goes-dropped, walk_Meets, α, Bx, D, B, word, box_typed, box_out, box_in}
 use types.Kit as kit
 use Rattle.std.specs.Prelude.{Option, None, Some}
@@ -68,7 +69,7 @@ module _ (E : Bx) (Taken Made : RattleType) where
             entered 𝓤 H (triple_of 𝓛 ended.signature (closing 𝓛 ended clauses)) 𝓣.C 𝓣.Λ self (moving taken made) unfolded
             (walk_Meets 𝓛 ended stayed (Goes-dropped 𝓛 0 (plain (λ _. Taken)) yes silent, tt) clauses (WpFn 𝓤 H 𝓣.C 𝓣.Λ (moving taken made)) (WpFn-mono 𝓤 H 𝓛.laws 𝓣 (moving taken made)) walk)
 
--- what is not nothing is something
+-- what is not `None` is something
 pub some_of : {A : Type 0} (o : Option A) → (o ≡ None → ⊥) → (x : A) × (o ≡ Some x)
 some_of None some = absurd (some refl)
 some_of (Some x) some = (x, refl)

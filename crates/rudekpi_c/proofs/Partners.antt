@@ -1,4 +1,4 @@
--- Whom a node is paired with.
+-- The partner of a node.
 use Rattle.std.proofs.Common.{◌≡◌, ◌∙◌, ℕ, true, false, None, Some, sym}
 use Rattle.std.proofs.lemmas.Bool.{true≢false}
 use Rattle.rule_machine.specs.State.{State, IsState, pointer, points, partner}

@@ -1,4 +1,4 @@
--- What the calls of C do to an audit that C keeps and feeds in pieces, status by status.
+-- What C's calls do to an audit that it feeds in pieces, status by status.
 use Rattle.std.specs.Prelude.{◌≡◌, ◌⊎◌, ◌++◌, ℕ, List, [], Option, None, Some, Result, Ok, Err}
 use Rattle.auditor.specs.declared.damage.Damage.{Damage}
 use Rattle.auditor.specs.declared.damage.JudgeFault.{JudgeFault}
@@ -17,18 +17,18 @@ pub record IsAuditBegun (new : Option PieceAudit) : Type 0 where
   pub fed : IsFed [] audit
   pub found : audit.fault ≡ None
 
--- 0: it began; 3: memory was refused, and there is none
+-- 0: it began; 3: memory ran out, and there is none
 abbrev pub AuditBegun : ℕ → Option PieceAudit → Type 0
 AuditBegun status new = ((status ≡ 0) × IsAuditBegun new) ⊎ ((status ≡ 3) × (new ≡ None))
 
--- 0: nothing wrong was found; 7: a damage was; 3: memory was refused
+-- 0: no fault was found; 7: a damage was; 3: memory ran out
 abbrev pub found_status : {A : Type 0} → Result A JudgeFault → ℕ
 found_status (Ok fine) = 0
 found_status (Err (Damaged d)) = 7
 found_status (Err Memory) = 3
 
--- it was fed the piece behind what it was fed before; a damage that is found is that of every text that begins so, and what is found once
--- stays found
+-- it was fed the piece after what it was fed before; a damage is that of every text that begins so; a fault
+-- once found stays
 pub record IsAuditFed (piece : List ℕ) (status : ℕ) (a : PieceAudit) (new : Option PieceAudit) : Type 0 where
   pub b : PieceAudit
   pub is : new ≡ Some b
@@ -42,7 +42,7 @@ abbrev pub AuditFed : List ℕ → ℕ → Option PieceAudit → Option PieceAud
 AuditFed piece status None new = (status ≡ 4) × (new ≡ None)
 AuditFed piece status (Some a) new = IsAuditFed piece status a new
 
--- 0: the verdict is that on the text that it was fed; 4: there is no audit
+-- 0: the verdict is that of the text it was fed; 4: there is no audit
 abbrev pub AuditEnded : ℕ → Verdict → Option PieceAudit → Type 0
 AuditEnded status verdict None = (status ≡ 4) × (verdict ≡ unjudged)
 AuditEnded status verdict (Some a) = (status ≡ 0) × ((bytes : List ℕ) → IsFed bytes a → JudgedAs bytes verdict)

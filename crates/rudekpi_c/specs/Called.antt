@@ -1,4 +1,4 @@
--- What a call with numbers in place of a line does to a session that C keeps, status by status.
+-- What a call with numbers in place of a line does to a session, status by status.
 use Rattle.std.specs.Prelude.{◌≡◌, ℕ, Bool, true, false, zero, suc, ◌⊎◌, List, map, Option, None, Some, Result, Ok, Err, SomeIff}
 use Rattle.rule_machine.specs.declared.choice.Item.{Item}
 use Rattle.rule_machine.specs.declared.event.Event.{Event}
@@ -21,7 +21,7 @@ use Rattle.rudekpi_c.specs.declared.asked.Chosen.{Chosen}
 use Rattle.rudekpi_c.specs.declared.session.Session.{Session}
 use Rattle.rudekpi_c.specs.declared.told.Told.{Told}
 
--- 0 names nobody
+-- 0 is no node
 abbrev pub named_by : ℕ → Option ℕ
 named_by zero = None
 named_by (suc n) = Some (suc n)
@@ -29,26 +29,26 @@ named_by (suc n) = Some (suc n)
 abbrev pub item_named : Chosen → Item
 item_named c = record { node = c.node; wish = named_by c.wish }
 
--- these nodes move
+-- the step of these nodes
 abbrev pub step_named : List Chosen → Event
 step_named chosen = Step (map item_named chosen)
 
--- the command was made of numbers that are in their ranges, or it can't be; or memory was refused for one that can
+-- the numbers gave the command, or are out of range; or memory ran out for numbers in range
 abbrev pub IsAsked : {E : Type 0} → Result (Option Command) E → Command → Type 0
 IsAsked (Ok asked) command = SomeIff asked (IsCommand command) command
 IsAsked (Err want) command = IsCommand command
 
--- the reply to a command that is carried out there: of one event that of the machine
+-- the reply to a command that is carried out here: the machine's, if it is one event
 abbrev pub reply_at : RuleTable → Command → Progress → Reply
 reply_at t (Tell event) at = reply_of t at.moment.state at.moment.spent event
 reply_at t other at = Accepted
 
--- the number that is told where a command was not carried out: of one event none, else that of the last entry
+-- the number returned if a command was not carried out: 0 for an event, else that of the last entry
 abbrev pub number_left : Command → ℕ → ℕ
 number_left (Tell event) count = 0
 number_left other count = count
 
--- the number that is told, where there are so many entries then
+-- the number returned, if there are then this many entries
 abbrev pub number_at : {E : Type 0} → Command → ℕ → Result Bool E → ℕ
 number_at command count (Ok true) = count
 number_at command count other = number_left command count
@@ -58,20 +58,21 @@ abbrev pub reply_kept : {E : Type 0} → RuleTable → Command → Progress → 
 reply_kept t command before (Ok true) = reply_at t command before
 reply_kept t command before other = Accepted
 
--- how a command ended, as C is told
+-- the status of a command
 abbrev pub command_status : {E : Type 0} → Reply → Result Bool E → ℕ
 command_status reply (Ok true) = entry_status reply
 command_status reply (Ok false) = 2
 command_status reply (Err want) = 3
 
--- 0, or 6 where the machine refuses it: it has done what it does; 2: it met a full log; 3: memory was refused, and it was begun at the most
+-- 0, or 6 if the machine refuses it: it was carried out; 2: it met a full log; 3: memory ran out, and at most
+-- some first turns were taken
 abbrev pub Follows : RuleTable → ℕ → Command → ℕ → ℕ → Reply → Progress → Progress → Type 0
 Follows t limit command status number reply before after =
     ((status ≡ entry_status (reply_at t command before)) × CommandDoes t limit command before after × (number ≡ after.count) × (reply ≡ reply_at t command before))
     ⊎ ((status ≡ 2) × CommandFills t limit command before after × (number ≡ number_left command after.count) × (reply ≡ Accepted))
     ⊎ ((status ≡ 3) × CommandBegins t limit command before after × (number ≡ number_left command after.count) × (reply ≡ Accepted))
 
--- the command was given to the session, which keeps the reply, and counts no line
+-- the command was given to the session, which keeps the reply and counts no line
 pub record IsCalled (command : Command) (status : ℕ) (told : Told) (old new : Option Session) : Type 0 where
   pub s : Session
   pub t : Session
@@ -85,7 +86,8 @@ pub record IsCalled (command : Command) (status : ℕ) (told : Told) (old new : 
   pub stands_is : stands t ≡ shown t.keeps after
   pub told_is : told ≡ told_of t.answer.seq t.answer.reply
 
--- 5: the numbers are out of their ranges, and nothing was done; 4: there was no session; else the session was given the command
+-- 5: the numbers are out of range, and nothing was done; 4: there was no session; else the session got the
+-- command
 abbrev pub Called : Command → ℕ → Told → Option Session → Option Session → Type 0
 Called command status told old new =
     ((IsCommand command → ⊥) × (status ≡ 5) × (told ≡ untold) × (new ≡ old))

@@ -1,4 +1,4 @@
--- What C is told that an edit or a fault would cost where a session stands.
+-- The cost, for C, of an edit or a fault in a session's state.
 use Rattle.std.specs.Prelude.{◌≡◌, ◌⊎◌, ℕ, Option, None, Some}
 use Rattle.rule_machine.specs.declared.event.Event.{Event}
 use Rattle.rule_machine.specs.declared.rules.RuleSet.{RuleSet}
@@ -19,11 +19,11 @@ abbrev pub costs_of : RuleSet → State → Event → ℕ
 costs_of Hh = hsu_huang_cost
 costs_of Manne = manne_cost
 
--- what the event would cost where the session stands: nothing, if it would be refused
+-- the event's cost in the session's state; 0 if it would be refused
 abbrev pub cost_at : Session → Event → ℕ
 cost_at s event = cost_of (table_of (rules_of s)) (costs_of (rules_of s)) (stands s).moment.state event
 
--- where it is accepted the charge grows by no more than this
+-- if it is accepted, the charge grows by at most this
 abbrev pub GrowsBy : RuleTable → Moment → Event → ℕ → Type 0
 GrowsBy t at event cost = BoundsGrowth t at.state at.spent event cost
 
@@ -32,7 +32,7 @@ CostedIn event status cost None = (status ≡ 4) × (cost ≡ 0)
 CostedIn event status cost (Some s) =
     (status ≡ 0) × (cost ≡ cost_at s event) × GrowsBy (table_of (rules_of s)) (stands s).moment event cost
 
--- 5: the numbers are out of their ranges; 4: there is no session; 0: this is what it would cost there
+-- 5: the numbers are out of range; 4: there is no session; 0: this is its cost
 abbrev pub Costed : Event → ℕ → ℕ → Option Session → Type 0
 Costed event status cost session =
     ((IsCommand (Tell event) → ⊥) × (status ≡ 5) × (cost ≡ 0)) ⊎ (IsCommand (Tell event) × CostedIn event status cost session)

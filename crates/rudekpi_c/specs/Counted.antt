@@ -1,4 +1,4 @@
--- Where a network stands, in numbers for C.
+-- The counts of a network, for C.
 use Rattle.std.specs.Prelude.{◌≡◌, ◌≢◌, ℕ, Option, None, Some, IfSome}
 use Rattle.rule_machine.specs.declared.counts.Counts.{Counts}
 use Rattle.rule_machine.specs.declared.reply.Reply.{Reply}
@@ -24,11 +24,11 @@ abbrev pub counted_kept : Option Session → Counted
 counted_kept None = uncounted
 counted_kept (Some s) = counted_in s.answer.reply
 
--- the numbers of where the session stands, as the machine counts them
+-- the machine's counts of the session's state
 abbrev pub counts_at : Session → Counts
 counts_at s = counts_of (table_of (rules_of s)) (stands s).moment.state (stands s).moment.spent
 
--- 0: those of where it stood, which a question leaves; else none
+-- 0: the counts of the session's state, which a query does not change; else none
 pub record IsCounted (status : ℕ) (counts : Counted) (old : Option Session) : Type 0 where
   pub done : status ≡ 0 → IfSome old (λ s. counts ≡ counted (counts_at s))
   pub undone : status ≢ 0 → counts ≡ uncounted

@@ -11,7 +11,7 @@ use Rattle.std.specs.contracts.option.Option as option
 use Rattle.auditor.specs.contracts.pieces.PieceAudit as audit
 use Rattle.rudekpi_c.specs.contracts.session.Session as session
 
--- what lies at the address and the right to free its block; of none, nothing
+-- the value at the address and the right to free its block, or nothing
 abbrev pub held_at : (row : RattleType) → Global → Ptr → Option row.Denot → Fml
 held_at row alloc at None = ftrue
 held_at row alloc at (Some value) = box_owns (ghosts.dealloc_token alloc) row at value
@@ -20,7 +20,7 @@ held_at row alloc at (Some value) = box_owns (ghosts.dealloc_token alloc) row at
 abbrev pub held : Global → Ptr → Option session.the_row.Denot → Fml
 held = held_at session.the_row
 
--- how the logic keeps whether there is one
+-- how the logic records whether there is one
 abbrev pub held_coded : Coded (Option session.the_row.Denot)
 held_coded = (option.the_row session.the_row).coded
 

@@ -1,4 +1,4 @@
--- What the call of C that joins two verdicts says, status by status.
+-- What C's call that joins two verdicts does, status by status.
 use Rattle.std.specs.Prelude.{◌≡◌, ◌≤◌, ◌⊎◌, ◌++◌, ℕ, List, Ok, Err, nat_eq, if◌then◌else◌}
 use Rattle.auditor.specs.declared.damage.Damage.{Damage}
 use Rattle.auditor.specs.declared.damage.Damage.TheVariants.{BadHeader, NotALine, OutOfOrder, NotTheMachines, BadBase}
@@ -10,7 +10,7 @@ use Rattle.audit_parts.specs.Seams as seams
 use Rattle.rudekpi_c.specs.declared.judged.Verdict.{Verdict}
 use Rattle.rudekpi_c.specs.Judged.{JudgedAs, accepted, damaged, verdict_of}
 
--- what a verdict says, by its kind
+-- the result that a verdict encodes, by its kind
 abbrev pub said_by : Verdict → seams.Verdict
 said_by v =
     if nat_eq v.kind 0 then Ok (record { entries = v.entries; epochs = v.epochs; moves = v.moves })
@@ -20,14 +20,14 @@ said_by v =
     else (if nat_eq v.kind 4 then Err (Damaged (NotTheMachines v.line))
     else (if nat_eq v.kind 5 then Err (Damaged (BadBase v.line)) else Err Memory)))))
 
--- the new verdict is that of both: of texts that meet, it is that of the joined text, if so many lines stand before the seam
+-- the new verdict is the joined one; for texts that meet it is that of the joined text, if `lines` is right
 pub record IsJoined (lines : ℕ) (old next new : Verdict) : Type 0 where
   pub known : (old.kind ≤ 6) × (next.kind ≤ 6)
   pub judged : (former latter : List ℕ) (m : seams.Meets former latter) → ((c : Summary) (d : Damage) → old ≡ accepted c → next ≡ damaged d → lines ≡ line_feeds m.own)
       → JudgedAs former old → JudgedAs latter next → JudgedAs (m.own ++ latter) new
   pub is : (first second : seams.Verdict) → old ≡ verdict_of first → next ≡ verdict_of second → new ≡ verdict_of (seams.joined first lines second)
 
--- a kind is none, or a number of the joined verdict does not fit its field
+-- a kind is invalid, or a number of the joined verdict does not fit its field
 pub record IsUnjoined (lines : ℕ) (old next new : Verdict) : Type 0 where
   pub kept : new ≡ old
   pub why : (7 ≤ old.kind) ⊎ (7 ≤ next.kind) ⊎ ((first second : seams.Verdict) → old ≡ verdict_of first → next ≡ verdict_of second → Fits (seams.joined first lines second) → ⊥)

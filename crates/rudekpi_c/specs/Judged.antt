@@ -25,18 +25,18 @@ damaged (OutOfOrder line) = refused 3 line
 damaged (NotTheMachines line) = refused 4 line
 damaged (BadBase line) = refused 5 line
 
--- nothing is said
+-- the verdict that says nothing
 abbrev pub unjudged : Verdict
 unjudged = refused 6 0
 
--- what was judged
+-- the verdict of a result
 abbrev pub verdict_of : Result Summary JudgeFault → Verdict
 verdict_of (Ok c) = accepted c
 verdict_of (Err (Damaged d)) = damaged d
 verdict_of (Err Memory) = unjudged
 
--- The verdict is that of a transcript with its counts, or of a text with its damage, or memory was refused; and where it was not, every
--- transcript is accepted and every damage named.
+-- The verdict is that of a transcript with its counts, or of a text with its damage, or memory ran out.
+-- Unless memory ran out, every transcript is accepted and every damage is named.
 pub record JudgedAs (bytes : List ℕ) (v : Verdict) : Type 0 where
   pub says : ((c : Summary) × IsAccepted bytes c × (v ≡ accepted c)) ⊎ ((d : Damage) × IsDamage bytes d × (v ≡ damaged d)) ⊎ (v ≡ unjudged)
   pub accepts_runs : (c : Summary) → IsAccepted bytes c → (v ≡ accepted c) ⊎ (v ≡ unjudged)

@@ -1,4 +1,4 @@
--- How many moves can still come where a session stands, as C is told.
+-- The bound on the moves that can still come in a session's state, for C.
 use Rattle.std.specs.Prelude.{◌≡◌, ℕ, Option, None, Some}
 use Rattle.rule_machine.specs.declared.rules.RuleSet.{RuleSet}
 use Rattle.rule_machine.specs.declared.rules.RuleSet.TheVariants.{Hh, Manne}
@@ -16,15 +16,15 @@ abbrev pub most_of : RuleSet → ℕ → Option ℕ
 most_of Hh n = Some (dense_bound n)
 most_of Manne n = None
 
--- the smaller of this bound and the charge, where the session stands
+-- the smaller of this bound and the charge, in the session's state
 abbrev pub left_at : Session → ℕ
 left_at s = moves_left ((table_of (rules_of s)).charge (stands s).moment.state) (most_of (rules_of s) (node_count (stands s).moment.state.network))
 
--- no more moves come without a disturbance
+-- at most this many moves come without a disturbance
 abbrev pub IsMost : RuleTable → Moment → ℕ → Type 0
 IsMost t at left = BoundsMoves t at.state at.spent left
 
--- 4: there is no session; 0: so many moves are left there
+-- 4: there is no session; 0: this is the bound
 abbrev pub Left : ℕ → ℕ → Option Session → Type 0
 Left status left None = (status ≡ 4) × (left ≡ 0)
 Left status left (Some s) = (status ≡ 0) × (left ≡ left_at s) × IsMost (table_of (rules_of s)) (stands s).moment left

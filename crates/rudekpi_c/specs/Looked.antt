@@ -1,4 +1,4 @@
--- What C takes of a session, and looks at, without an entry.
+-- What C reads of a session without an entry.
 use Rattle.std.specs.Prelude.{◌≡◌, ◌⊎◌, ℕ, Bool, List, [], Option, None, Some}
 use Rattle.rule_machine.specs.State.{partner}
 use Rattle.line_text.specs.Words.{IsName}
@@ -12,7 +12,7 @@ abbrev pub rows_kept : Option Session → List Row
 rows_kept None = []
 rows_kept (Some s) = rows_of s.answer.reply
 
--- from here on the text is kept, or not, and then there is none
+-- from here on the text is kept; or it is not, and there is none
 pub record IsKept (keeps : Bool) (s : Session) (new : Option Session) : Type 0 where
   pub t : Session
   pub is : new ≡ Some t
@@ -27,7 +27,7 @@ abbrev pub Kept : Bool → ℕ → Option Session → Option Session → Type 0
 Kept keeps status None new = (status ≡ 4) × (new ≡ None)
 Kept keeps status (Some s) new = (status ≡ 0) × IsKept keeps s new
 
--- the name of its partner where the session stands, or 0
+-- the name of the node's partner in the session's state, or 0
 abbrev pub PartneredIn : ℕ → ℕ → ℕ → Option Session → Type 0
 PartneredIn node status found None = (status ≡ 4) × (found ≡ 0)
 PartneredIn node status found (Some s) = (status ≡ 0) × (found ≡ number_of (partner (stands s).moment.state node))

@@ -1,4 +1,4 @@
--- Where a session stands, and what is done to it.
+-- The state of a session, and what is done to it.
 use Rattle.std.specs.Prelude.{◌≡◌, ℕ, Bool, true, false, List, [], Option, Result}
 use Rattle.rule_machine.specs.declared.rules.RuleSet.{RuleSet}
 use Rattle.rule_machine.specs.declared.rules.RuleSet.TheVariants as rules
@@ -15,7 +15,7 @@ abbrev pub stands_at : Machine → Progress
 stands_at (Hh run) = progress run.rules run.recorder run.text.items
 stands_at (Manne run) = progress run.rules run.recorder run.text.items
 
--- where it stands: the network, how many entries led there, and their text that was not taken
+-- the network, how many entries led there, and their text that was not taken
 abbrev pub stands : Session → Progress
 stands s = stands_at s.machine
 
@@ -23,7 +23,7 @@ abbrev pub rules_at : Machine → RuleSet
 rules_at (Hh run) = rules.Hh
 rules_at (Manne run) = rules.Manne
 
--- the rules that it plays by
+-- the session's rules
 abbrev pub rules_of : Session → RuleSet
 rules_of s = rules_at s.machine
 
@@ -31,16 +31,16 @@ abbrev pub limit_at : Machine → ℕ
 limit_at (Hh run) = run.recorder.limit
 limit_at (Manne run) = run.recorder.limit
 
--- how many entries it may have
+-- the most entries of the session
 abbrev pub limit_of : Session → ℕ
 limit_of s = limit_at s.machine
 
--- with its text where a transcript is kept, with none where not
+-- with the text if a transcript is kept, else without
 abbrev pub shown : Bool → Progress → Progress
 shown true at = at
 shown false at = record at { text = [] }
 
--- the rules, the limit, and whether a transcript is kept stay
+-- the rules, the limit, and whether a transcript is kept are unchanged
 pub record GoesOn (s t : Session) : Type 0 where
   pub rules : rules_of t ≡ rules_of s
   pub limit : limit_of t ≡ limit_of s

@@ -1,4 +1,4 @@
--- After a drive of as many turns as the charge nobody is enabled.
+-- After a drive of as many turns as the charge, no node is enabled.
 use Rattle.std.specs.Prelude.{◌≡◌, ℕ, ◌≤◌, [], List}
 use Rattle.rule_machine.specs.RuleTable.{RuleTable, enabled_names}
 use Rattle.rule_machine.specs.State.{State}
@@ -7,11 +7,11 @@ use Rattle.script_text.specs.declared.command.Command.TheVariants.{Drive}
 use Rattle.script_text.specs.declared.command.Turns.{Turns}
 use Rattle.script_text.specs.Command.{Says}
 
--- what a command that was followed leaves: nobody enabled, if it drove as many turns as the charge was
+-- a command that drove at least as many turns as the charge leaves no node enabled
 abbrev pub Silences : RuleTable → Command → State → State → Type 0
 Silences t (Drive turns) before after = t.charge before ≤ turns.count → enabled_names t after ≡ []
 Silences t other before after = Unit {0}
 
--- and a line that says such a command
+-- and so does the line of such a command
 abbrev pub LineSilences : RuleTable → List ℕ → State → State → Type 0
 LineSilences t line before after = (turns : Turns) → Says line (Drive turns) → t.charge before ≤ turns.count → enabled_names t after ≡ []

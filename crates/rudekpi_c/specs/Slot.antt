@@ -1,4 +1,4 @@
--- What the calls of C do to a session that C keeps, status by status.
+-- What C's calls do to a session, status by status.
 use Rattle.std.specs.Prelude.{◌≡◌, ◌≤◌, ◌<◌, ◌⊎◌, ◌+◌, ◌-◌, ◌^◌, ℕ, true, false, min, zero, suc, List, ◌++◌, length, drop, Option, None, Some, Result, Ok, Err}
 use Rattle.rule_machine.specs.declared.reply.Reply.TheVariants.{Accepted}
 use Rattle.rule_machine.specs.declared.rules.RuleSet.{RuleSet}
@@ -13,16 +13,16 @@ use Rattle.rudekpi_c.specs.Session.{stands, rules_of, limit_of, shown, GoesOn}
 use Rattle.rudekpi_c.specs.Silenced.{LineSilences}
 use Rattle.rudekpi_c.specs.declared.session.Session.{Session}
 
--- 0 names the rules of Hsu and Huang, any other number those of Manne and others
+-- 0 is the rules of Hsu and Huang, any other number those of Manne and others
 abbrev pub named : ℕ → RuleSet
 named zero = Hh
 named (suc n) = Manne
 
--- there are two rule sets, at most 65,535 names, and no more nodes than names
+-- there are two rule sets, at most 65,535 names, and at most as many nodes as names
 abbrev pub IsWanted : ℕ → ℕ → ℕ → Type 0
 IsWanted rules nodes present = (rules ≤ 1) × (nodes ≤ 65535) × (present ≤ nodes)
 
--- the session is kept by C from now on, less the text where it keeps none
+-- C keeps the session from here on, without its text if it keeps none
 pub record IsPutBack (s : Session) (new : Option Session) : Type 0 where
   pub t : Session
   pub is : new ≡ Some t
@@ -31,7 +31,7 @@ pub record IsPutBack (s : Session) (new : Option Session) : Type 0 where
   pub answer_is : t.answer ≡ s.answer
   pub stands_is : stands t ≡ shown t.keeps (stands s)
 
--- a session at the beginning of a run, which keeps its transcript, and has answered nothing
+-- a session at the beginning of a run, which keeps its transcript and has no answer
 pub record IsBegun (rules nodes present : ℕ) (new : Option Session) : Type 0 where
   pub session : Session
   pub is : new ≡ Some session
@@ -42,29 +42,29 @@ pub record IsBegun (rules nodes present : ℕ) (new : Option Session) : Type 0 w
   pub keeps_is : session.keeps ≡ true
   pub answer_is : session.answer.reply ≡ Accepted
 
--- 0: it began; 3: memory was refused, and there is none; 5: what was asked for is out of its range, and there is none
+-- 0: it began; 3: memory ran out; 5: an argument is out of range; after 3 and 5 there is none
 abbrev pub Begun : ℕ → ℕ → ℕ → ℕ → Option Session → Type 0
 Begun rules nodes present status new =
     (IsWanted rules nodes present × (status ≡ 0) × IsBegun rules nodes present new)
     ⊎ (IsWanted rules nodes present × (status ≡ 3) × (new ≡ None))
     ⊎ ((IsWanted rules nodes present → ⊥) × (status ≡ 5) × (new ≡ None))
 
--- a line that was fed: it was the session's next, whatever it was
+-- a line that was fed is the session's next, whatever it is
 pub record IsNext (number : ℕ) (s t : Session) : Type 0 where
   pub number_is : number ≡ t.lines
   pub lines_is : t.lines ≡ min (s.lines + 1) (2 ^ 64 - 1)
   pub goes_on : GoesOn s t
   pub answer_is : t.answer ≡ s.answer
 
--- how a line ended, as C is told
+-- the status of a line
 abbrev pub line_status : {E : Type 0} → Result (Option Stop) E → ℕ
 line_status (Ok None) = 0
 line_status (Ok (Some (BadLine n))) = 1
 line_status (Ok (Some LogFull)) = 2
 line_status (Err want) = 3
 
--- 0: it has done what the machine does; 1: it is neither empty nor a command, and nothing was done; 2: it met a full log; 3: memory was
--- refused, and it was begun at the most
+-- 0: it was carried out; 1: it is neither empty nor a command, and nothing was done; 2: it met a full log; 3:
+-- memory ran out, and at most some first turns were taken
 abbrev pub Does : List ℕ → ℕ → Session → Progress → Type 0
 Does line status s after =
     ((status ≡ 0) × LineDoes (table_of (rules_of s)) (limit_of s) line (stands s) after)
@@ -87,7 +87,7 @@ pub record IsFed (line : List ℕ) (status number : ℕ) (old new : Option Sessi
 abbrev pub IsNobody : ℕ → Option Session → Option Session → Type 0
 IsNobody status old new = (status ≡ 4) × (old ≡ None) × (new ≡ None)
 
--- a line was given to the session, and its number told; or there was none, and the number is as it was
+-- a line was given to the session, and its number returned; or there was none, and the number is unchanged
 abbrev pub Fed : List ℕ → ℕ → ℕ → ℕ → Option Session → Option Session → Type 0
 Fed line was status number old new = IsFed line status number old new ⊎ (IsNobody status old new × (number ≡ was))
 
@@ -96,8 +96,8 @@ abbrev pub text_length : Option Session → ℕ
 text_length None = 0
 text_length (Some s) = length (stands s).text
 
--- where there is room for the text it takes the place of as many bytes at the start, what stands behind them stays, and the session goes on
--- with none; else nothing has changed
+-- if the text fits, it is written to the start, the bytes after it stay, and the session drops it; else
+-- nothing has changed
 pub record IsHanded (was out : List ℕ) (n : ℕ) (s : Session) (new : Option Session) : Type 0 where
   pub t : Session
   pub is : new ≡ Some t

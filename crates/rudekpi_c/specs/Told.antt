@@ -20,7 +20,7 @@ rule_number Marry = 2
 rule_number Seduce = 3
 rule_number Abandon = 4
 
--- a move: who, by which rule, and where it points now
+-- a move: the node, its rule, and its new pointer
 abbrev pub move_row : Moved → Row
 move_row m = record { node = m.node; rule = rule_number m.act; other = number_of m.target }
 
@@ -32,31 +32,31 @@ enabled_row e = record { node = e.0; rule = rule_number e.1; other = 0 }
 abbrev pub pair_row : ℕ × ℕ → Row
 pair_row p = record { node = p.0; rule = 0; other = p.1 }
 
--- why it was refused, or 0
+-- the refusal, or 0
 abbrev pub refusal_in : Reply → ℕ
 refusal_in (Refused refusal) = refusal_number refusal
 refusal_in other = 0
 
--- where the node points that was asked about, or 0
+-- the pointer that was asked for, or 0
 abbrev pub target_in : Reply → ℕ
 target_in (Shown target) = number_of target
 target_in other = 0
 
--- its rows: the moves, the enabled nodes, or the pairs
+-- the rows: the moves, the enabled nodes, or the pairs
 abbrev pub rows_of : Reply → List Row
 rows_of (Moves moves) = map move_row moves
 rows_of (EnabledAre nodes) = map enabled_row nodes
 rows_of (Pairs pairs) = map pair_row pairs
 rows_of other = []
 
--- the entry with this number, and its reply
+-- the answer with this number and reply
 abbrev pub told_of : ℕ → Reply → Told
 told_of number reply = record { entry = number; refusal = refusal_in reply; target = target_in reply; rows = length (rows_of reply) }
 
 abbrev pub untold : Told
 untold = record { entry = 0; refusal = 0; target = 0; rows = 0 }
 
--- it is an entry: 6 where it was refused, else 0
+-- the status of an entry: 6 if it was refused, else 0
 abbrev pub entry_status : Reply → ℕ
 entry_status (Refused refusal) = 6
 entry_status other = 0

@@ -1,4 +1,4 @@
-//! Commands out of numbers.
+//! Commands from numbers.
 
 ghost use Rattle.std.specs.Prelude.{◌≡◌, ◌↔◌, SomeIff, IfSome, IfOk, IsTrue, map, [], ◌∷◌};
 ghost use Rattle.std.specs.List.{AllByRecursion};
@@ -13,7 +13,7 @@ use rule_machine::{Choice, Event, Item, MAX_ITEMS, Node, Want};
 use script_text::{Command, MAX_TURNS, Turns};
 use std::alloc::Global;
 
-/// A node that is chosen, and the neighbour that it shall point at, or 0 for any.
+/// An item of a step: a node, and the wished target of its pointer, or 0 for any.
 #[repr(C)]
 #[derive(Clone, Copy)]
 pub struct Chosen {
@@ -21,7 +21,6 @@ pub struct Chosen {
     pub wish: u32,
 }
 
-/// `link`, with its ends.
 pub(crate) fn link(a: u32, b: u32) -> Option<Command>
     ensures { SomeIff result (IsCommand (Tell (Link a b))) (Tell (Link a b)) }
 {
@@ -31,7 +30,6 @@ pub(crate) fn link(a: u32, b: u32) -> Option<Command>
     Some(Command::Tell(Event::Link(a, b)))
 }
 
-/// `unlink`, with its ends.
 pub(crate) fn unlink(a: u32, b: u32) -> Option<Command>
     ensures { SomeIff result (IsCommand (Tell (Unlink a b))) (Tell (Unlink a b)) }
 {
@@ -41,35 +39,31 @@ pub(crate) fn unlink(a: u32, b: u32) -> Option<Command>
     Some(Command::Tell(Event::Unlink(a, b)))
 }
 
-/// `join`, with its node.
 pub(crate) fn join(v: u32) -> Option<Command>
     ensures { SomeIff result (IsCommand (Tell (Join v))) (Tell (Join v)) }
 {
     Some(Command::Tell(Event::Join(Node::new(v)?)))
 }
 
-/// `leave`, with its node.
 pub(crate) fn leave(v: u32) -> Option<Command>
     ensures { SomeIff result (IsCommand (Tell (Leave v))) (Tell (Leave v)) }
 {
     Some(Command::Tell(Event::Leave(Node::new(v)?)))
 }
 
-/// `show`, with its node.
 pub(crate) fn show(v: u32) -> Option<Command>
     ensures { SomeIff result (IsCommand (Tell (Show v))) (Tell (Show v)) }
 {
     Some(Command::Tell(Event::Show(Node::new(v)?)))
 }
 
-/// `flag`, with its node and value.
 pub(crate) fn flag(v: u32, value: bool) -> Option<Command>
     ensures { SomeIff result (IsCommand (Tell (Flag v value))) (Tell (Flag v value)) }
 {
     Some(Command::Tell(Event::Flag(Node::new(v)?, value)))
 }
 
-/// A node, or nobody for 0.
+/// The node with this name; 0 is null.
 fn target(number: u32) -> Option<Option<Node>>
     ensures { SomeIff result (IfSome (named_by number) IsName) (named_by number) }
 {
@@ -79,14 +73,12 @@ fn target(number: u32) -> Option<Option<Node>>
     Some(Some(Node::new(number)?))
 }
 
-/// `point`, with its node and target.
 pub(crate) fn point(v: u32, w: u32) -> Option<Command>
     ensures { SomeIff result (IsCommand (Tell (Point v (named_by w)))) (Tell (Point v (named_by w))) }
 {
     Some(Command::Tell(Event::Point(Node::new(v)?, target(w)?)))
 }
 
-/// An item of a step.
 fn item(chosen: Chosen) -> Option<Item>
     ensures { SomeIff result (IsItem (item_named chosen)) (item_named chosen) }
 {
@@ -96,7 +88,6 @@ fn item(chosen: Chosen) -> Option<Item>
     })
 }
 
-/// Whether all of them are items.
 fn are_items(chosen: &[Chosen]) -> bool
     ensures { IsTrue result ↔ AllByRecursion IsItem (map item_named chosen.now) }
 {
@@ -108,7 +99,7 @@ fn are_items(chosen: &[Chosen]) -> bool
     true
 }
 
-/// The items, where all are some.
+/// The items, if all are valid.
 fn items(alloc: Global, chosen: &[Chosen]) -> Result<Vec<Item>, Want>
     requires { AllByRecursion IsItem (map item_named chosen.now) }
     ensures { IfOk result (λ items. items.items ≡ map item_named chosen.now) }
@@ -123,14 +114,14 @@ fn items(alloc: Global, chosen: &[Chosen]) -> Result<Vec<Item>, Want>
     Ok(items)
 }
 
-/// `step` with one item. Takes no memory.
+/// A `step` with one item. Takes no memory.
 fn step_one(chosen: Chosen) -> Option<Command>
     ensures { SomeIff result (IsCommand (Tell (step_named (chosen ∷ [])))) (Tell (step_named (chosen ∷ []))) }
 {
     Some(Command::Tell(Event::Step(Choice::one(item(chosen)?))))
 }
 
-/// `step` with any items.
+/// A `step` with any number of items.
 fn step_all(alloc: Global, chosen: &[Chosen]) -> Result<Option<Command>, Want>
     ensures { IsAsked result (Tell (step_named chosen.now)) }
 {
@@ -143,7 +134,7 @@ fn step_all(alloc: Global, chosen: &[Chosen]) -> Result<Option<Command>, Want>
     }
 }
 
-/// `step`, with its items. Memory is for two items and more, and other numbers want none.
+/// The command `step`. Only two or more items take memory.
 pub(crate) fn step(alloc: Global, chosen: &[Chosen]) -> Result<Option<Command>, Want>
     ensures { IsAsked result (Tell (step_named chosen.now)) }
 {
@@ -153,7 +144,6 @@ pub(crate) fn step(alloc: Global, chosen: &[Chosen]) -> Result<Option<Command>, 
     }
 }
 
-/// So many turns from a seed.
 fn turns(seed: u64, count: u32) -> Option<Turns>
     ensures { SomeIff result (IsTurns (record { seed = seed; count = count })) (record { seed = seed; count = count }) }
 {
@@ -163,14 +153,12 @@ fn turns(seed: u64, count: u32) -> Option<Turns>
     Some(Turns { seed, count })
 }
 
-/// `drive`, with its seed and turns.
 pub(crate) fn drive(seed: u64, count: u32) -> Option<Command>
     ensures { SomeIff result (IsCommand (Drive (record { seed = seed; count = count }))) (Drive (record { seed = seed; count = count })) }
 {
     Some(Command::Drive(turns(seed, count)?))
 }
 
-/// `scramble`, with its seed and turns.
 pub(crate) fn scramble(seed: u64, count: u32) -> Option<Command>
     ensures { SomeIff result (IsCommand (Scramble (record { seed = seed; count = count }))) (Scramble (record { seed = seed; count = count })) }
 {

@@ -1,4 +1,4 @@
-//! Where C keeps an audit that it feeds. What C sees has no type parameter, so this stands beside where it keeps a session.
+//! The slot in which C keeps an audit; C's types have no type parameters, so sessions have another.
 
 ghost use Rattle.std.specs.Prelude.{◌≡◌, ◌↔◌, None, Some, Option, IsTrue, IsNone, IfSome};
 ghost use Rattle.auditor.specs.declared.pieces.PieceAudit.{PieceAudit};
@@ -11,7 +11,7 @@ use std::marker::Model;
 use std::mem::replace;
 use std::ptr::null_mut;
 
-/// An audit by its address, or null where there is none. C sees the address alone.
+/// The address of an audit, or null. C sees the address alone.
 #[repr(C)]
 #[derive(Drop)]
 pub struct AuditHandle {
@@ -25,7 +25,6 @@ impl Model for AuditHandle {
 }
 
 impl AuditHandle {
-    /// No audit.
     pub(crate) fn empty(alloc: Global) -> AuditHandle
         ensures { result.value ≡ None }
     {
@@ -33,7 +32,6 @@ impl AuditHandle {
         AuditHandle { at, alloc }
     }
 
-    /// The audit with these parts.
     pub(crate) fn of_parts(parts: Parts<PieceAudit, Global>) -> AuditHandle
         ensures { result.value ≡ Some parts.value }
     {
@@ -42,7 +40,6 @@ impl AuditHandle {
         AuditHandle { at, alloc }
     }
 
-    /// The parts of the audit.
     pub(crate) fn into_parts(self) -> Parts<PieceAudit, Global>
         requires { self.value ≡ None → ⊥ }
         ensures { Some result.value ≡ self.value }
@@ -53,7 +50,7 @@ impl AuditHandle {
     }
 }
 
-/// An audit of C, or none: that is what a slot of bytes that are all 0 says.
+/// A slot for one audit; all bytes 0 is an empty slot.
 #[repr(C)]
 #[derive(Drop)]
 pub struct AuditSlot {
@@ -63,7 +60,6 @@ pub struct AuditSlot {
 }
 
 impl AuditSlot {
-    /// Takes the audit out.
     pub(crate) fn take(&mut self, alloc: Global) -> Option<Box<PieceAudit>>
         ensures left { self.new.handle.value ≡ None }
         ensures none { IsNone result → self.old.handle.value ≡ None }
@@ -80,7 +76,7 @@ impl AuditSlot {
         Some(old.handle.into_parts().into_box())
     }
 
-    /// Puts an audit in the place of what was there.
+    /// Puts an audit in, in the place of the old one.
     pub(crate) fn put(&mut self, audit: Box<PieceAudit>)
         ensures { self.new.handle.value ≡ Some audit.value }
     {

@@ -9,7 +9,9 @@ use crate::status::{DAMAGED, DONE, MEMORY, NO_SESSION};
 use auditor::{JudgeFault, PieceAudit};
 use std::alloc::Global;
 
-/// Begins an audit that was fed nothing, in the place of what the slot had. 3 if memory runs out: the slot is empty then.
+/// Begins an audit that was fed nothing, in place of what the slot had.
+///
+/// Returns 3 if memory runs out; the slot is then empty.
 #[unsafe(no_mangle)]
 pub extern "C" fn rudekpi_audit_new(alloc: Global, slot: &mut AuditSlot) -> u32
     ensures { AuditBegun result slot.new.handle.value }
@@ -22,8 +24,10 @@ pub extern "C" fn rudekpi_audit_new(alloc: Global, slot: &mut AuditSlot) -> u32
     DONE
 }
 
-/// Feeds it the bytes that come next, cut anywhere. 7 where what it was fed is damaged, whatever comes behind; 3 if memory runs out,
-/// which ends what it can say; from then on each call answers the same. 4 where there is no audit.
+/// Feeds the next bytes, cut anywhere.
+///
+/// Returns 7 if the bytes so far are damaged, whatever follows; 3 if memory runs out; 4 if there is no audit.
+/// After 7 or 3 every call returns the same.
 #[unsafe(no_mangle)]
 pub extern "C" fn rudekpi_audit_feed(alloc: Global, slot: &mut AuditSlot, piece: &[u8]) -> u32
     ensures { AuditFed piece.now result slot.old.handle.value slot.new.handle.value }
@@ -36,7 +40,7 @@ pub extern "C" fn rudekpi_audit_feed(alloc: Global, slot: &mut AuditSlot, piece:
     status_of(found)
 }
 
-/// Judges all that it was fed as a whole text, and ends it. 4 where there is no audit.
+/// Judges all that was fed as a whole text, and ends the audit. Returns 4 if there is no audit.
 #[unsafe(no_mangle)]
 pub extern "C" fn rudekpi_audit_finish(
     alloc: Global,
@@ -54,7 +58,7 @@ pub extern "C" fn rudekpi_audit_finish(
     DONE
 }
 
-/// Ends the audit without a verdict, if there is one.
+/// Ends the audit, if there is one, without a verdict.
 #[unsafe(no_mangle)]
 pub extern "C" fn rudekpi_audit_free(alloc: Global, slot: &mut AuditSlot)
     ensures { slot.new.handle.value ≡ None }
@@ -62,7 +66,6 @@ pub extern "C" fn rudekpi_audit_free(alloc: Global, slot: &mut AuditSlot)
     slot.take(alloc);
 }
 
-// What is found by now, as C is told.
 fn status_of(found: Result<(), JudgeFault>) -> u32
     ensures { result ≡ found_status found }
 {

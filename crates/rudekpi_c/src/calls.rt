@@ -1,4 +1,4 @@
-//! Commands that C gives in numbers. Each call does what its line of a script does.
+//! Commands that C gives as numbers; each does what its script line does.
 
 ghost use Rattle.std.specs.Prelude.{◌≡◌, SomeIff};
 ghost use Rattle.rule_machine.specs.declared.event.Event.{Event};
@@ -18,7 +18,6 @@ use rule_machine::{Event, Reply, Want};
 use script_text::Command;
 use std::alloc::Global;
 
-// How a command ended, as C is told, with the reply to it.
 fn status_of(done: &Result<bool, Want>, reply: &Reply) -> u32
     ensures { result ≡ command_status reply.now done.now }
 {
@@ -30,7 +29,7 @@ fn status_of(done: &Result<bool, Want>, reply: &Reply) -> u32
     }
 }
 
-// Gives the session a command, or says that there is none, since its numbers are out of their ranges.
+// Gives the session a command; 5 if there is none because a number is out of range.
 fn call(alloc: Global, slot: &mut Slot, command: Option<Command>, told: &mut Told) -> u32
     ensures { (asked : Command) → SomeIff command (IsCommand asked) asked → Called asked result told.new slot.old.handle.value slot.new.handle.value }
 {
@@ -48,7 +47,7 @@ fn call(alloc: Global, slot: &mut Slot, command: Option<Command>, told: &mut Tol
     status
 }
 
-// Tells the session that memory was refused for an event.
+// Drops the last answer and returns 3: memory ran out for an event.
 fn unheard(alloc: Global, slot: &mut Slot, told: &mut Told) -> u32
     ensures { (event : Event) → IsCommand (Tell event) → Called (Tell event) result told.new slot.old.handle.value slot.new.handle.value }
 {
@@ -61,8 +60,10 @@ fn unheard(alloc: Global, slot: &mut Slot, told: &mut Told) -> u32
     MEMORY
 }
 
-/// Adds an edge. 6 where the machine refuses it, 2 at a full log, 3 if memory runs out, 4 where there is no session, 5 for a name that
-/// is 0 or above 65,535; so do the others.
+/// Adds an edge.
+///
+/// Returns 6 if the machine refuses it, 2 at a full log, 3 if memory runs out, 4 if there is no session, and
+/// 5 for a name that is 0 or above 65,535. So do the other calls.
 #[unsafe(no_mangle)]
 pub extern "C" fn rudekpi_link(
     alloc: Global,
@@ -90,7 +91,7 @@ pub extern "C" fn rudekpi_unlink(
     call(alloc, slot, asked::unlink(a, b), told)
 }
 
-/// A node comes.
+/// Makes a name present.
 #[unsafe(no_mangle)]
 pub extern "C" fn rudekpi_join(alloc: Global, slot: &mut Slot, node: u32, told: &mut Told) -> u32
     ensures { Called (Tell (Join node)) result told.new slot.old.handle.value slot.new.handle.value }
@@ -98,7 +99,7 @@ pub extern "C" fn rudekpi_join(alloc: Global, slot: &mut Slot, node: u32, told: 
     call(alloc, slot, asked::join(node), told)
 }
 
-/// A node goes.
+/// Makes a node absent, with its edges.
 #[unsafe(no_mangle)]
 pub extern "C" fn rudekpi_leave(alloc: Global, slot: &mut Slot, node: u32, told: &mut Told) -> u32
     ensures { Called (Tell (Leave node)) result told.new slot.old.handle.value slot.new.handle.value }
@@ -134,7 +135,7 @@ pub extern "C" fn rudekpi_flag(
     call(alloc, slot, asked::flag(node, value), told)
 }
 
-/// Moves the chosen nodes, all at once; 5 also for more than 65,535 of them.
+/// Moves the chosen nodes at once; returns 5 also for more than 65,535 items.
 #[unsafe(no_mangle)]
 pub extern "C" fn rudekpi_step(
     alloc: Global,
@@ -150,7 +151,7 @@ pub extern "C" fn rudekpi_step(
     }
 }
 
-/// Asks where a node points.
+/// Asks for a node's pointer.
 #[unsafe(no_mangle)]
 pub extern "C" fn rudekpi_show(alloc: Global, slot: &mut Slot, node: u32, told: &mut Told) -> u32
     ensures { Called (Tell (Show node)) result told.new slot.old.handle.value slot.new.handle.value }
@@ -158,7 +159,7 @@ pub extern "C" fn rudekpi_show(alloc: Global, slot: &mut Slot, node: u32, told: 
     call(alloc, slot, asked::show(node), told)
 }
 
-/// Asks who is enabled.
+/// Asks for the enabled nodes.
 #[unsafe(no_mangle)]
 pub extern "C" fn rudekpi_enabled(alloc: Global, slot: &mut Slot, told: &mut Told) -> u32
     ensures { Called (Tell Enabled) result told.new slot.old.handle.value slot.new.handle.value }
@@ -166,7 +167,7 @@ pub extern "C" fn rudekpi_enabled(alloc: Global, slot: &mut Slot, told: &mut Tol
     call(alloc, slot, Some(Command::Tell(Event::Enabled)), told)
 }
 
-/// Asks for the pairs.
+/// Asks for the matching.
 #[unsafe(no_mangle)]
 pub extern "C" fn rudekpi_pairs(alloc: Global, slot: &mut Slot, told: &mut Told) -> u32
     ensures { Called (Tell Matching) result told.new slot.old.handle.value slot.new.handle.value }
@@ -174,7 +175,7 @@ pub extern "C" fn rudekpi_pairs(alloc: Global, slot: &mut Slot, told: &mut Told)
     call(alloc, slot, Some(Command::Tell(Event::Matching)), told)
 }
 
-/// Asks for numbers, which are 0 where there is no answer.
+/// Asks for the counts, which are all 0 if there is no answer.
 #[unsafe(no_mangle)]
 pub extern "C" fn rudekpi_status(
     alloc: Global,
@@ -190,7 +191,7 @@ pub extern "C" fn rudekpi_status(
     status
 }
 
-/// Up to so many steps of a seeded daemon; 5 for more than 1,000,000.
+/// Takes up to `count` steps of a seeded daemon; returns 5 for more than 1,000,000.
 #[unsafe(no_mangle)]
 pub extern "C" fn rudekpi_drive(
     alloc: Global,
@@ -204,7 +205,7 @@ pub extern "C" fn rudekpi_drive(
     call(alloc, slot, asked::drive(seed, count), told)
 }
 
-/// So many seeded faults; 5 for more than 1,000,000.
+/// Makes up to `count` seeded faults; returns 5 for more than 1,000,000.
 #[unsafe(no_mangle)]
 pub extern "C" fn rudekpi_scramble(
     alloc: Global,

@@ -1,4 +1,4 @@
-//! What edits and faults would cost, where C has not made them yet. Nothing is carried out, and no entry added.
+//! The costs of edits and faults that C has not made yet, without an entry.
 
 ghost use Rattle.std.specs.Prelude.{◌≡◌, SomeIff};
 ghost use Rattle.rule_machine.specs.declared.event.Event.{Event};
@@ -31,8 +31,10 @@ fn cost_of(alloc: Global, slot: &mut Slot, asked: Option<Command>, cost: &mut u3
     DONE
 }
 
-/// What an edge that comes would cost, in moves: by how much it would let the charge grow at most. 0 moves for one that would be refused.
-/// Answers 4 where there is no session, 5 for a name that is 0 or above 65,535; so do the others.
+/// The cost of linking two nodes, in moves: the charge would grow by at most this.
+///
+/// It is 0 for an edge that would be refused. Returns 4 if there is no session, and 5 for a name that is 0 or
+/// above 65,535. So do the other costs.
 #[unsafe(no_mangle)]
 pub extern "C" fn rudekpi_cost_of_link(
     alloc: Global,
@@ -47,7 +49,7 @@ pub extern "C" fn rudekpi_cost_of_link(
     cost_of(alloc, slot, asked::link(a, b), cost)
 }
 
-/// What an edge that goes would cost.
+/// The cost of unlinking two nodes.
 #[unsafe(no_mangle)]
 pub extern "C" fn rudekpi_cost_of_unlink(
     alloc: Global,
@@ -62,7 +64,7 @@ pub extern "C" fn rudekpi_cost_of_unlink(
     cost_of(alloc, slot, asked::unlink(a, b), cost)
 }
 
-/// What a node that comes would cost.
+/// The cost of a node that joins.
 #[unsafe(no_mangle)]
 pub extern "C" fn rudekpi_cost_of_join(
     alloc: Global,
@@ -76,7 +78,7 @@ pub extern "C" fn rudekpi_cost_of_join(
     cost_of(alloc, slot, asked::join(node), cost)
 }
 
-/// What a node that goes would cost.
+/// The cost of a node that leaves.
 #[unsafe(no_mangle)]
 pub extern "C" fn rudekpi_cost_of_leave(
     alloc: Global,
@@ -90,7 +92,7 @@ pub extern "C" fn rudekpi_cost_of_leave(
     cost_of(alloc, slot, asked::leave(node), cost)
 }
 
-/// What a pointer that is written would cost; 0 is null.
+/// The cost of writing a pointer; the target 0 is null.
 #[unsafe(no_mangle)]
 pub extern "C" fn rudekpi_cost_of_point(
     alloc: Global,
@@ -105,7 +107,7 @@ pub extern "C" fn rudekpi_cost_of_point(
     cost_of(alloc, slot, asked::point(node, target), cost)
 }
 
-/// What a flag that is written would cost.
+/// The cost of writing a flag.
 #[unsafe(no_mangle)]
 pub extern "C" fn rudekpi_cost_of_flag(
     alloc: Global,

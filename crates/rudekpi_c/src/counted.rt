@@ -1,4 +1,4 @@
-//! Where a network stands, in numbers for C.
+//! The counts of a network, for C.
 
 ghost use Rattle.std.specs.Prelude.{◌≡◌};
 ghost use Rattle.rudekpi_c.specs.Counted.{counted_in, counted_kept, uncounted};
@@ -7,7 +7,9 @@ use crate::slot::Slot;
 use rule_machine::Reply;
 use std::alloc::Global;
 
-/// How many nodes are present, edges, pairs and enabled nodes there are, the charge, and the moves since the last disturbance.
+/// How many nodes, edges, pairs and enabled nodes there are, the charge, and the moves spent.
+///
+/// The moves spent are those since the last disturbance.
 #[repr(C)]
 #[derive(Clone, Copy)]
 pub struct Counted {
@@ -20,7 +22,6 @@ pub struct Counted {
 }
 
 impl Counted {
-    /// No answer.
     pub(crate) fn none() -> Counted
         ensures { result ≡ uncounted }
     {
@@ -34,7 +35,6 @@ impl Counted {
         }
     }
 
-    /// The numbers in a reply.
     fn of(reply: &Reply) -> Counted
         ensures { result ≡ counted_in reply.now }
     {

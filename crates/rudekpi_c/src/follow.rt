@@ -1,4 +1,4 @@
-//! What a run does with a command.
+//! Carrying out a command in a run.
 
 ghost use Rattle.std.specs.Prelude.{◌≡◌, IfOk, IsTrue};
 ghost use Rattle.rule_engine.specs.Costs.{cost_of};
@@ -18,7 +18,7 @@ use script_text::Command;
 use std::alloc::Global;
 use step_log::Answer;
 
-/// Carries out an event, and keeps the answer to it, or none where it is no entry.
+/// Carries out an event, and keeps its answer, or none if it made no entry.
 fn tell<R: Rules>(run: &mut Run<R>, event: &Event, answer: &mut Answer) -> Result<bool, Want>
     ensures ends { CommandEnds R.table run.old.recorder.limit (Tell event.now) (progress_of run.old) (progress_of run.new) result }
     ensures number { answer.new.seq ≡ number_at (Tell event.now) run.new.recorder.len result }
@@ -41,7 +41,7 @@ fn tell<R: Rules>(run: &mut Run<R>, event: &Event, answer: &mut Answer) -> Resul
     }
 }
 
-/// A number with no reply: that of an entry, or 0.
+/// A number without a reply: that of an entry, or 0.
 pub(crate) fn unanswered(seq: u32) -> Answer
     ensures number { result.seq ≡ seq }
     ensures reply { result.reply ≡ Accepted }
@@ -52,7 +52,6 @@ pub(crate) fn unanswered(seq: u32) -> Answer
     }
 }
 
-/// The number of the last entry, with no reply.
 fn left<R: Rules>(run: &Run<R>) -> Answer
     ensures number { result.seq ≡ run.now.recorder.len }
     ensures reply { result.reply ≡ Accepted }
@@ -60,7 +59,7 @@ fn left<R: Rules>(run: &Run<R>) -> Answer
     unanswered(run.recorder.len())
 }
 
-/// Follows a command, and keeps the answer to it.
+/// Carries out a command, and keeps its answer.
 pub(crate) fn follow<R: Rules>(
     run: &mut Run<R>,
     alloc: Global,
@@ -93,7 +92,6 @@ pub(crate) fn follow<R: Rules>(
     }
 }
 
-/// Adds the lines of a base.
 fn checkpoint<R: Rules>(run: &mut Run<R>) -> Result<bool, Want>
     ensures ends { CommandEnds R.table run.old.recorder.limit Checkpoint (progress_of run.old) (progress_of run.new) result }
     ensures limit { run.new.recorder.limit ≡ run.old.recorder.limit }
@@ -102,7 +100,7 @@ fn checkpoint<R: Rules>(run: &mut Run<R>) -> Result<bool, Want>
     Ok(true)
 }
 
-/// Where a node points, if anywhere; a name that has no place points nowhere.
+/// A node's pointer; `None` for a name above the capacity.
 fn pointer(registers: &Registers, v: Node) -> Option<Node>
     ensures { result ≡ pointer_of registers.now v }
 {
@@ -112,7 +110,7 @@ fn pointer(registers: &Registers, v: Node) -> Option<Node>
     None
 }
 
-/// With whom a node is paired, if it is.
+/// The node that `v` is paired with, if any.
 pub(crate) fn partner<R: Rules>(run: &Run<R>, v: Node) -> Option<Node>
     ensures { result ≡ partner run.now.recorder.state v }
 {
@@ -126,7 +124,6 @@ pub(crate) fn partner<R: Rules>(run: &Run<R>, v: Node) -> Option<Node>
     None
 }
 
-/// What an event would cost where a run stands.
 pub(crate) fn cost_of<R: Rules>(run: &Run<R>, event: &Event) -> u32
     ensures cost { result ≡ cost_of R.table R.cost run.now.recorder.state event.now }
     ensures grows { GrowsBy R.table (moment_of run.now.recorder) event.now result }

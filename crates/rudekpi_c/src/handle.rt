@@ -1,4 +1,4 @@
-//! A session where C keeps it.
+//! The address of a session that C keeps.
 
 ghost use Rattle.std.specs.Prelude.{◌≡◌, None, Some, Option};
 ghost use Rattle.rudekpi_c.specs.declared.session.Session.{Session};
@@ -10,7 +10,7 @@ use std::alloc::Global;
 use std::marker::Model;
 use std::ptr::null_mut;
 
-/// A session by its address, or null where there is none. C sees the address alone: an allocator takes no bytes.
+/// The address of a session, or null. C sees the address alone: an allocator takes no bytes.
 #[repr(C)]
 #[derive(Drop)]
 pub struct Handle {
@@ -24,7 +24,6 @@ impl Model for Handle {
 }
 
 impl Handle {
-    /// No session.
     pub(crate) fn empty(alloc: Global) -> Handle
         ensures { result.value ≡ None }
     {
@@ -32,7 +31,6 @@ impl Handle {
         Handle { at, alloc }
     }
 
-    /// The session with these parts.
     pub(crate) fn of_parts(parts: Parts<Session, Global>) -> Handle
         ensures { result.value ≡ Some parts.value }
     {
@@ -41,7 +39,6 @@ impl Handle {
         Handle { at, alloc }
     }
 
-    /// The parts of the session.
     pub(crate) fn into_parts(self) -> Parts<Session, Global>
         requires { self.value ≡ None → ⊥ }
         ensures { Some result.value ≡ self.value }

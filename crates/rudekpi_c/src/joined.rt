@@ -1,4 +1,4 @@
-//! Verdicts of texts that meet, as one.
+//! Joining the verdicts of texts that meet.
 
 ghost use Rattle.std.specs.Prelude.{◌≡◌, ◌≤◌, MatchOption};
 ghost use Rattle.rudekpi_c.specs.Joined.{AuditJoined, said_by};
@@ -8,7 +8,7 @@ use crate::status::{BAD_ARGUMENT, DONE};
 use audit_parts::join;
 use auditor::{Damage, JudgeFault, Summary};
 
-// What a verdict says, if its kind is one.
+// The result that a verdict encodes, if its kind is valid.
 fn found_in(verdict: Verdict) -> Option<Result<Summary, JudgeFault>>
     ensures { MatchOption result (7 ≤ verdict.kind) (λ found. (verdict.kind ≤ 6) × (found ≡ said_by verdict)) }
 {
@@ -38,9 +38,11 @@ fn found_in(verdict: Verdict) -> Option<Result<Summary, JudgeFault>>
     Some(Err(JudgeFault::Damaged(damage)))
 }
 
-/// Joins the verdict of a text with that of one that it meets: the first ends with the base with which the next begins. Before that
-/// base the first has so many lines, which is used only if it is accepted and the next is damaged. 5 for a kind that is none, or a sum that
-/// its field does not hold: the verdict is as before then.
+/// Joins the verdict of a text with that of the next.
+///
+/// The first text ends with the base that begins the second. `lines` is how many lines the first text has
+/// before that base. It is used only if the first is accepted and the second is damaged. Returns 5 for an
+/// invalid kind, or for a sum that does not fit its field; the verdict is then unchanged.
 #[unsafe(no_mangle)]
 pub extern "C" fn rudekpi_audit_join(verdict: &mut Verdict, lines: u64, next: &Verdict) -> u32
     ensures { AuditJoined lines result verdict.old next.now verdict.new }

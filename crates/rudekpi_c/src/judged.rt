@@ -6,9 +6,19 @@ ghost use Rattle.rudekpi_c.specs.Judged.{JudgedAs, accepted, damaged, refused, u
 use auditor::{Damage, JudgeFault, Summary, audit_bytes};
 use std::alloc::Global;
 
-/// What an audit finds. `kind` is 0 for a transcript, with its counts; else what is wrong first, at `line`, from 1: 1 a bad header,
-/// 2 not a transcript line, 3 out of order, 4 not the machine's reply, 5 a bad base. 6 says that memory was refused, and nothing
-/// of the bytes.
+/// The verdict of an audit.
+///
+/// | `kind` | Meaning |
+/// |---|---|
+/// | 0 | a transcript, with its counts |
+/// | 1 | bad header |
+/// | 2 | not a transcript line |
+/// | 3 | out of order |
+/// | 4 | not the machine's reply |
+/// | 5 | bad base |
+/// | 6 | memory ran out; nothing is known of the bytes |
+///
+/// For kinds 1 to 5, `line` is the first damaged line, from 1.
 #[repr(C)]
 #[derive(Clone, Copy)]
 pub struct Verdict {
@@ -55,14 +65,13 @@ fn told_damaged(damage: Damage) -> Verdict
     }
 }
 
-/// Nothing is said.
+/// The verdict that says nothing of the bytes.
 pub(crate) fn unsaid() -> Verdict
     ensures { result ≡ unjudged }
 {
     told_refused(6, 0)
 }
 
-/// What was judged, as C is told.
 pub(crate) fn told(found: Result<Summary, JudgeFault>) -> Verdict
     ensures { result ≡ verdict_of found }
 {
@@ -73,7 +82,7 @@ pub(crate) fn told(found: Result<Summary, JudgeFault>) -> Verdict
     }
 }
 
-/// Judges bytes as `audit` of the program does: by the definitions of runs, without the engine.
+/// Judges bytes as the program's `audit` does: by the definitions of runs, without the engine.
 #[unsafe(no_mangle)]
 pub extern "C" fn rudekpi_audit(alloc: Global, bytes: &[u8], verdict: &mut Verdict)
     ensures { JudgedAs bytes.now verdict.new }

@@ -1,4 +1,4 @@
-//! How many moves can still come where a session stands. No entry is added.
+//! A bound on the moves that can still come in a session's state, without an entry.
 
 ghost use Rattle.std.specs.Prelude.{◌≡◌};
 ghost use Rattle.rule_machine.specs.Network.{node_count};
@@ -11,7 +11,7 @@ use line_run::Run;
 use rule_engine::NodeBound;
 use std::alloc::Global;
 
-/// How many moves can still come where a run stands.
+/// A bound on the moves that can still come in the run's state.
 pub(crate) fn moves_left<R: NodeBound>(run: &mut Run<R>) -> u32
     ensures value { result ≡ moves_left (R.table.charge run.old.recorder.state) (R.most (node_count run.old.recorder.state.network)) }
     ensures promise { BoundsMoves R.table run.old.recorder.state run.old.recorder.spent result }
@@ -20,7 +20,9 @@ pub(crate) fn moves_left<R: NodeBound>(run: &mut Run<R>) -> u32
     run.recorder.moves_left()
 }
 
-/// Writes how many moves can still come before the next edit or fault that is accepted: at most this many. Answers 4 if there is no session.
+/// Writes how many moves can still come, at most, before the next accepted edit or fault.
+///
+/// Returns 4 if there is no session.
 #[unsafe(no_mangle)]
 pub extern "C" fn rudekpi_moves_left(alloc: Global, slot: &mut Slot, moves: &mut u32) -> u32
     ensures left { Left result moves.new slot.old.handle.value }

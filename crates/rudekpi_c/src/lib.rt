@@ -1,12 +1,14 @@
-//! The maintainer for programs that are not written in Rattle: what C calls.
+//! The library for C: sessions, audits and their calls.
 //!
-//! Its functions have C's names and types (`include/rudekpi.h` tells each with its statuses and its cost). A session is a network that is
-//! told lines of a script and keeps the transcript's text until it is read; an audit judges a transcript in memory, or one that it is fed
-//! in pieces. A slot holds one session or none, by the address of a block that it owns, and that of an audit so, too; what each call does to
-//! the slot is told by the status that it answers, and where memory is refused the session lives on.
+//! Its functions have C's names and types; `include/rudekpi.h` lists the statuses and the cost of each. A
+//! session is a network that carries out script lines and keeps the transcript's text until C reads it. An
+//! audit judges a transcript in memory, or one fed in pieces. A slot holds at most one session, or at most
+//! one audit, by the address of a block that it owns. The status that a call returns says what it did to the
+//! slot. If memory runs out, the session lives on.
 //!
-//! What C has to keep nothing checks: a slot is all bytes 0 at first, is not copied while it is full, one thread uses it at a time, and
-//! no pointer is null. Nothing is kept outside slots, and no thread is started.
+//! C must keep these rules, which nothing checks: a slot is all bytes 0 at first; it is not copied while it
+//! is full; one thread at a time uses it; no pointer is null. No state is kept outside slots, and no thread
+//! is started.
 //!
 //! ```c
 //! struct rudekpi_slot slot = RUDEKPI_NONE;

@@ -1,4 +1,4 @@
-//! What C takes of a session, and looks at, without an entry.
+//! Reading answers and state from a session, without an entry.
 
 ghost use Rattle.std.specs.Prelude.{◌≡◌, ◌≤◌, ◌<◌, ◌++◌, length, drop};
 ghost use Rattle.rudekpi_c.specs.Looked.{Kept, Partnered, rows_kept};
@@ -10,7 +10,7 @@ use crate::told::{count_rows, number_told, write_rows};
 use rule_machine::Node;
 use std::alloc::Global;
 
-/// Copies the rows of the last answer to the start of `out`, if there is room for all of them. How many there are.
+/// Copies the rows of the last answer to the start of `out`, if all fit; returns how many there are.
 #[unsafe(no_mangle)]
 pub extern "C" fn rudekpi_rows(alloc: Global, slot: &mut Slot, out: &mut [Row]) -> usize
     ensures count { result ≡ length (rows_kept slot.old.handle.value) }
@@ -31,7 +31,9 @@ pub extern "C" fn rudekpi_rows(alloc: Global, slot: &mut Slot, out: &mut [Row]) 
     count
 }
 
-/// Says whether the text is kept from here on; where not, what there is is forgotten.
+/// Sets whether the text is kept from here on; if not, the text so far is dropped too.
+///
+/// Returns 4 if there is no session.
 #[unsafe(no_mangle)]
 pub extern "C" fn rudekpi_transcript(alloc: Global, slot: &mut Slot, keeps: bool) -> u32
     ensures { Kept keeps result slot.old.handle.value slot.new.handle.value }
@@ -44,7 +46,9 @@ pub extern "C" fn rudekpi_transcript(alloc: Global, slot: &mut Slot, keeps: bool
     DONE
 }
 
-/// With whom a node is paired; 0 where with nobody.
+/// Writes the partner of a node, or 0 if it has none.
+///
+/// Returns 4 if there is no session, and 5 for a name that is 0 or above 65,535.
 #[unsafe(no_mangle)]
 pub extern "C" fn rudekpi_partner(
     alloc: Global,

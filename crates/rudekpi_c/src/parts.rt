@@ -1,4 +1,4 @@
-//! A box in two: where its value lies, and the allocator that gave the block.
+//! A box in two parts: the address of its value, and the allocator of its block.
 
 ghost use Rattle.std.specs.Prelude.{◌≡◌};
 ghost use Rattle.std.specs.Box.Ownership.{box_owns};
@@ -6,7 +6,7 @@ ghost use Rattle.std.specs.Box.Ownership.{box_owns};
 use std::alloc::Allocator;
 use std::marker::Model;
 
-/// What a box is made of; whoever has it owns the value, and has to free its block.
+/// The parts of a box. Their owner owns the value and must free its block.
 pub(crate) struct Parts<T, A: Allocator> {
     pub(crate) at: *mut T,
     pub(crate) alloc: A,
@@ -18,7 +18,6 @@ impl<T, A: Allocator> Model for Parts<T, A> {
 }
 
 impl<T, A: Allocator> Parts<T, A> {
-    /// Takes a box apart.
     pub(crate) fn of(whole: Box<T, A>) -> Parts<T, A>
     where
         T: Drop,
@@ -28,7 +27,6 @@ impl<T, A: Allocator> Parts<T, A> {
         Parts { at, alloc }
     }
 
-    /// Puts it together again.
     pub(crate) fn into_box(self) -> Box<T, A>
         ensures { result.value ≡ self.value }
     {

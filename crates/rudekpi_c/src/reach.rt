@@ -1,5 +1,4 @@
-//! Which nodes are at rest, and whom edits and faults would reach, where C has not made them yet. Nothing is carried out, and no entry
-//! added.
+//! The nodes at rest, and those that edits and faults would reach, without an entry.
 
 ghost use Rattle.std.specs.Prelude.{◌≡◌, ◌≤◌, ◌++◌, SomeIff, IfOk, IsTrue, length, drop};
 ghost use Rattle.containment_laws.specs.Rest.{is_at_rest};
@@ -24,18 +23,16 @@ use rule_set::Rules;
 use script_text::Command;
 use std::alloc::Global;
 
-// Whether a node is at rest where a run stands.
 fn rests<R: Rules>(run: &Run<R>, v: Node) -> bool
     ensures rests { result ≡ is_at_rest R.table.flags run.now.recorder.state v }
     ensures state { IsState run.now.recorder.state }
 {
     let net = run.recorder.net();
-    // By its contract the state is sound.
+    // Called for its contract: the state is sound.
     let _ = net.registers();
     net.is_at_rest(v)
 }
 
-// The nodes that an event would reach where a run stands.
 fn reach_in<R: Rules>(run: &Run<R>, event: &Event) -> Result<Vec<Node>, Want>
     ensures { IfOk result (λ list. list.items ≡ reach_of R.table run.now.recorder.state event.now) }
 {
@@ -43,7 +40,6 @@ fn reach_in<R: Rules>(run: &Run<R>, event: &Event) -> Result<Vec<Node>, Want>
 }
 
 impl Session {
-    /// Whether a node is at rest where the session stands.
     pub(crate) fn is_at_rest(&self, v: Node) -> bool
         ensures rests { result ≡ rests_at self.now v }
         ensures stays { IsTrue result → StaysAtRest (table_of (rules_of self.now)) (stands self.now).moment v }
@@ -54,7 +50,6 @@ impl Session {
         }
     }
 
-    /// The nodes that an event would reach where the session stands.
     pub(crate) fn reach_of(&self, event: &Event) -> Result<Vec<Node>, Want>
         ensures { IfOk result (λ list. list.items ≡ reach_at self.now event.now) }
     {
@@ -65,7 +60,7 @@ impl Session {
     }
 }
 
-// Writes names in front of what lies behind them.
+// Writes names over the start of `out`.
 fn put_names(out: &mut [u32], nodes: &[Node])
     requires { length nodes.now ≤ length out.old }
     ensures { out.new ≡ nodes.now ++ drop (length nodes.now) out.old }
@@ -75,7 +70,7 @@ fn put_names(out: &mut [u32], nodes: &[Node])
     }
 }
 
-// Tells whom an event would reach, or that there is none, since its numbers are out of their ranges.
+// Writes the nodes that an event would reach; 5 if a number is out of range.
 fn reach_of(
     alloc: Global,
     slot: &mut Slot,
@@ -105,8 +100,10 @@ fn reach_of(
     DONE
 }
 
-/// Whether a node is at rest: whatever the daemon chooses, it does not move until a disturbance reaches it. Answers 4 where there is no
-/// session, 5 for a name that is 0 or above 65,535.
+/// Writes whether a node is at rest.
+///
+/// It then does not move until a disturbance reaches it, whatever the daemon chooses. Returns 4 if there is
+/// no session, and 5 for a name that is 0 or above 65,535.
 #[unsafe(no_mangle)]
 pub extern "C" fn rudekpi_is_at_rest(
     alloc: Global,
@@ -129,9 +126,11 @@ pub extern "C" fn rudekpi_is_at_rest(
     DONE
 }
 
-/// Copies the names of the nodes that an edge that comes would reach, ascending, to the start of `out`, if there is room for all, and
-/// says how many there are. None for one that would be refused. Answers 3 if memory runs out, 4 where there is no session, 5 for a name
-/// that is 0 or above 65,535; so do the others.
+/// Copies the names of the nodes that a new edge would reach, ascending, to the start of `out`.
+///
+/// They are copied only if all fit; `count` is how many there are, 0 for an edge that would be refused.
+/// Returns 3 if memory runs out, 4 if there is no session, and 5 for a name that is 0 or above 65,535. So do
+/// the other calls.
 #[unsafe(no_mangle)]
 pub extern "C" fn rudekpi_reach_of_link(
     alloc: Global,
@@ -147,7 +146,7 @@ pub extern "C" fn rudekpi_reach_of_link(
     reach_of(alloc, slot, asked::link(a, b), out, count)
 }
 
-/// Whom an edge that goes would reach.
+/// The same for an edge that is removed.
 #[unsafe(no_mangle)]
 pub extern "C" fn rudekpi_reach_of_unlink(
     alloc: Global,
@@ -163,7 +162,7 @@ pub extern "C" fn rudekpi_reach_of_unlink(
     reach_of(alloc, slot, asked::unlink(a, b), out, count)
 }
 
-/// Whom a node that comes would reach.
+/// The same for a node that joins.
 #[unsafe(no_mangle)]
 pub extern "C" fn rudekpi_reach_of_join(
     alloc: Global,
@@ -178,7 +177,7 @@ pub extern "C" fn rudekpi_reach_of_join(
     reach_of(alloc, slot, asked::join(node), out, count)
 }
 
-/// Whom a node that goes would reach.
+/// The same for a node that leaves.
 #[unsafe(no_mangle)]
 pub extern "C" fn rudekpi_reach_of_leave(
     alloc: Global,
@@ -193,7 +192,7 @@ pub extern "C" fn rudekpi_reach_of_leave(
     reach_of(alloc, slot, asked::leave(node), out, count)
 }
 
-/// Whom a pointer that is written would reach; 0 is null.
+/// The same for a pointer that is written; the target 0 is null.
 #[unsafe(no_mangle)]
 pub extern "C" fn rudekpi_reach_of_point(
     alloc: Global,
@@ -209,7 +208,7 @@ pub extern "C" fn rudekpi_reach_of_point(
     reach_of(alloc, slot, asked::point(node, target), out, count)
 }
 
-/// Whom a flag that is written would reach.
+/// The same for a flag that is written.
 #[unsafe(no_mangle)]
 pub extern "C" fn rudekpi_reach_of_flag(
     alloc: Global,

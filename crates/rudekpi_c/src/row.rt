@@ -1,4 +1,4 @@
-//! Rows of an answer.
+//! The rows of an answer.
 
 ghost use Rattle.std.specs.Prelude.{◌≡◌, ◌≤◌, ◌++◌, length, map, drop};
 ghost use Rattle.rudekpi_c.specs.declared.row.Row.{Row};
@@ -7,7 +7,13 @@ ghost use Rattle.rudekpi_c.specs.Told.{move_row, enabled_row, pair_row, rule_num
 use crate::told::number_told;
 use rule_machine::{Act, Edge, Moved, Node};
 
-/// Of a move the node, its rule, and where it points now; of an enabled node that and the rule; of a pair its ends, the lower first.
+/// One row of an answer.
+///
+/// | Row | `node` | `rule` | `other` |
+/// |---|---|---|---|
+/// | a move | the node | its rule | its new target, or 0 |
+/// | an enabled node | the node | its rule | 0 |
+/// | a pair | the lower end | 0 | the higher end |
 #[repr(C)]
 #[derive(Clone, Copy)]
 pub struct Row {
@@ -16,12 +22,11 @@ pub struct Row {
     pub other: u32,
 }
 
-/// What is a row of an answer.
+/// A value that is a row of an answer.
 pub(crate) trait AsRow: Copy {
     /// The row.
     ghost shown: { Self → Row };
 
-    /// The row.
     fn row(self) -> Row
         ensures { result ≡ shown self };
 }
@@ -73,7 +78,7 @@ fn rule_told(act: Act) -> u32
     }
 }
 
-/// Writes the rows of items in front of what lies behind them.
+/// Writes the rows of items over the start of `out`.
 pub(crate) fn put_rows<T: AsRow>(out: &mut [Row], items: &[T])
     requires { length items.now ≤ length out.old }
     ensures { out.new ≡ map T.shown items.now ++ drop (length items.now) out.old }

@@ -1,4 +1,4 @@
-//! A session: a network, and the run of what it is told.
+//! A session: a network, and the run of its commands.
 
 ghost use Rattle.std.specs.Prelude.{◌≡◌, ◌≤◌, ◌+◌, ◌^◌, ◌-◌, true, false, None, Ok, IfOk, IsTrue, min};
 ghost use Rattle.line_run.specs.Beginning.{beginning};
@@ -21,15 +21,16 @@ use script_text::Command;
 use std::alloc::Global;
 use step_log::{Answer, MAX_ENTRIES};
 
-/// The run under its rules.
 #[derive(Drop)]
 pub(crate) enum Machine {
     Hh(Run<HsuHuang>),
     Manne(Run<Manne>),
 }
 
-/// A run that goes on call by call, how many lines were fed, whether a transcript is kept, and the answer to the last command that was
-/// no line.
+/// A run that goes on call by call.
+///
+/// With it: how many lines were fed, whether a transcript is kept, and the answer to the last command that
+/// was not a line.
 #[derive(Drop)]
 pub struct Session {
     pub(crate) machine: Machine,
@@ -39,7 +40,7 @@ pub struct Session {
 }
 
 impl Session {
-    /// The session of a new network, which keeps its transcript.
+    /// A session of a new network that keeps its transcript.
     pub(crate) fn new(
         alloc: Global,
         rules: RuleSet,
@@ -67,7 +68,6 @@ impl Session {
         })
     }
 
-    /// Carries out a line, which has the number that the session gives it.
     pub(crate) fn feed(&mut self, alloc: Global, line: &[u8]) -> Result<Option<Stop>, Want>
         ensures ends { LineEnded (rules_of self.old) (limit_of self.old) self.new.lines line.now (stands self.old) (stands self.new) result }
         ensures silent { result ≡ Ok None → LineSilences (table_of (rules_of self.old)) line.now (stands self.old).moment.state (stands self.new).moment.state }
@@ -84,7 +84,6 @@ impl Session {
         }
     }
 
-    /// Follows a command, and keeps the answer to it.
     pub(crate) fn follow(&mut self, alloc: Global, command: &Command) -> Result<bool, Want>
         ensures ends { CommandEnded (rules_of self.old) (limit_of self.old) command.now (stands self.old) (stands self.new) result }
         ensures silent { IfOk result (λ done. IsTrue done → Silences (table_of (rules_of self.old)) command.now (stands self.old).moment.state (stands self.new).moment.state) }
@@ -101,7 +100,6 @@ impl Session {
         }
     }
 
-    /// With whom a node is paired, if it is.
     pub(crate) fn partner(&self, v: Node) -> Option<Node>
         ensures { result ≡ partner (stands self.now).moment.state v }
     {
@@ -111,7 +109,6 @@ impl Session {
         }
     }
 
-    /// What an event would cost where the session stands.
     pub(crate) fn cost_of(&self, event: &Event) -> u32
         ensures cost { result ≡ cost_at self.now event.now }
         ensures grows { GrowsBy (table_of (rules_of self.now)) (stands self.now).moment event.now result }
@@ -122,7 +119,7 @@ impl Session {
         }
     }
 
-    /// How many moves can still come where the session stands.
+    /// A bound on the moves that can still come in the session's state.
     pub(crate) fn moves_left(&mut self) -> u32
         ensures value { result ≡ left_at self.old }
         ensures promise { IsMost (table_of (rules_of self.old)) (stands self.old).moment result }
@@ -134,7 +131,7 @@ impl Session {
         }
     }
 
-    /// The entries' text that C has not taken yet.
+    /// The text of the entries that C has not taken.
     pub(crate) fn text(&self) -> &[u8]
         ensures { result.now ≡ (stands self.now).text }
     {
@@ -144,7 +141,6 @@ impl Session {
         }
     }
 
-    /// Forgets the text.
     pub(crate) fn forget_text(&mut self)
         ensures stands { stands self.new ≡ shown false (stands self.old) }
         ensures rules { rules_of self.new ≡ rules_of self.old }
@@ -159,7 +155,6 @@ impl Session {
         }
     }
 
-    /// Forgets the answer.
     pub(crate) fn forget_answer(&mut self)
         ensures number { self.new.answer.seq ≡ 0 }
         ensures reply { self.new.answer.reply ≡ Accepted }
@@ -172,7 +167,6 @@ impl Session {
         self.answer = unanswered(0);
     }
 
-    /// Says whether a transcript is kept.
     pub(crate) fn keep(&mut self, keeps: bool)
         ensures keeps { self.new.keeps ≡ keeps }
         ensures stands { stands self.new ≡ stands self.old }
@@ -184,7 +178,7 @@ impl Session {
         self.keeps = keeps;
     }
 
-    /// Forgets the text where no transcript is kept.
+    /// Drops the text if no transcript is kept.
     pub(crate) fn settle(&mut self)
         ensures stands { stands self.new ≡ shown self.old.keeps (stands self.old) }
         ensures rules { rules_of self.new ≡ rules_of self.old }

@@ -1,4 +1,4 @@
-//! Sessions that are told lines of a script.
+//! Sessions that are fed script lines.
 
 ghost use Rattle.std.specs.Prelude.{◌≡◌, None};
 ghost use Rattle.rudekpi_c.specs.Slot.{Begun, Fed, Handed, line_status, named, text_length};
@@ -10,7 +10,6 @@ use line_run::Stop;
 use rule_machine::{MAX_NAME, RuleSet, Want};
 use std::alloc::Global;
 
-// The rules with this number.
 fn rules_named(rules: u32) -> RuleSet
     ensures { result ≡ named rules }
 {
@@ -20,8 +19,10 @@ fn rules_named(rules: u32) -> RuleSet
     }
 }
 
-/// Begins a session of a new network, in the place of what the slot had: rules 0 are those of Hsu and Huang, 1 those of Manne and
-/// others. 5 for other rules, more than 65,535 names, or more nodes than names; 3 if memory runs out: the slot is empty then.
+/// Begins a session of a new network, in place of what the slot had.
+///
+/// The rules 0 are those of Hsu and Huang, 1 those of Manne and others. Returns 5 for other rules, more than
+/// 65,535 names, or more nodes than names; 3 if memory runs out. The slot is then empty.
 #[unsafe(no_mangle)]
 pub extern "C" fn rudekpi_session_new(
     alloc: Global,
@@ -46,9 +47,14 @@ pub extern "C" fn rudekpi_session_new(
     DONE
 }
 
-/// Carries out the next line of the session, without its LF, and tells its number. 1 where it is neither empty nor a command, and
-/// nothing was done; 2 where it met a full log; 3 if memory runs out: at most some first turns of the line were taken, and the
-/// session goes on from there. 4 where there is no session, and the number stays as it was.
+/// Carries out the session's next line, without its LF, and writes its number.
+///
+/// | Status | When |
+/// |---|---|
+/// | 1 | the line is neither empty nor a command; nothing was done |
+/// | 2 | it met a full log |
+/// | 3 | memory ran out; at most some first turns of the line were taken, and the session goes on |
+/// | 4 | there is no session; the number is unchanged |
 #[unsafe(no_mangle)]
 pub extern "C" fn rudekpi_session_feed(
     alloc: Global,
@@ -67,7 +73,7 @@ pub extern "C" fn rudekpi_session_feed(
     status_of(done)
 }
 
-/// How many bytes of text there are; 0 where there is no session.
+/// How many bytes of text there are; 0 if there is no session.
 #[unsafe(no_mangle)]
 pub extern "C" fn rudekpi_session_length(alloc: Global, slot: &mut Slot) -> usize
     ensures kept { slot.new.handle.value ≡ slot.old.handle.value }
@@ -81,8 +87,9 @@ pub extern "C" fn rudekpi_session_length(alloc: Global, slot: &mut Slot) -> usiz
     len
 }
 
-/// Copies the text to the start of `out` and forgets it, if there is room for all of it; no byte behind it is written, nor any where
-/// there is less room. How many bytes the text has.
+/// Copies the text to the start of `out` and drops it, if all of it fits; returns its length.
+///
+/// No other byte of `out` is written.
 #[unsafe(no_mangle)]
 pub extern "C" fn rudekpi_session_read(alloc: Global, slot: &mut Slot, out: &mut [u8]) -> usize
     ensures { Handed out.old out.new result slot.old.handle.value slot.new.handle.value }
@@ -110,7 +117,6 @@ pub extern "C" fn rudekpi_session_free(alloc: Global, slot: &mut Slot)
     slot.take(alloc);
 }
 
-// How a line ended, as C is told.
 fn status_of(done: Result<Option<Stop>, Want>) -> u32
     ensures { result ≡ line_status done }
 {

@@ -1,4 +1,4 @@
-//! Where C keeps a session.
+//! The slot in which C keeps a session.
 
 ghost use Rattle.std.specs.Prelude.{◌≡◌, ◌↔◌, None, Some, IsTrue, IsNone, IfSome};
 ghost use Rattle.rudekpi_c.specs.Slot.{IsPutBack};
@@ -9,7 +9,7 @@ use crate::session::Session;
 use std::alloc::Global;
 use std::mem::replace;
 
-/// A session of C, or none: that is what a slot of bytes that are all 0 says.
+/// A slot for one session; all bytes 0 is an empty slot.
 #[repr(C)]
 #[derive(Drop)]
 pub struct Slot {
@@ -36,14 +36,14 @@ impl Slot {
         Some(old.handle.into_parts().into_box())
     }
 
-    /// Puts a session in the place of what was there.
+    /// Puts a session in, in the place of the old one.
     pub(crate) fn put(&mut self, session: Box<Session>)
         ensures { self.new.handle.value ≡ Some session.value }
     {
         let handle = Handle::of_parts(Parts::of(session));
         *self = Slot { handle, full: true };
     }
-    /// Puts a session back that has gone on, without its text where it keeps none.
+    /// Puts a session back, without its text if it keeps none.
     pub(crate) fn put_back(&mut self, session: Box<Session>)
         ensures { IsPutBack session.value self.new.handle.value }
     {

@@ -1,25 +1,25 @@
-//! What a call answers.
+//! The statuses of calls.
 
-/// It was done.
+/// Done.
 pub(crate) const DONE: u32 = 0;
 
 /// The line is neither empty nor a command.
 pub(crate) const BAD_LINE: u32 = 1;
 
-/// An entry was wanted when there were as many as there may be.
+/// An entry is needed, and the log is full.
 pub(crate) const LOG_FULL: u32 = 2;
 
-/// A growth of memory was refused.
+/// Memory ran out.
 pub(crate) const MEMORY: u32 = 3;
 
 /// There is no session, or no audit.
 pub(crate) const NO_SESSION: u32 = 4;
 
-/// What was asked for is out of its range.
+/// An argument is out of range.
 pub(crate) const BAD_ARGUMENT: u32 = 5;
 
 /// The machine refuses the event.
 pub(crate) const REFUSED: u32 = 6;
 
-/// What an audit was fed is no transcript, whatever comes behind.
+/// What an audit was fed is no transcript, whatever follows.
 pub(crate) const DAMAGED: u32 = 7;

@@ -1,4 +1,4 @@
-//! What C is told of a command.
+//! The answer to a command, for C.
 
 ghost use Rattle.std.specs.Prelude.{◌≡◌, ◌≤◌, ◌++◌, ◌<◌, length, drop};
 ghost use Rattle.rudekpi_c.specs.Told.{told_of, untold, number_of, refusal_in, target_in, rows_of};
@@ -7,7 +7,9 @@ use crate::row::{Row, put_rows};
 use rule_machine::{Node, Reply};
 use step_log::Answer;
 
-/// The number of an entry; why it was refused, or 0; where a node points that was asked about, or 0; how many rows there are.
+/// An answer: the entry's number, its refusal, the pointer shown, and how many rows it has.
+///
+/// Each is 0 if there is none.
 #[repr(C)]
 #[derive(Clone, Copy)]
 pub struct Told {
@@ -18,7 +20,6 @@ pub struct Told {
 }
 
 impl Told {
-    /// Nothing is to be told.
     pub(crate) fn nothing() -> Told
         ensures { result ≡ untold }
     {
@@ -30,7 +31,7 @@ impl Told {
         }
     }
 
-    /// An answer in numbers.
+    /// The answer as numbers.
     pub(crate) fn of(answer: &Answer) -> Told
         ensures { result ≡ told_of answer.now.seq answer.now.reply }
     {
@@ -44,7 +45,7 @@ impl Told {
     }
 }
 
-/// A name, or 0 for none.
+/// A node's name, or 0 for none.
 pub(crate) fn number_told(node: Option<Node>) -> u32
     ensures { result ≡ number_of node }
 {
@@ -72,7 +73,6 @@ fn target_told(reply: &Reply) -> u32
     }
 }
 
-/// How many rows a reply has.
 pub(crate) fn count_rows(reply: &Reply) -> usize
     ensures { result ≡ length (rows_of reply.now) }
 {
@@ -84,7 +84,7 @@ pub(crate) fn count_rows(reply: &Reply) -> usize
     }
 }
 
-/// Writes the rows of a reply in front of what lies behind them.
+/// Writes the rows of a reply over the start of `out`.
 pub(crate) fn write_rows(out: &mut [Row], reply: &Reply)
     requires { length (rows_of reply.now) ≤ length out.old }
     ensures { out.new ≡ rows_of reply.now ++ drop (length (rows_of reply.now)) out.old }

@@ -1,4 +1,4 @@
--- The set of the enabled nodes, and that a look again near a change keeps it.
+-- Looks again near a change keep the set of enabled nodes.
 use Rattle.std.proofs.Common.{◌≡◌, ℕ, suc, ◌+◌, ◌≤◌, Bool, true, false, cond, ◌&&◌, ◌||◌, List, [], ◌∷◌, length, filter, find, replicate, Option, None, is_some, nat_eq, refl, sym, ap, ◌∙◌, subst, ⊎_elim, arith}
 use Rattle.std.specs.List.{range_with_len}
 use Rattle.std.proofs.lemmas.Bool.{cases_Bool, cond-true, cond-false, eqb-true, eq-eqb}
@@ -17,18 +17,18 @@ use Rattle.rule_engine.proofs.Looked.{looked_both}
 use Rattle.indexed_state.proofs.Named.{kept_twice}
 use Rattle.rule_engine.proofs.Opening.{blank_at}
 
--- a guard depends on nothing but what is shown at its node
+-- a guard depends only on what its node shows
 abbrev pub IsLocal : RuleTable → Type 0
 IsLocal t = (s u : State) (v : ℕ) (act : Act) → IsState s → IsState u → SameAt s u v → t.guard s v act ≡ t.guard u v act
 
--- so two states that show the same at a name, present in both or in neither, have the same rule enabled there
+-- two states that show the same at a name, present in both or in neither, enable the same rule there
 pub same_on : (t : RuleTable) → IsLocal t → (s u : State) (v : ℕ) → IsState s → IsState u → present u.network v ≡ present s.network v → SameAt s u v → is_on t s v ≡ is_on t u v
 same_on t local s u v good good' here same =
     ap (λ b. is_some (cond b (rule_at t s v) None)) (sym here)
     ∙ ap (λ (g : Act → Bool). is_some (cond (present u.network v) (find g acts) None)) (λ i act. local s u v act good good' same i)
 
--- a change that leaves a state of as many names, after which each name was looked at where something else is shown or the
--- presence is another
+-- a change that keeps the number of names; each name that shows something else, or whose presence changed,
+-- was looked at
 pub kept_again : (t : RuleTable) → IsLocal t → (s u : State) (looked : ℕ → Bool) (bits bits' : List Bool) {marks : List Bool} → IsKept t s bits marks → IsState u → u.network.size ≡ s.network.size → ((v : ℕ) → looked v ≡ false → present u.network v ≡ present s.network v) → ((v : ℕ) → looked v ≡ false → SameAt s u v) → IsLookedAt t u looked bits bits' → IsKept t u bits' marks
 kept_again t local s u looked bits bits' kept good size here far done = record {
   is_state = good;
@@ -43,7 +43,7 @@ kept_again t local s u looked bits bits' kept good size here far done = record {
   few = omega (arith, kept.few, size);
 }
 
--- after a change of edges that shows at two ends alone, a look at these
+-- after a change of edges that shows at two ends only, a look at both
 pub kept_ends : (t : RuleTable) → IsLocal t → (s u : State) (net : Network) (a b : ℕ) (bits one two : List Bool) {marks : List Bool} → IsKept t s bits marks → IsState u → u ≡ record s { network = net } → net.size ≡ s.network.size → ((x : ℕ) → present net x ≡ present s.network x) → ((v : ℕ) → (nat_eq v a || nat_eq v b) ≡ false → SameAt s (record s { network = net }) v) → IsLookedAt t u (λ w. nat_eq w a) bits one → IsLookedAt t u (λ w. nat_eq w b) one two → IsKept t u two marks
 kept_ends t local s u net a b bits one two kept good is size here far first next =
     kept_again t local s u (λ w. nat_eq w a || nat_eq w b) bits two kept good (ap (λ q. q.network.size) is ∙ size) (λ x _. ap (λ q. present q.network x) is ∙ here x)
@@ -55,7 +55,7 @@ by_presence : {X : Type 0} (here : Bool) (o : Option X) → is_some (cond here o
 by_presence true o = refl
 by_presence false o = refl
 
--- the members are the enabled nodes, since no rule is enabled at nobody's place
+-- the members are the enabled nodes, since no rule is enabled at place 0
 pub members_on : (t : RuleTable) (s : State) (bits : List Bool) → AreOn t s bits → members bits ≡ enabled_names t s
 members_on t s bits on =
     let count : length bits ≡ suc s.network.size = omega (arith, on.places) in
@@ -69,7 +69,7 @@ none_on : (t : RuleTable) (s : State) (v : ℕ) (b : Bool) → present s.network
 none_on t s v true has quiet = ap is_some (act_none (t.guard s v) (quiet_at t s quiet v has))
 none_on t s v false has quiet = refl
 
--- where no rule is enabled, two empty sets are kept
+-- if no rule is enabled, two empty sets are kept
 pub kept_quiet : (t : RuleTable) (s : State) (bits marks : List Bool) → IsState s → enabled_names t s ≡ [] → bits ≡ replicate (s.network.size + 1) false → marks ≡ replicate (s.network.size + 1) false → s.network.size ≤ 65535 → IsKept t s bits marks
 kept_quiet t s bits marks good quiet empty unmarked few = record {
   is_state = good;
@@ -81,7 +81,7 @@ kept_quiet t s bits marks good quiet empty unmarked few = record {
   few = few;
 }
 
--- it counts no members just where no rule is enabled
+-- it counts no members exactly if no rule is enabled
 pub quiet_by_count : (t : RuleTable) (s : State) (bits : List Bool) (count : ℕ) → AreOn t s bits → count ≡ length (members bits) → (nat_eq count 0 ≡ true → enabled_names t s ≡ []) × (enabled_names t s ≡ [] → nat_eq count 0 ≡ true)
 quiet_by_count t s bits count on is =
     (λ none. sym (members_on t s bits on) ∙ nil_from_length (members bits) (sym is ∙ eqb-true count 0 none), λ quiet. eq-eqb count 0 (is ∙ ap length (members_on t s bits on ∙ quiet)))

@@ -1,4 +1,5 @@
--- The moves of a choice, put in the order of their nodes, are its least moves: both rise, and have the same members.
+-- The moves of a choice in the order of their nodes are its least moves: both rise, and have the same
+-- members.
 use Rattle.std.proofs.Common.{◌≡◌, ℕ, suc, ◌+◌, ◌<◌, Bool, false, List, [], ◌∷◌, ◌++◌, map, filter_map, get_or, Contains, Option, None, Some, is_some, option_and_then, IsTrue, eqb-true, nat_eq, refl, sym, ap, ap₂, ◌∙◌, subst, ⊎_elim, arith}
 use Rattle.std.specs.List.{list_any, AllByRecursion, IsDistinct, cons_option}
 use Rattle.std.specs.List.Sorted.{IsPermutation, IsStrictlyIncreasing, IsNonDecreasing, IsNonDecreasingBy}
@@ -41,9 +42,9 @@ rises_head x xs m up at =
     let same : get_or (map node_of xs) at.0 x.node ≡ m.node = get_or-map node_of xs at.0 m x.node at.1 ∙ ap node_of at.2 in
     omega arith
 
--- Two lists of moves that rise by node and have the same members are one. By induction: each head is a member of the
--- other list, so that neither is below the other; and what is behind a head is above it, so the rests have the same
--- members too.
+-- Two lists of moves that rise by node and have the same members are equal. By induction: each head is a
+-- member of the other list, so neither is below the other; the rest after a head is above it, so the rests
+-- have the same members too.
 same_rising : (xs ys : List Moved) → IsStrictlyIncreasing (map node_of xs) → IsStrictlyIncreasing (map node_of ys) → ((m : Moved) → Contains xs m → Contains ys m) → ((m : Moved) → Contains ys m → Contains xs m) → xs ≡ ys
 same_rising [] [] up up' to back = refl
 same_rising [] (y ∷ ys) up up' to back = absurd (contains_empty y (back y (contains_first y ys)))
@@ -91,7 +92,7 @@ rises_from ms up distinct = IsStrictlyIncreasing-from_distinct (map node_of ms) 
 
 -- ---- the moves of a choice
 
--- those of verdicts are those of the items that they are of
+-- the moves of verdicts are those of their items
 moves_of-verdicts_from : (t : RuleTable) (s : State) (place : ℕ) (items : List Item) → moves_of (verdicts_from t s place items) ≡ moves_by t s items
 moves_of-verdicts_from t s place [] = refl
 moves_of-verdicts_from t s place (item ∷ items) = ap (cons_option (move_in (outcome_of t s item))) (moves_of-verdicts_from t s (place + 1) items)
@@ -103,7 +104,7 @@ moves_of-verdicts_of t s items = moves_of-verdicts_from t s 0 items
 abbrev pub IsFresh : List Item → Moved → Type 0
 IsFresh items m = list_any (λ i. nat_eq i.node m.node) items ≡ false
 
--- moves that are fresh behind one more item are fresh, and of other nodes
+-- moves that are fresh after one more item are fresh, and of other nodes
 fresh_behind : (earlier : List Item) (item : Item) (v : ℕ) → v ≡ item.node → (ms : List Moved) → AllByRecursion (IsFresh (earlier ++ item ∷ [])) ms → AllByRecursion (IsFresh earlier) ms × AllByRecursion (λ w. nat_eq v w ≡ false) (map node_of ms)
 fresh_behind earlier item v same [] fresh = (tt, tt)
 fresh_behind earlier item v same (m ∷ ms) fresh =
@@ -131,7 +132,7 @@ made_apart t s earlier (item ∷ items) none =
     subst (λ o. AllByRecursion (IsFresh earlier) (cons_option o (moves_by t s items)) × IsDistinct nat_eq (map node_of (cons_option o (moves_by t s items)))) (sym taken.move.1)
     ((ap (λ v. list_any (λ i. nat_eq i.node v) earlier) node ∙ taken.fresh, behind.0), (behind.1, rest.1))
 
--- what h gives, it gives of an item
+-- what h gives, it gives for an item
 given_by : {X Y : Type 0} (h : X → Option Y) (xs : List X) (y : Y) → Contains (filter_map h xs) y → (x : X) × Contains xs x × (h x ≡ Some y)
 given_by h [] y at = absurd (contains_empty y at)
 given_by {X = X} {Y = Y} h (x ∷ xs) y at = go (h x) refl (λ there. given_by h xs y there) at
@@ -144,7 +145,7 @@ given_by {X = X} {Y = Y} h (x ∷ xs) y at = go (h x) refl (λ there. given_by h
     go (Some z) e more there =
         ⊎_elim (λ (same : z ≡ y). (x, contains_first x xs, e ∙ ap Some same)) (λ (behind : Contains (filter_map h xs) y). later (more behind)) (contains_cases z y (filter_map h xs) there)
 
--- each move of a choice that is not refused is a least one, since its item is present and the first of its node
+-- each move of a choice that is not refused is a least one: its item is present and the first of its node
 made_is_least : (t : RuleTable) (s : State) (items : List Item) → items_refusal t s [] items ≡ None → (m : Moved) → Contains (moves_by t s items) m → Contains (least_moves t s items) m
 made_is_least t s items none m at =
     let given = given_by (λ i. move_in (outcome_of t s i)) items m at in
@@ -172,7 +173,7 @@ least_rises t s items =
         option_and_then_some (λ item. move_in (outcome_of t s item)) (item_of items v) m e
         (λ item found move. (makes_from_outcome t s item m move).node ∙ eqb-true item.node v (find_passes (λ i. nat_eq i.node v) items item found))
 
--- The moves of a choice that stand in the order of their nodes are the least ones.
+-- The moves of a choice in the order of their nodes are the least ones.
 pub least_from_sorted : (made moves : List Moved) → IsPermutation made moves → IsNonDecreasingBy (λ m. m.node) moves → AreLeast made moves
 least_from_sorted made moves same up = λ t s items is none.
     let accepted = (choice_from_none t s items none).taken in

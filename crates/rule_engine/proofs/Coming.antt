@@ -1,4 +1,4 @@
--- Nodes that join and leave: what is shown at the others, and that the set of the enabled nodes is kept.
+-- Nodes that join and leave: what the others show, and the set of enabled nodes.
 use Rattle.std.proofs.Common.{◌≡◌, ℕ, ◌<◌, ◌≤◌, Bool, true, false, cond, is_some, List, length, set, get_or, nat_eq, None, IsTrue, sym, ap, ◌∙◌, subst, ⊎_elim, arith}
 use Rattle.std.proofs.lemmas.Bool.{and_parts, and_from, cases_lt, false_from_ne_true, le-leb, true≢false}
 use Rattle.std.proofs.lemmas.List.{get_or-set_same, get_or_past, length-set}

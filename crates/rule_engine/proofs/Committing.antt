@@ -1,4 +1,4 @@
--- The moves that a reply tells are of nodes that are present, to neighbours.
+-- The moves in a reply are of present nodes, to neighbours.
 use Rattle.std.proofs.Common.{◌≡◌, ℕ, List, [], Option, None, Some, All, ap}
 use Rattle.rule_machine.specs.declared.event.Event.{Event}
 use Rattle.rule_machine.specs.declared.event.Event.TheVariants.{Link, Unlink, Point, Flag, Step, Show, Enabled, Matching, Status, Join, Leave}

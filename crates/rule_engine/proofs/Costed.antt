@@ -1,4 +1,4 @@
--- What it says of an event that it is a disturbance which is not refused.
+-- An event that disturbs is not refused.
 use Rattle.std.proofs.Common.{◌≡◌, true, Option, None, Some, is_none, refl, sym}
 use Rattle.std.proofs.lemmas.Bool.{and_parts, true≢false}
 use Rattle.rule_machine.specs.declared.event.Event.{Event}

@@ -1,4 +1,4 @@
--- What is shown at a node that is far from a change stays.
+-- A node far from a change shows the same as before.
 use Rattle.std.proofs.Common.{◌≡◌, ℕ, Bool, false, ◌||◌, List, nat_eq, refl, sym, ◌∙◌}
 use Rattle.std.proofs.lemmas.Bool.{eq-eqb, or_parts, true≢false}
 use Rattle.rule_machine.specs.Network.{Network, linked, neighbours, with_edge, without_edge}
@@ -11,7 +11,7 @@ use Rattle.net_state.proofs.Rounds.{round_linked, round_unlinked}
 pub not_same : (v w : ℕ) → nat_eq w v ≡ false → w ≡ v → ⊥
 not_same v w apart same = true≢false (sym (eq-eqb w v same) ∙ apart)
 
--- where no register changed, and the same neighbours are seen, the same is shown
+-- if no register changed and the node sees the same neighbours, it shows the same
 pub same_shown : (s : State) (net : Network) (w : ℕ) → neighbours s.network w ≡ neighbours net w → ((x : ℕ) → linked s.network w x ≡ linked net w x) → SameAt s (record s { network = net }) w
 same_shown s net w near link = record { neighbours = near; linked = link; pointers = λ x _. refl; flags = λ x _. refl }
 
@@ -27,7 +27,7 @@ cut_far s a b w far =
     let round = round_unlinked s a b w (not_same a w parts.0) (not_same b w parts.1) in
     same_shown s (without_edge s.network a b) w round.near round.link
 
--- nor does it change who the neighbours are where nodes came or went
+-- nor do nodes that come or go change who the neighbours are
 pub seat_far : (s : State) (here : List Bool) (w : ℕ) → IsState s → IsState (record s { network = record s.network { here = here } }) → SameAt s (record s { network = record s.network { here = here } }) w
 seat_far s here w good good' =
     same_shown s (record s.network { here = here }) w (neighbours_range s.network w good.is_network ∙ sym (neighbours_range (record s.network { here = here }) w good'.is_network)) (λ x. refl)

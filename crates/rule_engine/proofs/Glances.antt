@@ -1,4 +1,4 @@
--- What a write of one node's registers leaves of a glance at another.
+-- What a write of one node's registers leaves unchanged in a glance at another.
 use Rattle.std.proofs.Common.{◌≡◌, ℕ, Bool, true, false, not, ◌&&◌, ◌||◌, List, [], ◌∷◌, reverse, Option, None, Some, is_some, is_none, find, nat_eq, nat_lt, IsTrue, refl, sym, ap, ap₂, ◌∙◌, ◌⊎◌, inl, inr, ⊎_elim}
 use Rattle.std.proofs.Math.Bool.{and-false, or-false, or-true, or_assoc, or_comm}
 use Rattle.std.specs.List.{list_any}
@@ -19,7 +19,7 @@ use Rattle.rule_engine.proofs.Looked.{found_any, listed_neighbours}
 abbrev pub with_registers : State → Registers → State
 with_registers s r = record s { registers = r }
 
--- registers that differ at one name alone
+-- registers that differ at one name only
 pub record AreAlikeBut (s u : State) (v : ℕ) : Type 0 where
   pub pointers : (x : ℕ) → (x ≡ v → ⊥) → pointer s x ≡ pointer u x
   pub flags : (x : ℕ) → (x ≡ v → ⊥) → flag s x ≡ flag u x
@@ -53,14 +53,14 @@ any_beside p v (x ∷ xs) =
     at a l true = sym (or-true a)
     at a l false = ap (λ b. a || b) (and-false l)
 
--- so a node reaches an open one beside v, or v
+-- so a node reaches an open one other than v, or v
 reach_beside : (above : Bool) (opens : Option ℕ → Bool → Bool) (s : State) (v w : ℕ) → IsState s → reaches above opens s w ≡ (reaches_beside above opens s w v || (linked s.network w v && is_reached above opens s w v))
 reach_beside above opens s v w good =
     reach_any above opens s w
     ∙ any_beside (is_reached above opens s w) v (neighbours s.network w)
     ∙ ap₂ (λ (b c : Bool). b || (c && is_reached above opens s w v)) (sym (found_any (λ x. not (nat_eq x v) && is_reached above opens s w x) (neighbours s.network w))) (listed_neighbours s.network w v good.is_network)
 
--- who is not asked for is not reached
+-- a node that is not asked for is not reached
 never_asked : (above : Bool) (opens : Option ℕ → Bool → Bool) (s : State) (v w : ℕ) → may_ask above v w ≡ false → is_reached above opens s w v ≡ false
 never_asked true opens s v w e = and_right (is_open opens s v) (nat_lt w v) e
 never_asked false opens s v w e = absurd (true≢false e)
@@ -95,7 +95,7 @@ module _ (above : Bool) (opens : Option ℕ → Bool → Bool) (s : State) (r : 
           (λ (apart : x ≡ v → ⊥). ap (λ b. not (nat_eq x v) && b) (reached_alike above opens s (with_registers s r) w x (ap₂ opens (alike.pointers x apart) (alike.flags x apart))))
           (cases_eq x v)
 
-  -- what is reached at v counts alike where w points nowhere
+  -- what is reached at v counts alike if w points nowhere
   reached_same : (w : ℕ) (turned : Bool) → pointer (with_registers s r) w ≡ None → (turned ≡ false → is_open opens s v ≡ is_open opens (with_registers s r) v) → (turned && may_turn above opens (with_registers s r) v w) ≡ false → (reaches_beside above opens (with_registers s r) w v || (linked s.network w v && is_reached above opens s w v)) ≡ (reaches_beside above opens (with_registers s r) w v || (linked s.network w v && is_reached above opens (with_registers s r) w v))
   reached_same w false null stays off =
       ap (λ b. reaches_beside above opens (with_registers s r) w v || (linked s.network w v && b)) (reached_alike above opens s (with_registers s r) w v (stays refl))
@@ -146,7 +146,7 @@ module _ (above : Bool) (opens : Option ℕ → Bool → Bool) (s : State) (r : 
           (λ (apart : x ≡ v → ⊥). ap₂ (λ (b c : Bool). b && c) (ap (λ o. is_at o x) (alike.pointers w other)) (ap (λ o. is_at o w) (alike.pointers x apart)))
           (cases_eq x v)
 
-  -- a glance at who is not touched tells nothing new, where nobody is a new suitor there and none left, or it points somewhere
+  -- a glance at an untouched node is unchanged, if it gained or lost no suitor, or it points somewhere
   pub glance_far : (w : ℕ) (turned : Bool) → (turned ≡ false → is_open opens s v ≡ is_open opens (with_registers s r) v) → (pointer (with_registers s r) w ≡ None → has_suitor s w ≡ has_suitor (with_registers s r) w) → is_touched above opens (with_registers s r) v turned w ≡ false → SameGlance above opens s (with_registers s r) w
   glance_far w turned stays suitors off =
       let parts = or_parts (nat_eq w v || is_suitor (with_registers s r) v w) (turned && may_turn above opens (with_registers s r) v w) off in

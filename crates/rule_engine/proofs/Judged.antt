@@ -38,7 +38,7 @@ by_rule t s item false None = refl
 by_rule t s item true (Some act) = by_wish_twice t s item.node act item.wish
 by_rule t s item false (Some act) = by_wish t s item.node act item.wish
 
--- why an item is refused, from its outcome and whether its node stands earlier
+-- why an item is refused, from its outcome and whether its node is named earlier
 pub item_refusal-outcome : (t : RuleTable) (s : State) (earlier : List Item) (item : Item) → item_refusal t s earlier item ≡ refused_by (outcome_of t s item) (list_any (λ i. nat_eq i.node item.node) earlier)
 item_refusal-outcome t s earlier item =
     elim (present s.network item.node) as (λ b. cond (not b) (Some UnknownNode) (cond (list_any (λ i. nat_eq i.node item.node) earlier) (Some ChosenTwice) (rule_refusal t s item (rule_at t s item.node))) ≡ refused_by (cond b (outcome_at t s item (rule_at t s item.node)) outcome.Absent) (list_any (λ i. nat_eq i.node item.node) earlier)) [

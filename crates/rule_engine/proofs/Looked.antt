@@ -1,4 +1,4 @@
--- Looks again at nodes, one after another.
+-- Looks again at several nodes.
 use Rattle.std.proofs.Common.{◌≡◌, ℕ, zero, suc, ◌+◌, ◌<◌, ◌≤◌, Bool, true, false, cond, ◌&&◌, ◌||◌, List, [], ◌∷◌, length, take, get_or, filter, find, Some, is_some, nat_eq, refl, sym, ap, ap₂, ◌∙◌, ⊎_elim, arith}
 use Rattle.std.proofs.Math.Bool.{or_assoc}
 use Rattle.std.specs.List.{list_any, range_with_len}
@@ -60,7 +60,7 @@ listed_out p w (x ∷ xs) off =
     (λ (no : p x ≡ false). ap (λ b. list_any (nat_eq w) (cond b (x ∷ filter p xs) (filter p xs))) no ∙ listed_out p w xs off)
     (cases_Bool (p x))
 
--- the list of a node's neighbours has just the nodes that are linked to it
+-- the list of a node's neighbours has exactly the nodes linked to it
 pub listed_neighbours : (net : Network) (v w : ℕ) → IsNetwork net → list_any (nat_eq w) (neighbours net v) ≡ linked net v w
 listed_neighbours net v w good =
     ap (list_any (nat_eq w)) (neighbours_range net v good)
@@ -78,7 +78,7 @@ looked_more t s p q xs i x a b c within is first next =
     (λ w. or_assoc (p w) (list_any (λ y. q y w) (take i xs)) (q x w) ∙ ap (λ y. p w || (list_any (λ z. q z w) (take i xs) || q y w)) is ∙ ap (λ o. p w || o) (sym (list_any_more (λ y. q y w) xs i x within)))
     (looked_both t s (λ w. p w || list_any (λ y. q y w) (take i xs)) (q x) a b c first next)
 
--- a test of a name beside one of which item it is
+-- a test of a name, with which item it is
 any_at : (c : ℕ → Bool) (w : ℕ) (xs : List ℕ) → list_any (λ y. nat_eq w y && c y) xs ≡ (list_any (nat_eq w) xs && c w)
 any_at c w [] = refl
 any_at c w (y ∷ ys) =
@@ -95,7 +95,7 @@ any_at c w (y ∷ ys) =
     shared true b x y h = absorbed b x y (h refl)
     shared false b x y h = refl
 
--- a search finds one just where one passes
+-- a search finds an item exactly if one passes
 pub found_any : (p : ℕ → Bool) (xs : List ℕ) → is_some (find p xs) ≡ list_any p xs
 found_any p [] = refl
 found_any p (x ∷ xs) = by (p x) (found_any p xs)
@@ -104,13 +104,13 @@ found_any p (x ∷ xs) = by (p x) (found_any p xs)
     by true e = refl
     by false e = e
 
--- where none passes no item does
+-- if none passes no item does
 none_at : (c : ℕ → Bool) (w : ℕ) (xs : List ℕ) → list_any c xs ≡ false → list_any (λ y. nat_eq w y && c y) xs ≡ false
 none_at c w [] e = refl
 none_at c w (y ∷ ys) e =
     let parts = or_parts (c y) (list_any c ys) e in ap₂ (λ (a b : Bool). a || b) (and_right (nat_eq w y) (c y) parts.0) (none_at c w ys parts.1)
 
--- where nobody points at a node there is none to look at
+-- if no node points at a node there is none to look at
 pub looked_unsuited : (t : RuleTable) (s : State) (v : ℕ) (bits : List Bool) → IsNetwork s.network → has_suitor s v ≡ false → IsLookedAt t s (is_suitor s v) bits bits
 looked_unsuited t s v bits good none =
     looked_alike t s (λ w. false) (is_suitor s v) bits bits

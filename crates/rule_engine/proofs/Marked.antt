@@ -55,7 +55,7 @@ marks_more node xs i x marks marks' within is placed made so_far = λ v.
     ∙ ap (λ y. is_among node (take i xs) v || nat_eq (node y) v) is
     ∙ sym (list_any_more (λ y. nat_eq (node y) v) xs i x within)
 
--- what one more item that is not refused leaves: no earlier one is of its node, and it is marked
+-- after one more item that is not refused: no earlier one is of its node, and it is marked
 pub record Passes {X : Type 0} (node : X → ℕ) (xs : List X) (i : ℕ) (x : X) (o : Outcome) (before after : List Bool) : Type 0 where
   pub accepted : refused_by o (is_among node (take i xs) (node x)) ≡ None
   pub marks : AreMarks (is_among node (take (i + 1) xs)) after
@@ -70,7 +70,7 @@ passes node xs i x o marks marks' within is placed accepted made so_far =
       len = ap length made ∙ length-set marks (node x) true;
     }
 
--- a verdict behind those that are not refused is the one that counts, if it is refused
+-- a verdict after those that are not refused decides, if it is refused
 pub verdict_refused : (ds : List Verdict) (k : ℕ) (d : Verdict) (marks : List Bool) (refusal : Refusal) → k < length ds → d ≡ get_or ds k d → refused_by d.outcome (is_in marks d.node) ≡ Some refusal → AreMarks (is_judged (take k ds)) marks → Some refusal ≡ verdicts_refusal (take k ds) (drop k ds)
 verdict_refused ds k d marks refusal within is judged so_far =
     ap (λ o. option_or o (verdicts_refusal (take k ds ++ d ∷ []) (drop (k + 1) ds))) (sym judged ∙ ap (refused_by d.outcome) (so_far d.node))
@@ -110,7 +110,7 @@ pub verdicts_placed : (t : RuleTable) (s : State) (items : List Item) (verdicts 
 verdicts_placed t s items verdicts places is count =
     subst (All (λ (d : Verdict). HasPlace places d.node d.outcome)) (sym is) (verdicts_placed_from t s 0 items places count)
 
--- where every place is false, no node is marked
+-- if every place is false, no node is marked
 pub blank_clear : (places : ℕ) (marks : List Bool) → marks ≡ replicate places false → AreClear marks
 blank_clear places marks is v = ap (λ l. is_in l v) is ∙ blank_at places v false
 

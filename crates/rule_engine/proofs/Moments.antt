@@ -54,7 +54,7 @@ moment_after_append : (t : RuleTable) (m : Moment) (xs ys : List Event) → mome
 moment_after_append t m [] ys = refl
 moment_after_append t m (x ∷ xs) ys = moment_after_append t (moment_after t m x) xs ys
 
--- where one more event leads
+-- the moment after one more event
 pub moment_after_more : (t : RuleTable) (m here next : Moment) (events : List Event) (i : ℕ) (event : Event) → i < length events → event ≡ get_or events i event → here ≡ moment_after_all t m (take i events) → next ≡ moment_after t here event → next ≡ moment_after_all t m (take (i + 1) events)
 moment_after_more t m here next events i event within is so_far step =
     step ∙ ap (λ u. moment_after t u event) so_far
@@ -79,14 +79,14 @@ replies_more t here next events i event before after all reply within is pushed 
     ∙ ap (λ l. before ++ replies_of t here.state here.spent l) (sym (drop_more events i event within ∙ ap (λ e. e ∷ drop (i + 1) events) (sym is)))
     ∙ so_far
 
--- and where what is left leads
+-- and the moment after what is left
 pub rest_more : (t : RuleTable) (here next end : Moment) (events : List Event) (i : ℕ) (event : Event) → i < length events → event ≡ get_or events i event → next ≡ moment_after t here event → moment_after_all t here (drop i events) ≡ end → moment_after_all t next (drop (i + 1) events) ≡ end
 rest_more t here next end events i event within is step so_far =
     ap (λ u. moment_after_all t u (drop (i + 1) events)) step
     ∙ ap (moment_after_all t here) (sym (drop_more events i event within ∙ ap (λ e. e ∷ drop (i + 1) events) (sym is)))
     ∙ so_far
 
--- where an event that could not be had leaves the events before it
+-- if an event found no memory, the moment after the events before it
 pub stopped_at : (t : RuleTable) (m here m' : Moment) (events : List Event) (i : ℕ) (event : Event) → i < length events → event ≡ get_or events i event → here ≡ moment_after_all t m (take i events) → m' ≡ here → (refusal_of t here.state event ≡ None) × IsTrue (takes_memory event) → StopsAt t m events i m'
 stopped_at t m here m' events i event within is so_far kept want = record {
   next = within;
@@ -94,7 +94,7 @@ stopped_at t m here m' events i event within is so_far kept want = record {
   cause = inr (subst (λ o. IsSomeAnd o (λ e. (refusal_of t m'.state e ≡ None) × IsTrue (takes_memory e))) (sym (slice_get-get_or events i event within ∙ ap Some (sym is))) (subst (λ (u : Moment). (refusal_of t u.state event ≡ None) × IsTrue (takes_memory event)) (sym kept) want));
 }
 
--- with no list for the replies, which could not be had, no event was carried out
+-- if the list of replies found no memory, no event was carried out
 pub stopped_first : (t : RuleTable) (m : Moment) (events : List Event) → (length events ≡ 0 → ⊥) → StopsAt t m events 0 m
 stopped_first t m events some = record { next = omega arith; moment = refl; cause = inl refl }
 

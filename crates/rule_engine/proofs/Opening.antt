@@ -16,7 +16,7 @@ blank_at n v x =
     (λ (past : n ≤ v). get_or_past (replicate n x) v x (let k = length-replicate n x in omega (arith, k)))
     (cases_lt v n)
 
--- every pointer is null, there is no edge, and nobody is flagged or married
+-- every pointer is null, there is no edge, and no node is flagged or married
 pub opening_is_stable : (uses_flags : Bool) (size count : ℕ) → IsStable uses_flags (opening_with size count)
 opening_is_stable uses_flags size count = record {
   answered = λ v. subst (λ o. IfSome o (λ w. pointer (opening_with size count) w ≡ Some v)) (sym (blank_at (size + 1) v None)) tt;

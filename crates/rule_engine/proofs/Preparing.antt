@@ -39,8 +39,8 @@ sized_prepares t n n' spent items refusal sized kept = record {
   want = tt;
 }
 
--- what was found of the items of a step that is not refused for its size: why it is refused, or else its moves, where there
--- was memory for the whole of them
+-- the result for the items of a step that is not refused for its size: why it is refused, or else its moves,
+-- if memory lasted for all
 pub record IsTaken (t : RuleTable) (s : State) (items : List Item) (refused : Option Refusal) (whole : Bool) (made : List Moved) : Type 0 where
   pub size : size_refusal t.central (length items) ≡ None
   pub refusal : items_refusal t s [] items ≡ refused
@@ -66,7 +66,7 @@ one_prepares {E = E} t n spent item reply told =
     sized true = refl
     sized false = refl
 
--- a question whose answer may take memory
+-- a query whose answer may take memory
 pub asked_prepares : {E : Type 0} (t : RuleTable) (n n' : Indexed) (spent : ℕ) (event : Event) (result : Result Reply E) → n'.state ≡ n.state → refusal_of t n.state event ≡ None → IsTrue (takes_memory event) → ((reply : Reply) → HasRoomTo event reply n'.room) → IfOk result (λ r. r ≡ reply_of t n.state spent event) → Prepares t n spent event result n'
 asked_prepares t n n' spent event (Ok reply) same allowed may room told = record { reply = told; room = room reply; kept = same; want = tt }
 asked_prepares t n n' spent event (Err e) same allowed may room told = record { reply = tt; room = tt; kept = same; want = (allowed, may) }
@@ -84,7 +84,7 @@ pub engine_prepared : {E : Type 0} (t : RuleTable) (n n' : Indexed) (spent : ℕ
 engine_prepared t n n' spent event (Ok reply) done = record { reply_is = done.reply ∙ ap (λ s. reply_of t s spent event) (sym done.kept); room = done.room }
 engine_prepared t n n' spent event (Err e) done = tt
 
--- and only what is not refused wants memory
+-- and only an event that is not refused needs memory
 pub engine_allows : {E : Type 0} (t : RuleTable) (n n' : Indexed) (spent : ℕ) (event : Event) (result : Result Reply E) → Prepares t n spent event result n' → OnErr result (refusal_of t n.state event ≡ None)
 engine_allows t n n' spent event (Ok reply) done = tt
 engine_allows t n n' spent event (Err e) done = done.want.0

@@ -1,4 +1,4 @@
--- The list of whom an event would reach.
+-- The list of the nodes that an event would reach.
 use Rattle.std.proofs.Common.{◌≡◌, ℕ, ◌≤◌, Bool, true, false, cond, ◌&&◌, Option, None, Some, is_none, List, [], ◌∷◌, Contains, IsTrue, filter, length, inl, inr, ⊎_elim, refl, sym, ap, ◌∙◌, subst, arith}
 use Rattle.std.proofs.lemmas.Bool.{cases_Bool, and_from}
 use Rattle.std.proofs.lemmas.List.Elements.{filter_agree}
@@ -41,7 +41,7 @@ few_reached s event xs good is =
     let long = ap (length {A = ℕ}) is ∙ length-filter (is_in_reach s event) (names s.network) in
     omega (arith, few, long)
 
--- ---- whom it spares
+-- ---- the nodes that it spares
 
 accepted_disturbs : (t : RuleTable) (s : State) (spent : ℕ) (event : Event) (after : State) → Answers t s spent event Accepted after → disturbs t s event ≡ true
 accepted_disturbs t s spent event after answers = go event (refusal_of t s event) answers

@@ -1,4 +1,4 @@
--- Who asks for a node stands before the first of its neighbours that does not.
+-- The neighbours that ask for a node come before the first that does not.
 use Rattle.std.proofs.Common.{◌≡◌, ◌≢◌, ℕ, ◌+◌, ◌<◌, ◌≤◌, Bool, true, false, ◌&&◌, ◌||◌, List, length, take, drop, get_or, nat_eq, sym, ap, ◌∙◌, subst, ⊎_elim, arith}
 use Rattle.std.proofs.Math.Bool.{or-false}
 use Rattle.std.specs.List.{list_any}
@@ -14,13 +14,13 @@ use Rattle.machine_laws.specs.LeastAnswers.{names_increasing}
 use Rattle.rule_engine.specs.Looked.{may_ask, IsLookedAt}
 use Rattle.rule_engine.proofs.Looked.{looked_alike, looked_neighbours}
 
--- where no later item passes, those so far settle the answer
+-- if no later item passes, those so far settle the answer
 any_so_far : (p : ℕ → Bool) (xs : List ℕ) (i : ℕ) → ((j d : ℕ) → i ≤ j → j < length xs → p (get_or xs j d) ≡ false) → list_any p (take i xs) ≡ list_any p xs
 any_so_far p xs i none =
     let rest = list_any_none p (drop i xs) (λ k d there. ap p (get_or-drop i xs k d) ∙ none (i + k) d (omega arith) (omega (arith, length-drop i xs))) in
     sym (ap (list_any p) (sym (take-append-drop i xs)) ∙ list_any-append p (take i xs) (drop i xs) ∙ ap (λ b. list_any p (take i xs) || b) rest ∙ or-false (list_any p (take i xs)))
 
--- who does not ask for v is no lower than it, and so is every higher name
+-- a node that does not ask for v is no lower than v, and so is every higher name
 higher_ask_not : (above : Bool) (v w x : ℕ) → may_ask above v w ≡ false → w ≤ x → may_ask above v x ≡ false
 higher_ask_not true v w x none higher = let low = ltb-false w v none in le-ltb x v (omega arith)
 higher_ask_not false v w x none higher = absurd (let e : true ≡ false = none in cc)

@@ -1,4 +1,4 @@
--- Items that ascend, of which none is named twice.
+-- Items that ascend: none is named twice.
 use Rattle.std.proofs.Common.{◌≡◌, ℕ, ◌<◌, false, List, length, get_or, take, nat_eq, ap, ◌∙◌, arith}
 use Rattle.std.proofs.lemmas.Bool.{ne_eqb}
 use Rattle.std.proofs.lemmas.List.{get_or-take, length-take-le}

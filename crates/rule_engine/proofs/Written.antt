@@ -1,4 +1,4 @@
--- After a write of one node's registers, looks at who is touched keep the set of the enabled nodes.
+-- After a write of one node's registers, looks at the touched nodes keep the set of enabled nodes.
 use Rattle.std.proofs.Common.{◌≡◌, ℕ, Bool, true, false, cond, not, ◌&&◌, ◌||◌, List, Option, None, is_some, is_none, find, refl, sym, ap, ◌∙◌, subst, ⊎_elim}
 use Rattle.std.specs.Bool.{beq}
 use Rattle.std.proofs.lemmas.Bool.{cases_Bool, cond-true, cond-false, or_parts, true≢false}
@@ -15,11 +15,11 @@ use Rattle.rule_engine.specs.Looked.{is_null_target, is_touched, IsLookedAt}
 use Rattle.rule_engine.proofs.Glances.{AreAlikeBut, with_registers, suitor_same, glance_far}
 use Rattle.rule_engine.proofs.Looked.{looked_both}
 
--- a guard asks no more than a glance
+-- a guard depends only on a glance
 abbrev pub IsGlanced : Bool → RuleTable → Type 0
 IsGlanced above t = (s u : State) (v : ℕ) (act : Act) → IsState s → IsState u → SameGlance above t.opens s u v → t.guard s v act ≡ t.guard u v act
 
--- a write after which each node was looked at where a glance tells something new
+-- a write after which each node whose glance changed was looked at
 kept_glanced : (above : Bool) (t : RuleTable) → IsGlanced above t → (s : State) (r : Registers) (looked : ℕ → Bool) (bits bits' : List Bool) {marks : List Bool} → IsKept t s bits marks → IsState (with_registers s r) → ((v : ℕ) → looked v ≡ false → SameGlance above t.opens s (with_registers s r) v) → IsLookedAt t (with_registers s r) looked bits bits' → IsKept t (with_registers s r) bits' marks
 kept_glanced above t glance s r looked bits bits' kept good far done = record {
   is_state = good;
@@ -37,7 +37,7 @@ kept_glanced above t glance s r looked bits bits' kept good far done = record {
   few = kept.few;
 }
 
--- who is not looked at as a target is none where it points nowhere
+-- a target that points nowhere was looked at
 no_target : (s : State) (target : Option ℕ) (w : ℕ) → is_null_target s target w ≡ false → pointer s w ≡ None → is_at target w ≡ false
 no_target s target w off null = apart (is_at target w) (is_none (pointer s w)) (ap is_none null) off
   where
@@ -45,7 +45,7 @@ no_target s target w off null = apart (is_at target w) (is_none (pointer s w)) (
     apart false none is e = refl
     apart true none is e = absurd (true≢false (sym is ∙ e))
 
--- of a pointer: looks at its old and its new target where they point nowhere, and at who is touched
+-- of a pointer: looks at its old and its new target if they point nowhere, and at the touched nodes
 pub kept_pointed : (above : Bool) (t : RuleTable) → IsGlanced above t → (s u : State) (v : ℕ) (target left courted : Option ℕ) (turned : Bool) (bits one two three : List Bool) {marks : List Bool} → IsKept t s bits marks → IsState u → u ≡ after_point s v target → left ≡ pointer s v → courted ≡ pointer u v → (turned ≡ false → is_open t.opens s v ≡ is_open t.opens u v) → IsLookedAt t u (is_null_target u left) bits one → IsLookedAt t u (is_null_target u courted) one two → IsLookedAt t u (is_touched above t.opens u v turned) two three → IsKept t u three marks
 kept_pointed above t glance s u v target left courted turned bits one two three {marks} kept good is was now stays first second third =
     subst
@@ -70,7 +70,7 @@ kept_pointed above t glance s u v target left courted turned bits one two three 
         (looked_both t (with_registers s r) (λ w. is_null_target q left w || is_null_target q courted w) (is_touched above t.opens (with_registers s r) v turned) bits two three
         (looked_both t (with_registers s r) (is_null_target q left) (is_null_target q courted) bits one two first second) third)
 
--- of a flag: looks at who is touched
+-- of a flag: looks at the touched nodes
 pub kept_flagged : (above : Bool) (t : RuleTable) → IsGlanced above t → (s u : State) (v : ℕ) (value turned : Bool) (bits bits' : List Bool) {marks : List Bool} → IsKept t s bits marks → IsState u → u ≡ after_flag s v value → (turned ≡ false → is_open t.opens s v ≡ is_open t.opens u v) → IsLookedAt t u (is_touched above t.opens u v turned) bits bits' → IsKept t u bits' marks
 kept_flagged above t glance s u v value turned bits bits' {marks} kept good is stays looked =
     subst
@@ -87,7 +87,7 @@ kept_flagged above t glance s u v value turned bits bits' {marks} kept good is s
         kept_glanced above t glance s r (is_touched above t.opens (with_registers s r) v turned) bits bits' kept good
         (λ w off. glance_far above t.opens s r v kept.is_state good alike w turned stays (λ null. refl) off) looked
 
--- what did not turn is as it was
+-- a node that did not turn is as it was
 pub unturned : (now was : Bool) → not (beq now was) ≡ false → was ≡ now
 unturned true true e = refl
 unturned true false e = absurd (true≢false e)

@@ -1,4 +1,4 @@
--- What preparing and carrying out an event brings.
+-- Results of preparing and carrying out events.
 use Rattle.std.specs.Prelude.{◌≡◌, ℕ, ◌<◌, ◌⊎◌, Bool, true, false, List, [], ◌∷◌, length, take, slice_get, IsSomeAnd, None, Result, Ok, Err, IfOk, OnErr, IsTrue}
 use Rattle.rule_machine.specs.declared.event.Event.{Event}
 use Rattle.rule_machine.specs.declared.event.Event.TheVariants.{Link, Unlink, Point, Flag, Step, Show, Enabled, Matching, Status, Join, Leave}
@@ -12,7 +12,7 @@ use Rattle.charge_laws.specs.Charged.{IsWithinBound}
 use Rattle.indexed_state.specs.Indexed.{Indexed}
 use Rattle.rule_engine.specs.Prepared.{HasRoomTo}
 
--- whether an event may take memory where it is not refused
+-- whether an event may take memory if it is not refused
 abbrev pub takes_memory : Event → Bool
 takes_memory (Link a b) = true
 takes_memory (Unlink a b) = false
@@ -26,31 +26,31 @@ takes_memory Enabled = true
 takes_memory Matching = true
 takes_memory Status = false
 
--- the reply that was put where it is kept, or want of memory
+-- the reply that was put, or the error
 abbrev pub told : {E : Type 0} → Result (Unit {0}) E → Reply → Result Reply E
 told (Ok done) reply = Ok reply
 told (Err e) reply = Err e
 
--- The machine's reply, where these moves are spent, and room for what carrying it out adds; or want of memory, for an
--- event that may take some and is not refused. The state stays.
+-- The reply is the machine's, with `spent` moves spent, and there is room for what carrying it out adds. An
+-- error comes only for an event that may take memory and is not refused. The state stays.
 pub record Prepares {E : Type 0} (t : RuleTable) (n : Indexed) (spent : ℕ) (event : Event) (result : Result Reply E) (n' : Indexed) : Type 0 where
   pub reply : IfOk result (λ r. r ≡ reply_of t n.state spent event)
   pub room : IfOk result (λ r. HasRoomTo event r n'.room)
   pub kept : n'.state ≡ n.state
   pub want : OnErr result ((refusal_of t n.state event ≡ None) × IsTrue (takes_memory event))
 
--- the state is one, and what is spent and the charge are within the bound of its network
+-- the state is valid, and spent moves and charge are within the bound of its network
 pub record IsPaid (t : RuleTable) (weight : ℕ) (m : Moment) : Type 0 where
   pub is_state : IsState m.state
   pub within : IsWithinBound t weight m
 
--- where the replies with the least targets to events in turn leave the machine
+-- the moment after events in turn, each reply with the least targets
 abbrev pub moment_after_all : RuleTable → Moment → List Event → Moment
 moment_after_all t m [] = m
 moment_after_all t m (event ∷ events) = moment_after_all t (moment_after t m event) events
 
--- Of events the first k were carried out, and then there was no memory: for the next one, which is not refused and may
--- take some, or, before the first, for the list of the replies.
+-- The first k events were carried out, then memory ran out: for the next event, which is not refused and may
+-- take some, or, if k is 0, for the list of replies.
 pub record StopsAt (t : RuleTable) (m : Moment) (events : List Event) (k : ℕ) (m' : Moment) : Type 0 where
   pub next : k < length events
   pub moment : m' ≡ moment_after_all t m (take k events)

@@ -1,4 +1,4 @@
--- The moves of a choice: the verdict of each item.
+-- The moves of a choice, and the verdict of each item.
 use Rattle.std.specs.Prelude.{◌≡◌, ℕ, ◌+◌, Bool, true, false, ◌&&◌, List, [], ◌∷◌, ◌++◌, Option, Some, None, if◌then◌else◌, nat_eq, nat_lt}
 use Rattle.std.specs.List.{list_any, filter_map}
 use Rattle.std.specs.Option.{option_or}
@@ -20,7 +20,7 @@ use Rattle.rule_machine.specs.Least.{outcome_of, move_in, least_moves}
 abbrev pub verdict_of : RuleTable → State → ℕ → Item → Verdict
 verdict_of t s place item = record { place = place; node = item.node; outcome = outcome_of t s item }
 
--- the verdicts of items, the first of which stands at the place
+-- the verdicts of items, numbered from `place`
 abbrev pub verdicts_from : RuleTable → State → ℕ → List Item → List Verdict
 verdicts_from t s place [] = []
 verdicts_from t s place (item ∷ items) = verdict_of t s place item ∷ verdicts_from t s (place + 1) items
@@ -29,7 +29,7 @@ verdicts_from t s place (item ∷ items) = verdict_of t s place item ∷ verdict
 abbrev pub verdicts_of : RuleTable → State → List Item → List Verdict
 verdicts_of t s items = verdicts_from t s 0 items
 
--- why an item with this outcome is refused, where it may stand in the choice before
+-- why an item with this outcome is refused; `twice`: the choice has named its node before
 abbrev pub refused_by : Outcome → Bool → Option Refusal
 refused_by outcome.Absent twice = Some UnknownNode
 refused_by outcome.Idle true = Some ChosenTwice
@@ -39,13 +39,13 @@ refused_by outcome.Idle false = Some NotEnabled
 refused_by outcome.Wrong false = Some BadTarget
 refused_by (outcome.Moves m) false = None
 
--- the first refusal among verdicts, behind those that stand earlier
+-- the first refusal among verdicts, after the earlier ones
 abbrev pub verdicts_refusal : List Verdict → List Verdict → Option Refusal
 verdicts_refusal earlier [] = None
 verdicts_refusal earlier (verdict ∷ verdicts) =
     option_or (refused_by verdict.outcome (list_any (λ d. nat_eq d.node verdict.node) earlier)) (verdicts_refusal (earlier ++ verdict ∷ []) verdicts)
 
--- why a choice of so many items is refused, whatever they are
+-- why a choice of `count` items is refused, whatever the items are
 abbrev pub size_refusal : Bool → ℕ → Option Refusal
 size_refusal central count =
     if nat_eq count 0 then Some EmptyChoice else (if central && nat_lt 1 count then Some NotCentral else None)
@@ -58,12 +58,12 @@ moves_by t s items = filter_map (λ i. move_in (outcome_of t s i)) items
 abbrev pub moves_of : List Verdict → List Moved
 moves_of verdicts = filter_map (λ d. move_in d.outcome) verdicts
 
--- where the first are made by the items of a choice that is not refused, the second are its moves, ascending
+-- if `made` are the moves of the items of a choice that is not refused, `moves` are the same, ascending
 abbrev pub AreLeast : List Moved → List Moved → Type 0
 AreLeast made moves =
     (t : RuleTable) (s : State) (items : List Item) → made ≡ moves_by t s items → step_refusal t s items ≡ None → moves ≡ least_moves t s items
 
--- the reply to a step that is refused for this reason, or else makes these moves
+-- the reply to a step: refused for this reason, or with these moves
 abbrev pub IsToldOf : Option Refusal → List Moved → Reply → Type 0
 IsToldOf (Some refusal) made reply = reply ≡ Refused refusal
 IsToldOf None made reply = (moves : List Moved) × AreLeast made moves × (reply ≡ Moves moves)

@@ -1,4 +1,4 @@
--- What an event costs, as long as it is not carried out.
+-- What an event would cost.
 use Rattle.std.specs.Prelude.{ℕ, ◌+◌, ◌≤◌, Bool, true, false, ◌&&◌, cond, is_none}
 use Rattle.rule_machine.specs.declared.event.Event.{Event}
 use Rattle.rule_machine.specs.declared.event.Event.TheVariants.{Link, Unlink, Point, Flag, Join, Leave}
@@ -8,7 +8,7 @@ use Rattle.rule_machine.specs.State.{State}
 use Rattle.rule_machine.specs.RuleTable.{RuleTable}
 use Rattle.rule_machine.specs.Refuse.{refusal_of}
 
--- whether it is an event that may disturb
+-- whether the event is an edit or a fault
 abbrev pub may_disturb : Event → Bool
 may_disturb (Link a b) = true
 may_disturb (Unlink a b) = true
@@ -22,10 +22,10 @@ may_disturb event = false
 abbrev pub disturbs : RuleTable → State → Event → Bool
 disturbs t s event = may_disturb event && is_none (refusal_of t s event)
 
--- the cost of a disturbance by its rule set; 0 for one that is refused, and for every other event
+-- the cost by the rule set; 0 unless the event is a disturbance that is not refused
 abbrev pub cost_of : RuleTable → (State → Event → ℕ) → State → Event → ℕ
 cost_of t cost s event = cond (disturbs t s event) (cost s event) 0
 
--- where the event is accepted, the charge grows by no more than this
+-- if the event is accepted, the charge grows by at most this
 abbrev pub BoundsGrowth : RuleTable → State → ℕ → Event → ℕ → Type 0
 BoundsGrowth t s spent event cost = (after : State) → Answers t s spent event Accepted after → t.charge after ≤ t.charge s + cost

@@ -1,4 +1,4 @@
--- What a network keeps beside its state.
+-- What a network keeps with its state.
 use Rattle.std.specs.Prelude.{◌≡◌, ℕ, ◌+◌, ◌≤◌, Bool, false, IfSome, IsTrue, List, length, replicate, Option, Some, None, is_some, option_map, if◌then◌else◌}
 use Rattle.enabled_set.specs.Members.{is_in}
 use Rattle.rule_machine.specs.declared.act.Act.{Act}
@@ -7,7 +7,7 @@ use Rattle.rule_machine.specs.State.{State, IsState, pointer, flag, married}
 use Rattle.rule_machine.specs.Run.{Moment}
 use Rattle.rule_machine.specs.RuleTable.{RuleTable, rule_at}
 
--- the rule that is enabled at a name; at an absent one there is none
+-- the rule enabled at a name; none at an absent one
 abbrev pub guard_at : RuleTable → State → ℕ → Option Act
 guard_at t s v = if present s.network v then rule_at t s v else None
 
@@ -20,18 +20,18 @@ pub record AreOn (t : RuleTable) (s : State) (bits : List Bool) : Type 0 where
   pub places : length bits ≡ s.network.size + 1
   pub each : (v : ℕ) → is_in bits v ≡ is_on t s v
 
--- the state is one, the first set is that of its enabled nodes, and the second is empty
+-- the state is valid, the first set is that of its enabled nodes, and the second is empty
 pub record IsKept (t : RuleTable) (s : State) (bits marks : List Bool) : Type 0 where
   pub is_state : IsState s
   pub enabled : AreOn t s bits
   pub unmarked : marks ≡ replicate (s.network.size + 1) false
   pub few : s.network.size ≤ 65535
 
--- v with the rule that is enabled there
+-- v with the rule enabled there
 abbrev pub marked_at : RuleTable → State → ℕ → Option (ℕ × Act)
 marked_at t s v = option_map (λ act. (v, act)) (guard_at t s v)
 
--- every pointer is null or answered, and where flags are used each says whether its node is married
+-- every pointer is null or answered, and flags, if used, say whether their nodes are married
 pub record IsAnswered (uses_flags : Bool) (s : State) : Type 0 where
   pub answered : (v : ℕ) → IfSome (pointer s v) (λ w. pointer s w ≡ Some v)
   pub flagged : IsTrue uses_flags → (v : ℕ) → IsTrue (present s.network v) → flag s v ≡ married s v

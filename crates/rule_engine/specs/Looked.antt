@@ -1,4 +1,4 @@
--- What a look again at some nodes makes of a set of enabled nodes, and where a write at a node may change a guard.
+-- The set of enabled nodes after some were looked at again, and the guards that a write at a node may change.
 use Rattle.std.specs.Prelude.{◌≡◌, ℕ, Bool, true, false, not, ◌&&◌, ◌||◌, List, Option, is_none, length, nat_eq, nat_lt, if◌then◌else◌}
 use Rattle.enabled_set.specs.Members.{is_in}
 use Rattle.rule_machine.specs.Network.{linked}
@@ -11,16 +11,16 @@ use Rattle.rule_engine.specs.Kept.{is_on}
 abbrev pub is_suitor : State → ℕ → ℕ → Bool
 is_suitor s v w = linked s.network v w && points s.registers w v
 
--- whether the guard of w asks for open nodes of which v may be one: those above w, or any
+-- whether v may be among the open nodes that the guard of w asks for: those above w, or any
 abbrev pub may_ask : Bool → ℕ → ℕ → Bool
 may_ask true v w = nat_lt w v
 may_ask false v w = true
 
--- whether w is where a pointer is or was, and points nowhere
+-- whether w is the target of a pointer, and points nowhere
 abbrev pub is_null_target : State → Option ℕ → ℕ → Bool
 is_null_target s target w = is_at target w && is_none (pointer s w)
 
--- whether w points nowhere, and sees an open node where v is open, and none where it is not
+-- whether w points nowhere, and sees an open node exactly if v is open
 abbrev pub turns_with : Bool → (Option ℕ → Bool → Bool) → State → ℕ → ℕ → Bool
 turns_with above opens s v w = is_none (pointer s w) && not (reaches_beside above opens s w v)
 
@@ -28,12 +28,12 @@ turns_with above opens s v w = is_none (pointer s w) && not (reaches_beside abov
 abbrev pub may_turn : Bool → (Option ℕ → Bool → Bool) → State → ℕ → ℕ → Bool
 may_turn above opens s v w = linked s.network v w && (may_ask above v w && turns_with above opens s v w)
 
--- whether the guard of w may be another after a write of v's registers, which may have turned whether v is open; of a pointer, the
--- old and the new target beside, where they point nowhere
+-- whether a write of v's registers may change the guard of w; `turned`: it may have opened or closed v. A
+-- pointer's old and new target count too if they point nowhere: see is_null_target.
 abbrev pub is_touched : Bool → (Option ℕ → Bool → Bool) → State → ℕ → Bool → ℕ → Bool
 is_touched above opens s v turned w = (nat_eq w v || is_suitor s v w) || (turned && may_turn above opens s v w)
 
--- each name that was looked at is a member where a rule is enabled at it, and every other one where it was before
+-- each name that was looked at is a member if a rule is enabled at it; every other one stays as it was
 pub record IsLookedAt (t : RuleTable) (s : State) (looked : ℕ → Bool) (before after : List Bool) : Type 0 where
   pub places : length after ≡ length before
   pub each : (w : ℕ) → is_in after w ≡ (if looked w then is_on t s w else is_in before w)

@@ -1,4 +1,4 @@
--- Marks of the nodes that the items so far name.
+-- Marks of the nodes named by items.
 use Rattle.std.specs.Prelude.{◌≡◌, ℕ, ◌<◌, Bool, false, List, IsSome, length, nat_eq, slice_index_or}
 use Rattle.std.specs.List.{list_any}
 use Rattle.rule_machine.specs.declared.choice.Item.{Item}
@@ -11,7 +11,7 @@ use Rattle.enabled_set.specs.Members.{is_in}
 abbrev pub AreClear : List Bool → Type 0
 AreClear marks = (v : ℕ) → is_in marks v ≡ false
 
--- the nodes that pass the test are marked, and no others
+-- exactly the nodes that pass the test are marked
 abbrev pub AreMarks : (ℕ → Bool) → List Bool → Type 0
 AreMarks test marks = (v : ℕ) → is_in marks v ≡ test v
 
@@ -19,7 +19,7 @@ AreMarks test marks = (v : ℕ) → is_in marks v ≡ test v
 abbrev pub is_named : List Item → ℕ → Bool
 is_named items v = list_any (λ i. nat_eq i.node v) items
 
--- each item names a node above those that the items before it name
+-- each item names a higher node than the items before it
 abbrev pub Ascend : List Item → Type 0
 Ascend items = (i j : ℕ) (d : Item) → i < j → j < length items → (slice_index_or items i d).node < (slice_index_or items j d).node
 
@@ -27,6 +27,6 @@ Ascend items = (i j : ℕ) (d : Item) → i < j → j < length items → (slice_
 abbrev pub is_judged : List Verdict → ℕ → Bool
 is_judged verdicts v = list_any (λ d. nat_eq d.node v) verdicts
 
--- a node that moves has a place among these many
+-- if the node moves it has one of these places
 abbrev pub HasPlace : ℕ → ℕ → Outcome → Type 0
 HasPlace places v outcome = IsSome (move_in outcome) → v < places

@@ -1,4 +1,4 @@
--- Whom an event would reach, as long as it is not carried out.
+-- The nodes that an event would reach.
 use Rattle.std.specs.Prelude.{ℕ, Bool, ◌&&◌, List, filter, Contains, IsTrue}
 use Rattle.rule_machine.specs.declared.event.Event.{Event}
 use Rattle.rule_machine.specs.Network.{names, present}
@@ -11,7 +11,7 @@ use Rattle.containment_laws.specs.Moved.{KeepsRegisters}
 use Rattle.containment_laws.specs.Reach.{is_in_reach}
 use Rattle.rule_engine.specs.Costs.{disturbs}
 
--- whether v is in the reach of a disturbance; nobody is in that of one that is refused, or of any other event
+-- whether v is in the reach of a disturbance; false for a refused one, and for any other event
 abbrev pub would_reach : RuleTable → State → Event → ℕ → Bool
 would_reach t s event v = disturbs t s event && is_in_reach s event v
 
@@ -19,7 +19,7 @@ would_reach t s event v = disturbs t s event && is_in_reach s event v
 abbrev pub reach_of : RuleTable → State → Event → List ℕ
 reach_of t s event = filter (would_reach t s event) (names s.network)
 
--- where the event is accepted, each node that is at rest and not among these is at rest after it, with the same registers
+-- if the event is accepted, each node at rest and not among these stays at rest, with the same registers
 abbrev pub Spares : RuleTable → State → ℕ → Event → List ℕ → Type 0
 Spares t s spent event reach =
     (after : State) → Answers t s spent event Accepted after

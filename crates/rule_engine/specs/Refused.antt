@@ -7,7 +7,7 @@ use Rattle.rule_machine.specs.declared.reply.Reply.{Reply}
 use Rattle.rule_machine.specs.declared.reply.Reply.TheVariants.{Accepted, Refused}
 use Rattle.rule_machine.specs.declared.refusal.Refusal.TheVariants.{UnknownNode, SelfLoop, AlreadyLinked, NotLinked, TooManyEdges, AlreadyPresent}
 
--- the refusal for which a fault stands, if it is one
+-- the refusal that corresponds to a fault, if any
 abbrev pub refused_as : GraphFault → Option Refusal
 refused_as fault.UnknownNode = Some UnknownNode
 refused_as fault.SelfLoop = Some SelfLoop
@@ -18,7 +18,7 @@ refused_as fault.AlreadyPresent = Some AlreadyPresent
 refused_as fault.TooManyNodes = None
 refused_as fault.Memory = None
 
--- the reply to an edit or a fault that is refused for this reason, if for any
+-- the reply to an edit or a fault: refused, or accepted if there is no refusal
 abbrev pub edit_reply : Option Refusal → Reply
 edit_reply (Some refusal) = Refused refusal
 edit_reply None = Accepted

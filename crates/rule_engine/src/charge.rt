@@ -1,4 +1,4 @@
-//! The charge of a state, and what moves have spent of it.
+//! The charge of a state, and the moves spent of it.
 
 ghost use Rattle.std.specs.Prelude.{◌≡◌, ◌≤◌, count_by, length, sum_by};
 ghost use Rattle.charge_laws.specs.Charged.{charge_bound};
@@ -13,27 +13,28 @@ use indexed_state::IndexedState;
 use rule_machine::{MAX_NAME, Reply};
 use rule_set::Rules;
 
-/// What a status asks of all nodes.
+/// What a status reports of all nodes together.
 #[derive(Clone, Copy)]
 pub(crate) struct Totals {
     pub(crate) pairs: u32,
     pub(crate) charge: u32,
 }
 
-/// The charge of a state, from what its edges and its nodes come to.
+/// The charge of a state, from the sums over its edges and nodes.
 fn charge_by<R: Rules>(state: &IndexedState<R>, open_edges: u32, added: u32, closing: u32) -> u32
     requires open { open_edges ≡ count_by (ends_open R.COURTED_CLOSE state.now.state) (edge_list state.now.state.network) }
     requires added { added ≡ sum_by (node_part (R.adds state.now.state) state.now.state) (names state.now.state.network) }
     requires closing { closing ≡ count_by (R.closes state.now.state) (names state.now.state.network) }
     ensures { result ≡ R.table.charge state.now.state }
 {
-    // By its contract the state is sound.
+    // Called for its contract: the state is sound.
     let _ = state.registers();
     prove!(state.store().edges() <= MAX_EDGES);
     (2 * u64::from(open_edges) + u64::from(added) - 2 * u64::from(closing)) as u32
 }
 
-/// The mutual pairs and the charge: a look at the nodes that may bring something else to them than when this was last asked.
+/// The number of mutual pairs and the charge.
+/// It looks at the nodes whose contribution may have changed since the last call.
 pub(crate) fn totals_of<R: Rules>(state: &mut IndexedState<R>) -> Totals
     ensures state { state.new.state ≡ state.old.state }
     ensures room { state.new.room ≡ state.old.room }
@@ -47,7 +48,6 @@ pub(crate) fn totals_of<R: Rules>(state: &mut IndexedState<R>) -> Totals
     }
 }
 
-/// The moves that are spent after a reply.
 pub(crate) fn spent_after<R: Rules>(store: &EdgeStore, spent: u32, reply: &Reply) -> u32
     requires { spent_after spent reply.now ≤ charge_bound R.NODE_WEIGHT store.now.network }
     ensures { result ≡ spent_after spent reply.now }

@@ -12,7 +12,7 @@ use indexed_state::IndexedState;
 use rule_machine::{Item, Refusal};
 use rule_set::Rules;
 
-/// Whether each item names a node above that of the item before it. A look at each, up to the first that does not.
+/// Whether each item names a higher node than the item before it. Stops at the first that does not.
 pub(crate) fn ascend(items: &[Item]) -> bool
     ensures { IsTrue result → Ascend items.now }
 {
@@ -27,8 +27,8 @@ pub(crate) fn ascend(items: &[Item]) -> bool
     true
 }
 
-/// Gathers the moves of items that ascend where none is refused, else says why the first is that is. A look at each item up to
-/// that one, and a search of its node's neighbours where its target is free.
+/// Gathers the moves of items that ascend, or returns the first refusal.
+/// It looks at each item up to that one, and searches its node's neighbours if its target is free.
 pub(crate) fn take_ascending<R: Rules>(
     state: &IndexedState<R>,
     gathered: &mut Gathered,

@@ -8,7 +8,7 @@ use indexed_state::IndexedState;
 use rule_machine::{Event, Node};
 use rule_set::{Local, Rules, Touched};
 
-/// A state, of which the nodes are shown that a disturbance touches.
+/// A state that shows only the nodes that a disturbance touches.
 #[derive(Drop)]
 struct TouchedNodes<'a, R: Rules> {
     state: &'a IndexedState<R>,
@@ -19,7 +19,7 @@ impl<R: Rules> Touched for TouchedNodes<'_, R> {
 
     fn pointer(&self, v: Node) -> Option<Node> {
         let state = self.state;
-        // By its contract the state is sound.
+        // Called for its contract: the state is sound.
         let _ = state.store();
         state.registers().pointer(v)
     }
@@ -36,7 +36,6 @@ impl<R: Rules> Touched for TouchedNodes<'_, R> {
     }
 }
 
-/// Whether an event is a disturbance that is not refused.
 pub(crate) fn is_disturbance<R: Rules>(state: &IndexedState<R>, event: &Event) -> bool
     ensures { result ≡ disturbs R.table state.now.state event.now }
 {
@@ -53,12 +52,11 @@ pub(crate) fn is_disturbance<R: Rules>(state: &IndexedState<R>, event: &Event) -
     }
 }
 
-/// What an event may add to the charge, where it would be accepted; else 0.
 #[tactic(auto, using(crate::proofs::Costed::not_refused))]
 pub(crate) fn cost_of<R: Rules>(state: &IndexedState<R>, event: &Event) -> u32
     ensures { result ≡ cost_of R.table R.cost state.now.state event.now }
 {
-    // By its contract the state is sound.
+    // Called for its contract: the state is sound.
     let _ = state.registers();
     if is_disturbance(state, event) {
         R::cost(&TouchedNodes { state }, event)

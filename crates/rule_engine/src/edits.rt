@@ -9,7 +9,7 @@ use graph_store::{EdgeStore, GraphFault};
 use rule_machine::{Node, Refusal, Reply, Want};
 use rule_set::Rules;
 
-/// The refusal for which a fault of the edge store stands; none for want of memory.
+/// The refusal that corresponds to a fault of the edge store; none for `TooManyNodes` and `Memory`.
 pub(crate) fn refusal_of(fault: GraphFault) -> Option<Refusal>
     ensures { result ≡ refused_as fault }
 {
@@ -24,7 +24,7 @@ pub(crate) fn refusal_of(fault: GraphFault) -> Option<Refusal>
     }
 }
 
-/// Puts the reply to an edit or a fault where the caller keeps it: refused for this reason, or accepted where there is none.
+/// Puts the reply to an edit or a fault into `reply`: the refusal, or accepted if there is none.
 pub(crate) fn put_edit(reply: &mut Reply, refusal: Option<Refusal>) -> Result<(), Want>
     ensures { told result reply.new ≡ Ok (edit_reply refusal) }
 {
@@ -35,7 +35,6 @@ pub(crate) fn put_edit(reply: &mut Reply, refusal: Option<Refusal>) -> Result<()
     Ok(())
 }
 
-/// Puts a reply that was found where the caller keeps it.
 pub(crate) fn put(reply: &mut Reply, found: Result<Reply, Want>) -> Result<(), Want>
     ensures { told result reply.new ≡ found }
 {
@@ -43,7 +42,7 @@ pub(crate) fn put(reply: &mut Reply, found: Result<Reply, Want>) -> Result<(), W
     Ok(())
 }
 
-/// Why an edge is not taken out, if it is not: one look-up where it is there.
+/// Why an edge is not removed, if it is refused. One look-up if the edge exists.
 pub(crate) fn refused_unlink(store: &EdgeStore, a: Node, b: Node) -> Option<Refusal>
     ensures { result ≡ unlink_refusal store.now.network a b }
 {
@@ -58,7 +57,6 @@ pub(crate) fn refused_unlink(store: &EdgeStore, a: Node, b: Node) -> Option<Refu
     }
 }
 
-/// Why a write of a node's flag is refused under the rules `R`, if it is.
 pub(crate) fn refused_flag<R: Rules>(store: &EdgeStore, v: Node) -> Option<Refusal>
     ensures { result ≡ flag_refusal R.table store.now.network v }
 {
@@ -71,7 +69,6 @@ pub(crate) fn refused_flag<R: Rules>(store: &EdgeStore, v: Node) -> Option<Refus
     }
 }
 
-/// Why a name does not become present, if it does not.
 pub(crate) fn refused_join(store: &EdgeStore, v: Node) -> Option<Refusal>
     ensures { result ≡ join_refusal store.now.network v }
 {
@@ -84,7 +81,6 @@ pub(crate) fn refused_join(store: &EdgeStore, v: Node) -> Option<Refusal>
     }
 }
 
-/// Why a node does not leave, if it does not.
 pub(crate) fn refused_leave(store: &EdgeStore, v: Node) -> Option<Refusal>
     ensures { result ≡ leave_refusal store.now.network v }
 {
@@ -95,7 +91,6 @@ pub(crate) fn refused_leave(store: &EdgeStore, v: Node) -> Option<Refusal>
     }
 }
 
-/// Why a write of a node's pointer is refused, if it is.
 pub(crate) fn refused_point(store: &EdgeStore, v: Node, target: Option<Node>) -> Option<Refusal>
     ensures { result ≡ point_refusal store.now.network v target }
 {

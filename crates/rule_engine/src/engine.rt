@@ -1,4 +1,4 @@
-//! A state under a rule set, and what carries out events on it.
+//! The state of a network under a rule set, and the code that carries out events on it.
 
 ghost use Rattle.std.specs.Prelude.{◌≡◌, ◌<◌, ◌≤◌, ◌↔◌, ℕ, [], IfOk, IfErr, IfSome, OnOk, IsTrue, None, false, length, slice_get};
 ghost use Rattle.enabled_set.specs.Members.{members};
@@ -45,8 +45,8 @@ use rule_set::Rules;
 use std::alloc::{AllocError, Global};
 use std::marker::Model;
 
-/// A state under the rules `R`: its edges and registers with their index, and who is enabled, seen in contracts as the
-/// state of the rule machine and the room for more neighbours.
+/// A state under the rules `R`: edges and registers with their index, and the enabled nodes.
+/// Contracts see the state of the rule machine and the room for more neighbours.
 #[derive(Drop)]
 pub(crate) struct Engine<R: Rules> {
     alloc: Global,
@@ -69,8 +69,7 @@ impl<R: Rules> Model for Engine<R> {
 }
 
 impl<R: Rules> Engine<R> {
-    /// The network of the names 1 to `nodes`, of which 1 to `present` are nodes, with no edges, all pointers null and all
-    /// flags false. `TooManyNodes` above 65,535 names, and `Memory` if memory runs out. Takes some fifty bytes a name.
+    /// A network of the names 1 to `nodes`, as `Net::with_present` makes it, with its faults.
     pub(crate) fn with_present(
         alloc: Global,
         nodes: u32,
@@ -96,7 +95,6 @@ impl<R: Rules> Engine<R> {
         })
     }
 
-    /// The edges.
     pub(crate) fn store(&self) -> &EdgeStore
         ensures network { result.now.network ≡ self.now.state.network }
         ensures room { result.now.room ≡ self.now.room }
@@ -104,7 +102,6 @@ impl<R: Rules> Engine<R> {
         self.state.store()
     }
 
-    /// The registers.
     pub(crate) fn registers(&self) -> &Registers
         ensures value { result.now ≡ self.now.state.registers }
         ensures state { IsState self.now.state }
@@ -112,16 +109,12 @@ impl<R: Rules> Engine<R> {
         self.state.registers()
     }
 
-    /// The enabled nodes.
     pub(crate) fn enabled(&self) -> &EnabledSet
         ensures { members result.now ≡ enabled_names R.table self.now.state }
     {
         &self.enabled
     }
 
-    /// Whether no rule is enabled, which is one look. That is so exactly where the network is stable, and then its
-    /// mutual pairs are a maximal matching; and where every pointer is null or answered and the flags are right, they
-    /// are one only if the network is stable.
     pub(crate) fn is_quiet(&self) -> bool
         ensures quiet { IsTrue result ↔ (enabled_names R.table self.now.state ≡ []) }
         ensures stable { IsTrue result ↔ IsStable R.table.flags self.now.state }
@@ -131,21 +124,18 @@ impl<R: Rules> Engine<R> {
         self.enabled.count() == 0
     }
 
-    /// What an event may add to the charge, where it would be accepted; else 0.
     pub(crate) fn cost_of(&self, event: &Event) -> u32
         ensures { result ≡ cost_of R.table R.cost self.now.state event.now }
     {
         cost_of(&self.state, event)
     }
 
-    /// Whether an event would reach a node, where it would be accepted; else false.
     pub(crate) fn would_reach(&self, event: &Event, v: Node) -> bool
         ensures { result ≡ would_reach R.table self.now.state event.now v }
     {
         would_reach(&self.state, event, v)
     }
 
-    /// The nodes, ascending, that an event would reach, where it would be accepted; else none.
     pub(crate) fn reach_of(&self, event: &Event) -> Result<Vec<Node>, Want>
         ensures reach { IfOk result (λ list. list.items ≡ reach_of R.table self.now.state event.now) }
         ensures few { IfOk result (λ list. length list.items ≤ reach_size self.now.state event.now) }
@@ -153,23 +143,18 @@ impl<R: Rules> Engine<R> {
         reach_of(self.alloc, &self.state, event)
     }
 
-    /// Whether a node is at rest.
     pub(crate) fn is_at_rest(&self, v: Node) -> bool
         ensures { result ≡ is_at_rest R.table.flags self.now.state v }
     {
         containment::is_at_rest(self.state.net(), R::FLAGS, v)
     }
 
-    /// The rule that is enabled at a node, if any is; none at an absent one. What the guard asks about all neighbours is
-    /// counted at the node, so that it looks at no list of them.
     pub(crate) fn guard(&self, v: Node) -> Option<Act>
         ensures { result ≡ guard_at R.table self.now.state v }
     {
         rule_enabled(&self.state, v)
     }
 
-    /// What the item at a place of a choice, from 0, would do alone. Goes through its node's neighbours only where a
-    /// target has to be found.
     pub(crate) fn verdict(&self, choice: &Choice, place: u32) -> Verdict
         requires { place < length choice.now }
         ensures { IfSome (slice_get choice.now place) (λ item. result ≡ verdict_of R.table self.now.state place item) }
@@ -182,7 +167,6 @@ impl<R: Rules> Engine<R> {
         }
     }
 
-    /// The charge.
     pub(crate) fn charge(&mut self) -> u32
         ensures charge { result ≡ R.table.charge self.old.state }
         ensures state { self.new.state ≡ self.old.state }
@@ -191,8 +175,9 @@ impl<R: Rules> Engine<R> {
         totals_of(&mut self.state).charge
     }
 
-    /// The reply to an event where so many moves are spent, put where the caller keeps it, with all the memory had that
-    /// carrying it out takes. The state stays. A reply is large for what it mostly says, so none is moved from call to call.
+    /// Puts the reply to an event into `reply`, and takes all the memory that carrying it out needs.
+    /// `spent` moves are spent so far. The state stays. Replies are large, so the caller keeps it and none is
+    /// moved.
     #[inline(always)]
     pub(crate) fn prepare(
         &mut self,
@@ -252,7 +237,7 @@ impl<R: Rules> Engine<R> {
         put(reply, step_reply(refused, gathered))
     }
 
-    /// The reply to a step, from the verdicts of its items, without a second look at a guard.
+    /// The reply to a step, from the verdicts of its items. No guard is evaluated again.
     pub(crate) fn prepare_step(
         &mut self,
         choice: &Choice,
@@ -279,7 +264,7 @@ impl<R: Rules> Engine<R> {
         *reply = Reply::Shown(self.state.registers().pointer(v));
     }
 
-    // What lists takes a function of its own, so that the way of other events has no place for its results.
+    // A function of its own, so that the path of other events reserves no stack for its results.
     fn prepare_enabled(&mut self, reply: &mut Reply) -> Result<(), Want>
         ensures { (spent : ℕ) → Prepares R.table self.old spent Enabled (told result reply.new) self.new }
     {
@@ -324,7 +309,7 @@ impl<R: Rules> Engine<R> {
         });
     }
 
-    /// Carries out an event with the reply that was prepared for it; takes no memory.
+    /// Carries out an event, given the reply that was prepared for it. Takes no memory.
     #[inline(always)]
     pub(crate) fn commit(&mut self, event: &Event, reply: &Reply)
         requires reply { (spent : ℕ) × (reply.now ≡ reply_of R.table self.old.state spent event.now) }
@@ -338,7 +323,6 @@ impl<R: Rules> Engine<R> {
         }
     }
 
-    /// Carries out a step as `commit` does.
     pub(crate) fn commit_step(&mut self, choice: &Choice, reply: &Reply)
         requires { (spent : ℕ) × (reply.now ≡ reply_of R.table self.old.state spent (Step choice.now)) }
         ensures { self.new.state ≡ state_after R.table self.old.state (Step choice.now) }
@@ -348,7 +332,7 @@ impl<R: Rules> Engine<R> {
         }
     }
 
-    /// Carries out an edit or a fault. A step and a question do nothing.
+    /// Carries out an edit or a fault. A step or a query does nothing.
     fn disturb(&mut self, event: &Event)
         requires accepted { refusal_of R.table self.old.state event.now ≡ None }
         requires room { HasRoomTo event.now Accepted self.old.room }
@@ -375,7 +359,8 @@ impl<R: Rules> Engine<R> {
         look_at(&self.state, &mut self.enabled, b);
     }
 
-    /// Makes a name a node, with no edge, a null pointer and its flag false. Looks at no other node, and takes no memory.
+    /// Makes a name a node, with no edge, a null pointer and its flag false. Takes no memory.
+    /// It looks at no other node.
     pub(crate) fn join(&mut self, v: Node)
         requires within { v ≤ self.old.state.network.size }
         requires absent { present self.old.state.network v ≡ false }
@@ -397,7 +382,7 @@ impl<R: Rules> Disturb for Engine<R> {
     }
 
     fn set_pointer(&mut self, v: Node, target: Option<Node>) {
-        // Each use has a copy: of a value that is passed on proofs say no more.
+        // Copied: the prover drops facts about a value that is passed on.
         let courted = target;
         let change = self.state.write_pointer(v, target);
         let left = change.left;

@@ -16,7 +16,6 @@ use indexed_state::IndexedState;
 use rule_machine::{Act, Item, Listing, Moved, Node, Outcome, Refusal, Reply};
 use rule_set::Rules;
 
-/// The rule that is enabled at a node that is present, if any is.
 pub(crate) fn rule_at<R: Rules>(state: &IndexedState<R>, v: Node) -> Option<Act>
     requires { IsTrue (present state.now.state.network v) }
     ensures { result ≡ guard_at R.table state.now.state v }
@@ -25,7 +24,7 @@ pub(crate) fn rule_at<R: Rules>(state: &IndexedState<R>, v: Node) -> Option<Act>
     R::guard(&state.at(v), v)
 }
 
-/// The rule that is enabled at a node, if any is; none at an absent one.
+/// The rule enabled at a node, if any; none at an absent node.
 pub(crate) fn rule_enabled<R: Rules>(state: &IndexedState<R>, v: Node) -> Option<Act>
     ensures { result ≡ guard_at R.table state.now.state v }
 {
@@ -35,7 +34,6 @@ pub(crate) fn rule_enabled<R: Rules>(state: &IndexedState<R>, v: Node) -> Option
     rule_at(state, v)
 }
 
-/// What an item would do alone.
 pub(crate) fn outcome<R: Rules>(state: &IndexedState<R>, item: Item) -> Outcome
     ensures { result ≡ outcome_of R.table state.now.state item }
 {
@@ -56,7 +54,7 @@ pub(crate) fn outcome<R: Rules>(state: &IndexedState<R>, item: Item) -> Outcome
     }
 }
 
-/// Takes items, in order, up to the first that is refused, and says why that one is.
+/// Takes items in order up to the first that is refused, and returns its refusal.
 fn take_up_to_refusal<R: Rules>(
     state: &IndexedState<R>,
     chosen: &mut Marks,
@@ -79,9 +77,9 @@ fn take_up_to_refusal<R: Rules>(
     None
 }
 
-/// Gathers the moves of items where none is refused, else says why the first is that is. A look at each item up to that
-/// one, and a search of its node's neighbours where its target is free. Items that ascend name no node twice; for others the
-/// nodes are marked, and the marks are clear again at the end.
+/// Gathers the moves of items, or returns the first refusal.
+/// It looks at each item up to that one, and searches its node's neighbours if its target is free. Items that
+/// do not ascend are marked, to find a node named twice; the marks are clear at the end.
 pub(crate) fn take_items<R: Rules>(
     state: &IndexedState<R>,
     chosen: &mut Marks,
@@ -103,7 +101,7 @@ pub(crate) fn take_items<R: Rules>(
     refusal
 }
 
-/// Puts the reply to a step of one item, which needs no mark, where the caller keeps it: a look at the item, and no memory.
+/// Puts the reply to a step of one item into `reply`. It looks at one item, and needs no mark and no memory.
 pub(crate) fn put_reply_to_one<R: Rules>(reply: &mut Reply, state: &IndexedState<R>, item: Item)
     ensures { IsToldOf (items_refusal R.table state.now.state [] (item ∷ [])) (moves_by R.table state.now.state (item ∷ [])) reply.new }
 {

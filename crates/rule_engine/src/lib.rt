@@ -1,13 +1,13 @@
-//! The rule engine: a network whose replies and states are the rule machine's, for any set of rules.
+//! The rule engine: a network whose replies and states are those of the rule machine, for any rule set.
 //!
-//! A `Net<R>` carries out one event at a time: its reply is `reply_of` of the definitions, the answer with the least free targets, and
-//! its state then `moment_after`. It keeps the set of the enabled nodes, by looking again at those alone where a change shows something
-//! else, and the moves since the last disturbance, which with the charge never pass the bound. A refusal or want of memory changes
-//! nothing.
+//! A `Net<R>` carries out one event at a time. Its reply is `reply_of` of the definitions, with the least
+//! free targets; its state then is `moment_after`. It counts the moves since the last disturbance; with the
+//! charge they never exceed the bound. It keeps the enabled nodes, and looks again only at nodes whose view a
+//! change alters. If an event is refused or memory runs out, nothing changes.
 //!
-//! `apply` is `prepare`, which takes all the memory and may fail, and `commit`, which takes none and can't. A step costs a look at each
-//! chosen node and the writes of its moves, and nothing in it grows with the network. The crate knows no rule set by name, keeps no log
-//! and reads no text: those are the crates above.
+//! `apply` is `prepare`, which takes all the memory, then `commit`, which cannot fail. A step costs a look at
+//! each chosen node and the writes of its moves, whatever the size of the network. The crate names no rule
+//! set, keeps no log and parses no text.
 //!
 //! ```rust
 //! let mut net = Net::<Manne>::new(alloc, 2)?;

@@ -1,4 +1,4 @@
-//! The lists that questions ask for.
+//! The lists that answer queries.
 
 ghost use Rattle.std.specs.Prelude.{All, ◌≡◌, IfOk, IsTrue, filter_map};
 ghost use Rattle.rule_machine.specs.RuleTable.{enabled_names, enabled};
@@ -12,7 +12,7 @@ use rule_machine::{Act, Edge, Node, Want};
 use rule_set::Rules;
 use std::alloc::Global;
 
-/// The enabled nodes, which are given, each with its rule.
+/// The given enabled nodes, each with its rule.
 pub(crate) fn enabled_rules<R: Rules>(
     alloc: Global,
     state: &IndexedState<R>,
@@ -30,7 +30,7 @@ pub(crate) fn enabled_rules<R: Rules>(
     Ok(rules)
 }
 
-/// The mutual pair of which a node is the lower end.
+/// The mutual pair whose lower end is `v`.
 #[inline(always)]
 fn pair_at(registers: &Registers, v: Node) -> Option<Edge>
     requires { IsTrue (is_lower_end registers.now v) }
@@ -42,7 +42,7 @@ fn pair_at(registers: &Registers, v: Node) -> Option<Edge>
     }
 }
 
-/// The pairs of these lower ends, in their order.
+/// The pairs with these lower ends, in the same order.
 fn pairs_of(alloc: Global, registers: &Registers, ends: &[Node]) -> Result<Vec<Edge>, Want>
     requires { All (λ v. IsTrue (is_lower_end registers.now v)) ends.now }
     ensures { IfOk result (λ pairs. pairs.items ≡ filter_map (λ v. pair_above v (answered_by registers.now v)) ends.now) }
@@ -56,8 +56,9 @@ fn pairs_of(alloc: Global, registers: &Registers, ends: &[Node]) -> Result<Vec<E
     Ok(pairs)
 }
 
-/// The mutual pairs, ascending by their lower ends: a look at each, and at the nodes that may be a lower end now where they were
-/// none when this was last asked, or the other way round.
+/// The mutual pairs, ascending by their lower ends.
+/// It looks at each pair, and at the nodes that may have become or ceased to be a lower end since the last
+/// call.
 pub(crate) fn mutual_edges<R: Rules>(
     alloc: Global,
     state: &mut IndexedState<R>,

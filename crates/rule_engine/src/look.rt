@@ -1,4 +1,4 @@
-//! Looks again at nodes where something may have changed.
+//! Evaluates guards again at nodes near a change.
 
 ghost use Rattle.std.specs.Prelude.{◌≡◌, ◌+◌, ◌&&◌, IfSome, IsTrue, length, nat_eq};
 ghost use Rattle.rule_machine.specs.Network.{linked, present};
@@ -11,7 +11,6 @@ use indexed_state::IndexedState;
 use rule_machine::Node;
 use rule_set::{Local, Rules};
 
-/// Looks again at a node.
 pub(crate) fn look_at<R: Rules>(state: &IndexedState<R>, enabled: &mut EnabledSet, v: Node)
     requires has { IsTrue (present state.now.state.network v) }
     requires places { length enabled.old ≡ state.now.state.network.size + 1 }
@@ -24,7 +23,6 @@ pub(crate) fn look_at<R: Rules>(state: &IndexedState<R>, enabled: &mut EnabledSe
     }
 }
 
-/// Looks again at a node where that is asked for.
 fn look_if<R: Rules>(state: &IndexedState<R>, enabled: &mut EnabledSet, v: Node, asked: bool)
     requires has { IsTrue (present state.now.state.network v) }
     requires places { length enabled.old ≡ state.now.state.network.size + 1 }
@@ -35,7 +33,7 @@ fn look_if<R: Rules>(state: &IndexedState<R>, enabled: &mut EnabledSet, v: Node,
     }
 }
 
-/// Looks again at the node that a pointer is or was at, where that node points nowhere.
+/// Looks again at a pointer's old or new target, if that node points nowhere.
 pub(crate) fn look_at_target<R: Rules>(
     state: &IndexedState<R>,
     enabled: &mut EnabledSet,
@@ -50,7 +48,7 @@ pub(crate) fn look_at_target<R: Rules>(
     }
 }
 
-/// Looks again at those who point at a node. No search for them where none does, or one.
+/// Looks again at the neighbours that point at a node. It searches for them only if there are several.
 fn look_at_suitors<R: Rules>(state: &IndexedState<R>, enabled: &mut EnabledSet, v: Node)
     requires has { IsTrue (present state.now.state.network v) }
     requires places { length enabled.old ≡ state.now.state.network.size + 1 }
@@ -68,29 +66,29 @@ fn look_at_suitors<R: Rules>(state: &IndexedState<R>, enabled: &mut EnabledSet, 
     }
 }
 
-/// Whether the guard of w asks for open nodes of which v may be one.
+/// Whether the guard of `w` asks for open nodes and `v` may be one of them.
 fn asks_for<R: Rules>(w: Node, v: Node) -> bool
     ensures { result ≡ may_ask R.ABOVE v w }
 {
     !R::ABOVE || w < v
 }
 
-/// Whether a neighbour w points nowhere, and sees an open node where v is open, and none where it is not.
+/// Whether `w` points nowhere and sees an open node exactly if `v` is open.
 fn turns_with<R: Rules>(state: &IndexedState<R>, w: Node, v: Node, is_open: bool) -> bool
     requires has { IsTrue (present state.now.state.network w) }
     requires linked { IsTrue (linked state.now.state.network w v) }
     requires open { is_open ≡ RuleTable.is_open R.table.opens state.now.state v }
     ensures { result ≡ turns_with R.ABOVE R.table.opens state.now.state v w }
 {
-    // The counts first: what they say of one neighbour they mostly say of the next, which a processor foresees.
+    // Counts first: successive neighbours mostly agree, so the branch is well predicted.
     if !state.relies_on(w, v, is_open) {
         return false;
     }
     state.registers().pointer(w).is_none()
 }
 
-/// Looks again at each neighbour that points nowhere, and sees an open node where this one is open, and none where it is not. Where
-/// guards ask for higher names alone, ends at the first neighbour that is not below the node.
+/// Looks again at each neighbour that points nowhere and sees an open node exactly if `v` is open.
+/// If guards ask for higher names only, it ends at the first neighbour that is not below `v`.
 fn look_where_turned<R: Rules>(state: &IndexedState<R>, enabled: &mut EnabledSet, v: Node)
     requires has { IsTrue (present state.now.state.network v) }
     requires places { length enabled.old ≡ state.now.state.network.size + 1 }
@@ -105,9 +103,10 @@ fn look_where_turned<R: Rules>(state: &IndexedState<R>, enabled: &mut EnabledSet
     }
 }
 
-/// Looks again wherever a write of a node's registers may have changed a guard, but at a pointer's old and new target: at the node,
-/// at those who point at it, and where it turned whether the node is open, at the neighbours that point nowhere and see no other
+/// Looks again at the nodes whose guard a write of `v`'s registers may have changed.
+/// These are `v`, those that point at it, and, if `turned`, neighbours that point nowhere and see no other
 /// open node.
+/// A pointer's targets are left to `look_at_target`.
 pub(crate) fn look_after_write<R: Rules>(
     state: &IndexedState<R>,
     enabled: &mut EnabledSet,

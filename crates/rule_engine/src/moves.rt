@@ -6,7 +6,7 @@ ghost use Rattle.rule_engine.specs.Choosing.{AreLeast, IsToldOf};
 use rule_machine::{Listing, Moved, Refusal, Reply, Want};
 use std::alloc::{AllocError, Global};
 
-/// The moves of a choice of so many items so far, in its order, and whether there was memory for each.
+/// The moves gathered so far from a choice of `items` items, and whether memory lasted for each.
 #[derive(Drop)]
 pub(crate) struct Gathered {
     pub(crate) moves: Vec<Moved>,
@@ -15,7 +15,6 @@ pub(crate) struct Gathered {
 }
 
 impl Gathered {
-    /// None yet of so many items.
     pub(crate) fn new(alloc: Global, items: usize) -> Gathered
         ensures { result.moves.items ≡ [] }
     {
@@ -26,7 +25,7 @@ impl Gathered {
         }
     }
 
-    /// Adds a move, where there was memory so far.
+    /// Adds a move, if memory has lasted so far.
     #[inline(always)]
     pub(crate) fn add(&mut self, moved: Moved)
         ensures whole { IsTrue self.new.whole → IsTrue self.old.whole }
@@ -35,7 +34,8 @@ impl Gathered {
         self.whole = self.whole && add_one(&mut self.moves, self.items, moved);
     }
 
-    /// The moves, ascending by node, or want of memory; takes none. Moves that ascend already cost one look each.
+    /// The moves, ascending by node; `AllocError` if memory did not last. Takes none.
+    /// Moves that ascend already cost one look each.
     pub(crate) fn into_ascending(self) -> Result<Listing<Moved>, Want>
         ensures { IfOk result (λ moves. IsTrue self.whole × AreLeast self.moves.items moves) }
     {
@@ -52,8 +52,8 @@ impl Gathered {
     }
 }
 
-/// Adds an item to a list that is to have no more than so many: the first takes the room for all of them. False where there
-/// is no memory for it.
+/// Adds an item to a list of at most `most` items; false if memory runs out.
+/// The first item takes the room for all.
 pub(crate) fn add_one<T: Copy>(list: &mut Vec<T>, most: usize, item: T) -> bool
     ensures { IsTrue result → list.new.items ≡ list.old.items ++ item ∷ [] }
 {
@@ -63,7 +63,7 @@ pub(crate) fn add_one<T: Copy>(list: &mut Vec<T>, most: usize, item: T) -> bool
     list.push(item).is_ok()
 }
 
-/// The reply to a step that is refused for this reason, or else makes the moves that were gathered; takes no memory.
+/// The reply to a step: the refusal, or else the moves that were gathered. Takes no memory.
 pub(crate) fn step_reply(refused: Option<Refusal>, gathered: Gathered) -> Result<Reply, Want>
     ensures told { IfOk result (λ reply. IsToldOf refused gathered.moves.items reply) }
     ensures whole { OnOk result (refused ≡ None → IsTrue gathered.whole) }

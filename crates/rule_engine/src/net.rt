@@ -34,8 +34,9 @@ use rule_set::Rules;
 use std::alloc::Global;
 use std::marker::Model;
 
-/// A network under the rules `R`, seen in contracts as a moment of the rule machine (its state, and the moves since the
-/// last accepted disturbance, or since the start) and the room for more neighbours.
+/// A network under the rules `R`.
+/// Contracts see its state, the moves since the last accepted disturbance or the start, and the room for
+/// neighbours.
 #[derive(Drop)]
 pub struct Net<R: Rules> {
     alloc: Global,
@@ -58,8 +59,9 @@ impl<R: Rules> Model for Net<R> {
 }
 
 impl<R: Rules> Net<R> {
-    /// The network of the nodes 1 to `nodes` with no edges, all pointers null and all flags false, and no move spent.
-    /// `TooManyNodes` above 65,535, and `Memory` if memory runs out. Takes some fifty bytes a node.
+    /// A network of the nodes 1 to `nodes`: no edges, all pointers null, all flags false, no move spent.
+    /// `TooManyNodes` above 65,535 nodes; `Memory` if memory runs out.
+    /// Takes about fifty bytes a node.
     pub fn new(alloc: Global, nodes: u32) -> Result<Net<R>, GraphFault>
         ensures ok { IfOk result (λ net. moment_of net ≡ beginning nodes) }
         ensures small { OnOk result (nodes ≤ 65535) }
@@ -68,9 +70,9 @@ impl<R: Rules> Net<R> {
         Net::with_present(alloc, nodes, nodes)
     }
 
-    /// The network of the names 1 to `nodes`, of which 1 to `present` are nodes, with no edges, all pointers null and all
-    /// flags false, and no move spent. `TooManyNodes` above 65,535 names, and `Memory` if memory runs out. Takes some fifty
-    /// bytes a name.
+    /// Like `new`, but only the names 1 to `present` are nodes; the others are absent.
+    /// `TooManyNodes` above 65,535 names; `Memory` if memory runs out.
+    /// Takes about fifty bytes a name.
     pub fn with_present(alloc: Global, nodes: u32, present: u32) -> Result<Net<R>, GraphFault>
         requires within { present ≤ nodes }
         ensures ok { IfOk result (λ net. moment_of net ≡ beginning_with nodes present) }
@@ -108,9 +110,11 @@ impl<R: Rules> Net<R> {
         self.engine.enabled()
     }
 
-    /// Whether no rule is enabled, which is one look. That is so exactly where the network is stable, and then its
-    /// mutual pairs are a maximal matching, half as many at least as the edges of any other matching; and where every pointer is null or
-    /// answered and the flags are right, they are a maximal matching only if the network is stable.
+    /// Whether the network is silent: no rule is enabled. Constant time.
+    ///
+    /// It is silent exactly if it is stable. Its mutual pairs then are a maximal matching, with at least half
+    /// as many edges as any other matching. The converse holds if every pointer is null or answered and the
+    /// flags are right.
     pub fn is_quiet(&self) -> bool
         ensures quiet { IsTrue result ↔ (enabled_names R.table self.now.state ≡ []) }
         ensures stable { IsTrue result ↔ IsStable R.table.flags self.now.state }
@@ -121,16 +125,16 @@ impl<R: Rules> Net<R> {
         self.engine.is_quiet()
     }
 
-    /// The rule that is enabled at a node, if any is; none at an absent one. What the guard asks about all neighbours is
-    /// counted at the node, so that it looks at no list of them.
+    /// The rule enabled at a node, if any; none at an absent node.
+    /// It reads counts kept at the node, not the list of its neighbours.
     pub fn guard(&self, v: Node) -> Option<Act>
         ensures { result ≡ guard_at R.table self.now.state v }
     {
         self.engine.guard(v)
     }
 
-    /// What the item at a place of a choice, from 0, would do alone. Goes through its node's neighbours only where a
-    /// target has to be found.
+    /// What the item at index `place` of a choice, from 0, would do alone.
+    /// It searches its node's neighbours only if a target must be found.
     pub fn verdict(&self, choice: &Choice, place: u32) -> Verdict
         requires { place < length choice.now }
         ensures { IfSome (slice_get choice.now place) (λ item. result ≡ verdict_of R.table self.now.state place item) }
@@ -138,8 +142,10 @@ impl<R: Rules> Net<R> {
         self.engine.verdict(choice, place)
     }
 
-    /// The charge, at most 2,293,757: no more moves than this can come before the next accepted disturbance, and where it is zero
-    /// the network is stable. Takes no memory, and looks at what has changed since this or a `Status` was last asked.
+    /// The charge, which is the potential, at most 2,293,757.
+    /// At most this many moves can come before the next accepted disturbance. If it is 0 the network is
+    /// stable.
+    /// Takes no memory. Looks at what changed since this or a `Status` was last asked.
     pub fn charge(&mut self) -> u32
         ensures charge { result ≡ R.table.charge self.old.state }
         ensures settled { result ≡ 0 → IsStable R.table.flags self.old.state }
@@ -148,50 +154,58 @@ impl<R: Rules> Net<R> {
         self.engine.charge()
     }
 
-    /// What an event would cost if it came now: by how much it would let the charge grow at most, and with it the moves that may come
-    /// before the next disturbance. 0 for one that would be refused, for a step and for a question. It is told from the pointers and the
-    /// degrees of the nodes that the event touches, whatever the size of the network, and nothing changes.
+    /// The most that an event, if it came now, would add to the charge, in moves.
+    /// So it bounds how many more moves may come before the next disturbance. Nothing changes.
+    /// 0 for a step, for a query, and for an event that would be refused.
+    /// It reads pointers and counts of the nodes that the event touches, whatever the size of the network.
     pub fn cost_of(&self, event: &Event) -> u32
         ensures cost { result ≡ cost_of R.table R.cost self.now.state event.now }
         ensures grows { BoundsGrowth R.table self.now.state self.now.spent event.now result }
     {
-        // By its contract the state is sound.
+        // Called for its contract: the state is sound.
         let _ = self.engine.registers();
         self.engine.cost_of(event)
     }
 
-    /// Whether a node is at rest: its flag is right where flags are used, and it is married, or points nowhere and each of its
-    /// neighbours is married. Whatever the daemon chooses, it never moves and stays at rest until a disturbance reaches it. It goes
-    /// through the node's neighbours only where it points nowhere.
+    /// Whether a node is at rest: for any daemon, it stays so and makes no move until a disturbance reaches
+    /// it.
+    /// Its flag is right, if flags are used, and it is married; or it points nowhere and each neighbour is
+    /// married.
+    /// It goes through the neighbours only if the node points nowhere.
     pub fn is_at_rest(&self, v: Node) -> bool
         ensures { result ≡ is_at_rest R.table.flags self.now.state v }
     {
         self.engine.is_at_rest(v)
     }
 
-    /// Whether an event would reach a node if it came now: whoever is at rest and not in reach stays at rest. False for one that
-    /// would be refused, for a step and for a question. It goes through the node's neighbours, and nothing changes.
+    /// Whether an event would reach a node if it came now. Nothing changes.
+    /// A node at rest that it would not reach stays at rest.
+    /// False for a step, for a query, and for an event that would be refused. Goes through the node's
+    /// neighbours.
     pub fn would_reach(&self, event: &Event, v: Node) -> bool
         ensures { result ≡ would_reach R.table self.now.state event.now v }
     {
         self.engine.would_reach(event, v)
     }
 
-    /// The nodes, ascending, that an event would reach if it came now: whoever is at rest and not among them stays at rest. Empty
-    /// for one that would be refused, for a step and for a question. `AllocError` if memory runs out. It goes once through the neighbours
-    /// of the nodes that the event names and of their partners, whatever the size of the network, and nothing changes.
+    /// The nodes, ascending, that an event would reach if it came now. Nothing changes.
+    /// A node that is at rest and not among them stays at rest.
+    /// Empty for a step, for a query, and for an event that would be refused. `AllocError` if memory runs
+    /// out.
+    /// Goes once through the neighbours of the nodes that the event names and of their partners.
     pub fn reach_of(&self, event: &Event) -> Result<Vec<Node>, Want>
         ensures reach { IfOk result (λ list. list.items ≡ reach_of R.table self.now.state event.now) }
         ensures few { IfOk result (λ list. length list.items ≤ reach_size self.now.state event.now) }
         ensures spares { IfOk result (λ list. Spares R.table self.now.state self.now.spent event.now list.items) }
     {
-        // By its contract the state is sound.
+        // Called for its contract: the state is sound.
         let _ = self.engine.registers();
         self.engine.reach_of(event)
     }
 
-    /// The base at which the network stands where so many entries led there: what is spent, each node with its registers, and the
-    /// edges. Takes some eight bytes a node and four an edge; a look at every name and at both ends of every edge.
+    /// The base of the network after `number` entries: what is spent, each node's registers, and the edges.
+    /// `AllocError` if memory runs out. Takes about eight bytes a node and four an edge.
+    /// It looks at every name and at both ends of every edge.
     pub fn base(&self, number: u32) -> Result<Base, Want>
         ensures base { IfOk result (λ base. base ≡ base_of number (moment_of self.now)) }
         ensures few { IfOk result (λ base. (length base.nodes ≤ 65535) × (length base.edges ≤ 1048576)) }
@@ -207,8 +221,8 @@ impl<R: Rules> Net<R> {
         })
     }
 
-    /// The moves since the last accepted disturbance, or since the start. With the charge they are at most twice the
-    /// edges and the rules' weight for each node. One look.
+    /// The moves since the last accepted disturbance, or since the start. Constant time.
+    /// With the charge they are at most twice the edges, plus the rules' weight for each node.
     pub fn spent(&self) -> u32
         ensures count { result ≡ self.now.spent }
         ensures bound { self.now.spent + R.table.charge self.now.state ≤ 2 * edge_count self.now.state.network + R.NODE_WEIGHT * node_count self.now.state.network }
@@ -216,9 +230,9 @@ impl<R: Rules> Net<R> {
         self.spent
     }
 
-    /// The reply that `apply` would give to an event, with all the memory had that carrying it out takes: `commit` does that, and
-    /// can't fail. The state stays. Want of memory comes after every refusal; `Unlink`, `Point`, `Flag`, `Join`, `Leave`,
-    /// `Show` and `Status` take none. It costs what `apply` costs but for the writes and the looks after them.
+    /// The reply that `apply` would give to an event; takes all the memory that carrying it out needs.
+    /// `commit` then carries it out and cannot fail. The state stays. Errors are those of `apply`.
+    /// Costs what `apply` does, without the writes and the looks after them.
     #[inline(always)]
     pub fn prepare(&mut self, event: &Event) -> Result<Reply, Want>
         ensures reply { IfOk result (λ reply. reply ≡ reply_of R.table self.old.state self.old.spent event.now) }
@@ -231,8 +245,8 @@ impl<R: Rules> Net<R> {
         Ok(reply)
     }
 
-    /// Puts the reply that `apply` would give to an event where the caller keeps it, so that none is moved, with all the memory
-    /// had that carrying it out takes, as `prepare` does. The reply may be any before; at want of memory nothing is said of it.
+    /// Does what `prepare` does, but puts the reply into `reply`, so that none is moved.
+    /// If memory runs out the value of `reply` is unspecified.
     #[inline(always)]
     pub fn prepare_into(&mut self, event: &Event, reply: &mut Reply) -> Result<(), Want>
         ensures reply { OnOk result (reply.new ≡ reply_of R.table self.old.state self.old.spent event.now) }
@@ -243,9 +257,9 @@ impl<R: Rules> Net<R> {
         self.engine.prepare(event, self.spent, reply)
     }
 
-    /// The reply that `apply` would give to a step, from the verdicts of its items, without a second look at a guard, with all
-    /// the memory had that carrying it out takes: `commit` of the step does that, and can't fail. The state stays. Want of memory
-    /// comes after every refusal.
+    /// The reply that `apply` would give to a step, from the verdicts of its items. The state stays.
+    /// It takes all the memory that `commit` of the step needs, and evaluates no guard again.
+    /// `AllocError` if memory runs out, only if the step is not refused.
     pub fn prepare_step(&mut self, choice: &Choice, verdicts: &[Verdict]) -> Result<Reply, Want>
         requires { verdicts.now ≡ verdicts_of R.table self.old.state choice.now }
         ensures reply { IfOk result (λ reply. reply ≡ reply_of R.table self.old.state self.old.spent (Step choice.now)) }
@@ -256,8 +270,8 @@ impl<R: Rules> Net<R> {
         self.engine.prepare_step(choice, verdicts)
     }
 
-    /// Carries out an event with the reply that was prepared for it, where nothing has changed since. It takes no memory, and
-    /// looks again at guards near the change alone, as `apply` says.
+    /// Carries out an event, given the reply that was prepared for it. The network must be unchanged since.
+    /// Takes no memory. `apply` lists the guards that are evaluated again.
     #[inline(always)]
     pub fn commit(&mut self, event: &Event, reply: &Reply)
         requires { IsPrepared R.table self.old event.now reply.now }
@@ -268,14 +282,25 @@ impl<R: Rules> Net<R> {
         self.spent = spent_after::<R>(self.engine.store(), self.spent, reply);
     }
 
-    /// Carries out an event: a refusal, the change of the network, the moves of a step in which each free target is
-    /// the least allowed one, or an answer. Want of memory comes after every refusal and changes nothing; `Unlink`,
-    /// `Point`, `Flag`, `Join`, `Leave`, `Show` and `Status` take no memory. `Link` and `Unlink` look again at the guards of
-    /// their two ends, a write of registers at that of its node, of those who point at it, and of a pointer's old and new
-    /// target where they point nowhere; where the node is open then and was not, or was and is not, the counts of its neighbours that point
-    /// nowhere tell whose guards else. A step costs one look at each chosen node beside that, and a sort of its moves where
-    /// they don't ascend. `Matching` and `Status` look again at the nodes whose share in the answer may have changed since either was
-    /// last asked, and at the neighbours of those that make something else of their edges or that several point at.
+    /// Carries out an event: an edit, a fault, a step or a query, and returns the reply.
+    /// In a step each free target is the least allowed one.
+    /// `AllocError` if memory runs out, only if the event is not refused; nothing has changed then. Never for
+    /// `Unlink`, `Point`, `Flag`, `Join`, `Leave`, `Show` and `Status`.
+    ///
+    /// The guards that are evaluated again:
+    ///
+    /// | change | nodes |
+    /// |---|---|
+    /// | an edge comes or goes | its two ends |
+    /// | a write of a node's register | the node, and each neighbour that points at it |
+    /// | a write of its pointer | also its old and its new target, if that one points nowhere |
+    /// | a write that opens or closes it | also each neighbour that points nowhere and sees no other open node |
+    /// | a name becomes a node | that node |
+    ///
+    /// In the fourth case counts at each neighbour decide. A step also looks at each chosen node, and sorts
+    /// its moves unless they ascend. `Matching` and `Status` look at nodes whose contribution may have
+    /// changed since the last such query. They also look at the neighbours of such a node if its effect on
+    /// its edges changed or several nodes point at it.
     pub fn apply(&mut self, event: &Event) -> Result<Reply, Want>
         ensures reply { IfOk result (λ reply. reply ≡ reply_of R.table self.old.state self.old.spent event.now) }
         ensures state { OnOk result (moment_of self.new ≡ moment_after R.table (moment_of self.old) event.now) }
@@ -288,8 +313,8 @@ impl<R: Rules> Net<R> {
         Ok(reply)
     }
 
-    /// Carries out an event as `apply` does, and puts the reply where the caller keeps it, so that none is moved: it may be any
-    /// before, and at want of memory nothing is said of it.
+    /// Carries out an event as `apply` does, but puts the reply into `reply`, so that none is moved.
+    /// If memory runs out the value of `reply` is unspecified.
     #[inline(always)]
     pub fn apply_into(&mut self, event: &Event, reply: &mut Reply) -> Result<(), Want>
         ensures reply { OnOk result (reply.new ≡ reply_of R.table self.old.state self.old.spent event.now) }
@@ -303,9 +328,9 @@ impl<R: Rules> Net<R> {
         Ok(())
     }
 
-    /// Carries out events one after another: a run of the rule machine from the moment before to the moment after. At
-    /// want of memory the events before the one that wanted it have been carried out, or none where it was wanted for
-    /// the list of the replies.
+    /// Carries out events one after another, a run of the rule machine, and returns their replies.
+    /// `AllocError` if memory runs out. The events before the one that needed it have been carried out; none,
+    /// if the list of replies needed it.
     pub fn apply_all(&mut self, events: &[Event]) -> Result<Listing<Reply>, Want>
         ensures replies { IfOk result (λ replies. replies ≡ replies_of R.table self.old.state self.old.spent events.now) }
         ensures state { OnOk result (moment_of self.new ≡ moment_after_all R.table (moment_of self.old) events.now) }
@@ -322,8 +347,9 @@ impl<R: Rules> Net<R> {
         Ok(Listing::from_vec(replies))
     }
 
-    /// Carries out a step from the verdicts of its items: what `apply` of the step would do, without a second look at
-    /// a guard. Want of memory comes after every refusal and changes nothing.
+    /// Carries out a step from the verdicts of its items, as `apply` of the step would.
+    /// `AllocError` if memory runs out, only if the step is not refused; nothing has changed then.
+    /// No guard is evaluated again.
     pub fn apply_step(&mut self, choice: &Choice, verdicts: &[Verdict]) -> Result<Reply, Want>
         requires { verdicts.now ≡ verdicts_of R.table self.old.state choice.now }
         ensures reply { IfOk result (λ reply. reply ≡ reply_of R.table self.old.state self.old.spent (Step choice.now)) }
@@ -336,7 +362,6 @@ impl<R: Rules> Net<R> {
         Ok(reply)
     }
 
-    /// Carries out a step as `commit` does.
     fn commit_step(&mut self, choice: &Choice, reply: &Reply)
         requires { IsPrepared R.table self.old (Step choice.now) reply.now }
         ensures { moment_of self.new ≡ moment_after R.table (moment_of self.old) (Step choice.now) }

@@ -1,4 +1,4 @@
-//! Whom a disturbance would reach.
+//! The nodes that a disturbance would reach.
 
 ghost use Rattle.std.specs.Prelude.{◌≡◌, ◌≤◌, IfOk, length};
 ghost use Rattle.containment_laws.specs.Reach.{reach_size};
@@ -11,14 +11,12 @@ use rule_machine::{Event, Node, Want};
 use rule_set::Rules;
 use std::alloc::Global;
 
-/// Whether an event would reach a node, where it would be accepted; else false.
 pub(crate) fn would_reach<R: Rules>(state: &IndexedState<R>, event: &Event, v: Node) -> bool
     ensures { result ≡ would_reach R.table state.now.state event.now v }
 {
     is_disturbance(state, event) && containment::is_in_reach(state.net(), event, v)
 }
 
-/// The nodes, ascending, that an event would reach, where it would be accepted; else none.
 pub(crate) fn reach_of<R: Rules>(
     alloc: Global,
     state: &IndexedState<R>,
@@ -27,7 +25,7 @@ pub(crate) fn reach_of<R: Rules>(
     ensures reach { IfOk result (λ list. list.items ≡ reach_of R.table state.now.state event.now) }
     ensures few { IfOk result (λ list. length list.items ≤ reach_size state.now.state event.now) }
 {
-    // By its contract the state is sound.
+    // Called for its contract: the state is sound.
     let _ = state.registers();
     if !is_disturbance(state, event) {
         return Ok(Vec::new(alloc));

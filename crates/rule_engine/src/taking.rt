@@ -1,5 +1,4 @@
-//! Refusals that outcomes bring, and the moves of a choice that has none. A set of marks tells which nodes the choice has
-//! named so far.
+//! Refusals that outcomes bring, and the moves of a choice that has none.
 
 ghost use Rattle.std.specs.Prelude.{◌≡◌, ◌++◌, [], All, None, Some, MatchResult, IsTrue, if◌then◌else◌, is_some, length, option_to_list, slice_set, true};
 ghost use Rattle.enabled_set.specs.Members.{is_in};
@@ -11,7 +10,7 @@ use crate::moves::Gathered;
 use enabled_set::Marks;
 use rule_machine::{Moved, Node, Outcome, Refusal, Verdict};
 
-/// Why a choice of so many items is refused, whatever they are.
+/// Why a choice of `count` items is refused, whatever the items are.
 pub(crate) fn refused_size(central: bool, count: usize) -> Option<Refusal>
     ensures { result ≡ size_refusal central count }
 {
@@ -24,7 +23,7 @@ pub(crate) fn refused_size(central: bool, count: usize) -> Option<Refusal>
     None
 }
 
-/// The move that an outcome is, or why its item is refused, where it may stand in the choice before.
+/// The move in an outcome, or why its item is refused. `twice`: the choice has named its node before.
 pub(crate) fn accepted(outcome: Outcome, twice: bool) -> Result<Moved, Refusal>
     ensures { MatchResult result (λ moved. (refused_by outcome twice ≡ None) × (move_in outcome ≡ Some moved)) (λ refusal. refused_by outcome twice ≡ Some refusal) }
 {
@@ -37,8 +36,8 @@ pub(crate) fn accepted(outcome: Outcome, twice: bool) -> Result<Moved, Refusal>
     }
 }
 
-/// Takes an item with this outcome behind those whose nodes are marked: marks its node and adds its move, where there was
-/// memory so far; or says why it is refused.
+/// Takes an item with this outcome: marks its node and adds its move, or returns its refusal.
+/// The marks are the nodes of the items before it. The move is added only if memory has lasted so far.
 pub(crate) fn take_outcome(
     chosen: &mut Marks,
     gathered: &mut Gathered,
@@ -61,7 +60,7 @@ pub(crate) fn take_outcome(
     }
 }
 
-/// Takes the items that verdicts are of, in order, up to the first that is refused, and says why that one is.
+/// Takes the items of verdicts in order up to the first that is refused, and returns its refusal.
 fn take_up_to_refusal(
     chosen: &mut Marks,
     gathered: &mut Gathered,
@@ -82,8 +81,8 @@ fn take_up_to_refusal(
     None
 }
 
-/// Gathers the moves of verdicts where none is refused, else says why the first is that is: one look at each up to that
-/// one. The marks are clear again at the end.
+/// Gathers the moves of verdicts, or returns the first refusal. The marks are clear at the end.
+/// One look at each verdict up to that one.
 pub(crate) fn take_verdicts(
     chosen: &mut Marks,
     gathered: &mut Gathered,

@@ -1,4 +1,4 @@
--- What the machine may answer to an event, and where it is then.
+-- What the machine may answer to an event, and the state afterwards.
 use Rattle.std.specs.Prelude.{◌≡◌, ℕ, ◌+◌, length, Option, None, Some}
 use Rattle.rule_machine.specs.declared.counts.Counts.{Counts}
 use Rattle.rule_machine.specs.declared.event.Event.{Event}
@@ -15,7 +15,7 @@ use Rattle.rule_machine.specs.Disturbance.{after_link, after_unlink, after_point
 use Rattle.rule_machine.specs.Stable.{mutual_pairs}
 use Rattle.rule_machine.specs.Refuse.{refusal_of}
 
--- the numbers of a state in which these moves are spent
+-- the numbers of a state after `spent` moves
 abbrev pub counts_of : RuleTable → State → ℕ → Counts
 counts_of t s spent = record {
   nodes = node_count s.network;
@@ -26,8 +26,7 @@ counts_of t s spent = record {
   spent = spent;
 }
 
--- What an event that is not refused does, where these moves are spent; any allowed target may be taken where none is
--- wished.
+-- What an accepted event does, after `spent` moves. Without a wish, any allowed target may be taken.
 abbrev pub Does : RuleTable → State → ℕ → Event → Reply → State → Type 0
 Does t s spent (Link a b) Accepted s' = s' ≡ after_link s a b
 Does t s spent (Unlink a b) Accepted s' = s' ≡ after_unlink s a b
@@ -48,11 +47,11 @@ abbrev pub AnswersBy : RuleTable → State → ℕ → Event → Option Refusal 
 AnswersBy t s spent event (Some refusal) reply s' = (reply ≡ Refused refusal) × (s' ≡ s)
 AnswersBy t s spent event None reply s' = Does t s spent event reply s'
 
--- from s, where these moves are spent, the machine may give this reply to the event and be in s' then
+-- in s, after `spent` moves, the machine may answer the event with this reply and be in s' afterwards
 abbrev pub Answers : RuleTable → State → ℕ → Event → Reply → State → Type 0
 Answers t s spent event reply s' = AnswersBy t s spent event (refusal_of t s event) reply s'
 
--- the moves spent after a reply: only disturbances are answered by Accepted, and a disturbance begins anew
+-- the moves spent after a reply: only disturbances are answered by Accepted, and they reset the count
 abbrev pub spent_after : ℕ → Reply → ℕ
 spent_after spent Accepted = 0
 spent_after spent (Moves moves) = spent + length moves

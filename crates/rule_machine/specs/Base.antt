@@ -1,4 +1,4 @@
--- Bases: what is left of a run where its older entries are dropped; and logs in which bases stand among entries.
+-- Bases: what is left of a run when its older entries are dropped. Logs in which bases come among entries.
 use Rattle.std.specs.Prelude.{◌≡◌, ℕ, ◌+◌, ◌≤◌, false, List, [], ◌∷◌, map, Option, None, Some}
 use Rattle.rule_machine.specs.declared.base.Start.{Start}
 use Rattle.rule_machine.specs.declared.base.Start.TheVariants.{At, Forgotten}
@@ -18,12 +18,12 @@ place_at s v = record { node = v; target = pointer s v; flagged = flag s v }
 abbrev pub places : State → List Place
 places s = map (place_at s) (names s.network)
 
--- the base at a moment to which so many entries led
+-- the base at a moment after `number` entries
 abbrev pub base_of : ℕ → Moment → Base
 base_of number m = record { number = number; spent = m.spent; nodes = places m.state; edges = edge_list m.state.network }
 
--- where a run may begin at a base, for names up to size: the state is one, its lines are the base's, and what is spent is
--- within the bound of its network
+-- A run may begin at the base, for names up to size: the start is a state, its lines are the base's, and its
+-- spent moves and charge are within the bound of its network.
 pub record IsBegun (t : RuleTable) (bound : Network → ℕ) (size : ℕ) (base : Base) (start : Moment) : Type 0 where
   pub is_state : IsState start.state
   pub size_is : start.state.network.size ≡ size
@@ -31,17 +31,18 @@ pub record IsBegun (t : RuleTable) (bound : Network → ℕ) (size : ℕ) (base 
   pub unflagged : t.flags ≡ false → (v : ℕ) → flag start.state v ≡ false
   pub within : start.spent + t.charge start.state ≤ bound start.state.network
 
--- where the entries that are kept begin, for names up to size: at the opening state with the first of them present, or at a base
+-- where the kept entries begin, for names up to size: at the opening state with the first of them present, or
+-- at a base
 abbrev pub BeginsAt : RuleTable → (Network → ℕ) → ℕ → ℕ → Option Base → Moment → Type 0
 BeginsAt t bound size first None start = start ≡ beginning_with size first
 BeginsAt t bound size first (Some base) start = IsBegun t bound size base start
 
--- the number of the last entry before those that are kept
+-- the number of the last entry before the kept ones
 abbrev pub dropped : Option Base → ℕ
 dropped None = 0
 dropped (Some base) = base.number
 
--- where the first of their epochs began
+-- where the first epoch of the kept entries began
 abbrev pub begun_at : Option Base → Start
 begun_at None = At 0
 begun_at (Some base) = Forgotten
@@ -56,7 +57,8 @@ pub record Stand : Type 0 where
   pub moment : Moment
   pub count : ℕ
 
--- From one stand to another: the machine may answer the events by their replies, and a base is that of where it stands.
+-- From one numbered moment to another: the replies are answers of the machine, and a base is that of its
+-- moment.
 abbrev pub Passes : RuleTable → Stand → List Part → Stand → Type 0
 Passes t at [] end = end ≡ at
 Passes t at (Told entry ∷ log) end =

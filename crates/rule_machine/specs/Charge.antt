@@ -1,5 +1,5 @@
--- The charge of a state: a number that each move lowers, so that it bounds the moves that can still come.
--- Twice the open edges, the unanswered pointers, and what each node adds. This project's own.
+-- The charge of a state, its potential: each move lowers it, so it bounds the moves that can still come.
+-- Twice the open edges, plus the unanswered pointers, plus what each node adds. This project's own.
 use Rattle.std.specs.Prelude.{ℕ, ◌+◌, ◌*◌, Bool, cond, not, ◌&&◌, ◌||◌, is_none, sum_by, count_by}
 use Rattle.rule_machine.specs.Network.{names, edge_list}
 use Rattle.rule_machine.specs.State.{State, pointer, flag, points, married, has_suitor, is_unanswered}
@@ -12,7 +12,8 @@ awaits s v w = points s.registers v w && is_none (pointer s w)
 abbrev pub is_courted : State → ℕ → Bool
 is_courted s w = is_none (pointer s w) && has_suitor s w
 
--- Hsu and Huang: an end is married, or one end points at the other, which is null, or both are null with a suitor each
+-- Hsu and Huang: an end is married, or one end points at the other, which is null, or both are null with
+-- suitors
 abbrev pub hsu_huang_closed : State → ℕ × ℕ → Bool
 hsu_huang_closed s e =
     married s e.0 || married s e.1 || awaits s e.0 e.1 || awaits s e.1 e.0 || (is_courted s e.0 && is_courted s e.1)

@@ -1,4 +1,4 @@
--- What edits and faults do to a state, where they are not refused. This project's own.
+-- What accepted edits and faults do to a state. This project's own.
 use Rattle.std.specs.Prelude.{ℕ, Bool, false, map, Option, None, if◌then◌else◌}
 use Rattle.rule_machine.specs.Network.{with_edge, without_edge, with_node, without_node}
 use Rattle.rule_machine.specs.State.{State, Registers, is_at, points, with_pointer, with_flag}
@@ -10,7 +10,7 @@ after_link s a b = record s { network = with_edge s.network a b }
 abbrev pub without_pointer : Registers → ℕ → ℕ → Registers
 without_pointer r v w = if points r v w then with_pointer r v None else r
 
--- the edge goes, and so does each end's pointer that crossed it; flags stay
+-- the edge goes, and an end's pointer at the other end becomes null; flags stay
 abbrev pub after_unlink : State → ℕ → ℕ → State
 after_unlink s a b =
     record { network = without_edge s.network a b; registers = without_pointer (without_pointer s.registers a b) b a }
@@ -21,7 +21,7 @@ after_point s v target = record s { registers = with_pointer s.registers v targe
 abbrev pub after_flag : State → ℕ → Bool → State
 after_flag s v value = record s { registers = with_flag s.registers v value }
 
--- a name becomes present; its registers are null and false already, as those of every absent name
+-- a name becomes present; its registers are null and false already, like those of every absent name
 abbrev pub after_join : State → ℕ → State
 after_join s v = record s { network = with_node s.network v }
 

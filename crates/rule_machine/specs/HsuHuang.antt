@@ -7,15 +7,15 @@ use Rattle.rule_machine.specs.State.{State, pointer, holds_at, points, suits, ha
 use Rattle.rule_machine.specs.RuleTable.{RuleTable, is_open}
 use Rattle.rule_machine.specs.Charge.{hsu_huang_charge}
 
--- a neighbour is open where its pointer is null
+-- a neighbour is open if its pointer is null
 abbrev pub hsu_huang_opens : Option ℕ → Bool → Bool
 hsu_huang_opens target flag = is_none target
 
 abbrev pub hsu_huang_guard : State → ℕ → Act → Bool
 hsu_huang_guard s v Update = false
--- v points nowhere, and a neighbour points at it
+-- v is null, and a neighbour points at it
 hsu_huang_guard s v Marry = is_none (pointer s v) && has_suitor s v
--- v points nowhere, no neighbour points at it, and one points nowhere
+-- v is null, no neighbour points at it, and one is null
 hsu_huang_guard s v Seduce =
     is_none (pointer s v) && not (has_suitor s v) && is_some (find (is_open hsu_huang_opens s) (neighbours s.network v))
 -- v points at a node that points at a third
@@ -26,7 +26,7 @@ abbrev pub hsu_huang_allowed : State → ℕ → Act → ℕ → Bool
 hsu_huang_allowed s v Update w = false
 -- any suitor
 hsu_huang_allowed s v Marry w = linked s.network v w && suits s v w
--- any neighbour that points nowhere
+-- any neighbour that is null
 hsu_huang_allowed s v Seduce w = linked s.network v w && is_open hsu_huang_opens s w
 hsu_huang_allowed s v Abandon w = false
 

@@ -22,7 +22,7 @@ use Rattle.rule_machine.specs.Stable.{mutual_pairs}
 use Rattle.rule_machine.specs.Refuse.{refusal_of}
 use Rattle.rule_machine.specs.Answer.{counts_of, spent_after}
 
--- a move of v by the rule: to the wished target if it is allowed, to the least one where none is wished
+-- a move of v by the rule: to the wished target if it is allowed; without a wish to the least one
 abbrev pub outcome_by : RuleTable → State → ℕ → Act → Option ℕ → Outcome
 outcome_by t s v act None = outcome.Moves (record { node = v; act = act; target = least_target t s v act })
 outcome_by t s v act (Some w) =
@@ -36,7 +36,7 @@ outcome_at t s item (Some act) = outcome_by t s item.node act item.wish
 abbrev pub outcome_of : RuleTable → State → Item → Outcome
 outcome_of t s item = if present s.network item.node then outcome_at t s item (rule_at t s item.node) else outcome.Absent
 
--- the move, where it is one
+-- the move, if it is one
 abbrev pub move_in : Outcome → Option Moved
 move_in (outcome.Moves m) = Some m
 move_in other = None
@@ -84,14 +84,14 @@ abbrev pub state_by : RuleTable → State → Event → Option Refusal → State
 state_by t s event (Some refusal) = s
 state_by t s event None = accepted_state t s event
 
--- the reply where these moves are spent, and the state after it
+-- the reply after `spent` moves, and the state afterwards
 abbrev pub reply_of : RuleTable → State → ℕ → Event → Reply
 reply_of t s spent event = reply_by t s spent event (refusal_of t s event)
 
 abbrev pub state_after : RuleTable → State → Event → State
 state_after t s event = state_by t s event (refusal_of t s event)
 
--- the moves that are spent after it
+-- the moves spent after it
 abbrev pub spent_by : RuleTable → State → ℕ → Event → ℕ
 spent_by t s spent event = spent_after spent (reply_of t s spent event)
 

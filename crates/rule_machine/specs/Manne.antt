@@ -1,5 +1,5 @@
--- Manne, Mjelde, Pilard and Tixeuil, "A new self-stabilizing maximal matching algorithm", 2009: any set of enabled
--- nodes moves at once. A node's name is its identity.
+-- Manne, Mjelde, Pilard and Tixeuil, "A new self-stabilizing maximal matching algorithm", 2009.
+-- Any set of enabled nodes moves at once. A node's name is its identity.
 use Rattle.std.specs.Prelude.{ℕ, Bool, true, false, not, ◌&&◌, ◌||◌, Option, is_some, is_none, find, nat_lt, nat_le}
 use Rattle.rule_machine.specs.declared.act.Act.{Act}
 use Rattle.rule_machine.specs.declared.act.Act.TheVariants.{Update, Marry, Seduce, Abandon}
@@ -8,7 +8,7 @@ use Rattle.rule_machine.specs.State.{State, pointer, flag, holds_at, points, sui
 use Rattle.rule_machine.specs.RuleTable.{RuleTable, is_open}
 use Rattle.rule_machine.specs.Charge.{manne_charge}
 
--- a neighbour is open where its pointer is null and its flag false
+-- a neighbour is open if its pointer is null and its flag false
 abbrev pub manne_opens : Option ℕ → Bool → Bool
 manne_opens target flag = is_none target && not flag
 
@@ -19,9 +19,9 @@ may_court s v w = is_open manne_opens s w && nat_lt v w
 abbrev pub manne_guard : State → ℕ → Act → Bool
 -- v's flag is wrong
 manne_guard s v Update = not (is_settled s v)
--- v points nowhere, and a neighbour points at it
+-- v is null, and a neighbour points at it
 manne_guard s v Marry = is_settled s v && is_none (pointer s v) && has_suitor s v
--- v points nowhere, no neighbour points at it, and there is one that it may court
+-- v is null, no neighbour points at it, and there is one that it may court
 manne_guard s v Seduce =
     is_settled s v && is_none (pointer s v) && not (has_suitor s v) && is_some (find (may_court s v) (neighbours s.network v))
 -- v points at a node that does not point back, and that is flagged or not above v
@@ -32,7 +32,7 @@ abbrev pub manne_allowed : State → ℕ → Act → ℕ → Bool
 manne_allowed s v Update w = false
 -- any suitor
 manne_allowed s v Marry w = linked s.network v w && suits s v w
--- the greatest of those that it may court
+-- the greatest that it may court
 manne_allowed s v Seduce w =
     linked s.network v w && may_court s v w && not (is_some (find (λ x. may_court s v x && nat_lt w x) (neighbours s.network v)))
 manne_allowed s v Abandon w = false

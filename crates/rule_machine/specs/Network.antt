@@ -1,5 +1,5 @@
--- A network: nodes with names from 1 up, and undirected edges between different nodes.
--- Everything else reaches the nodes by `names`, `present` and `node_count` alone.
+-- A network: nodes named from 1 up, and undirected edges between different nodes.
+-- All else refers to the nodes only by `names`, `present` and `node_count`.
 use Rattle.std.specs.Prelude.{◌≡◌, ℕ, ◌+◌, ◌<◌, min, max, Bool, true, false, not, ◌&&◌, ◌||◌, List, [], ◌∷◌, length, map as list_map, filter, nat_le, nat_eq, slice_index_or, slice_set, IsTrue, refl}
 use Rattle.std.specs.List.{range_with_len}
 use Rattle.std.specs.declared.cmp.Ordering.{Ordering}
@@ -12,7 +12,7 @@ use Rattle.std.specs.FinMap as map
 abbrev pub pair_cmp : ℕ × ℕ → ℕ × ℕ → Ordering
 pair_cmp a b = ordering_then (nat_cmp a.0 b.0) (nat_cmp a.1 b.1)
 
--- a finite set of pairs: a finite map with nothing at each key
+-- a finite set of pairs: a finite map with unit values
 abbrev pub PairSet : Type 0
 PairSet = map.FinMap pair_cmp (Unit {0})
 
@@ -21,8 +21,8 @@ abbrev pub pair_set : List (ℕ × ℕ) → PairSet
 pair_set [] = map.empty
 pair_set (pair ∷ pairs) = map.insert (pair_set pairs) pair tt
 
--- Names are 1 to size; a place of the row says whether its name is present, and place 0 is nobody's. An edge is the pair
--- of its ends, the lower name first.
+-- Names are 1 to size. The row says at each name's index whether it is present; index 0 belongs to no node.
+-- An edge is the pair of its ends, the lower name first.
 pub record Network : Type 0 where
   pub size : ℕ
   pub here : List Bool
@@ -40,11 +40,11 @@ present net v = nat_le 1 v && (nat_le v net.size && slice_index_or net.here v fa
 abbrev pub names : Network → List ℕ
 names net = filter (present net) (range_with_len 1 net.size)
 
--- how many nodes there are
+-- the number of nodes
 abbrev pub node_count : Network → ℕ
 node_count net = length (names net)
 
--- the pair that stands for the edge between two nodes
+-- the pair for the edge between two nodes
 abbrev pub edge : ℕ → ℕ → ℕ × ℕ
 edge a b = (min a b, max a b)
 
@@ -60,11 +60,11 @@ neighbours net v = filter (linked net v) (names net)
 abbrev pub edge_list : Network → List (ℕ × ℕ)
 edge_list net = map.keys net.edges
 
--- how many edges there are
+-- the number of edges
 abbrev pub edge_count : Network → ℕ
 edge_count net = map.len net.edges
 
--- the row has a place for each name, and each edge is between two different nodes of the network
+-- the row has an entry for each name, and each edge joins two different nodes of the network
 pub record IsNetwork (net : Network) : Type 0 where
   pub here_len : length net.here ≡ net.size + 1
   pub nobody : slice_index_or net.here 0 false ≡ false
@@ -72,15 +72,15 @@ pub record IsNetwork (net : Network) : Type 0 where
   pub low_present : (a b : ℕ) → IsTrue (map.contains_key net.edges (a, b)) → IsTrue (present net a)
   pub high_present : (a b : ℕ) → IsTrue (map.contains_key net.edges (a, b)) → IsTrue (present net b)
 
--- the row of the names up to size in which the first of them are present, so many
+-- the row of the names up to size with the first `count` present
 abbrev pub first_names : ℕ → ℕ → List Bool
 first_names size count = list_map (λ v. nat_le 1 v && nat_le v count) (range_with_len 0 (size + 1))
 
--- the network of so many names, the first of which are present, without an edge
+-- the network of `size` names with the first `count` present, without edges
 abbrev pub edgeless_with : ℕ → ℕ → Network
 edgeless_with size count = record { size = size; here = first_names size count; edges = map.empty }
 
--- the one in which all are
+-- the one with all present
 abbrev pub edgeless : ℕ → Network
 edgeless size = edgeless_with size size
 
@@ -96,7 +96,7 @@ without_edge net a b = record net { edges = map.remove net.edges (edge a b) }
 abbrev pub is_end : ℕ → ℕ × ℕ → Bool
 is_end v e = nat_eq e.0 v || nat_eq e.1 v
 
--- the network with one more node, without an edge at it
+-- the network with one more node, without edges at it
 abbrev pub with_node : Network → ℕ → Network
 with_node net v = record net { here = slice_set net.here v true }
 

@@ -1,4 +1,4 @@
--- Which event is refused, and why: the first reason in a fixed order. A step is judged before any of its moves.
+-- Why an event is refused: the first reason in a fixed order. A step is judged before any of its moves.
 use Rattle.std.specs.Prelude.{ℕ, Bool, not, ◌&&◌, List, [], ◌∷◌, ◌++◌, Option, None, Some, if◌then◌else◌, nat_eq, nat_le, nat_lt, length, codes}
 use Rattle.std.specs.List.{list_any}
 use Rattle.std.specs.Option.{option_or}
@@ -32,7 +32,7 @@ unlink_refusal net a b =
     else (if nat_eq a b then Some SelfLoop
     else (if linked net a b then None else Some NotLinked))
 
--- to write null is never refused at a node that is present
+-- writing null is never refused at a present node
 abbrev pub point_refusal : Network → ℕ → Option ℕ → Option Refusal
 point_refusal net v None = if present net v then None else Some UnknownNode
 point_refusal net v (Some w) =
@@ -44,7 +44,7 @@ flag_refusal t net v = if not t.flags then Some NoFlag else (if present net v th
 abbrev pub show_refusal : Network → ℕ → Option Refusal
 show_refusal net v = if present net v then None else Some UnknownNode
 
--- 0 and what is above the size name nobody
+-- 0 and names above the size belong to no node
 abbrev pub join_refusal : Network → ℕ → Option Refusal
 join_refusal net v =
     if not (nat_le 1 v && nat_le v net.size) then Some UnknownNode else (if present net v then Some AlreadyPresent else None)
@@ -52,7 +52,7 @@ join_refusal net v =
 abbrev pub leave_refusal : Network → ℕ → Option Refusal
 leave_refusal net v = if present net v then None else Some UnknownNode
 
--- a wish has to be a target that the rule allows
+-- the rule must allow the wished target
 abbrev pub wish_refusal : (ℕ → Bool) → Option ℕ → Option Refusal
 wish_refusal allowed None = None
 wish_refusal allowed (Some w) = if allowed w then None else Some BadTarget
@@ -61,7 +61,7 @@ abbrev pub rule_refusal : RuleTable → State → Item → Option Act → Option
 rule_refusal t s item None = Some NotEnabled
 rule_refusal t s item (Some act) = wish_refusal (t.allowed s item.node act) item.wish
 
--- an item, behind those that stand earlier in its choice
+-- an item, after the earlier ones of its choice
 abbrev pub item_refusal : RuleTable → State → List Item → Item → Option Refusal
 item_refusal t s earlier item =
     if not (present s.network item.node) then Some UnknownNode

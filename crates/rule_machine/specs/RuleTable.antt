@@ -1,4 +1,4 @@
--- A rule set: guards and targets as functions of a state, which alone decide every move.
+-- A rule set: guards and targets as functions of a state. They alone decide every move.
 use Rattle.std.specs.Prelude.{ℕ, Bool, ◌&&◌, List, [], ◌∷◌, Option, is_some, find, filter, reverse, nat_lt}
 use Rattle.std.specs.List.{filter_map}
 use Rattle.std.specs.Option.{option_map}
@@ -10,21 +10,21 @@ use Rattle.rule_machine.specs.State.{State, pointer, flag}
 pub record RuleTable : Type 0 where
   -- whether the rule is enabled at the node
   pub guard : State → ℕ → Act → Bool
-  -- whether the node may point at this name by the rule
+  -- whether the rule allows the node to point at this name
   pub allowed : State → ℕ → Act → ℕ → Bool
   -- whether a neighbour with this pointer and flag is open to a seduction
   pub opens : Option ℕ → Bool → Bool
   -- the charge, which every move lowers
   pub charge : State → ℕ
-  -- whether one node moves at a time
+  -- whether only one node moves at a time
   pub central : Bool
-  -- whether the flags are used
+  -- whether flags are used
   pub flags : Bool
 
 abbrev pub acts : List Act
 acts = Update ∷ Marry ∷ Seduce ∷ Abandon ∷ []
 
--- the rule that is enabled at v, if any is
+-- the rule that is enabled at v, if any
 abbrev pub rule_at : RuleTable → State → ℕ → Option Act
 rule_at t s v = find (t.guard s v) acts
 

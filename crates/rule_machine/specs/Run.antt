@@ -20,17 +20,17 @@ pub record Moment : Type 0 where
   pub state : State
   pub spent : ℕ
 
--- where the reply with the least targets leaves the machine
+-- the moment after the reply with the least targets
 abbrev pub moment_after : RuleTable → Moment → Event → Moment
 moment_after t m event = record { state = state_after t m.state event; spent = spent_by t m.state m.spent event }
 
--- From one moment to another, the machine may answer the log's events by its replies, one after another.
+-- From one moment to another: the machine may answer the log's events by its replies, one after another.
 abbrev pub Run : RuleTable → Moment → List Entry → Moment → Type 0
 Run t start [] end = end ≡ start
 Run t start (entry ∷ log) end =
     (next : State) × Answers t start.state start.spent entry.0 entry.1 next × Run t (record { state = next; spent = spent_after start.spent entry.1 }) log end
 
--- where every run of a journal begins
+-- the beginning of every run of a journal
 abbrev pub beginning_with : ℕ → ℕ → Moment
 beginning_with size count = record { state = opening_with size count; spent = 0 }
 
@@ -38,23 +38,24 @@ beginning_with size count = record { state = opening_with size count; spent = 0 
 abbrev pub beginning : ℕ → Moment
 beginning size = beginning_with size size
 
--- The entries between two accepted disturbances: where it began, the moves in it, and how many edges and nodes there are.
+-- The entries between two accepted disturbances: where they begin, their moves, and the numbers of edges and
+-- nodes.
 pub record Epoch : Type 0 where
   pub start : Start
   pub moves : ℕ
   pub edges : ℕ
   pub nodes : ℕ
 
--- the one that the entry with this number begins, 0 for the start
+-- the epoch that the entry with this number begins; 0 for the start
 abbrev pub epoch_at : ℕ → State → Epoch
 epoch_at start s = record { start = At start; moves = 0; edges = edge_count s.network; nodes = node_count s.network }
 
--- the epoch that began there and has come to a moment
+-- the epoch that began there, at a later moment
 abbrev pub open_at : Start → Moment → Epoch
 open_at start m =
     record { start = start; moves = m.spent; edges = edge_count m.state.network; nodes = node_count m.state.network }
 
--- the epoch is over where its successor begins, and else it grows by the moves of a step
+-- a disturbance ends the epoch and begins the next; a step adds its moves
 abbrev pub epochs_by : Reply → ℕ → State → Epoch → List Epoch × Epoch
 epochs_by Accepted number s epoch = (epoch ∷ [], epoch_at number s)
 epochs_by (Moves moves) number s epoch = ([], record epoch { moves = epoch.moves + length moves })
@@ -64,8 +65,8 @@ epochs_by (EnabledAre nodes) number s epoch = ([], epoch)
 epochs_by (Pairs pairs) number s epoch = ([], epoch)
 epochs_by (Counts counts) number s epoch = ([], epoch)
 
--- The epochs of a log, in order, where number is that of its next entry, epoch the one that has begun, and each entry
--- stands with the state after it.
+-- The epochs of a log, in order. `number` is that of its next entry, `epoch` the one that has begun; each
+-- entry comes with the state after it.
 abbrev pub epochs_from : ℕ → Epoch → List (Entry × State) → List Epoch
 epochs_from number epoch [] = epoch ∷ []
 epochs_from number epoch (entry ∷ log) =

@@ -1,12 +1,12 @@
--- When a network has settled, and what a maximal matching is.
+-- Stable states, and maximal matchings.
 use Rattle.std.specs.Prelude.{◌≡◌, ℕ, ◌⊎◌, Bool, List, Option, None, Some, IfSome, IsTrue, All, Any, Contains, nat_lt, if◌then◌else◌}
 use Rattle.std.specs.List.{filter_map}
 use Rattle.std.specs.FinMap as map
 use Rattle.rule_machine.specs.Network.{Network, names, present, linked}
 use Rattle.rule_machine.specs.State.{State, pointer, flag, married, partner}
 
--- Every pointer is null or answered, no edge has two null ends, and where flags are used each says whether its node is
--- married.
+-- Every pointer is null or answered, no edge has two null ends, and, if flags are used, each says whether its
+-- node is married.
 pub record IsStable (uses_flags : Bool) (s : State) : Type 0 where
   pub answered : (v : ℕ) → IfSome (pointer s v) (λ w. pointer s w ≡ Some v)
   pub covered : (v w : ℕ) → IsTrue (linked s.network v w) → pointer s v ≡ None → pointer s w ≡ None → ⊥
@@ -16,7 +16,7 @@ pub record IsStable (uses_flags : Bool) (s : State) : Type 0 where
 abbrev pub ShareAnEnd : ℕ × ℕ → ℕ × ℕ → Type 0
 ShareAnEnd e f = (e.0 ≡ f.0) ⊎ (e.0 ≡ f.1) ⊎ (e.1 ≡ f.0) ⊎ (e.1 ≡ f.1)
 
--- Edges of the network no two of which share an end, and with one of which each edge of the network shares an end.
+-- Edges of the network: no two share an end, and each edge of the network shares an end with one of them.
 pub record IsMaximalMatching (net : Network) (matching : List (ℕ × ℕ)) : Type 0 where
   pub of_edges : All (λ e. IsTrue (map.contains_key net.edges e)) matching
   pub apart : (e f : ℕ × ℕ) → Contains matching e → Contains matching f → ShareAnEnd e f → e ≡ f

@@ -1,9 +1,9 @@
--- A state: a network, and what each node's registers hold.
+-- A state: a network, and the registers of each node.
 use Rattle.std.specs.Prelude.{◌≡◌, ℕ, ◌+◌, Bool, false, cond, not, ◌&&◌, List, length, replicate, Option, None, Some, is_some, IfSome, IsTrue, nat_eq, find, slice_index_or, slice_set, refl}
 use Rattle.std.specs.Coded.{Coded, code_by, coded×, coded_ℕ, coded_bool, coded_list, coded_option}
 use Rattle.rule_machine.specs.Network.{Network, network_code, IsNetwork, edgeless_with, present, linked, neighbours}
 
--- Where each node points and what its married flag says. A name is its own place: place 0 is nobody's.
+-- Each node's pointer and married flag, at its name's index; index 0 belongs to no node.
 pub record Registers : Type 0 where
   pub pointers : List (Option ℕ)
   pub flags : List Bool
@@ -12,11 +12,11 @@ abbrev pub registers_code : Coded Registers
 registers_code =
     code_by (List (Option ℕ) × List Bool) (coded× (coded_list (coded_option coded_ℕ)) (coded_list coded_bool)) (λ r. (r.pointers, r.flags)) (λ p. record { pointers = p.0; flags = p.1 }) (λ _. refl)
 
--- all pointers null and all flags false, for these many names
+-- all pointers null and all flags false, for `size` names
 abbrev pub blank : ℕ → Registers
 blank size = record { pointers = replicate (size + 1) None; flags = replicate (size + 1) false }
 
--- where v points, if anywhere
+-- v's pointer; None for null
 abbrev pub pointer_of : Registers → ℕ → Option ℕ
 pointer_of r v = slice_index_or r.pointers v None
 
@@ -57,11 +57,11 @@ pointer s v = pointer_of s.registers v
 abbrev pub flag : State → ℕ → Bool
 flag s v = flag_of s.registers v
 
--- where a run begins: no edges, all pointers null, all flags false; the first of the names are present, so many
+-- the beginning of a run: no edges, all pointers null, all flags false, and the first `count` names present
 abbrev pub opening_with : ℕ → ℕ → State
 opening_with size count = record { network = edgeless_with size count; registers = blank size }
 
--- all are
+-- with all names present
 abbrev pub opening : ℕ → State
 opening size = opening_with size size
 
@@ -80,7 +80,7 @@ has_suitor s v = is_some (first_suitor s v)
 abbrev pub is_mutual : State → ℕ → ℕ → Bool
 is_mutual s v w = points s.registers v w && points s.registers w v
 
--- the neighbour with which v is a mutual pair, if there is one
+-- the neighbour with which v is a mutual pair, if any
 abbrev pub partner : State → ℕ → Option ℕ
 partner s v = find (is_mutual s v) (neighbours s.network v)
 

@@ -1,4 +1,4 @@
--- A step: the chosen nodes move at once, each by what its rule says of the state before.
+-- A step: the chosen nodes move at once, each by its rule in the state before.
 use Rattle.std.specs.Prelude.{◌≡◌, ◌≢◌, ℕ, Bool, true, false, List, [], length, map, fold, Option, None, Some, IsSome, IsSomeAnd, IsTrue, All, Any}
 use Rattle.std.specs.List.Sorted.{IsStrictlyIncreasing}
 use Rattle.rule_machine.specs.declared.act.Act.{Act}
@@ -8,18 +8,18 @@ use Rattle.rule_machine.specs.declared.act.Moved.{Moved}
 use Rattle.rule_machine.specs.State.{State, Registers, with_pointer, with_flag, married}
 use Rattle.rule_machine.specs.RuleTable.{RuleTable, rule_at}
 
--- whether a rule points its node at a target: only to marry and to seduce takes one
+-- whether a rule points its node at a target: only marry and seduce do
 abbrev pub takes_target : Act → Bool
 takes_target Update = false
 takes_target Marry = true
 takes_target Seduce = true
 takes_target Abandon = false
 
--- an allowed target, and the wished one where there is a wish
+-- an allowed target, and the wished one if there is a wish
 abbrev pub IsAllowedTarget : RuleTable → State → ℕ → Act → Option ℕ → Option ℕ → Type 0
 IsAllowedTarget t s v act wish target = IsSomeAnd target (λ w. IsTrue (t.allowed s v act w)) × (IsSome wish → target ≡ wish)
 
--- what a move of v may have as its target: only to marry and to seduce take one
+-- the targets that a move of v may have: only marry and seduce take one
 abbrev pub IsTarget : RuleTable → State → ℕ → Act → Option ℕ → Option ℕ → Type 0
 IsTarget t s v Update wish target = target ≡ None
 IsTarget t s v Marry wish target = IsAllowedTarget t s v Marry wish target
@@ -32,7 +32,7 @@ pub record IsMoveOf (t : RuleTable) (s : State) (item : Item) (m : Moved) : Type
   pub rule : rule_at t s item.node ≡ Some m.act
   pub target : IsTarget t s item.node m.act item.wish m.target
 
--- what a move writes, where married is read in the state before the step
+-- what a move writes; married is read in the state before the step
 abbrev pub written : State → Registers → ℕ → Act → Option ℕ → Registers
 written before r v Update target = with_flag r v (married before v)
 written before r v Marry target = with_pointer r v target

@@ -1,11 +1,11 @@
-//! The rules' names, and one node's move.
+//! Rules by name, and moves.
 
 use crate::Node;
 
-/// What a node does when it moves: the rule that it carries out.
+/// A rule: what a node does when it moves.
 #[derive(Clone, Copy, Debug, PartialEq, Eq, PartialOrd, Ord)]
 pub enum Act {
-    /// Sets the node's married flag to whether it is married.
+    /// Sets the node's flag to whether the node is married.
     Update,
     /// Points back at a suitor.
     Marry,
@@ -15,13 +15,13 @@ pub enum Act {
     Abandon,
 }
 
-/// A move that was made: the node, its rule, and for `Marry` and `Seduce` the neighbour that it points at now.
+/// A move that was made.
 #[derive(Clone, Copy, Debug, PartialEq, Eq)]
 pub struct Moved {
     /// The node that moved.
     pub node: Node,
-    /// The rule that it carried out.
+    /// Its rule.
     pub act: Act,
-    /// Where it points now: a neighbour for `Marry` and `Seduce`, and `None` for the other rules.
+    /// The node's new target for `Marry` and `Seduce`; `None` for the other rules.
     pub target: Option<Node>,
 }

@@ -1,4 +1,4 @@
-//! What a log may begin with, and where an epoch begins.
+//! Bases, and beginnings of epochs.
 
 use crate::{Edge, Listing, Node};
 
@@ -7,30 +7,30 @@ use crate::{Edge, Listing, Node};
 pub struct Place {
     /// The node.
     pub node: Node,
-    /// Where its pointer is, if anywhere.
+    /// Its pointer; `None` for null.
     pub target: Option<Node>,
-    /// What its flag says.
+    /// Its married flag.
     pub flagged: bool,
 }
 
-/// A base: where a run has come to, and how many entries led there. It is all that is needed to go on.
+/// A base: all that is needed to continue a run, and how many entries led there.
 #[derive(Debug, Drop, PartialEq, Eq)]
 pub struct Base {
-    /// The number of the last entry before it, 0 where there was none.
+    /// The number of the last entry before the base; 0 if there was none.
     pub number: u32,
     /// The moves since the last accepted disturbance, or since the start.
     pub spent: u32,
-    /// The nodes with their registers, by rising names.
+    /// The nodes with their registers, ascending by name.
     pub nodes: Listing<Place>,
-    /// The edges, by rising lower ends, and those of one lower end by rising higher ends.
+    /// The edges, ascending by lower end, then by higher end.
     pub edges: Listing<Edge>,
 }
 
-/// Where the entries between two accepted disturbances begin.
+/// The beginning of an epoch: of the entries between two accepted disturbances.
 #[derive(Clone, Copy, Debug, PartialEq, Eq)]
 pub enum Start {
-    /// Behind the entry with this number, an accepted disturbance; 0 where the run begins.
+    /// After the entry with this number, an accepted disturbance; 0 for the beginning of the run.
     At(u32),
-    /// Before the base from which on entries are kept.
+    /// Before the base that the kept entries start from.
     Forgotten,
 }

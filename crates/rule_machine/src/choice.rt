@@ -1,4 +1,4 @@
-//! What a daemon chooses for one step.
+//! Choices of daemons.
 
 ghost use Rattle.std.specs.Prelude.{◌≡◌, ◌≤◌, [], ◌∷◌, length, SomeIff};
 
@@ -6,19 +6,19 @@ use crate::{Listing, Node};
 use std::alloc::AllocError;
 use std::marker::Model;
 
-/// The most items that a choice holds.
+/// The most items of a choice.
 pub const MAX_ITEMS: usize = 65_535;
 
-/// One chosen node, and where its daemon wishes it to point.
+/// One chosen node, and the target that its daemon wishes for.
 #[derive(Clone, Copy, Debug, PartialEq, Eq)]
 pub struct Item {
-    /// The node that shall move.
+    /// The node to move.
     pub node: Node,
-    /// The target that it shall take, or `None` for any.
+    /// The wished target, or `None` for any.
     pub wish: Option<Node>,
 }
 
-/// The items of one step, in the order in which they were named; at most 65,535.
+/// The items of one step, in the order given; at most 65,535.
 #[derive(Debug, Drop, PartialEq, Eq)]
 pub struct Choice {
     items: Listing<Item>,
@@ -48,7 +48,7 @@ impl Clone for Choice {
 }
 
 impl Choice {
-    /// The choice of these items; `None` where there are more than 65,535.
+    /// The choice of these items; `None` above 65,535 items.
     pub fn new(items: Vec<Item>) -> Option<Choice>
         ensures { SomeIff result (length items.items ≤ 65535) items.items }
     {
@@ -70,7 +70,7 @@ impl Choice {
         }
     }
 
-    /// The items, in the order in which they were named.
+    /// The items, in the order given.
     pub fn items(&self) -> &[Item]
         ensures items { result.now ≡ self.now }
         ensures few { length self.now ≤ 65535 }

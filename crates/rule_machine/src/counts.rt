@@ -1,17 +1,17 @@
-//! Where a network stands, in numbers.
+//! The numbers that `status` reports.
 
-/// How large a network is, how far from stable, and what was spent since it was last disturbed.
+/// A network's size, its distance from silence, and the moves since the last accepted disturbance.
 #[derive(Clone, Copy, Debug, PartialEq, Eq)]
 pub struct Counts {
-    /// How many nodes there are.
+    /// The number of nodes.
     pub nodes: u32,
-    /// How many edges there are.
+    /// The number of edges.
     pub edges: u32,
-    /// How many mutual pairs there are.
+    /// The number of mutual pairs.
     pub pairs: u32,
-    /// At how many nodes a rule is enabled.
+    /// The number of enabled nodes.
     pub enabled: u32,
-    /// The charge: no more moves than this can come before the next disturbance.
+    /// The charge (the potential): at most this many moves can come before the next disturbance.
     pub charge: u32,
     /// The moves since the last accepted disturbance, or since the start.
     pub spent: u32,

@@ -1,4 +1,4 @@
-//! An undirected edge.
+//! Undirected edges.
 
 ghost use Rattle.std.specs.Prelude.{◌≡◌, ◌≢◌, ◌<◌, SomeIff, min, max};
 
@@ -8,7 +8,8 @@ use std::marker::Model;
 /// The most edges of a network.
 pub const MAX_EDGES: u32 = 1_048_576;
 
-/// An undirected edge between two different nodes, seen in contracts as the pair of its ends, the lower name first.
+/// An undirected edge between two different nodes.
+/// Contracts see the pair of its ends, the lower name first.
 #[derive(Clone, Copy, Debug, PartialEq, Eq, PartialOrd, Ord)]
 pub struct Edge {
     low: Node,
@@ -28,7 +29,7 @@ impl Model for Edge {
 }
 
 impl Edge {
-    /// The edge between two nodes; `None` where they are one.
+    /// The edge between two nodes; `None` if they are the same.
     pub fn new(a: Node, b: Node) -> Option<Edge>
         ensures { SomeIff result (a ≢ b) (min a b, max a b) }
     {

@@ -1,16 +1,16 @@
-//! What a network is asked to do.
+//! Events.
 
 ghost use Rattle.std.specs.Prelude.{◌≡◌};
 
 use crate::{Choice, Node};
 use std::alloc::AllocError;
 
-/// One event: a change of the network, a step of its nodes, or a question.
+/// One event: a change of the network, a step, or a question.
 #[derive(Debug, Drop, PartialEq, Eq)]
 pub enum Event {
     /// Adds the edge between two nodes.
     Link(Node, Node),
-    /// Removes the edge between two nodes; an end's pointer that crossed it becomes null.
+    /// Removes the edge between two nodes. An end's pointer at the other end becomes null.
     Unlink(Node, Node),
     /// Writes a node's pointer: null, or a neighbour.
     Point(Node, Option<Node>),
@@ -18,17 +18,18 @@ pub enum Event {
     Flag(Node, bool),
     /// Makes a name present.
     Join(Node),
-    /// Removes a node and its edges; its pointer and each pointer at it become null, its flag false.
+    /// Removes a node and its edges.
+    /// Its pointer and each pointer at it become null; its flag becomes false.
     Leave(Node),
     /// Moves the chosen nodes, all at once.
     Step(Choice),
-    /// Asks where a node points.
+    /// Asks for a node's pointer.
     Show(Node),
-    /// Asks which nodes are enabled, and by which rules.
+    /// Asks for the enabled nodes, each with its rule.
     Enabled,
     /// Asks for the mutual pairs.
     Matching,
-    /// Asks how large the network is, how far from stable, and how many moves were made since the last disturbance.
+    /// Asks for the `Counts`: size, distance from silence, and moves since the last disturbance.
     Status,
 }
 

@@ -1,11 +1,12 @@
 //! The plain types of a matching network, and in `specs/` the definitions of its rule machine.
 //!
-//! All other crates speak in these types: a `Node` is a name from 1 to 65,535, an `Edge` the pair of its ends, an `Event` what a network
-//! is told or asked, a `Reply` what it answers, a `Refusal` why it does not. They carry nothing out. What a network may answer is said by
-//! the definitions (`Network`, `State`, `RuleTable`, `Step`, `Answer`, `Run`), which docs/DEFINITIONS.md tells in plain words.
+//! A `Node` is a name from 1 to 65,535, an `Edge` the pair of its ends, an `Event` a request to a network, a
+//! `Reply` its answer, a `Refusal` the reason for a refusal. The definitions (`Network`, `State`,
+//! `RuleTable`, `Step`, `Answer`, `Run`) say what a network may answer; docs/DEFINITIONS.md explains them.
 //!
-//! Contracts see plain values: a node is its name, an edge has its lower end first, a `Listing` is the list of its items, wherever they
-//! lie. So equal events are equal whatever memory they take. Numbers and texts of refusals stay for ever, since transcripts have them.
+//! Contracts see plain values: a node is its name, an edge has its lower end first, a `Listing` is a list. So
+//! events are equal whatever memory they use. The numbers and texts of refusals never change, since
+//! transcripts contain them.
 //!
 //! ```rust
 //! let (Some(a), Some(b)) = (Node::new(1), Node::new(2)) else { return None };

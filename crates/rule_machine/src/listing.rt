@@ -1,4 +1,4 @@
-//! A list that contracts compare by its items.
+//! Lists that contracts compare by their items.
 
 ghost use Rattle.std.specs.Prelude.{◌≡◌, [], ◌∷◌, IfOk};
 ghost use Rattle.std.specs.Cmp.Lexicographic.{pointwise, lists_per, lists_equiv};
@@ -6,14 +6,14 @@ ghost use Rattle.std.specs.Cmp.Lexicographic.{pointwise, lists_per, lists_equiv}
 use std::alloc::AllocError;
 use std::marker::Model;
 
-/// Where the items of a listing are: one takes no memory.
+/// The items of a listing. One item takes no memory.
 #[derive(Debug, Drop)]
 enum Held<T> {
     One([T; 1]),
     Many(Vec<T>),
 }
 
-/// A list that contracts see as its items, however it holds them.
+/// A list that contracts see as its items, whatever its representation.
 #[derive(Debug, Drop)]
 pub struct Listing<T> {
     held: Held<T>,
@@ -41,7 +41,7 @@ impl<T> Listing<T> {
         }
     }
 
-    /// The listing of a vector's items, without memory.
+    /// The listing of a vector's items. Takes no further memory.
     pub fn from_vec(items: Vec<T>) -> Listing<T>
         ensures { result ≡ items.items }
     {
@@ -72,7 +72,6 @@ impl<T: Copy> Clone for Listing<T> {
     }
 }
 
-/// A vector of the same items.
 fn copied<T: Copy>(items: &Vec<T>) -> Result<Vec<T>, AllocError>
     ensures { IfOk result (λ copy. copy.items ≡ items.now.items) }
 {

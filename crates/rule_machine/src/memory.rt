@@ -1,6 +1,6 @@
-//! Want of memory.
+//! Failed allocations.
 
 use std::alloc::AllocError;
 
-/// Want of memory: a growth was refused. Whatever answers it has changed nothing, unless it says otherwise.
+/// The error of a failed allocation. Whatever returns it has changed nothing, unless it says otherwise.
 pub type Want = AllocError;

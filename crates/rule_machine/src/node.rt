@@ -1,13 +1,13 @@
-//! The name of a node.
+//! Nodes by name.
 
 ghost use Rattle.std.specs.Prelude.{◌≡◌, ℕ, ◌≤◌, SomeIff};
 
 use std::marker::Model;
 
-/// The greatest name: names fit sixteen bits.
+/// The greatest name: names fit 16 bits.
 pub const MAX_NAME: u32 = 65_535;
 
-/// A node of a network, seen in contracts as its name, 1 to 65,535. Nodes are ordered by name.
+/// A node of a network. Contracts see its name, 1 to 65,535. Nodes are ordered by name.
 #[derive(Clone, Copy, Debug, PartialEq, Eq, PartialOrd, Ord)]
 pub struct Node {
     name: u16,
@@ -45,7 +45,7 @@ impl Node {
         u32::from(self.name)
     }
 
-    /// The name as a place in a table that has one place for each name and one, place 0, for nobody.
+    /// The name as an index into a table with one entry a name. Index 0 belongs to no node.
     pub fn place(self) -> usize
         ensures same { result ≡ self }
         ensures named { (1 ≤ result) × (result ≤ 65535) }

@@ -1,19 +1,19 @@
-//! Why an event was refused.
+//! Refusals, with their numbers and texts.
 
 /// Why an event was refused. The network stays as it was.
 #[derive(Clone, Copy, Debug, PartialEq, Eq)]
 pub enum Refusal {
     /// A node that the event acts on or asks about is not present.
     UnknownNode,
-    /// Both ends are one node.
+    /// Both ends are the same node.
     SelfLoop,
     /// The edge is there already.
     AlreadyLinked,
     /// The edge is not there.
     NotLinked,
-    /// There are as many edges as there may be.
+    /// The network has the most edges that it may have.
     TooManyEdges,
-    /// The pointer would name a node that is present and no neighbour.
+    /// The pointer's target is present, but is not a neighbour.
     NotNeighbour,
     /// The rule set has no flags.
     NoFlag,
@@ -21,11 +21,11 @@ pub enum Refusal {
     EmptyChoice,
     /// The daemon is central, and the step has more than one item.
     NotCentral,
-    /// The node stands in the choice before.
+    /// An earlier item of the choice has the same node.
     ChosenTwice,
     /// No rule is enabled at the node.
     NotEnabled,
-    /// The wish is no target that the node's rule allows.
+    /// The node's rule does not allow the wished target.
     BadTarget,
     /// A node has the name already.
     AlreadyPresent,
@@ -36,7 +36,7 @@ impl Refusal {
     ghost use Rattle.rule_machine.specs.declared.refusal.Refusal.{Refusal};
     ghost use Rattle.rule_machine.specs.Refuse.{refusal_number, refusal_text};
 
-    /// The number by which transcripts name it, 1 to 13.
+    /// Returns its number in transcripts, 1 to 13.
     pub fn number(self) -> u32
         ensures { result ≡ refusal_number self }
     {
@@ -81,7 +81,7 @@ impl Refusal {
         })
     }
 
-    /// Its text in transcripts, in lower case with dashes.
+    /// Returns its text in transcripts: lower case, with hyphens.
     pub fn text(self) -> &'static str
         ensures { result.now ≡ refusal_text self }
     {

@@ -1,26 +1,26 @@
-//! What a network answers.
+//! Replies.
 
 ghost use Rattle.std.specs.Prelude.{◌≡◌};
 
 use crate::{Act, Counts, Edge, Listing, Moved, Node, Refusal};
 use std::alloc::AllocError;
 
-/// The reply to an event. Every list is in the order of its nodes, pairs in that of their lower ends.
+/// The reply to an event. Lists ascend by node, pairs by lower end.
 #[derive(Debug, Drop, PartialEq, Eq)]
 pub enum Reply {
     /// The change was made.
     Accepted,
-    /// The event was refused, and nothing was changed.
+    /// The event was refused and changed nothing.
     Refused(Refusal),
     /// The moves that were made.
     Moves(Listing<Moved>),
-    /// Where the node points.
+    /// The node's pointer.
     Shown(Option<Node>),
     /// The enabled nodes, each with its rule.
     EnabledAre(Listing<(Node, Act)>),
     /// The mutual pairs.
     Pairs(Listing<Edge>),
-    /// Where the network stands.
+    /// The network's numbers.
     Counts(Counts),
 }
 

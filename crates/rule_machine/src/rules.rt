@@ -1,12 +1,12 @@
-//! The rule sets by name.
+//! Rule sets by name.
 
 /// A rule set.
 #[derive(Clone, Copy, Debug, PartialEq, Eq)]
 pub enum RuleSet {
-    /// Hsu and Huang's algorithm of 1992, under a central daemon: one node moves at a time.
+    /// The algorithm of Hsu and Huang, 1992, under a central daemon: one node moves at a time.
     Hh,
-    /// The algorithm of Manne, Mjelde, Pilard and Tixeuil of 2009, under a distributed daemon: any set of nodes moves
-    /// at once.
+    /// The algorithm of Manne, Mjelde, Pilard and Tixeuil, 2009, under a distributed daemon.
+    /// Any set of enabled nodes moves at once.
     Manne,
 }
 
@@ -14,7 +14,7 @@ impl RuleSet {
     ghost use Rattle.std.specs.Prelude.{◌≡◌, ◌≤◌};
     ghost use Rattle.rule_machine.specs.Tables.{rules_word, weight_of};
 
-    /// Its word, on a command line and in a transcript's header.
+    /// Returns its word on a command line and in a transcript's header.
     pub fn word(self) -> &'static str
         ensures { result.now ≡ rules_word self }
     {
@@ -24,7 +24,8 @@ impl RuleSet {
         }
     }
 
-    /// How many moves a node adds to the most that may come after a disturbance, beside two for each edge: 3 at most.
+    /// What each node adds to the bound on moves after a disturbance: at most 3.
+    /// Each edge adds 2.
     pub fn node_weight(self) -> u64
         ensures weight { result ≡ weight_of self }
         ensures light { result ≤ 3 }

@@ -1,5 +1,5 @@
--- What a guard asks at a node: little of the node, and of its neighbours together no more than whether one suits and whether one
--- is open, and that only where the node points nowhere.
+-- What a guard reads at a node: little of the node, and, if it is null, whether a neighbour is a suitor and
+-- whether one is open.
 use Rattle.std.specs.Prelude.{◌≡◌, ℕ, Bool, true, false, not, ◌&&◌, Option, None, Some, is_some, find, nat_eq, nat_lt}
 use Rattle.rule_machine.specs.Network.{neighbours}
 use Rattle.rule_machine.specs.State.{State, pointer, flag, married, has_suitor}
@@ -10,24 +10,24 @@ abbrev pub reaches : Bool → (Option ℕ → Bool → Bool) → State → ℕ �
 reaches true opens s v = is_some (last_open_above opens s v)
 reaches false opens s v = is_some (first_open opens s v)
 
--- whether x is open, and one that v asks for: one above v, or any
+-- whether x is open, and one that v may court: one above v, or any
 abbrev pub is_reached : Bool → (Option ℕ → Bool → Bool) → State → ℕ → ℕ → Bool
 is_reached true opens s v x = is_open opens s x && nat_lt v x
 is_reached false opens s v x = is_open opens s x
 
--- whether a neighbour of v beside w is open, and one that v asks for
+-- whether a neighbour of v other than w is open, and one that v may court
 abbrev pub reaches_beside : Bool → (Option ℕ → Bool → Bool) → State → ℕ → ℕ → Bool
 reaches_beside above opens s v w =
     is_some (find (λ x. not (nat_eq x w) && is_reached above opens s v x) (neighbours s.network v))
 
--- a glance at v tells two states not apart
+-- two states that agree on a glance at v
 pub record SameGlance (above : Bool) (opens : Option ℕ → Bool → Bool) (s u : State) (v : ℕ) : Type 0 where
   pub own_pointer : pointer s v ≡ pointer u v
   pub own_flag : flag s v ≡ flag u v
   pub marriage : married s v ≡ married u v
-  -- of its neighbours together, where it points nowhere
+  -- of its neighbours together, if v is null
   pub suitor : pointer s v ≡ None → has_suitor s v ≡ has_suitor u v
   pub reach : pointer s v ≡ None → reaches above opens s v ≡ reaches above opens u v
-  -- the registers of whom it points at
+  -- the registers of its target
   pub target_pointer : (w : ℕ) → pointer s v ≡ Some w → pointer s w ≡ pointer u w
   pub target_flag : (w : ℕ) → pointer s v ≡ Some w → flag s w ≡ flag u w

@@ -1,4 +1,5 @@
--- What is shown at a node, the registers of the node and of its neighbours, and the target that its rule takes.
+-- What is shown at a node (the registers of the node and of its neighbours), and the target that its rule
+-- takes.
 use Rattle.std.specs.Prelude.{ℕ, Option, None, Some, option_and_then, if◌then◌else◌, ◌≡◌, ◌⊎◌, IsTrue}
 use Rattle.rule_machine.specs.declared.act.Act.{Act}
 use Rattle.rule_machine.specs.State.{State, pointer, flag}
@@ -17,7 +18,7 @@ pub record SameAt (s u : State) (v : ℕ) : Type 0 where
   pub pointers : (w : ℕ) → IsNear s v w → pointer s w ≡ pointer u w
   pub flags : (w : ℕ) → IsNear s v w → flag s w ≡ flag u w
 
--- the wish if the rule allows it, and else none; with no wish the least allowed target, if the rule takes one
+-- the wish if the rule allows it, else none; without a wish the least allowed target, if the rule takes one
 abbrev pub target_by : RuleTable → State → ℕ → Option ℕ → Act → Option (Option ℕ)
 target_by t s v None act = Some (least_target t s v act)
 target_by t s v (Some w) act = if t.allowed s v act w then Some (Some w) else None

@@ -1,12 +1,12 @@
-//! What a guard may look at, and what a set of rules is: the laws that serve every algorithm alike.
+//! What a guard may read, what a rule set is, and the laws that hold for every rule set.
 //!
-//! `Rules` is an algorithm: its guard, target and cost, a few constants, and the laws that it owes, so that engine, journal, lock and
-//! readers are written and proved once for any of them and know none by name. A guard sees a node through `Local` (the registers of the
-//! node and its neighbours), a cost through `Touched` (the nodes that a disturbance touches): neither can ask for more, so neither costs
-//! more.
+//! `Rules` is an algorithm: guard, target, cost, constants and laws. Engine, journal, lock and readers are
+//! proved once, for any rule set. A guard reads only `Local` (the registers of a node and its neighbours), a
+//! cost only `Touched` (the nodes that a disturbance touches). So neither can cost more.
 //!
-//! The laws: what is allowed is what the table says; a guard depends on a glance at its node alone; quiet is stable; every move lowers
-//! the charge, which edges and nodes bound; a disturbance adds no more than its cost.
+//! The laws: the table defines what is allowed; a guard depends only on a glance at its node; silence is
+//! stability; every move lowers the charge (the potential), which edges and nodes bound; a disturbance adds
+//! at most its cost.
 //!
 //! ```rust
 //! fn enabled_by<R: Rules, L: Local>(local: &L, v: Node) -> Option<Act> {

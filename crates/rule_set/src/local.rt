@@ -1,4 +1,4 @@
-//! What a guard may look at.
+//! What a guard may read.
 
 ghost use Rattle.std.specs.Prelude.{◌≡◌, ℕ, Bool, Option, ◌&&◌, is_some};
 ghost use Rattle.rule_machine.specs.Network.{linked};
@@ -8,24 +8,24 @@ ghost use Rattle.rule_set.specs.Target.{IsNear};
 
 use rule_machine::Node;
 
-/// What a guard at a node may look at: the registers of the node and of its neighbours, and nothing else.
+/// What a guard may read at a node: the registers of the node and of its neighbours.
 pub trait Local {
     /// The state that it shows.
     ghost state: { Self → State };
 
-    /// The node at which it shows it.
+    /// The node.
     ghost at: { Self → ℕ };
 
     /// Which pointers and flags make a neighbour open to a seduction.
     ghost opens: { Option ℕ → Bool → Bool };
 
-    /// Where the node itself or a neighbour points.
+    /// The pointer of the node or of a neighbour.
     fn pointer(&self, v: Node) -> Option<Node>
         requires near { IsNear (state self.now) (at self.now) v }
         requires state { IsState (state self.now) }
         ensures { result ≡ pointer (state self.now) v };
 
-    /// The married flag of the node itself or of a neighbour.
+    /// The married flag of the node or of a neighbour.
     fn flag(&self, v: Node) -> bool
         requires near { IsNear (state self.now) (at self.now) v }
         requires state { IsState (state self.now) }
@@ -40,11 +40,11 @@ pub trait Local {
     fn has_suitor(&self) -> bool
         ensures { result ≡ has_suitor (state self.now) (at self.now) };
 
-    /// The first neighbour that points at the node.
+    /// The first neighbour that points at the node, by ascending name.
     fn first_suitor(&self) -> Option<Node>
         ensures { result ≡ first_suitor (state self.now) (at self.now) };
 
-    /// Whether this is a neighbour that points at the node.
+    /// Whether `w` is a neighbour that points at the node.
     fn is_suitor(&self, w: Node) -> bool
         ensures { result ≡ (linked (state self.now).network (at self.now) w && suits (state self.now) (at self.now) w) };
 
@@ -52,7 +52,7 @@ pub trait Local {
     fn has_open(&self) -> bool
         ensures { result ≡ is_some (first_open opens (state self.now) (at self.now)) };
 
-    /// The first open neighbour.
+    /// The first open neighbour, by ascending name.
     fn first_open(&self) -> Option<Node>
         ensures { result ≡ first_open opens (state self.now) (at self.now) };
 
@@ -64,7 +64,7 @@ pub trait Local {
     fn last_open_above(&self) -> Option<Node>
         ensures { result ≡ last_open_above opens (state self.now) (at self.now) };
 
-    /// Whether this is an open neighbour.
+    /// Whether `w` is an open neighbour.
     fn is_open(&self, w: Node) -> bool
         ensures { result ≡ (linked (state self.now).network (at self.now) w && is_open opens (state self.now) w) };
 }

@@ -1,14 +1,13 @@
-//! What the charge looks at, at a node.
+//! Standings of nodes.
 
 use rule_machine::Node;
 
-/// What a node's registers and those of its neighbours say of it: all that the charge of the node and of its edges depends
-/// on.
+/// A node's standing: all that the charge of the node and of its edges depends on.
 #[derive(Clone, Copy, Debug, PartialEq, Eq)]
 pub struct Standing {
     /// The node.
     pub node: Node,
-    /// Where it points.
+    /// Its pointer.
     pub pointer: Option<Node>,
     /// Its married flag.
     pub flag: bool,

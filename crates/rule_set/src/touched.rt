@@ -1,4 +1,4 @@
-//! What a disturbance may look at to tell its cost.
+//! What a cost may depend on.
 
 ghost use Rattle.std.specs.Prelude.{◌≡◌, ◌≤◌, IsTrue, length};
 ghost use Rattle.rule_machine.specs.Network.{present, neighbours};
@@ -6,17 +6,17 @@ ghost use Rattle.rule_machine.specs.State.{State, points, pointer, has_suitor};
 
 use rule_machine::Node;
 
-/// What a disturbance finds at the nodes that it touches: on this alone its cost depends, and not on the network's size.
+/// What a disturbance finds at the nodes that it touches. Its cost depends on this alone.
 pub trait Touched {
     /// The state that it shows.
     ghost state: { Self → State };
 
-    /// Where a node points.
+    /// A node's pointer.
     fn pointer(&self, v: Node) -> Option<Node>
         requires { IsTrue (present (state self.now).network v) }
         ensures { result ≡ pointer (state self.now) v };
 
-    /// How many neighbours a node has, at most 65,535.
+    /// The number of a node's neighbours, at most 65,535.
     fn degree(&self, v: Node) -> u32
         requires { IsTrue (present (state self.now).network v) }
         ensures degree { result ≡ length (neighbours (state self.now).network v) }
@@ -28,7 +28,7 @@ pub trait Touched {
         ensures { result ≡ has_suitor (state self.now) v };
 }
 
-/// Whether a node points at another: one look at its pointer.
+/// Whether `v` points at `w`. One look at a pointer.
 pub fn points_at<T: Touched>(touched: &T, v: Node, w: Node) -> bool
     requires { IsTrue (present (T.state touched.now).network v) }
     ensures { result ≡ points (T.state touched.now).registers v w }

@@ -1,4 +1,4 @@
--- How the charge is counted. Under these rules a node adds nothing to it beside its pointer.
+-- How the charge is counted. By these rules a node adds nothing to it apart from its pointer.
 use Rattle.std.proofs.Common.{◌≡◌, ℕ, ◌+◌, ◌*◌, ◌≤◌, true, false, List, [], ◌∷◌, None, Some, is_none, count_by, sum_by, refl, sym, ap, ◌∙◌, arith}
 use Rattle.std.proofs.lemmas.List.Sums.{sum_by-cons}
 use Rattle.rule_machine.specs.Network.{names, edge_list}
@@ -14,7 +14,7 @@ no_sum : (s : State) (xs : List ℕ) → sum_by (nothing s) xs ≡ 0
 no_sum s [] = refl
 no_sum s (x ∷ xs) = let rest = no_sum s xs in let whole = sum_by-cons (nothing s) x xs in omega (arith, rest, whole)
 
--- so the charge is what the ends and the pointers make of it
+-- so the charge is computed from the stances and the pointers
 pub charge_without_nodes : (s : State) → IsState s → hsu_huang_charge s + 2 * count_by (hsu_huang_closes s) (names s.network) ≡ 2 * count_by (ends_open true s) (edge_list s.network) + count_by (is_unanswered s) (names s.network) + sum_by (nothing s) (names s.network)
 charge_without_nodes s good =
     let split = hsu_huang_split s good in let none = no_sum s (names s.network) in omega (arith, split, none)
@@ -23,7 +23,7 @@ charge_without_nodes s good =
 pub null_closes : (s : State) (v : ℕ) → pointer s v ≡ None → hsu_huang_closes s v ≡ false
 null_closes s v null = ap (holds_at (λ w. is_none (pointer s w))) null
 
--- whether one closes an edge goes by the pointer of its target
+-- whether a pointer closes an edge depends on the pointer of its target
 pub closes_alike : (s u : State) (v w : ℕ) → IsState s → IsState u → pointer s v ≡ Some w → pointer u v ≡ Some w → IsSameStanding s u w → hsu_huang_closes s v ≡ hsu_huang_closes u v
 closes_alike s u v w good also at still same =
     ap (holds_at (λ x. is_none (pointer s x))) at ∙ ap is_none same.points ∙ sym (ap (holds_at (λ x. is_none (pointer u x))) still)

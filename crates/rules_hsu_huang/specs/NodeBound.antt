@@ -1,4 +1,4 @@
--- No more moves come than the number of nodes alone allows.
+-- At most as many moves come as the number of nodes alone allows.
 use Rattle.std.proofs.Common.{◌≡◌, ℕ, Some, subst}
 use Rattle.std.proofs.lemmas.Option.{same_Some}
 use Rattle.rule_machine.specs.HsuHuang.{hsu_huang}

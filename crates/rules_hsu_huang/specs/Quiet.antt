@@ -1,4 +1,4 @@
--- Where no rule is enabled the network is stable, and the other way round.
+-- If no rule is enabled the network is stable, and conversely.
 use Rattle.std.proofs.Common.{◌≡◌, ◌≢◌, ℕ, Bool, true, false, not, ◌&&◌, [], Option, None, Some, is_some, is_none, IsTrue, refl, sym, ap, ap₂, ◌∙◌, ⊎_elim}
 use Rattle.std.proofs.lemmas.Bool.{and_cases, and_from, and_right, and_left, not-false, cases_Bool}
 use Rattle.rule_machine.specs.declared.act.Act.TheVariants.{Update, Marry, Seduce, Abandon}
@@ -39,7 +39,8 @@ module _ (s : State) (is_state : IsState s) (quiet : enabled_names hsu_huang s �
       )
       (option_cases (pointer s w))
 
-  -- Of two neighbours that point nowhere, one has a suitor and could marry it, or has none and could seduce the other.
+  -- Of two neighbours with null pointers, one has a suitor and could marry it, or has none and could seduce
+  -- the other.
   no_pair_free : (v w : ℕ) → IsTrue (linked s.network v w) → pointer s v ≡ None → pointer s w ≡ None → ⊥
   no_pair_free v w h null other =
       let here = linked_present s.network v w is_state.is_network h in
@@ -62,8 +63,8 @@ stable_from_quiet s is_state quiet = record {
   flagged = λ used. absurd cc;
 }
 
--- A suitor is answered, so whom it points at does not point nowhere; a free neighbour of a free node would be an
--- uncovered edge; and whom a node points at points back.
+-- A suitor is answered, so its target's pointer is not null. A free neighbour of a free node would be an
+-- uncovered edge. The target of a node points back.
 pub quiet_from_stable : (s : State) → IsState s → IsStable false s → enabled_names hsu_huang s ≡ []
 quiet_from_stable s is_state stable = quiet_from hsu_huang s (λ v here. elim [ Update ↦ refl | Marry ↦ no_marry v | Seduce ↦ no_seduce v | Abandon ↦ no_abandon v (pointer s v) refl ])
   where

@@ -10,7 +10,8 @@ use Rattle.rule_set.specs.Glance.{SameGlance}
 use Rattle.machine_laws.specs.Shown.{same_find, same_pointer, same_suitor}
 use Rattle.machine_laws.specs.Pointers.{pointer_linked}
 
--- the rule of a node that points at this, has a suitor or not, has an open neighbour or not, and leaves whom it tests
+-- the rule of a node with this pointer, a suitor or not, an open neighbour or not, and this test for leaving
+-- a node
 abbrev pub rule_by : Option ℕ → Bool → Bool → (ℕ → Bool) → Option Act
 rule_by None true reach leaves = Some Marry
 rule_by None false true leaves = Some Seduce
@@ -55,15 +56,15 @@ rule_from_guard s v Abandon h = abandons (pointer s v) h
     abandons None k = absurd cc
     abandons (Some w) k = ap (λ b. cond b (Some Abandon) None) k
 
--- Two rules at one node: a node that marries or seduces points nowhere, one that abandons points somewhere; one that
--- marries has a suitor, and one that seduces has none.
+-- Two rules at one node: a node that marries or seduces has a null pointer, one that abandons does not; one
+-- that marries has a suitor, and one that seduces has none.
 pub one_rule_at : (s : State) (v : ℕ) (a b : Act) → IsTrue (hsu_huang.guard s v a) → IsTrue (hsu_huang.guard s v b) → a ≡ b
 one_rule_at s v a b h k =
     let first = rule_from_guard s v a h in
     let second = rule_from_guard s v b k in
     cc
 
--- whom a node leaves depends on what is shown at it
+-- the test for leaving a node depends on the local view
 same_taken : (s u : State) (v : ℕ) (o : Option ℕ) → IsState s → SameAt s u v → pointer s v ≡ o → holds_at (is_taken s v) o ≡ holds_at (is_taken u v) o
 same_taken s u v None is_state same e = refl
 same_taken s u v (Some w) is_state same e =
@@ -75,8 +76,8 @@ same_open s u v same =
     same_find s u v (is_open hsu_huang_opens s) (is_open hsu_huang_opens u) same (λ w h. ap is_none (same.pointers w (inr h)))
     )
 
--- Each part of a guard is a search among the neighbours or reads the node's own pointer and the pointer of the neighbour
--- that it is at.
+-- Each part of a guard is a search among the neighbours, or reads the node's pointer and its target's
+-- pointer.
 pub guard_is_local : (s u : State) (v : ℕ) (act : Act) → IsState s → IsState u → SameAt s u v → hsu_huang.guard s v act ≡ hsu_huang.guard u v act
 guard_is_local s u v Update is_state other same = refl
 guard_is_local s u v Marry is_state other same =
@@ -86,12 +87,12 @@ guard_is_local s u v Seduce is_state other same =
 guard_is_local s u v Abandon is_state other same =
     same_taken s u v (pointer s v) is_state same refl ∙ ap (holds_at (is_taken u v)) (same_pointer s u v same)
 
--- whom a node leaves asks the pointer of whom it points at
+-- the test for leaving a node reads the pointer of its target
 glance_taken : (s u : State) (v : ℕ) (o : Option ℕ) → SameGlance false hsu_huang_opens s u v → pointer s v ≡ o → holds_at (is_taken s v) o ≡ holds_at (is_taken u v) o
 glance_taken s u v None same e = refl
 glance_taken s u v (Some w) same e = ap (λ o. is_some o && not (is_at o v)) (same.target_pointer w e)
 
--- whether one suits and whether one is open is asked where it points nowhere
+-- only a node with a null pointer needs to know whether one suits and whether one is open
 glance_marries : (s u : State) (v : ℕ) (o : Option ℕ) → SameGlance false hsu_huang_opens s u v → pointer s v ≡ o → (is_none o && has_suitor s v) ≡ (is_none o && has_suitor u v)
 glance_marries s u v None same e = same.suitor e
 glance_marries s u v (Some w) same e = refl

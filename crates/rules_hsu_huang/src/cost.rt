@@ -10,7 +10,7 @@ ghost use Rattle.charge_laws.specs.Costs.{hsu_huang_cost, hsu_huang_point_cost};
 use rule_machine::Node;
 use rule_set::{Touched, points_at};
 
-/// How many other edges are at the second node, where the first one points at it.
+/// Returns how many other edges the second node has, if the first points at it, else 0.
 fn other_edges<T: Touched>(touched: &T, v: Node, w: Node) -> u32
     requires from { IsTrue (present (T.state touched.now).network v) }
     requires to { IsTrue (present (T.state touched.now).network w) }
@@ -24,7 +24,6 @@ fn other_edges<T: Touched>(touched: &T, v: Node, w: Node) -> u32
     }
 }
 
-/// Of an edge that goes.
 pub(crate) fn unlink_cost<T: Touched>(touched: &T, a: Node, b: Node) -> u32
     requires first { IsTrue (present (T.state touched.now).network a) }
     requires second { IsTrue (present (T.state touched.now).network b) }
@@ -33,7 +32,6 @@ pub(crate) fn unlink_cost<T: Touched>(touched: &T, a: Node, b: Node) -> u32
     2 * (other_edges(touched, a, b) + other_edges(touched, b, a))
 }
 
-/// Of a pointer that is written.
 #[tactic(auto, using(charge_laws::specs::Present::target_present))]
 pub(crate) fn point_cost<T: Touched>(touched: &T, v: Node) -> u32
     requires state { IsState (T.state touched.now) }
@@ -48,7 +46,6 @@ pub(crate) fn point_cost<T: Touched>(touched: &T, v: Node) -> u32
     }
 }
 
-/// Of a node that goes.
 #[tactic(auto, using(charge_laws::specs::Present::target_present))]
 pub(crate) fn leave_cost<T: Touched>(touched: &T, v: Node) -> u32
     requires state { IsState (T.state touched.now) }

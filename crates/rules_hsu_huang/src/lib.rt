@@ -1,11 +1,14 @@
-//! Hsu and Huang's algorithm of 1992, under a central daemon.
+//! Hsu and Huang's algorithm of 1992, under a central daemon: one node moves at a time.
 //!
-//! A node that points nowhere marries a neighbour that points at it, or else seduces one that points nowhere; a node that points at one
-//! that points elsewhere abandons it. One node moves at a time. It uses no flags, each node weighs 1, and a run of m edges and n nodes
-//! settles within 2m + n moves.
+//! - A node with a null pointer marries a neighbour that points at it. If there is none, it seduces a
+//!   neighbour whose pointer is null.
+//! - A node abandons a neighbour that points at another.
 //!
-//! `HsuHuang` is that algorithm as `Rules`: guards, targets and costs are those of the table `hsu_huang` of `rule_machine`, and all laws
-//! that a rule set owes are proved here. It has no values to keep, and is named as a parameter:
+//! It uses no flags. Each node weighs 1: with m edges and n nodes a run settles within 2m + n moves.
+//!
+//! `HsuHuang` is that algorithm as `Rules`. Its guards, targets and costs are those of the table `hsu_huang`
+//! of `rule_machine`, and all laws of a rule set are proved here. It has no values, and is named as a
+//! parameter:
 //!
 //! ```rust
 //! let mut net = Net::<HsuHuang>::new(alloc, 2)?;

@@ -10,7 +10,7 @@ use Rattle.machine_laws.specs.Pointers.{married_from, married_some}
 use Rattle.charge_laws.specs.Counting.{count_agree}
 use Rattle.charge_laws.specs.ClosedByPointers.{manne_apart, manne_closes, manne_split}
 
--- by what the ends and the pointers make of it
+-- computed from the stances and the pointers
 pub counted : (s : State) → IsState s → manne_charge s + 2 * count_by (manne_closes s) (names s.network) ≡ 2 * count_by (ends_open false s) (edge_list s.network) + count_by (is_unanswered s) (names s.network) + sum_by (manne_node_charge s) (names s.network)
 counted s good =
     let split = manne_split s good in
@@ -25,7 +25,7 @@ pub null_closes : (s : State) (v : ℕ) → pointer s v ≡ None → manne_close
 null_closes s v null =
     and_right (not (married s v)) _ (ap (holds_at (λ w. nat_lt v w && not (flag s w) && not (married s w))) null)
 
--- a pointer at w closes its edge where w is higher, and neither flagged nor married: then its own node is not married either
+-- a pointer at w closes its edge if w is higher, unflagged and unmarried: then its own node is unmarried too
 pub closes_at : (s : State) (v w : ℕ) → IsState s → pointer s v ≡ Some w → manne_closes s v ≡ (nat_lt v w && not (flag s w) && not (married s w))
 closes_at s v w good at =
     ap (λ o. not (married s v) && holds_at (λ x. nat_lt v x && not (flag s x) && not (married s x)) o) at
@@ -42,21 +42,21 @@ closes_at s v w good at =
     by_target true p f true h = none p f
     by_target true p f false h = absurd (true≢false (sym (h refl)))
 
--- whether one closes an edge goes by what stands at its target
+-- whether a pointer closes an edge depends on its target's registers
 pub closes_alike : (s u : State) (v w : ℕ) → IsState s → IsState u → pointer s v ≡ Some w → pointer u v ≡ Some w → IsSameStanding s u w → manne_closes s v ≡ manne_closes u v
 closes_alike s u v w good also at still same =
     closes_at s v w good at
     ∙ (λ i. nat_lt v w && not (same.flagged i) && not (same.paired i))
     ∙ sym (closes_at u v w also still)
 
--- and what a node adds by what stands at it
+-- and a node's part on its own
 pub adds_alike : (s u : State) (v : ℕ) → IsSameStanding s u v → manne_node_charge s v ≡ manne_node_charge u v
 adds_alike s u v same = λ i. cond (same.paired i) (cond (same.flagged i) 0 1) (cond (same.flagged i) 2 1)
 
 pub light : 3 ≤ 3
 light = omega arith
 
--- so it is read off what stands at the target
+-- so it is computed from the target
 pub closes_standing : (s : State) (v : ℕ) (target : Standing) → IsState s → IsStanding s target → pointer s v ≡ Some target.node → manne_closes s v ≡ (nat_lt v target.node && not target.flag && not target.is_married)
 closes_standing s v target good stands at =
     closes_at s v target.node good at ∙ (λ i. nat_lt v target.node && not (sym stands.flagged i) && not (sym stands.paired i))

@@ -34,7 +34,7 @@ last-filter p q (x ∷ xs) =
     no_more None = refl
     no_more (Some y) = refl
 
--- the last is the last of the rest, or the first where none of the rest passes
+-- the last is the last of the rest, or the first if none of the rest passes
 or-none : {X : Type 0} (o : Option X) (b : Bool) (x : X) → option_or o (cond b (Some x) None) ≡ None → (o ≡ None) × (b ≡ false)
 or-none None true x e = absurd cc
 or-none None false x e = (refl, refl)
@@ -99,7 +99,7 @@ greatest_some s v w is_network e =
           ap (λ b. b && may_court s v x) (sym h) ∙ ap (λ b. b && (linked s.network v x && may_court s v x)) (sym has) ∙ found.2 x above (omega arith),
     )
 
--- there is a greatest where there is any
+-- there is a greatest if there is any
 pub greatest_reaches : (s : State) (v : ℕ) → IsNetwork s.network → is_some (find (may_court s v) (neighbours s.network v)) ≡ is_some (greatest s v)
 greatest_reaches s v is_network =
     ⊎_elim

@@ -1,4 +1,4 @@
--- Where no rule is enabled the network is stable, and the other way round.
+-- If no rule is enabled the network is stable, and conversely.
 use Rattle.std.proofs.Common.{◌≡◌, ◌≢◌, ℕ, zero, suc, ◌+◌, ◌<◌, Bool, true, false, not, ◌&&◌, ◌||◌, [], Option, None, Some, is_some, is_none, nat_lt, nat_le, IsTrue, refl, sym, ap, ap₂, ◌∙◌, ⊎_elim, arith, lt-ltb, leb-false}
 use Rattle.std.proofs.lemmas.Bool.{and_from, and_right, and_left, or_parts, not-false, cases_Bool, cases_order}
 use Rattle.rule_machine.specs.declared.act.Act.TheVariants.{Update, Marry, Seduce, Abandon}
@@ -41,7 +41,7 @@ module _ (s : State) (is_state : IsState s) (quiet : enabled_names manne s ≡ [
       let marries = and_from (is_settled s w && is_none (pointer s w)) (has_suitor s w) (and_from _ _ (settled w here) (ap is_none null)) (suitor_from s w v is_state there) in
       absurd cc
 
-  -- where it does not point back, it is unflagged and above v, since v does not abandon it
+  -- if it does not point back, it is unflagged and above v, since v does not abandon it
   not_lost : (v w : ℕ) → pointer s v ≡ Some w → points s.registers w v ≡ false → (flag s w ≡ false) × (v < w)
   not_lost v w there apart =
       let here = tail_present v w there in
@@ -51,9 +51,9 @@ module _ (s : State) (is_state : IsState s) (quiet : enabled_names manne s ≡ [
       let parts = or_parts (flag s w) (nat_le w v) kept in
       (parts.0, leb-false w v parts.1)
 
-  -- Every pointer is answered. If w did not point back to v, it would be above v and unflagged, so unmarried; it points
-  -- somewhere, and by induction downward from the greatest name that pointer is answered, so that w is married after
-  -- all. The fuel n bounds how far v is below the greatest name.
+  -- Every pointer is answered. If w did not point back to v, it would be above v and unflagged, so unmarried.
+  -- Its pointer is not null, and by induction downward from the greatest name it is answered, so w is
+  -- married: a contradiction. The fuel n bounds how far v is below the greatest name.
   points_back : (n v w : ℕ) → s.network.size < v + n → pointer s v ≡ Some w → pointer s w ≡ Some v
   points_back zero v w far there =
       let bounds = present_range s.network v (tail_present v w there) in absurd (omega arith)
@@ -74,8 +74,8 @@ module _ (s : State) (is_state : IsState s) (quiet : enabled_names manne s ≡ [
       )
       (cases_Bool (points s.registers w v))
 
-  -- Of two neighbours that point nowhere, the lower one could marry a suitor, or seduce the higher one, which is
-  -- unmarried and so unflagged.
+  -- Of two neighbours with null pointers, the lower one could marry a suitor, or seduce the higher one, which
+  -- is unmarried and so unflagged.
   lower_free : (v w : ℕ) → v < w → IsTrue (linked s.network v w) → pointer s v ≡ None → pointer s w ≡ None → ⊥
   lower_free v w below h null other =
       let here = linked_present s.network v w is_state.is_network h in
@@ -114,8 +114,8 @@ stable_from_quiet s is_state quiet = record {
   flagged = λ used v here. right_flag s is_state quiet v here;
 }
 
--- Each flag is right; a suitor is answered, so whom it points at does not point nowhere; a free neighbour of a free node
--- would be an uncovered edge; and whom a node points at points back.
+-- Each flag is right. A suitor is answered, so its target's pointer is not null. A free neighbour of a free
+-- node would be an uncovered edge. The target of a node points back.
 pub quiet_from_stable : (s : State) → IsState s → IsStable true s → enabled_names manne s ≡ []
 quiet_from_stable s is_state stable = quiet_from manne s (λ v here. elim [ Update ↦ no_update v here | Marry ↦ no_marry v | Seduce ↦ no_seduce v | Abandon ↦ no_abandon v ])
   where

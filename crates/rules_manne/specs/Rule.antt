@@ -13,8 +13,8 @@ use Rattle.machine_laws.specs.Shown.{same_find, same_pointer, same_suitor, same_
 use Rattle.machine_laws.specs.Pointers.{pointer_linked}
 use Rattle.rules_manne.specs.Greatest.{greatest, greatest_reaches}
 
--- the rule of a node that is settled or not, points at this, has a suitor or not, may court someone or not, and leaves
--- whom it tests
+-- the rule of a node that is settled or not, with this pointer, a suitor or not, one to court or not, and
+-- this test for leaving a node
 abbrev pub rule_by : Bool → Option ℕ → Bool → Bool → (ℕ → Bool) → Option Act
 rule_by false target suitor court leaves = Some Update
 rule_by true None true court leaves = Some Marry
@@ -42,14 +42,14 @@ null_rule s v suitor court is_state settled null suits reaches =
     ∙ ap₂ (λ b o. rule_by b o (has_suitor s v) (courts s v) (is_lost s v)) settled null
     ∙ ap₂ (λ b c. rule_by true None b c (is_lost s v)) suits (greatest_reaches s v is_state.is_network ∙ reaches)
 
--- a node is settled just where its flag says whether it is married
+-- a node is settled exactly if its flag is whether it is married
 pub flag_from_settled : (married flag : Bool) → cond married flag (not flag) ≡ true → flag ≡ married
 flag_from_settled married flag h = grind arith
 
 pub settled_from_flag : (married flag : Bool) → flag ≡ married → cond married flag (not flag) ≡ true
 settled_from_flag married flag h = grind arith
 
--- or where they do not differ
+-- or if they do not differ
 pub settled_from_test : (married flag : Bool) → not (beq flag married) ≡ false → cond married flag (not flag) ≡ true
 settled_from_test married flag h = grind arith
 
@@ -82,8 +82,9 @@ rule_from_guard s v Abandon h = abandons (is_settled s v) (pointer s v) h
     abandons true None k = absurd cc
     abandons true (Some w) k = ap (λ b. cond b (Some Abandon) None) k
 
--- Two rules at one node: one that updates has a wrong flag, and the others a right one; one that marries or seduces
--- points nowhere, one that abandons points somewhere; one that marries has a suitor, and one that seduces has none.
+-- Two rules at one node: one that updates has a wrong flag, and the others a right one. One that marries or
+-- seduces has a null pointer, one that abandons does not. One that marries has a suitor, and one that seduces
+-- has none.
 pub one_rule_at : (s : State) (v : ℕ) (a b : Act) → IsTrue (manne.guard s v a) → IsTrue (manne.guard s v b) → a ≡ b
 one_rule_at s v a b h k =
     let first = rule_from_guard s v a h in
@@ -109,8 +110,8 @@ same_lost s u v (Some w) is_state same e =
     let near = inr (pointer_linked s v w is_state e) in
     ap₂ (λ o f. not (is_at o v) && (f || nat_le w v)) (same.pointers w near) (same.flags w near)
 
--- Each part of a guard is a search among the neighbours or reads the registers of the node and of the neighbour that it
--- points at.
+-- Each part of a guard is a search among the neighbours, or reads the registers of the node and of its
+-- target.
 pub guard_is_local : (s u : State) (v : ℕ) (act : Act) → IsState s → IsState u → SameAt s u v → manne.guard s v act ≡ manne.guard u v act
 guard_is_local s u v Update is_state other same = ap not (same_settled s u v same)
 guard_is_local s u v Marry is_state other same =
@@ -122,7 +123,7 @@ guard_is_local s u v Seduce is_state other same =
 guard_is_local s u v Abandon is_state other same =
     ap₂ (λ (b c : Bool). b && c) (same_settled s u v same) (same_lost s u v (pointer s v) is_state same refl ∙ ap (holds_at (is_lost u v)) (same_pointer s u v same))
 
--- what each part of a guard asks, a glance tells
+-- a local view determines each part of a guard
 glance_settled : (s u : State) (v : ℕ) → SameGlance true manne_opens s u v → is_settled s v ≡ is_settled u v
 glance_settled s u v same = ap₂ (λ (m f : Bool). cond m f (not f)) same.marriage same.own_flag
 
@@ -135,7 +136,7 @@ glance_lost s u v None same e = refl
 glance_lost s u v (Some w) same e =
     ap₂ (λ o f. not (is_at o v) && (f || nat_le w v)) (same.target_pointer w e) (same.target_flag w e)
 
--- whether one suits and whether one is open is asked where it points nowhere
+-- only a node with a null pointer needs to know whether one suits and whether one is open
 glance_marries : (o : Option ℕ) (settled suitor suitor' : Bool) → (o ≡ None → suitor ≡ suitor') → (settled && is_none o && suitor) ≡ (settled && is_none o && suitor')
 glance_marries None settled suitor suitor' same = ap (λ b. settled && true && b) (same refl)
 glance_marries (Some w) true suitor suitor' same = refl

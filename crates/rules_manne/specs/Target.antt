@@ -32,7 +32,7 @@ allowed_takes s v Abandon w h = h
 abbrev above : State → ℕ → ℕ → ℕ → Bool
 above s v w x = may_court s v x && nat_lt w x
 
--- w is allowed to be seduced just where it is the greatest
+-- w may be seduced exactly if it is the greatest
 allowed_greatest : (s : State) (v w : ℕ) → IsState s → greatest s v ≡ Some w → manne.allowed s v Seduce w ≡ true
 allowed_greatest s v w is_state e =
     let parts = greatest_some s v w is_state.is_network e in
@@ -163,7 +163,7 @@ free_target s v is_state h enabled =
     cases None (Some w) p q k = ap Some q
     cases None None p q k = absurd cc
 
--- and allows as a wish a suitor, or where there is none that greatest neighbour
+-- and allows as a wish a suitor, or, if there is none, that greatest neighbour
 abbrev pub may_point : State → ℕ → ℕ → Bool
 may_point s v w = (linked s.network v w && suits s v w) || (is_none (first_suitor s v) && is_at (greatest s v) w)
 

@@ -9,7 +9,6 @@ ghost use Rattle.charge_laws.specs.Costs.{manne_cost, manne_point_cost};
 use rule_machine::Node;
 use rule_set::{Touched, points_at};
 
-/// Of an edge that goes.
 pub(crate) fn unlink_cost<T: Touched>(touched: &T, a: Node, b: Node) -> u32
     requires first { IsTrue (present (T.state touched.now).network a) }
     requires second { IsTrue (present (T.state touched.now).network b) }
@@ -23,7 +22,6 @@ pub(crate) fn unlink_cost<T: Touched>(touched: &T, a: Node, b: Node) -> u32
     }
 }
 
-/// Of a pointer that is written.
 #[tactic(auto, using(charge_laws::specs::Present::target_present))]
 pub(crate) fn point_cost<T: Touched>(touched: &T, v: Node) -> u32
     requires state { IsState (T.state touched.now) }
@@ -37,7 +35,6 @@ pub(crate) fn point_cost<T: Touched>(touched: &T, v: Node) -> u32
     }
 }
 
-/// Of a flag that is written.
 pub(crate) fn flag_cost<T: Touched>(touched: &T, v: Node, value: bool) -> u32
     requires { IsTrue (present (T.state touched.now).network v) }
     ensures { result ≡ manne_cost (T.state touched.now) (Flag v value) }
@@ -49,7 +46,6 @@ pub(crate) fn flag_cost<T: Touched>(touched: &T, v: Node, value: bool) -> u32
     }
 }
 
-/// Of a node that goes.
 #[tactic(auto, using(charge_laws::specs::Present::target_present))]
 pub(crate) fn leave_cost<T: Touched>(touched: &T, v: Node) -> u32
     requires state { IsState (T.state touched.now) }

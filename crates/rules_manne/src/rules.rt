@@ -11,8 +11,9 @@ use crate::cost::{flag_cost, leave_cost, point_cost, unlink_cost};
 use rule_machine::{Act, Event, Node};
 use rule_set::{BadTarget, Local, Rules, Standing, Touched};
 
-/// The algorithm of Manne, Mjelde, Pilard and Tixeuil of 2009: any set of enabled nodes moves at once, and a node's flag
-/// tells its neighbours whether it is married.
+/// The algorithm of Manne, Mjelde, Pilard and Tixeuil of 2009.
+///
+/// Any set of enabled nodes moves at once. A node's flag shows its neighbours whether it is married.
 #[derive(Clone, Copy, Debug, PartialEq, Eq)]
 pub struct Manne;
 
@@ -159,7 +160,7 @@ impl Rules for Manne {
     ghost disturbances_cost = { manne_disturbed };
 }
 
-// Whether the node may marry or seduce: it points nowhere, so it is unmarried, and its flag says so.
+// Whether the node may marry or seduce: its pointer is null, so it is unmarried, and its flag agrees.
 fn is_free<L: Local>(local: &L, v: Node) -> bool
     requires at { L.at local.now ≡ v }
     requires state { IsState (L.state local.now) }
@@ -178,7 +179,7 @@ fn least_target<L: Local>(local: &L) -> Option<Node>
     }
 }
 
-// Whether the node is a suitor, or where there is none the greatest open neighbour above.
+// Whether the node is a suitor, or, if there is none, the greatest open neighbour above.
 fn is_allowed<L: Local>(local: &L, w: Node) -> bool
     ensures { result
         ≡ ((linked (L.state local.now).network (L.at local.now) w

@@ -26,7 +26,7 @@ pub LinesDo-more : (t : RuleTable) (limit : ℕ) (lines : List (List ℕ)) (line
 LinesDo-more t limit [] line start mid after p q = (after, subst (λ x. LineDoes t limit line x after) p q, refl)
 LinesDo-more t limit (l ∷ lines) line start mid after p q = (p.0, p.1, LinesDo-more t limit lines line p.0 mid after p.2 q)
 
--- the lines before some others are the first so many of all
+-- the lines before some others are the first lines of all
 pub LeadsTo-before : (t : RuleTable) (limit : ℕ) (before behind lines : List (List ℕ)) (start end : Progress) → lines ≡ before ++ behind → LinesDo t limit before start end → LeadsTo t limit lines start end
 LeadsTo-before t limit before behind lines start end splits does =
     (length before, subst (λ l. LinesDo t limit l start end) (sym (ap (take (length before)) splits ∙ take-append_seam before behind)) does)
@@ -125,7 +125,7 @@ module _ {limit limit' : ℕ} {start start' : Progress} (as_far : limit ≡ limi
         (λ script halted. as_asked (λ n s. Ends t n (lines_of script) s (ended end) (Appends old new) (AppendsBeginning old new))
         (Ends-written t limit (lines_of script) start end old known new held halted (subst (Appends known new) same wrote))) halts
 
--- the lines that were read whole, of which what was held was written
+-- the lines that were read whole, of whose text what was held was written
 pub Whole-finished : {limit limit' : ℕ} {start start' : Progress} (as_far : limit ≡ limit') (begins : start ≡ start') (t : RuleTable) (had left old known new : Option (List ℕ)) (held held' : List ℕ) → held' ≡ held
     → DoesWholeLines t limit start had left (λ text. Hands old known text held) → Appends known new held' → DoesWholeLines t limit' start' had left (Appends old new)
 Whole-finished {limit} {limit'} {start} {start'} as_far begins t had left old known new held held' same does wrote =

@@ -19,7 +19,7 @@ use Rattle.line_run.specs.declared.stop.Stop.TheVariants.{BadLine, LogFull}
 use Rattle.script_run.specs.Line.{Grows, CommandGrows, LineGrows}
 use Rattle.script_text.specs.Script.{Progress, IsEntry, IsFull, EventDoes, TurnDoes, TurnsDo, TurnFills, TurnsFill, checkpointed, CommandDoes, CommandFills, LineDoes, MeetsFullLog}
 
--- where a run stands
+-- the progress of a run
 abbrev pub at_line : RuleSet → Moment → ℕ → List ℕ → Progress
 at_line r s count text = record { rules = r; moment = s; count = count; text = text }
 
@@ -37,7 +37,7 @@ stays_adds r r' s s' n n' old new same = record {
   leads = λ text. ap (λ (p : Progress). at_line p.rules p.moment p.count (text ++ [])) same ∙ ap (λ l. at_line r s n l) (append-nil text);
 }
 
--- an entry, and what comes behind it
+-- an entry, and what follows it
 entry_adds : (t : RuleTable) (event : Event) (Others : Progress → Progress → Type 0) (r r' : RuleSet) (s s' : Moment) (n n' : ℕ) (old new : List ℕ) (next : Progress)
     → IsEntry t event (at_line r s n old) next → Adds Others next.rules r' next.moment s' next.count n' next.text new
     → Adds (λ before after. (mid : Progress) × IsEntry t event before mid × Others mid after) r r' s s' n n' old new
@@ -97,7 +97,7 @@ event_adds t limit event r r' s s' n n' old new (below, entry) = record {
   leads = λ text. (below, record { rules = entry.rules; moment = entry.moment; count = entry.count; text = refl });
 }
 
--- the lines of a base are those of where the run stands, whatever text is there
+-- the lines of a base are those of the run's state, whatever the text is
 checkpoint_adds : (r r' : RuleSet) (s s' : Moment) (n n' : ℕ) (old new : List ℕ) → at_line r' s' n' new ≡ checkpointed (at_line r s n old)
     → Adds (λ before after. after ≡ checkpointed before) r r' s s' n n' old new
 checkpoint_adds r r' s s' n n' old new same =

@@ -47,7 +47,7 @@ pub less_is_part : (lines : List (List ℕ)) (t : RuleTable) (limit : ℕ) (star
     → (end : Progress) × LeadsTo t limit lines start end × AppendsLess old new end.text → (end : Progress) × LeadsTo t limit lines start end × AppendsBeginning old new end.text
 less_is_part lines t limit start old new (end, leads, (n, less, wrote)) = (end, leads, (n, wrote))
 
--- where an LF stands next, what was begun ends there
+-- if an LF comes next, the begun line ends there
 first_line : (begun line behind rest more : List ℕ) → IsLine begun → IsLine line → rest ≡ line ++ 10 ∷ behind
     → lines_of (begun ++ (rest ++ more)) ≡ (begun ++ line) ∷ lines_of (behind ++ more)
 first_line begun line behind rest more front back e =
@@ -196,7 +196,7 @@ module _ {t : RuleTable} {limit : ℕ} {start : Progress} {old : Option (List �
   Stands-memory {now = now} {known = known} h kept more =
       (at_line now.rules now.moment now.count h.text, Stands-leads h more, subst (Hands old known h.text) (sym kept) h.handed)
 
-  -- the line behind those so far stops the run
+  -- the next line stops the run
   stops : {read begun rest : List ℕ} {n : ℕ} {now : Progress} {known : Option (List ℕ)} {line : List ℕ} {others : List (List ℕ)} (more : List ℕ)
       → (h : Stands t limit start old read begun rest n now known) → lines_of (begun ++ (rest ++ more)) ≡ line ∷ others
       → StopsAt t limit (lines_of (read ++ more)) start (n + 1) line (at_line now.rules now.moment now.count h.text)
@@ -260,7 +260,7 @@ module _ {t : RuleTable} {limit : ℕ} {start : Progress} {old : Option (List �
       let lines : lines_of (read ++ []) ≡ h.before = h.splits [] ∙ ap (λ l. h.before ++ lines_of (l ++ [])) none ∙ append-nil h.before in
       (at_line now.rules now.moment now.count h.text, subst (λ l. LinesDo t limit l start (at_line now.rules now.moment now.count h.text)) (sym lines ∙ ap lines_of (append-nil read)) h.does, h.handed)
 
-  -- it ends behind a line that was carried out
+  -- it ends after a line that was carried out
   pub Last-whole : {E : Type 0} {read begun : List ℕ} {n : ℕ} {now : Progress} {known : Option (List ℕ)} (after : Progress) (result : Result (Option Stop) E) → Stands t limit start old read begun [] n now known → (begun ≡ [] → ⊥)
       → LineEnds t limit (n + 1) begun now after result → result ≡ Ok None
       → Halts t limit (lines_of read) start Whole (λ text. Hands old known text after.text)
@@ -298,19 +298,19 @@ module _ {t : RuleTable} {limit : ℕ} {start : Progress} {old : Option (List �
   PieceEnds-failed begun' n' now' known' (Ok end) is h less = absurd (true≢false (sym is))
   PieceEnds-failed begun' n' now' known' (Err fault) is h less = Stands-failed known' h less
 
--- So much was read of what a reader had, and the run stands behind it.
+-- These bytes of a reader's were read, and the run is after them.
 pub record Came (t : RuleTable) (limit : ℕ) (start : Progress) (old a b : Option (List ℕ)) (begun : List ℕ) (n : ℕ) (now : Progress) (known : Option (List ℕ)) : Type 0 where
   pub read : List ℕ
   pub used : Consumes a b read
   pub stands : Stands t limit start old read begun [] n now known
 
--- A piece was carried out behind all that was read before it.
+-- A piece was carried out after all that was read before it.
 pub record Took {E : Type 0} (t : RuleTable) (limit : ℕ) (start : Progress) (old a c : Option (List ℕ)) (begun : List ℕ) (n : ℕ) (now : Progress) (known : Option (List ℕ)) (result : Result (Option Halt) E) : Type 0 where
   pub read : List ℕ
   pub used : Consumes a c read
   pub ends : PieceEnds t limit start old read begun n now known result
 
--- Of all that a reader had, the run ends so, and of its text the writer has what stands before the rest.
+-- With all that a reader had, the run ends so, and the writer has all of its text but the rest.
 abbrev EndsSo : RuleTable → ℕ → Progress → Option (List ℕ) → Option (List ℕ) → Halt → Option (List ℕ) → List ℕ → Type 0
 EndsSo t limit start old a end known rest = IfSome a (λ script. Halts t limit (lines_of script) start end (λ text. Hands old known text rest))
 
@@ -378,7 +378,7 @@ module _ {t : RuleTable} {limit : ℕ} {start : Progress} {old : Option (List �
           ends = subst P same (piece start old all) (Stands-read (take len buffer) h.stands);
         }
 
-  -- so the run stands behind it, or ends in it
+  -- so the run is after it, or ends in it
   module _ {E : Type 0} {a c : Option (List ℕ)} {begun : List ℕ} {n : ℕ} {now : Progress} {known : Option (List ℕ)} {result : Result (Option Halt) E} (h : Took t limit start old a c begun n now known result) where
     pub Took-goes_on : result ≡ Ok None → Came t limit start old a c begun n now known
     Took-goes_on is = record { read = h.read; used = h.used; stands = subst (PieceEnds t limit start old h.read begun n now known) is h.ends }

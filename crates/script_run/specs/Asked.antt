@@ -1,10 +1,10 @@
--- What the options of a run say.
+-- The options of a run.
 use Rattle.std.specs.Prelude.{ℕ}
 use Rattle.rule_machine.specs.declared.rules.RuleSet.{RuleSet}
 use Rattle.script_run.specs.declared.options.Options.{Options}
 
--- the rule set, how many names there are and how many of them are present at the start, how many entries there may be, how many
--- workers evaluate a step, and how many roam and for how many turns
+-- the rule set, the names, the nodes at the start, the limit of entries, the workers for a step, and the
+-- roaming workers with their turns
 pub record Asked : Type 0 where
   pub rules : RuleSet
   pub nodes : ℕ
@@ -18,6 +18,6 @@ abbrev pub asked_of : Options → Asked
 asked_of o =
     record { rules = o.rules; nodes = o.nodes; present = o.present; limit = o.limit; workers = o.workers; roamers = o.roamers; turns = o.turns }
 
--- all names are present, and the others are as they are where nothing is asked for
+-- all names are present, and all other options have their defaults
 abbrev pub usual : RuleSet → ℕ → Asked
 usual rules nodes = record { rules = rules; nodes = nodes; present = nodes; limit = 16777216; workers = 1; roamers = 0; turns = 1000 }

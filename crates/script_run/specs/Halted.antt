@@ -1,4 +1,4 @@
--- How far a script was carried out, before its end is told.
+-- How far a script was carried out, before its result is returned.
 use Rattle.std.specs.Prelude.{◌≡◌, ℕ, List, ◌++◌, Option, Result, Ok, Err}
 use Rattle.std.specs.Io.KnownBytes.{Appends}
 use Rattle.rule_machine.specs.RuleTable.{RuleTable}
@@ -10,13 +10,14 @@ use Rattle.script_run.specs.declared.halt.Halt.{Halt}
 use Rattle.script_run.specs.declared.halt.Halt.TheVariants.{Whole, Stopped, Unread, Memory}
 use Rattle.script_run.specs.Outcome.{StopsAtBadLine, StopsAtFullLog, LeadsTo}
 
--- of the text, what stands before the rest was written
+-- all of the text but the rest was written
 pub record Hands (old new : Option (List ℕ)) (text rest : List ℕ) : Type 0 where
   pub sent : List ℕ
   pub wrote : Appends old new sent
   pub splits : text ≡ sent ++ rest
 
--- all lines were carried out, or those before a bad line, a full log, a failed read or want of memory, and P holds of the text to which they lead
+-- all lines were carried out, or those before a bad line, a full log, a failed read or the end of memory; P
+-- holds of their text
 abbrev pub Halts : RuleTable → ℕ → List (List ℕ) → Progress → Halt → (List ℕ → Type 0) → Type 0
 Halts t limit lines start Whole P = (end : Progress) × LinesDo t limit lines start end × P end.text
 Halts t limit lines start (Stopped (BadLine number)) P = (end : Progress) × StopsAtBadLine t limit lines start number end × P end.text
@@ -24,7 +25,7 @@ Halts t limit lines start (Stopped LogFull) P = (end : Progress) × StopsAtFullL
 Halts t limit lines start Unread P = (end : Progress) × LeadsTo t limit lines start end × P end.text
 Halts t limit lines start Memory P = (end : Progress) × LeadsTo t limit lines start end × P end.text
 
--- how a run ends that came so far
+-- the result of a run that came this far
 abbrev pub ended : Halt → Result Unit RunFault
 ended Whole = Ok tt
 ended (Stopped (BadLine number)) = Err (fault.BadLine number)
@@ -32,7 +33,7 @@ ended (Stopped LogFull) = Err fault.LogFull
 ended Unread = Err fault.Read
 ended Memory = Err fault.Memory
 
--- and where its writer may have failed
+-- the same, if the writer may have failed
 abbrev pub answered : {E : Type 0} → Result Halt E → Result Unit RunFault
 answered (Ok end) = ended end
 answered (Err failed) = Err fault.Write

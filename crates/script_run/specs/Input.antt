@@ -1,4 +1,4 @@
--- What a fault of the input is in a run.
+-- The fault of a run that an input fault is.
 use Rattle.byte_streams.specs.declared.input_fault.InputFault.{InputFault}
 use Rattle.byte_streams.specs.declared.input_fault.InputFault.TheVariants as input
 use Rattle.script_run.specs.declared.fault.RunFault.{RunFault}

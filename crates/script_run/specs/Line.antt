@@ -1,4 +1,4 @@
--- How one line ends where a run's text is written as it grows.
+-- How one line ends in a run whose text is written as it grows.
 use Rattle.std.specs.Prelude.{◌≡◌, ℕ, Bool, true, false, List, ◌++◌, Option, None, Some, Result, Ok, Err}
 use Rattle.rule_machine.specs.declared.event.Event.{Event}
 use Rattle.rule_machine.specs.RuleTable.{RuleTable}
@@ -13,32 +13,32 @@ use Rattle.line_run.specs.declared.stop.Stop.TheVariants.{BadLine, LogFull}
 abbrev pub Grows : List ℕ → List ℕ → Type 0
 Grows old new = (more : List ℕ) × (new ≡ old ++ more)
 
--- the step is an entry; or the log was full, and nothing was done; at want of memory no text was added
+-- the step is an entry; or the log was full, and nothing was done; if memory ran out, no text was added
 abbrev pub StepEnds : {E : Type 0} → RuleTable → ℕ → Event → Progress → Progress → Result Bool E → Type 0
 StepEnds t limit event before after (Ok true) = EventDoes t limit event before after
 StepEnds t limit event before after (Ok false) = (before.count ≡ limit) × (after ≡ before)
 StepEnds t limit event before after (Err want) = after.text ≡ before.text
 
--- the command was followed, or met a full log; at want of memory some text was added
+-- the command was carried out, or met a full log; if memory ran out, some text was added
 abbrev pub CommandGrows : {E : Type 0} → RuleTable → ℕ → Command → Progress → Progress → Result Bool E → Type 0
 CommandGrows t limit command before after (Ok true) = CommandDoes t limit command before after
 CommandGrows t limit command before after (Ok false) = CommandFills t limit command before after
 CommandGrows t limit command before after (Err want) = Grows before.text after.text
 
--- the line with this number was carried out, or it is bad, or it meets a full log; at want of memory some text was added
+-- the line was carried out, is bad, or met a full log; if memory ran out, some text was added
 abbrev pub LineGrows : {E : Type 0} → RuleTable → ℕ → ℕ → List ℕ → Progress → Progress → Result (Option Stop) E → Type 0
 LineGrows t limit number line before after (Ok None) = LineDoes t limit line before after
 LineGrows t limit number line before after (Ok (Some (BadLine n))) = (n ≡ number) × IsBadLine line × (after ≡ before)
 LineGrows t limit number line before after (Ok (Some LogFull)) = MeetsFullLog t limit line before after
 LineGrows t limit number line before after (Err want) = Grows before.text after.text
 
--- so it was, but at want of memory it has added no text
+-- the same, but if memory ran out, no text was added
 abbrev pub LineEnds : {E : Type 0} → RuleTable → ℕ → ℕ → List ℕ → Progress → Progress → Result (Option Stop) E → Type 0
 LineEnds t limit number line before after (Ok None) = LineDoes t limit line before after
 LineEnds t limit number line before after (Ok (Some (BadLine n))) = (n ≡ number) × IsBadLine line × (after ≡ before)
 LineEnds t limit number line before after (Ok (Some LogFull)) = MeetsFullLog t limit line before after
 LineEnds t limit number line before after (Err want) = after.text ≡ before.text
 
--- the line with this number was carried out by what carries out lines, which was so before it and is so behind it
+-- the line with this number was carried out, from one run to the next
 abbrev pub CarriesLine : {R E : Type 0} → RuleTable → Run R → Run R → ℕ → List ℕ → Result (Option Stop) E → Type 0
 CarriesLine t old new number line result = LineEnds t old.recorder.limit number line (progress_of old) (progress_of new) result

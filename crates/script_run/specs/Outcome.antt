@@ -28,16 +28,16 @@ abbrev pub StopsAtFullLog : RuleTable → ℕ → List (List ℕ) → Progress �
 StopsAtFullLog t limit lines start end =
     (number : ℕ) × (line : List ℕ) × (before : Progress) × StopsAt t limit lines start number line before × MeetsFullLog t limit line before end
 
--- so many lines, from the first on, lead to the end
+-- some first lines lead to the end
 abbrev pub LeadsTo : RuleTable → ℕ → List (List ℕ) → Progress → Progress → Type 0
 LeadsTo t limit lines start end = (n : ℕ) × LinesDo t limit (take n lines) start end
 
--- some first lines lead to the end, or a line behind them that meets a full log
+-- some first lines lead to the end, or a line after them that meets a full log
 abbrev pub Reaches : RuleTable → ℕ → List (List ℕ) → Progress → Progress → Type 0
 Reaches t limit lines start end = LeadsTo t limit lines start end ⊎ StopsAtFullLog t limit lines start end
 
--- all lines were carried out, or those before a bad line or a full log, or some first ones where the reader failed, and P holds of the
--- text to which they lead; where the writer failed or memory was refused, Q holds of the text that some first lines reach
+-- P holds of the text of all lines, of those before a bad line or a full log, or of some first lines if the
+-- reader failed; Q holds of the text of some first lines if the writer failed or memory ran out
 abbrev pub Ends : RuleTable → ℕ → List (List ℕ) → Progress → Result Unit RunFault → (List ℕ → Type 0) → (List ℕ → Type 0) → Type 0
 Ends t limit lines start (Ok done) P Q = (end : Progress) × LinesDo t limit lines start end × P end.text
 Ends t limit lines start (Err (BadLine number)) P Q = (end : Progress) × StopsAtBadLine t limit lines start number end × P end.text
@@ -47,11 +47,12 @@ Ends t limit lines start (Err Write) P Q = (end : Progress) × Reaches t limit l
 Ends t limit lines start (Err Memory) P Q = (end : Progress) × Reaches t limit lines start end × Q end.text
 Ends t limit lines start (Err (Pool why)) P Q = ⊥
 
--- from this start the script was run under the rules of a table, and the writer has got what Ends says
+-- from this start the script was run under the rules of a table, and the writer has what Ends says
 abbrev pub EndsFrom : RuleTable → ℕ → Progress → List ℕ → Option (List ℕ) → Option (List ℕ) → Result Unit RunFault → Type 0
 EndsFrom t limit start script old new result = Ends t limit (lines_of script) start result (Appends old new) (AppendsBeginning old new)
 
--- the script was run, and the writer has got the header, the entries that the machine makes and the bases of its checkpoints, and
--- nothing else; at a fault of the reader those of some first lines, and at one of the writer or of memory a beginning of them
+-- the script was run, and the writer has exactly the header, the machine's entries and the bases of the
+-- checkpoints; after a reader's fault those of some first lines, and after a writer's or memory's fault a
+-- beginning of them
 abbrev pub IsOutcome : RuleSet → ℕ → ℕ → ℕ → List ℕ → Option (List ℕ) → Option (List ℕ) → Result Unit RunFault → Type 0
 IsOutcome rules nodes present limit script old new result = EndsFrom (table_of rules) limit (beginning rules nodes present) script old new result

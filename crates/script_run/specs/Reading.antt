@@ -11,9 +11,9 @@ use Rattle.script_run.specs.Halted.{Hands, Halts}
 use Rattle.script_run.specs.Outcome.{LeadsTo}
 use Rattle.script_run.specs.Whole.{ended_text}
 
--- Of the bytes that were read so many lines were carried out, from the first on, each up to its LF, and they lead to where the run
--- stands now. Behind them a line was begun, whose end is not found yet, and the rest was not looked at. Of the text that the lines
--- make the writer has what stands before that of now.
+-- The first n lines of the bytes read were carried out, each up to its LF, and lead to the run's state. A
+-- line was begun after them whose end is not found yet; the rest was not looked at. The writer has all of the
+-- lines' text but what the run holds.
 pub record Stands (t : RuleTable) (limit : ℕ) (start : Progress) (old : Option (List ℕ)) (read begun rest : List ℕ) (n : ℕ) (now : Progress) (known : Option (List ℕ)) : Type 0 where
   pub before : List (List ℕ)
   pub text : List ℕ
@@ -25,8 +25,8 @@ pub record Stands (t : RuleTable) (limit : ℕ) (start : Progress) (old : Option
   pub does : LinesDo t limit before start (record { rules = now.rules; moment = now.moment; count = now.count; text = text })
   pub handed : Hands old known text now.text
 
--- a piece was carried out up to the line that it begins; or the run ends in it, or the writer failed, whatever follows the bytes
--- that were read
+-- a piece was carried out up to the line that it begins; or the run ends in it or the writer failed, whatever
+-- follows
 abbrev pub PieceEnds : {E : Type 0} → RuleTable → ℕ → Progress → Option (List ℕ) → List ℕ → List ℕ → ℕ → Progress → Option (List ℕ) → Result (Option Halt) E → Type 0
 PieceEnds t limit start old read begun n now known (Ok None) = Stands t limit start old read begun [] n now known
 PieceEnds t limit start old read begun n now known (Ok (Some end)) =
@@ -34,12 +34,12 @@ PieceEnds t limit start old read begun n now known (Ok (Some end)) =
 PieceEnds t limit start old read begun n now known (Err failed) =
     (more : List ℕ) → (end : Progress) × LeadsTo t limit (lines_of (read ++ more)) start end × AppendsLess old known end.text
 
--- wherever the run began, and whatever was read before the piece, it was carried out
+-- the piece was carried out, wherever the run began and whatever was read before
 abbrev pub CarriesPiece : {E : Type 0} → RuleTable → ℕ → List ℕ → Reading → Reading → Progress → Progress → Option (List ℕ) → Option (List ℕ) → Result (Option Halt) E → Type 0
 CarriesPiece t limit piece old_reading new_reading before after had has result = (start : Progress) (old : Option (List ℕ)) (read : List ℕ)
     → Stands t limit start old read old_reading.begun.items piece old_reading.lines before had
     → PieceEnds t limit start old read new_reading.begun.items new_reading.lines after has result
 
--- how many lines were found whole, and bytes read of the one behind them
+-- how many lines were found whole, and how many bytes of the next were read
 abbrev pub extent : Reading → ℕ
 extent reading = reading.lines + length reading.begun.items

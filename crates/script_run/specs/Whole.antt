@@ -6,18 +6,18 @@ use Rattle.rule_machine.specs.RuleTable.{RuleTable}
 use Rattle.script_text.specs.Script.{Progress, LinesDo}
 use Rattle.byte_streams.specs.Lines.{IsLine}
 
--- these lines, an LF behind each
+-- these lines, each with an LF after it
 abbrev pub ended_text : List (List ℕ) → List ℕ
 ended_text [] = []
 ended_text (line ∷ lines) = line ++ 10 ∷ ended_text lines
 
--- The bytes are these lines, an LF behind each, and then a line that was begun.
+-- The bytes are these lines, each with its LF, and then a begun line.
 pub record AreWholeLines (lines : List (List ℕ)) (begun bytes : List ℕ) : Type 0 where
   pub joined : bytes ≡ ended_text lines ++ begun
   pub each : All IsLine lines
   pub unended : IsLine begun
 
--- All lines whose LF the reader gave, and no others, lead to the end, and P holds of the text there.
+-- Exactly the lines whose LF the reader gave lead to the end, and P holds of the text there.
 pub record DoesWholeLines (t : RuleTable) (limit : ℕ) (start : Progress) (had left : Option (List ℕ)) (P : List ℕ → Type 0) : Type 0 where
   pub bytes : List ℕ
   pub gave : Consumes had left bytes

@@ -1,29 +1,31 @@
-//! Why a run ends early.
+//! The errors of a run.
 
 use byte_streams::{InputFault, OutputFault};
 use steal_pool::PoolFault;
 use thiserror::Error;
 
-/// Why a run did not come to the end of its script.
+/// Why a run did not reach the end of its script.
 #[derive(Clone, Copy, Debug, PartialEq, Eq, Error)]
 pub enum RunFault {
-    /// The line with this number, from 1, is neither empty nor a command.
+    /// This line, counted from 1, is neither empty nor a command.
     #[error("line {line}: not a command")]
     BadLine { line: u64 },
-    /// A command that wants an entry came when there were as many as there may be.
+    /// A command needs an entry, and the log is full.
     #[error("log full")]
     LogFull,
-    /// A read of the script failed, or there were 4,294,967,295 of them.
+    /// A read of the script failed, or 4,294,967,295 were made.
     #[error("read failed")]
     Read,
     /// A write of the transcript failed.
     #[error("write failed")]
     Write,
-    /// A growth of memory was refused.
+    /// Memory ran out.
     #[error("out of memory")]
     Memory,
-    /// The workers that judge a step failed. `run` answers it never: it has a worker at the least, and does the work itself
-    /// where no thread can be had.
+    /// The workers that judge a step failed.
+    ///
+    /// `run` never returns it: it has at least one worker, and does the work itself if no thread can be
+    /// started.
     #[error("{0}")]
     Pool(PoolFault),
 }

@@ -1,4 +1,4 @@
-//! How far a script is carried out.
+//! How far a script was carried out.
 
 ghost use Rattle.std.specs.Prelude.{◌≡◌};
 ghost use Rattle.script_run.specs.Halted.{ended};
@@ -11,16 +11,16 @@ use line_run::Stop;
 pub enum Halt {
     /// To its end.
     Whole,
-    /// Up to what stopped it.
+    /// Up to the line that stopped it.
     Stopped(Stop),
     /// Up to a read that failed.
     Unread,
-    /// Up to a growth of memory that was refused.
+    /// Until memory ran out.
     Memory,
 }
 
 impl Halt {
-    /// How a run ends that came so far.
+    /// The result of a run that came this far.
     pub fn told(self) -> Result<(), RunFault>
         ensures { result ≡ ended self }
     {

@@ -1,11 +1,12 @@
 //! The run of a script: bytes in, transcript out.
 //!
-//! `run` reads a script piece by piece, carries out each line as `line_run` does, and has written and flushed the text of all whole lines
-//! before it reads on: so it can be talked to. At `Ok` the writer has exactly the header, the entries that the machine makes of the
-//! lines, each with the least free targets, and the bases of its checkpoints; what it has at each fault the one clause `outcome` says, by
-//! cases. The transcript is the same for any number of workers, which evaluate steps of many nodes.
+//! `run` reads a script piece by piece and carries out each line as `line_run` does. Before each read it has
+//! written and flushed the text of all whole lines, so a program can talk to it. At `Ok` the writer has
+//! exactly the header, the machine's entries for the lines (each with the least free targets), and the bases
+//! of the checkpoints. The clause `outcome` says what it has after each fault. The transcript is the same
+//! for any number of workers, which evaluate steps of many nodes.
 //!
-//! It keeps no entry: 65,536 bytes of the script and one line, as much of the text, and the network.
+//! It keeps no entry: it holds 65,536 bytes and one line of the script, as much of the text, and the network.
 //!
 //! ```rust
 //! let Some(options) = Options::new(RuleSet::Hh, 2) else { return Err(..) };

@@ -1,4 +1,4 @@
-//! What a run is about.
+//! The options of a run or a storm.
 
 ghost use Rattle.std.specs.Prelude.{◌≡◌, ◌<◌, ◌≤◌, ◌↔◌, max, min, IsNone, IfSome};
 
@@ -7,11 +7,10 @@ use script_text::MAX_TURNS;
 use steal_pool::MAX_WORKERS;
 use step_log::MAX_ENTRIES;
 
-/// How many turns a roaming worker has where nothing is said.
+/// How many turns a roaming worker takes by default.
 const USUAL_TURNS: u32 = 1_000;
 
-/// The rule set, how many names there are and how many of them are present at the start, how many entries there may be, how many
-/// workers evaluate a step, and, of a storm, how many workers roam and for how many turns.
+/// The options of a run, and the roaming workers of a storm.
 #[derive(Clone, Copy, Debug, PartialEq, Eq)]
 pub struct Options {
     rules: RuleSet,
@@ -33,8 +32,9 @@ pub struct Options {
 impl Options {
     ghost use Rattle.script_run.specs.Asked.{asked_of, usual};
 
-    /// A run under the rule set on the nodes 1 to `nodes`, all of them present, with at most `MAX_ENTRIES` entries, one worker,
-    /// and, of a storm, none that roams; `None` above 65,535 nodes.
+    /// A run on the nodes 1 to `nodes`, all present; `None` above 65,535.
+    ///
+    /// At most `MAX_ENTRIES` entries, one worker, and no roaming worker.
     pub fn new(rules: RuleSet, nodes: u32) -> Option<Options>
         ensures none { IsNone result ↔ 65535 < nodes }
         ensures options { IfSome result (λ options. asked_of options ≡ usual rules nodes) }
@@ -53,8 +53,9 @@ impl Options {
         })
     }
 
-    /// These options, with the names 1 to `present` present at the start and the others absent; a number above that of the names
-    /// counts as that.
+    /// These options, with the names 1 to `present` present at the start and the others absent.
+    ///
+    /// A `present` above the number of names counts as that number.
     pub fn with_present(self, present: u32) -> Options
         ensures { asked_of result ≡ record (asked_of self) { present = min present self.nodes } }
     {
@@ -69,7 +70,7 @@ impl Options {
         }
     }
 
-    /// These options, with at most `limit` entries; a number above `MAX_ENTRIES` counts as that.
+    /// These options, with at most `limit` entries; above `MAX_ENTRIES` it counts as that.
     pub fn with_limit(self, limit: u32) -> Options
         ensures { asked_of result ≡ record (asked_of self) { limit = min limit 16777216 } }
     {
@@ -84,7 +85,7 @@ impl Options {
         }
     }
 
-    /// These options, with so many workers for each step: 0 counts as 1, and a number above 64 as 64.
+    /// These options, with `workers` workers for each step: 0 counts as 1, and more than 64 as 64.
     pub fn with_workers(self, workers: u32) -> Options
         ensures { asked_of result ≡ record (asked_of self) { workers = min (max workers 1) 64 } }
     {
@@ -99,8 +100,9 @@ impl Options {
         }
     }
 
-    /// These options, with so many workers who roam the network of a storm, each for so many turns; a number of workers above 64
-    /// counts as 64, and one of turns above 1,000,000 as that.
+    /// These options, with `workers` workers that roam a storm's network for `turns` turns each.
+    ///
+    /// More than 64 workers count as 64, and more than 1,000,000 turns as that.
     pub fn with_roam(self, workers: u32, turns: u32) -> Options
         ensures { asked_of result ≡ record (asked_of self) { roamers = min workers 64; turns = min turns 1000000 } }
     {
@@ -130,7 +132,7 @@ impl Options {
         self.nodes
     }
 
-    /// How many of the names are present at the start, from 1 on.
+    /// How many names, from 1 on, are present at the start.
     pub fn present(&self) -> u32
         ensures count { result ≡ self.now.present }
         ensures within { result ≤ self.now.nodes }
@@ -138,7 +140,7 @@ impl Options {
         self.present
     }
 
-    /// How many entries there may be, at most `MAX_ENTRIES`.
+    /// The most entries, at most `MAX_ENTRIES`.
     pub fn limit(&self) -> u32
         ensures count { result ≡ self.now.limit }
         ensures few { result ≤ 16777216 }
@@ -146,7 +148,7 @@ impl Options {
         self.limit
     }
 
-    /// How many workers evaluate a step, from 1 to 64.
+    /// How many workers evaluate a step, 1 to 64.
     pub fn workers(&self) -> u32
         ensures count { result ≡ self.now.workers }
         ensures some { 1 ≤ result }
@@ -155,7 +157,7 @@ impl Options {
         self.workers
     }
 
-    /// How many workers roam the network of a storm, at most 64.
+    /// How many workers roam a storm's network, at most 64.
     pub fn roamers(&self) -> u32
         ensures count { result ≡ self.now.roamers }
         ensures few { result ≤ 64 }
@@ -163,7 +165,7 @@ impl Options {
         self.roamers
     }
 
-    /// How many turns each of them has, at most 1,000,000.
+    /// How many turns each roaming worker takes, at most 1,000,000.
     pub fn turns(&self) -> u32
         ensures count { result ≡ self.now.turns }
         ensures few { result ≤ 1000000 }

@@ -2,10 +2,12 @@
 
 ghost use Rattle.std.specs.Prelude.{◌≡◌, ◌≤◌, ◌/◌, max, min};
 
-/// With fewer items than this, starting a worker and taking its verdicts over costs more time than it saves.
+/// For fewer items, starting a worker and taking over its verdicts costs more time than it saves.
 const ITEMS_A_WORKER: usize = 16_384;
 
-/// As many of these workers as pay for a step of so many items: one for each 16,384 of them, one at the least, and 64 at the most.
+/// How many of `workers` pay for a step of `items` items: one for each 16,384.
+///
+/// At least 1 if there are any, and at most 64.
 pub fn paying_workers(workers: u32, items: usize) -> u32
     ensures value { result ≡ min workers (min (max (items / 16384) 1) 64) }
     ensures some { 1 ≤ workers → 1 ≤ result }

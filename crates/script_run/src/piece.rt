@@ -1,4 +1,4 @@
-//! The lines in a piece of a script.
+//! Carrying out the lines in a piece of a script.
 
 ghost use Rattle.std.specs.Prelude.{◌≡◌, ◌<◌, ◌≤◌, ◌+◌, ◌^◌, ◌++◌, ℕ, List, [], Option, true, length, IfOk, IfSome, IsNone, OnErr, OnOk};
 ghost use Rattle.script_text.specs.Script.{Progress, lines_of};
@@ -23,7 +23,7 @@ use std::sync::Wait;
 use std::thread::Threads;
 
 impl<R: Rules + Sync> Run<R> {
-    // Carries out the line that was begun, of which this is the end.
+    // Carries out the begun line, which ends with `end`.
     fn carry_out_ended<T: Threads + Wait + Sync>(
         &mut self,
         rt: &T,
@@ -52,8 +52,8 @@ impl<R: Rules + Sync> Run<R> {
         Ok(stop)
     }
 
-    // Carries out the lines that end in a piece, hands over the text as it grows, and keeps what begins a line. A line that has
-    // grown too long for a command is bad, whatever its end may be.
+    // Carries out the lines that end in a piece, hands over the text as it grows, and keeps the begun line. A
+    // line too long for a command is bad before its end is read.
     pub fn carry_out_piece<Out: Write, T: Threads + Wait + Sync>(
         &mut self,
         rt: &T,
@@ -91,7 +91,7 @@ impl<R: Rules + Sync> Run<R> {
         }
     }
 
-    // Carries out the line that was begun and that the script's end ends, if there is one.
+    // Carries out the begun line, if any, which ends with the script.
     pub fn carry_out_last<T: Threads + Wait + Sync>(
         &mut self,
         rt: &T,

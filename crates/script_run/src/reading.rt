@@ -1,4 +1,4 @@
-//! How far a script was read, and how it is read on.
+//! Reading a script, and how far it was read.
 
 ghost use Rattle.std.specs.Prelude.{◌≡◌, ◌<◌, ◌≤◌, ◌+◌, [], length, take, IfOk, OnErr, OnOk};
 ghost use Rattle.std.specs.Io.KnownBytes.{Consumes, IsAtEnd, Keeps};
@@ -8,7 +8,7 @@ use byte_streams::{InputFault, Reads};
 use std::alloc::Global;
 use std::io::Read;
 
-/// How far a script was read: how many lines were found whole, and what was read of the line behind them.
+/// How many whole lines were found, and what was read of the line after them.
 #[derive(Drop)]
 pub struct Reading {
     pub lines: u64,
@@ -16,7 +16,7 @@ pub struct Reading {
 }
 
 impl Reading {
-    /// Where nothing was read.
+    /// A script of which nothing was read.
     pub fn new(alloc: Global) -> Reading
         ensures lines { result.lines ≡ 0 }
         ensures begun { result.begun.items ≡ [] }
@@ -28,8 +28,9 @@ impl Reading {
     }
 }
 
-/// Reads into the chunk once, where no text is left to be written. How many bytes the reader gave, which are the first of the
-/// chunk; none only at its end. `Read` where the read fails, and it is not tried again.
+/// Reads once into the chunk, when all text is written; returns how many bytes came.
+///
+/// 0 bytes come only at the reader's end. `Read` if the read fails; it is not retried.
 pub fn read_on<In: Read>(
     reader: &mut Reads<In>,
     chunk: &mut [u8],

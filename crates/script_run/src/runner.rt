@@ -1,4 +1,4 @@
-//! A run under one set of rules.
+//! The run of a script under one rule set.
 
 ghost use Rattle.std.specs.Prelude.{◌≡◌, true, IfOk, IfSome, OnErr};
 ghost use Rattle.std.specs.Io.KnownBytes.{Appends, IsAtEnd};
@@ -28,10 +28,10 @@ use std::io::{Read, Write};
 use std::sync::Wait;
 use std::thread::Threads;
 
-/// A line of fewer bytes has no step of so many items that two workers pay for it.
+/// A shorter line has no step that is worth two workers.
 const WIDE: usize = 65_536;
 
-/// The run of a script's lines, whose text is what is not written yet, and how many workers judge a step.
+/// A run whose text is what is not written yet, and how many workers judge a step.
 #[derive(Drop)]
 pub struct Run<R: Rules> {
     pub line: LineRun<R>,
@@ -52,7 +52,8 @@ impl<R: Rules> Run<R> {
 }
 
 impl<R: Rules + Sync> Run<R> {
-    // Follows a command, which a line says; false where it meets a full log. Workers judge a step for which more than one pays.
+    // Carries out the command of `line`; `false` at a full log. Workers judge a step that is worth more than
+    // one.
     #[inline(always)]
     fn follow<T: Threads + Wait + Sync>(
         &mut self,
@@ -73,8 +74,8 @@ impl<R: Rules + Sync> Run<R> {
         }
     }
 
-    // Carries out the line with this number, which may be a step of so many items that more than one worker pays for it. At want of
-    // memory some text may be added.
+    // Carries out line `number`, which may be a step worth several workers. If memory runs out, some text may
+    // have been added.
     fn carry_out_wide<T: Threads + Wait + Sync>(
         &mut self,
         rt: &T,
@@ -99,7 +100,8 @@ impl<R: Rules + Sync> Run<R> {
         }
     }
 
-    // Carries out the line with this number, with workers where more than one may pay. At want of memory some text may be added.
+    // Carries out line `number`, with workers if several may pay. If memory runs out, some text may have been
+    // added.
     #[inline(always)]
     fn carry_out_line<T: Threads + Wait + Sync>(
         &mut self,
@@ -117,8 +119,8 @@ impl<R: Rules + Sync> Run<R> {
         self.line.carry_out(alloc, number, line)
     }
 
-    // Carries out the line with this number: what in it stops the run, if anything does. At want of memory no text is added, of
-    // turns that were taken neither.
+    // Carries out line `number`; returns what in it stops the run, if anything does. If memory runs out, no
+    // text is added, not even that of turns that were taken.
     #[inline(always)]
     pub fn carry_out<T: Threads + Wait + Sync>(
         &mut self,
@@ -140,7 +142,7 @@ impl<R: Rules + Sync> Run<R> {
         }
     }
 
-    // Reads a script and carries out its lines. Before each read, all that the lines read so far have made is written and flushed.
+    // Reads a script and carries out its lines. Before each read, all text so far is written and flushed.
     fn carry_out_all<In: Read, Out: Write, T: Threads + Wait + Sync>(
         &mut self,
         rt: &T,

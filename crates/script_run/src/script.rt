@@ -20,20 +20,25 @@ use std::io::{Read, Write};
 use std::sync::Wait;
 use std::thread::Threads;
 
-/// Carries out the lines of a script in turn, and writes the transcript: a header, and an entry for each command; a checkpoint is
-/// none, and writes the lines of the base that the network is there. Before each read, the text of all lines that were read whole is
-/// written and flushed, so that whoever writes the script can wait for an answer. `Ok` once the script was read to its end.
+/// Carries out the lines of a script in turn, and writes the transcript.
 ///
-/// `BadLine` at the first line that is neither empty nor a command, also where it has more than 1,048,576 bytes and its end was
-/// not read; `LogFull` at a command whose entry is beyond the limit; `Read` only where a read failed, which is not tried again, or
-/// 4,294,967,295 were made: each after all text of the lines before was written. `Write` only where a write or a flush failed, and
-/// nothing is written behind it; and `Memory` if memory runs out: each after a beginning of the transcript was written. No entry is
-/// kept: what is held beside
-/// the network is 65,536 bytes of the script and its last line as far as it was read, and of the text what is not written yet, 65,536
-/// bytes and that of one line; at a checkpoint its base too, which is let go with the line.
+/// The transcript is a header, an entry for each command, and at a checkpoint, which has no entry, the lines
+/// of the network's base. Before each read, the text of all whole lines is written and flushed, so the
+/// script's writer can wait for a reply. `Ok` after the whole script was read.
 ///
-/// As many of the workers of the options as pay for it evaluate a step, one for each 16,384 of its items; the transcript is the same
-/// for every number of them.
+/// | Error | When | Written before it |
+/// |---|---|---|
+/// | `BadLine` | at the first line that is neither empty nor a command, such as one above 1,048,576 bytes whose end was not read | the text of all lines before |
+/// | `LogFull` | at a command whose entry is beyond the limit | all text before |
+/// | `Read` | only if a read failed, which is not retried, or 4,294,967,295 were made | the text of all lines before |
+/// | `Write` | only if a write or a flush failed; nothing is written after it | a beginning of the transcript |
+/// | `Memory` | if memory runs out | a beginning of the transcript |
+///
+/// No entry is kept. Besides the network it holds 65,536 bytes of the script and the begun line, and the text
+/// not written yet: 65,536 bytes and that of one line, and during a checkpoint its base.
+///
+/// A step is evaluated by as many of the options' workers as pay for it, one for each 16,384 items. Their
+/// number does not change the transcript.
 pub fn run<In: Read, Out: Write, T: Threads + Wait + Sync>(
     rt: &T,
     alloc: Global,

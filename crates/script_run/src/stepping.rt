@@ -18,7 +18,7 @@ use steal_pool::{NoGate, evaluate};
 use step_log::RecordFault;
 
 impl<R: Rules> Run<R> {
-    // Whether more than one worker pays for a step.
+    // Whether a step is worth more than one worker.
     pub fn pays(&self, choice: &Choice) -> bool
         ensures some { IsTrue result → 1 < self.now.workers }
         ensures many { IsTrue result ↔ 1 < min self.now.workers (min (max (length choice.now / 16384) 1) 64) }
@@ -28,8 +28,8 @@ impl<R: Rules> Run<R> {
 }
 
 impl<R: Rules + Sync> Run<R> {
-    // Carries out a step that was read from a line, which is its text; as many of the workers judge its items as pay for it. Adds the
-    // text of its entry; false where the log is full, before anything is judged.
+    // Carries out the step of `line`, with as many workers as pay for it, and adds its entry's text. `false`
+    // at a full log, before anything is judged.
     pub fn log_step<T: Threads + Wait + Sync>(
         &mut self,
         rt: &T,

@@ -7,10 +7,10 @@ ghost use Rattle.script_run.specs.Halted.{Hands};
 use byte_streams::{OutputFault, Writes};
 use std::io::Write;
 
-/// How long a text grows before it is handed over.
+/// The length at which a text is handed over.
 const CHUNK: usize = 65_536;
 
-/// Writes the text and empties it, if it has grown long.
+/// Writes and empties the text, if it has reached 65,536 bytes.
 pub fn hand_over<Out: Write>(
     writer: &mut Writes<Out>,
     text: &mut Vec<u8>,
@@ -28,7 +28,7 @@ pub fn hand_over<Out: Write>(
     Ok(())
 }
 
-/// Writes the text and empties it, and flushes the writer.
+/// Writes and empties the text, and flushes the writer.
 pub fn hand_over_all<Out: Write>(
     writer: &mut Writes<Out>,
     text: &mut Vec<u8>,

@@ -4,7 +4,7 @@ use Rattle.std.proofs.lemmas.List.{append-nil, drop_all}
 use Rattle.script_text.specs.declared.script.ScriptLine.{ScriptLine}
 use Rattle.script_text.specs.Readers.{AllHold}
 
--- behind the last reader there is none
+-- after the last reader there is none
 pub none_left : {In : Type 0} (known : In → Option (List ℕ)) (readers : List In) (n k : ℕ) → n ≡ k → k ≡ length readers → map known (drop n readers) ≡ []
 none_left known readers n k same over = ap (λ l. map known l) (drop_all n readers (omega (arith, same, over)))
 

@@ -1,4 +1,4 @@
--- Lines that an LF ends, and bytes of which the line goes on.
+-- Lines that end with an LF, and bytes whose line goes on.
 use Rattle.std.proofs.Common.{◌≡◌, ℕ, ◌==◌, Bool, true, false, if◌then◌else◌, List, [], ◌∷◌, ◌++◌, refl, ap, ◌∙◌}
 use Rattle.std.proofs.lemmas.Bool.{eqb-true}
 use Rattle.byte_streams.specs.Lines.{IsLine}
@@ -22,7 +22,7 @@ pub lines_of-ended : (line behind : List ℕ) → IsLine line → lines_of (line
 lines_of-ended [] behind p = refl
 lines_of-ended (b ∷ line) behind p = no_end b (line ++ 10 ∷ behind) p.0 ∙ ap (onto_first b) (lines_of-ended line behind p.1)
 
--- what stands behind bytes of a line goes on with it
+-- what follows bytes of a line goes on with it
 pub record GoesOn (front behind : List ℕ) : Type 0 where
   pub more : List ℕ
   pub others : List (List ℕ)
@@ -40,7 +40,7 @@ goes_on b (c ∷ front) behind p =
     let later = goes_on c front behind p.1 in
     record { more = later.more; others = later.others; lines = no_end b ((c ∷ front) ++ behind) p.0 ∙ ap (onto_first b) later.lines }
 
--- with nothing behind them they are the line
+-- with nothing after them they are the line
 pub lines_of-last : (b : ℕ) (line : List ℕ) → IsLine (b ∷ line) → lines_of (b ∷ line) ≡ (b ∷ line) ∷ []
 lines_of-last b [] p = no_end b [] p.0
 lines_of-last b (c ∷ line) p = no_end b (c ∷ line) p.0 ∙ ap (onto_first b) (lines_of-last c line p.1)

@@ -20,6 +20,6 @@ command_short (Drive turns) h = omega (arith, turns_short turns h, length-append
 command_short (Scramble turns) h = omega (arith, turns_short turns h, length-append (codes "scramble ") (turns_text turns))
 command_short Checkpoint h = omega arith
 
--- so long a line says no command
+-- a line this long is no command
 pub long_says_nothing : (line : List ℕ) → 1048576 < length line → SaysNothing line
 long_says_nothing line long c says = omega (arith, long, command_short c says.0, ap length says.1)

@@ -1,4 +1,4 @@
--- A line says one command, and commands lead to one end.
+-- A line is at most one command, and commands lead to one end.
 use Rattle.std.proofs.Common.{◌≡◌, ℕ, zero, suc, ◌+◌, ◌*◌, Bool, true, false, ◌||◌, nat_eq, List, [], ◌∷◌, Option, None, Some, get_or, codes, refl, sym, ap, subst, ◌∙◌, append_assoc, arith}
 use Rattle.std.specs.Int.{IsInRange}
 use Rattle.std.proofs.lemmas.Bool.{true≢false}
@@ -64,7 +64,7 @@ command_once (Tell a) d f g e = absurd (no_event a (command_text d) refl e)
 command_once c (Tell b) f g e = absurd (no_event b (command_text c) refl (sym e))
 command_once c d f g e = absurd (omega (arith, ap head_of e))
 
--- a line says one command
+-- a line is at most one command
 pub says_once : (line : List ℕ) (c d : Command) → Says line c → Says line d → c ≡ d
 says_once line c d p q = command_once c d p.0 q.0 (sym p.1 ∙ q.1)
 
@@ -82,7 +82,7 @@ same_progress p q r m n x =
 entry_once : (t : RuleTable) (event : Event) (before after other : Progress) → IsEntry t event before after → IsEntry t event before other → after ≡ other
 entry_once t event before after other p q = same_progress after other (p.rules ∙ sym q.rules) (p.moment ∙ sym q.moment) (p.count ∙ sym q.count) (p.text ∙ sym q.text)
 
--- a turn leads to one progress, if those behind it do
+-- a turn leads to one progress, if the later ones do
 turn_once : (t : RuleTable) (drawn : Option Event) (P Q : Progress → Type 0) (before after other : Progress)
     → ((next : Progress) → P next → Q next → after ≡ other)
     → TurnDoes t drawn P before after → TurnDoes t drawn Q before other → after ≡ other

@@ -1,4 +1,4 @@
--- A line that drives as many turns as the charge, and does all of them, ends where nobody is enabled.
+-- A line that drives as many turns as the charge, and takes all of them, ends with no node enabled.
 use Rattle.std.proofs.Common.{◌≡◌, ◌∙◌, ℕ, zero, suc, ◌+◌, ◌≤◌, List, [], ◌∷◌, Option, None, Some, codes, refl, sym, ap, subst, ⊎_elim, arith}
 use Rattle.std.specs.Option.{option_map}
 use Rattle.rand_core.specs.Stream.{Stream}
@@ -83,7 +83,7 @@ lines_keep t table limit ([] ∷ lines) before after good (next, is, others) =
 lines_keep t table limit ((b ∷ line) ∷ lines) before after good (next, (command, says, does), others) =
     lines_keep t table limit lines next after (command_keeps t table limit command before next good does) others
 
--- a line behind others that were carried out
+-- a line after others that were carried out
 pub lines_end_silent : (t : RuleTable) (weight : ℕ) → IsTable t → IsCharged t weight → (limit : ℕ) (lines : List (List ℕ)) (line : List ℕ) (turns : Turns) (start before after : Progress) → IsState start.moment.state → LinesDo t limit lines start before
     → Says line (Drive turns) → LineDoes t limit line before after → t.charge before.moment.state ≤ turns.count → enabled_names t after.moment.state ≡ []
 lines_end_silent t weight table charged limit lines line turns start before after good so_far says does few =

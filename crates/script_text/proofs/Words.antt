@@ -13,7 +13,7 @@ own = numerals_by_value (AllDigits 10) tells_digits
 digit_is_no_space : (b : ℕ) → IsInRange 48 57 b → (b == 32) ≡ true → ⊥
 digit_is_no_space b d e = omega (arith, d.0, eqb-true b 32 e)
 
--- the first space stands behind a run of digits that a space ends
+-- the first space comes after the digits
 space_at : (ds x : List ℕ) (k : ℕ) → AllDigits 10 ds → ((j : ℕ) → j < k → (slice_index (ds ++ 32 ∷ x) j == 32) ≡ true → ⊥)
     → (slice_index (ds ++ 32 ∷ x) k == 32) ≡ true → (take k (ds ++ 32 ∷ x) ≡ ds) × (drop (suc k) (ds ++ 32 ∷ x) ≡ x)
 space_at [] x zero d none here = (refl, refl)
@@ -23,7 +23,7 @@ space_at (b ∷ ds) x (suc k) d none here =
     let later = space_at ds x k d.1 (λ j below. none (suc j) (omega (arith, below))) here in
     (ap (λ (z : List ℕ). b ∷ z) later.0, later.1)
 
--- a seed and a count are what stands before and behind the first space
+-- a seed and a count are what comes before and after the first space
 pub turns_cut : (bytes : List ℕ) (seed count k : ℕ) → seed < 2 ^ 64 → bytes ≡ number_text seed ++ 32 ∷ number_text count
     → ((j : ℕ) → j < k → (slice_index bytes j == 32) ≡ true → ⊥) → (slice_index bytes k == 32) ≡ true
     → (take k bytes ≡ number_text seed) × (drop (k + 1) bytes ≡ number_text count)

@@ -1,4 +1,4 @@
--- What a line of a script asks for, and the one spelling of it.
+-- The commands of script lines, each with its one text.
 use Rattle.std.specs.Prelude.{◌≡◌, ℕ, ◌≤◌, List, ◌++◌, codes}
 use Rattle.line_text.specs.Words.{number_text}
 use Rattle.line_text.specs.EventText.{IsEvent, event_text}
@@ -6,7 +6,7 @@ use Rattle.script_text.specs.declared.command.Command.{Command}
 use Rattle.script_text.specs.declared.command.Command.TheVariants.{Tell, Drive, Scramble, Checkpoint}
 use Rattle.script_text.specs.declared.command.Turns.{Turns}
 
--- a seed that a generator may have, and at most a million turns
+-- a seed of a generator, and at most 1,000,000 turns
 abbrev pub IsTurns : Turns → Type 0
 IsTurns turns = (turns.seed ≤ 18446744073709551615) × (turns.count ≤ 1000000)
 
@@ -20,7 +20,7 @@ command_text (Drive turns) = codes "drive " ++ turns_text turns
 command_text (Scramble turns) = codes "scramble " ++ turns_text turns
 command_text Checkpoint = codes "checkpoint"
 
--- what each value of the program's type of commands meets
+-- what every value of the program's type of commands satisfies
 abbrev pub IsCommand : Command → Type 0
 IsCommand (Tell event) = IsEvent event
 IsCommand (Drive turns) = IsTurns turns

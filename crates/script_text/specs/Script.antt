@@ -14,46 +14,48 @@ use Rattle.script_text.specs.declared.command.Command.TheVariants.{Tell, Drive, 
 use Rattle.script_text.specs.Command.{Says, SaysNothing}
 use Rattle.seeded_turns.specs.Drawn.{Draws, seeded_stream, drawn_step, drawn_fault}
 
--- a byte in front of the first line
+-- a byte put before the first line
 abbrev pub onto_first : ℕ → List (List ℕ) → List (List ℕ)
 onto_first b [] = (b ∷ []) ∷ []
 onto_first b (line ∷ lines) = (b ∷ line) ∷ lines
 
--- the lines in order, without the LFs that end them; the last may have none
+-- the lines in order, without their LFs; the last may have none
 abbrev pub lines_of : List ℕ → List (List ℕ)
 lines_of [] = []
 lines_of (b ∷ bytes) = if b == 10 then [] ∷ lines_of bytes else onto_first b (lines_of bytes)
 
--- where a run stands: the rule set by its name, the state and what is spent, how many entries there are, and their text
+-- the state of a run: its rule set, the machine's state, the moves spent, the number of entries, and their
+-- text
 pub record Progress : Type 0 where
   pub rules : RuleSet
   pub moment : Moment
   pub count : ℕ
   pub text : List ℕ
 
--- the machine answers the event, and its entry goes to the end of the text
+-- the machine carries out the event, and its entry is appended to the text
 pub record IsEntry (t : RuleTable) (event : Event) (before after : Progress) : Type 0 where
   pub rules : after.rules ≡ before.rules
   pub moment : after.moment ≡ moment_after t before.moment event
   pub count : after.count ≡ before.count + 1
   pub text : after.text ≡ before.text ++ entry_line (before.count + 1) event (reply_of t before.moment.state before.moment.spent event)
 
--- an event is an entry while there are fewer than the limit
+-- an event makes an entry while there are fewer than the limit
 abbrev pub EventDoes : RuleTable → ℕ → Event → Progress → Progress → Type 0
 EventDoes t limit event before after = (before.count < limit) × IsEntry t event before after
 
--- a turn: with no event it ends them all, and an event is an entry, behind which the other turns go on
+-- one turn: without an event it ends the turns; an event makes an entry, and the other turns follow
 abbrev pub TurnDoes : RuleTable → Option Event → (Progress → Type 0) → Progress → Progress → Type 0
 TurnDoes t None Others before after = after ≡ before
 TurnDoes t (Some event) Others before after = (next : Progress) × IsEntry t event before next × Others next
 
--- so many turns at most, while there are fewer entries than the limit: each draws its event in the state that stands then
+-- at most this many turns, while there are fewer entries than the limit; each draws its event in the state
+-- reached
 abbrev pub TurnsDo : Draws → RuleTable → ℕ → ℕ → Stream → Progress → Progress → Type 0
 TurnsDo draws t limit zero stream before after = after ≡ before
 TurnsDo draws t limit (suc turns) stream before after =
     (before.count < limit) × TurnDoes t (draws t before.moment.state stream).0 (λ next. TurnsDo draws t limit turns (draws t before.moment.state stream).1 next after) before after
 
--- the base of where a run stands, by its lines behind the text; it is no entry, and the next one's number goes on
+-- the lines of the state's base are appended; a base is no entry, so the next entry's number follows on
 abbrev pub checkpointed : Progress → Progress
 checkpointed at = record at { text = at.text ++ base_text at.rules at.moment.state.network.size (base_of at.count at.moment) }
 
@@ -64,7 +66,7 @@ CommandDoes t limit (Drive turns) before after = TurnsDo drawn_step t limit turn
 CommandDoes t limit (Scramble turns) before after = TurnsDo drawn_fault t limit turns.count (seeded_stream turns.seed) before after
 CommandDoes t limit Checkpoint before after = after ≡ checkpointed before
 
--- an empty line does nothing; any other says a command
+-- an empty line does nothing; any other is a command
 abbrev pub LineDoes : RuleTable → ℕ → List ℕ → Progress → Progress → Type 0
 LineDoes t limit [] before after = after ≡ before
 LineDoes t limit (b ∷ line) before after = (command : Command) × Says (b ∷ line) command × CommandDoes t limit command before after
@@ -78,29 +80,29 @@ LinesDo t limit (line ∷ lines) before after =
 abbrev pub IsBadLine : List ℕ → Type 0
 IsBadLine line = (line ≢ []) × SaysNothing line
 
--- there are as many entries as there may be, and nothing was done
+-- the log is full, and nothing was done
 abbrev pub IsFull : ℕ → Progress → Progress → Type 0
 IsFull limit before after = (limit ≤ before.count) × (after ≡ before)
 
--- a turn behind which one meets a full log
+-- a turn after which a later one meets a full log
 abbrev pub TurnFills : RuleTable → Option Event → (Progress → Type 0) → Progress → Type 0
 TurnFills t None Others before = ⊥
 TurnFills t (Some event) Others before = (next : Progress) × IsEntry t event before next × Others next
 
--- one of so many turns meets a full log, behind those before it; nothing is drawn in it
+-- one of the turns meets a full log, after those before it; it draws nothing
 abbrev pub TurnsFill : Draws → RuleTable → ℕ → ℕ → Stream → Progress → Progress → Type 0
 TurnsFill draws t limit zero stream before after = ⊥
 TurnsFill draws t limit (suc turns) stream before after =
     IsFull limit before after
     ⊎ ((before.count < limit) × TurnFills t (draws t before.moment.state stream).0 (λ next. TurnsFill draws t limit turns (draws t before.moment.state stream).1 next after) before)
 
--- the command, or a turn of it, comes when there are as many entries as there may be; a checkpoint wants none
+-- the command, or one of its turns, meets a full log; a checkpoint needs no entry
 abbrev pub CommandFills : RuleTable → ℕ → Command → Progress → Progress → Type 0
 CommandFills t limit (Tell event) before after = IsFull limit before after
 CommandFills t limit (Drive turns) before after = TurnsFill drawn_step t limit turns.count (seeded_stream turns.seed) before after
 CommandFills t limit (Scramble turns) before after = TurnsFill drawn_fault t limit turns.count (seeded_stream turns.seed) before after
 CommandFills t limit Checkpoint before after = ⊥
 
--- a line says a command that meets a full log
+-- the line is a command that meets a full log
 abbrev pub MeetsFullLog : RuleTable → ℕ → List ℕ → Progress → Progress → Type 0
 MeetsFullLog t limit line before after = (command : Command) × Says line command × CommandFills t limit command before after

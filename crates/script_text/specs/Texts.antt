@@ -1,4 +1,4 @@
--- What the text of a script says, line by line, and which of its lines is the first that says nothing.
+-- The script of a text, line by line, and the first bad line.
 use Rattle.std.specs.Prelude.{◌≡◌, ℕ, ◌+◌, ◌⊎◌, List, [], ◌∷◌, ◌++◌, min}
 use Rattle.script_text.specs.declared.command.Command.{Command}
 use Rattle.script_text.specs.Command.{Says}
@@ -7,17 +7,17 @@ use Rattle.script_text.specs.declared.script.ScriptLine.{ScriptLine}
 use Rattle.script_text.specs.declared.fault.TextFault.{TextFault}
 use Rattle.script_text.specs.declared.fault.TextFault.TheVariants.{BadLine, Memory}
 
--- the greatest number that a script line tells: it stands for all numbers beyond it too
+-- the greatest line number that a script stores; it also represents every greater one
 abbrev pub last_number : ℕ
 last_number = 4294967295
 
--- what the line with this number adds to its script: its command, and nothing where it is empty
+-- what the line with this number adds to the script: its command, or nothing if it is empty
 abbrev pub LineHolds : ℕ → List ℕ → List ScriptLine → Type 0
 LineHolds number [] own = own ≡ []
 LineHolds number (b ∷ line) own =
     (command : Command) × Says (b ∷ line) command × (own ≡ record { line = min number last_number; command = command } ∷ [])
 
--- what lines add in turn, the first of which has this number
+-- what the lines add in turn, numbered from this number
 abbrev pub LinesHold : ℕ → List (List ℕ) → List ScriptLine → Type 0
 LinesHold number [] script = script ≡ []
 LinesHold number (line ∷ lines) script =
@@ -32,7 +32,7 @@ abbrev pub IsGoodLine : List ℕ → Type 0
 IsGoodLine [] = Unit {0}
 IsGoodLine (b ∷ line) = (command : Command) × Says (b ∷ line) command
 
--- among lines, the first of which has this number, the one with that number is bad, and all before it are good
+-- among lines numbered from this number, the one with that number is bad, and all before it are good
 abbrev pub FirstBad : ℕ → List (List ℕ) → ℕ → Type 0
 FirstBad number [] bad = ⊥
 FirstBad number (line ∷ lines) bad =

@@ -1,28 +1,28 @@
-//! What a line of a script asks for.
+//! The commands of a script.
 
 use rule_machine::Event;
 
 /// The most turns that one line may ask for.
 pub const MAX_TURNS: u32 = 1_000_000;
 
-/// How a hand with a generator of its own is called: from which seed, and for how many turns at most.
+/// The arguments of `drive` and `scramble`: a seed, and a limit of turns.
 #[derive(Clone, Copy, PartialEq, Eq)]
 pub struct Turns {
-    /// What the generator is seeded with.
+    /// The seed of the generator.
     pub seed: u64,
-    /// At most so many turns, 0 to 1,000,000.
+    /// The most turns to take, 0 to 1,000,000.
     pub count: u32,
 }
 
-/// What a line of a script asks for.
+/// The command of one script line.
 #[derive(Drop)]
 pub enum Command {
-    /// One event.
+    /// Carry out one event.
     Tell(Event),
-    /// Steps of a seeded daemon.
+    /// Take steps of a seeded daemon.
     Drive(Turns),
-    /// Faults of a seeded injector.
+    /// Make faults of a seeded injector.
     Scramble(Turns),
-    /// The state here as the base of all entries to come: no event, so no entry.
+    /// Make this state the base of all later entries. It is no event and has no entry.
     Checkpoint,
 }

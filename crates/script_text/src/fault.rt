@@ -1,15 +1,15 @@
-//! Why scripts were not had.
+//! The errors of reading scripts.
 
 use std::alloc::AllocError;
 use thiserror::Error;
 
-/// Why a text was not read as a script.
+/// Why a text is no script.
 #[derive(Clone, Copy, Debug, PartialEq, Eq, Error)]
 pub enum TextFault {
-    /// The line with this number, from 1, is neither empty nor a command.
+    /// This line, counted from 1, is neither empty nor a command.
     #[error("line {line}: not a command")]
     BadLine { line: u64 },
-    /// A growth of memory was refused.
+    /// Memory ran out.
     #[error("out of memory")]
     Memory,
 }
@@ -25,19 +25,19 @@ impl From<AllocError> for TextFault {
     }
 }
 
-/// Why scripts were not read.
+/// Why scripts could not be read.
 #[derive(Clone, Copy, Debug, PartialEq, Eq, Error)]
 pub enum TextsFault {
     /// There are more than 64 scripts.
     #[error("too many scripts")]
     TooManyScripts,
-    /// In the script with this number, the line with that one is neither empty nor a command; both count from 1.
+    /// This line of this script, both counted from 1, is neither empty nor a command.
     #[error("script {script} line {line}: not a command")]
     BadLine { script: u32, line: u64 },
     /// A read of a script failed.
     #[error("read failed")]
     Read,
-    /// A growth of memory was refused.
+    /// Memory ran out.
     #[error("out of memory")]
     Memory,
 }

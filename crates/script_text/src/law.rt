@@ -1,4 +1,4 @@
-//! What holds of all scripts.
+//! Laws of all scripts.
 
 ghost use Rattle.std.specs.Prelude.{◌≡◌, ◌<◌, ◌≤◌, ℕ, List, [], length};
 ghost use Rattle.rule_machine.specs.HsuHuang.{hsu_huang};
@@ -11,19 +11,21 @@ ghost use Rattle.script_text.specs.declared.command.Command.TheVariants.{Drive};
 ghost use Rattle.script_text.specs.declared.command.Turns.{Turns};
 ghost use Rattle.script_text.specs.Script.{Progress, LineDoes, LinesDo};
 
-/// A line says at most one command, and what the lines of a script do is determined: from one beginning they lead to one end.
+/// A line is at most one command, and a script's lines lead from one beginning to one end.
 pub fn one_end()
     ensures command { (line : List ℕ) (c d : Command) → Says line c → Says line d → c ≡ d }
     ensures run { (t : RuleTable) (limit : ℕ) (lines : List (List ℕ)) (before after other : Progress)
         → LinesDo t limit lines before after → LinesDo t limit lines before other → after ≡ other }
 {}
 
-/// A line of more than 1,048,576 bytes is no command, so a run can stop at it before it has all of it.
+/// A line of more than 1,048,576 bytes is no command, so a run can stop before it has read all of it.
 pub fn long_line()
     ensures { (line : List ℕ) → 1048576 < length line → SaysNothing line }
 {}
 
-/// After a line of a script that drives as many turns as the charge was then, or more, nobody is enabled, whatever its seed.
+/// After a `drive` of at least as many turns as the charge, no node is enabled, whatever the seed.
+///
+/// The charge is that of the state before the line.
 pub fn long_drives_end_silent()
     ensures hsu_huang { (limit : ℕ) (lines : List (List ℕ)) (line : List ℕ) (turns : Turns) (start before after : Progress) → IsState start.moment.state
         → LinesDo hsu_huang limit lines start before → Says line (Drive turns) → LineDoes hsu_huang limit line before after

@@ -1,12 +1,12 @@
-//! Scripts: the commands of their lines, what these do to the rule machine one after another, and scripts that are read whole and checked
-//! before any of them is played.
+//! Scripts: the commands of their lines, and what these do to the rule machine.
 //!
-//! A `Command` is an event that is told, turns that are drawn (`drive`, `scramble`), or a `checkpoint`; a line is read as one exactly
-//! where it is that command's text. What lines do is a relation between where a run stands before and after them (state, moves spent,
-//! number of entries, text), in `specs/Script`; all lines together lead to one end (the law `one_end`).
+//! A `Command` is one event, drawn turns (`drive`, `scramble`) or a `checkpoint`. A line reads as a command
+//! exactly if it is that command's text. `specs/Script` defines what lines do: a relation between the run
+//! before and after them (state, moves spent, entries, text). A script has one end (the law `one_end`).
 //!
-//! `read_line_into` reads a line for who carries it out at once and takes memory for the items of a step alone. `read_scripts` reads as
-//! many scripts as there are readers, 64 at most, and names the first bad line before anything is played.
+//! `read_line_into` reads one line for a caller that carries it out at once; only the items of a step take
+//! memory. `read_scripts` reads one script per reader, 64 at most, and names the first bad line before any
+//! script is played.
 //!
 //! ```rust
 //! let mut command = Command::Checkpoint;

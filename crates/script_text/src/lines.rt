@@ -5,10 +5,10 @@ ghost use Rattle.script_text.specs.Script.{lines_of};
 
 use byte_streams::split_line;
 
-/// How long a line may be, without the LF that ends it. No command is longer.
+/// The most bytes of a line, without its LF. No command is longer.
 pub const MAX_LINE: usize = 1_048_576;
 
-/// The first line, without the LF that ends it, and what follows; `None` at the end.
+/// The first line, without its LF, and what follows; `None` at the end.
 pub fn next_line(bytes: &[u8]) -> Option<(&[u8], &[u8])>
     ensures lines { MatchOption result
         (lines_of bytes.now ≡ [])

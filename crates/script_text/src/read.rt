@@ -1,4 +1,4 @@
-//! Reading a line of a script.
+//! Reading one line of a script.
 
 ghost use Rattle.std.specs.Prelude.{IfOk, MatchOption};
 ghost use Rattle.line_text.specs.Reading.{Reads, kept_if};
@@ -10,7 +10,7 @@ use memchr::memchr;
 use rule_machine::{Event, Want};
 use std::alloc::Global;
 
-/// Reads a seed, and how many turns it is for.
+/// Reads a seed and a number of turns.
 fn read_turns(bytes: &[u8]) -> Option<Turns>
     ensures { Reads IsTurns turns_text bytes.now result }
 {
@@ -29,7 +29,6 @@ fn read_turns(bytes: &[u8]) -> Option<Turns>
     })
 }
 
-// Reads the turns that a line asks for.
 fn read_turning(line: &[u8]) -> Option<Command>
     ensures { MatchOption result (SaysNoTurns line.now) (λ command. Says line.now command) }
 {
@@ -42,8 +41,10 @@ fn read_turning(line: &[u8]) -> Option<Command>
     None
 }
 
-/// Reads the command that a line is and puts it where the caller keeps it, so that none is moved; false where the line is none.
-/// Memory is for the items of a step alone.
+/// Reads a line as a command into `command`; `false` if it is none.
+///
+/// `Want` if memory runs out; only the items of a step take memory. The command is written in place, so that
+/// none is moved.
 #[inline(always)]
 pub fn read_line_into(alloc: Global, line: &[u8], command: &mut Command) -> Result<bool, Want>
     ensures { IfOk result (λ is_one. MatchOption (kept_if is_one command.new) (SaysNothing line.now) (λ found. Says line.now found)) }
@@ -64,7 +65,9 @@ pub fn read_line_into(alloc: Global, line: &[u8], command: &mut Command) -> Resu
     Ok(true)
 }
 
-/// Reads the command that a line is; `None` where it is none. Memory is for the items of a step alone.
+/// Reads a line as a command; `None` if it is none.
+///
+/// `Want` if memory runs out; only the items of a step take memory.
 pub fn read_line(alloc: Global, line: &[u8]) -> Result<Option<Command>, Want>
     ensures { IfOk result (λ found. MatchOption found (SaysNothing line.now) (λ command. Says line.now command)) }
 {

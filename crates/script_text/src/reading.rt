@@ -1,4 +1,4 @@
-//! Some scripts, each from a reader of its own.
+//! Reading several scripts, each from its own reader.
 
 ghost use Rattle.std.specs.Prelude.{◌<◌, ◌≤◌, ◌+◌, ◌↔◌, length, map, IfOk, IfErr, IsErrOf, IfSome};
 ghost use Rattle.script_text.specs.declared.fault.TextsFault.TheVariants.{TooManyScripts};
@@ -10,10 +10,9 @@ use byte_streams::{InputFault, Reads, read_whole};
 use std::alloc::Global;
 use std::io::Read;
 
-/// The most scripts that there may be.
+/// The most scripts that `read_scripts` reads.
 pub const MAX_SCRIPTS: usize = 64;
 
-// Reads the script with this number.
 fn read_from<In: Read + Drop>(alloc: Global, number: u32, reader: In) -> Result<Script, TextsFault>
     ensures script { IfOk result (λ script. IfSome (In.remaining reader) (λ text. TextHolds text script)) }
     ensures fault { IfErr result (IsReaderFault number (In.remaining reader)) }
@@ -34,7 +33,6 @@ fn read_from<In: Read + Drop>(alloc: Global, number: u32, reader: In) -> Result<
     }
 }
 
-// Reads them in turn.
 fn read_each<In: Read + Drop>(alloc: Global, readers: Vec<In>) -> Result<Vec<Script>, TextsFault>
     requires { length readers.items ≤ 64 }
     ensures scripts { IfOk result (λ scripts. AllHold (map In.remaining readers.items) scripts.items) }
@@ -52,11 +50,15 @@ fn read_each<In: Read + Drop>(alloc: Global, readers: Vec<In>) -> Result<Vec<Scr
     Ok(scripts)
 }
 
-/// Reads as many scripts as there are readers, each to its end and checked before the next is read.
+/// Reads one script from each reader, each to its end and checked before the next is read.
 ///
-/// `TooManyScripts` above 64, before any is read; then, script by script, `Read` at the first error of its reader, which is
-/// not tried again, or after 4,294,967,295 reads, before `BadLine` at the first of its lines that is neither empty nor a
-/// command. `Memory` if memory runs out. Holds one script's text at a time.
+/// - `TooManyScripts` above 64 readers, before any read.
+/// - `Read` at a reader's first error, which is not retried, or after 4,294,967,295 reads.
+/// - `BadLine` at the first line that is neither empty nor a command.
+/// - `Memory` if memory runs out.
+///
+/// The scripts are taken in order; a script's `Read` comes before its `BadLine`. Holds one script's text at a
+/// time.
 pub fn read_scripts<In: Read + Drop>(
     alloc: Global,
     readers: Vec<In>,

@@ -1,20 +1,20 @@
-//! The commands of a script, with where they stand in it.
+//! The commands of a script, with their line numbers.
 
 ghost use Rattle.std.specs.Prelude.{◌≡◌};
 
 use crate::Command;
 use std::marker::Model;
 
-/// A line of a script that is not empty.
+/// A line that is not empty.
 #[derive(Drop)]
 pub struct ScriptLine {
-    /// The number of the line, from 1; empty lines count.
+    /// The line's number, from 1; empty lines count.
     pub line: u32,
-    /// What it asks for.
+    /// Its command.
     pub command: Command,
 }
 
-/// A script, seen in contracts as its lines in order, without the empty ones.
+/// A script, seen in contracts as its non-empty lines in order.
 #[derive(Drop)]
 pub struct Script {
     lines: Vec<ScriptLine>,
@@ -37,7 +37,7 @@ impl Script {
         Script { lines }
     }
 
-    /// Its lines in order, without the empty ones.
+    /// The non-empty lines in order.
     pub fn lines(&self) -> &[ScriptLine]
         ensures { result.now ≡ self.now }
     {

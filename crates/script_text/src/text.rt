@@ -1,4 +1,4 @@
-//! One script.
+//! Reading the text of one script.
 
 ghost use Rattle.std.specs.Prelude.{◌≡◌, ◌++◌, List, IfOk, IfErr, OnOk};
 ghost use Rattle.script_text.specs.declared.script.ScriptLine.{ScriptLine};
@@ -7,10 +7,9 @@ ghost use Rattle.script_text.specs.Texts.{LineHolds, TextHolds, IsLineFault, IsT
 use crate::{Script, ScriptLine, TextFault, next_line, read_line};
 use std::alloc::Global;
 
-/// The greatest number that a script line tells.
+/// The greatest line number that a script stores.
 const LAST_NUMBER: u64 = 4_294_967_295;
 
-// Reads the line with this number, and adds its command.
 fn add_line(
     alloc: Global,
     lines: &mut Vec<ScriptLine>,
@@ -33,9 +32,12 @@ fn add_line(
     }
 }
 
-/// Reads a text as a script: its lines in order, each ended by an LF, which the last may lack, without the empty ones. The
-/// lines keep their numbers, from 1, the empty ones counted; 4,294,967,295 stands for all numbers beyond it too. `BadLine` at
-/// the first line that is neither empty nor a command, and `Memory` if memory runs out before.
+/// Reads a text as a script: its non-empty lines in order, with their numbers.
+///
+/// Each line ends with an LF; the last one may lack it. Numbers count from 1, empty lines included;
+/// 4,294,967,295 also represents every greater number.
+///
+/// `BadLine` at the first line that is neither empty nor a command; `Memory` if memory runs out before it.
 pub fn read_text(alloc: Global, text: &[u8]) -> Result<Script, TextFault>
     ensures script { IfOk result (TextHolds text.now) }
     ensures fault { IfErr result (IsTextFault text.now) }

@@ -1,4 +1,5 @@
--- What the turns of a line draw: an event found in the state that stands then, by the words of a generator that the line seeds.
+-- The events of a line's turns: each is found in the present state, by the words of a generator that the line
+-- seeds.
 use Rattle.std.specs.Prelude.{ℕ, Option}
 use Rattle.std.specs.Option.{option_map}
 use Rattle.rand_core.specs.Stream.{Stream}
@@ -13,7 +14,7 @@ use Rattle.rule_machine.specs.RuleTable.{RuleTable, enabled_names}
 use Rattle.daemon.specs.Drawn as daemon
 use Rattle.fault_injector.specs.Drawn as injector
 
--- the event that a state and the words to come give, if any, and the words that are left
+-- the event, if any, that a state and the words to come give, and the words that are left
 abbrev pub Draws : Type 0
 Draws = RuleTable → State → Stream → Option Event × Stream
 
@@ -21,7 +22,8 @@ Draws = RuleTable → State → Stream → Option Event × Stream
 abbrev pub pcg32_stream : Lcg → Stream
 pcg32_stream generator = stream_of (steps_u32 pcg32) generator
 
--- the words of the generator with this seed (O'Neill's PCG XSH RR 64/32, seeded as rand_pcg seeds it from 64 bits)
+-- the words of the generator with this seed (O'Neill's PCG XSH RR 64/32, seeded as rand_pcg seeds it from 64
+-- bits)
 abbrev pub seeded_stream : ℕ → Stream
 seeded_stream seed = pcg32_stream (pcg32_of_seed (pcg32_seed 16 seed))
 

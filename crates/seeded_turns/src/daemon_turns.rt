@@ -26,7 +26,7 @@ impl Model for DaemonTurns {
 }
 
 impl DaemonTurns {
-    /// A daemon whose generator is seeded so.
+    /// A daemon whose generator has this seed.
     pub fn new(alloc: Global, seed: u64) -> DaemonTurns
         ensures { pcg32_stream result ≡ seeded_stream seed }
     {
@@ -41,7 +41,7 @@ impl EventSource for DaemonTurns {
 
     ghost stream = { λ d. pcg32_stream d };
 
-    /// A step of the nodes that the daemon chooses; `None` exactly where no node is enabled.
+    /// A step of the nodes that the daemon chooses; `None` exactly if no node is enabled.
     fn next_event<R: Rules>(&mut self, net: &Net<R>) -> Result<Option<Event>, Want> {
         let choice = self.daemon.choose(net.enabled(), R::CENTRAL)?;
         Ok(choice.map(|choice| Event::Step(choice)))

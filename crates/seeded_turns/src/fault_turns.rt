@@ -25,7 +25,7 @@ impl Model for FaultTurns {
 }
 
 impl FaultTurns {
-    /// An injector whose generator is seeded so.
+    /// An injector whose generator has this seed.
     pub fn new(seed: u64) -> FaultTurns
         ensures { pcg32_stream result ≡ seeded_stream seed }
     {
@@ -40,7 +40,7 @@ impl EventSource for FaultTurns {
 
     ghost stream = { λ f. pcg32_stream f };
 
-    /// A fault that the network accepts; `None` exactly where it has no node. Takes no memory.
+    /// A fault that the network accepts; `None` exactly if it has no node. Takes no memory.
     fn next_event<R: Rules>(&mut self, net: &Net<R>) -> Result<Option<Event>, Want> {
         Ok(self.injector.draw(net))
     }

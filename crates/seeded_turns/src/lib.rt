@@ -1,11 +1,12 @@
-//! Who gives the events of a line's turns: a daemon that drives the network, or an injector that scrambles its registers.
+//! Sources of the events of a line's turns: a daemon that drives the network, or an injector of faults.
 //!
-//! An `EventSource` finds the next event in the network as it stands then, by the words of one generator; `DaemonTurns` is the one of
-//! `drive S K`, a step of the nodes that `daemon::Seeded` chooses, `FaultTurns` that of `scramble S K`, a fault that `fault_injector`
-//! draws. Both seed the kit's PCG by S, and what they draw is a function of S and the states in between, which the definitions name.
-//! `None` ends a line's turns: no node is enabled, or there is none.
+//! An `EventSource` finds the next event in the network's present state, by the words of one generator.
+//! `DaemonTurns` serves `drive S K` with steps that `daemon::Seeded` chooses; `FaultTurns` serves `scramble S
+//! K` with faults that `fault_injector` draws. Both seed the PCG of `rand_pcg` with S; their events depend
+//! only on S and the states in between. `None` ends a line's turns: no node is enabled, or there is no node.
 //!
-//! A turn of a daemon that is not central takes memory for the members and its items; where that is refused no word was taken.
+//! Unless the daemon is central, its turn takes memory for the members and its items. If that fails, no word
+//! has been taken.
 //!
 //! ```rust
 //! let mut source = DaemonTurns::new(alloc, 7);

@@ -1,4 +1,4 @@
-//! What gives one event after another.
+//! Sources of events.
 
 ghost use Rattle.std.specs.Prelude.{◌≡◌, IfOk, OnErr};
 ghost use Rattle.rand_core.specs.Stream.{Stream};
@@ -6,7 +6,7 @@ ghost use Rattle.seeded_turns.specs.Drawn.{Draws};
 
 use rule_engine::{Event, Net, Rules, Want};
 
-/// What gives the events of turns: each is found in the network as it stands then, by the words of a generator.
+/// A source of the events of turns, found in the network's present state by the words of a generator.
 pub trait EventSource {
     /// The event that a state and the words to come give, and the words that are left.
     ghost draws: { Draws };
@@ -14,7 +14,8 @@ pub trait EventSource {
     /// The words to come.
     ghost stream: { Self → Stream };
 
-    /// The event of the next turn; `None` where there is none. At want of memory no word has been taken.
+    /// The event of the next turn; `None` if there is none.
+    /// `AllocError` if memory runs out; no word has been taken then.
     fn next_event<R: Rules>(&mut self, net: &Net<R>) -> Result<Option<Event>, Want>
         ensures event { IfOk result (λ event. (event, stream self.new) ≡ draws R.table net.now.state (stream self.old)) }
         ensures kept { OnErr result (stream self.new ≡ stream self.old) };

@@ -5,8 +5,8 @@ use Rattle.rule_machine.specs.declared.event.Event.TheVariants.{Link, Unlink, Po
 use Rattle.rule_machine.specs.State.{State, married, is_mutual}
 use Rattle.containment_laws.specs.Reach.{parts_a_pair}
 
--- how many pairs more there may be: one, if an edge comes between two unmarried nodes, if the edge of a pair goes, or if the pointer of a
--- paired node is written anew
+-- by how many pairs their number may grow: one, if an edge links two unmarried nodes, the edge of a pair
+-- goes, or the pointer of a paired node changes
 abbrev pub most_gained : State → Event → ℕ
 most_gained s (Link a b) = cond (not (married s a) && not (married s b)) 1 0
 most_gained s (Unlink a b) = cond (is_mutual s a b) 1 0

@@ -42,7 +42,7 @@ abbrev pub is_touched : State → Event → ℕ × ℕ → Bool
 is_touched s event e = (is_parted s event e.0 && not (married s e.1)) || (is_parted s event e.1 && not (married s e.0))
 
 module _ (s : State) (event : Event) (s' : State) (good : IsState s) (good' : IsState s') (stable : IsStable false s) (mild : IsMild hsu_huang s event s') where
-  -- who is in a pair and not parted closes its edges
+  -- a node in a pair that is not parted closes its edges
   closes : (v : ℕ) → married s v ≡ true → is_parted s event v ≡ false → IsTrue (present s'.network v) → IsTrue (is_paired (stance (pointer s') v))
   closes v wed kept has =
       let pair = married_some s' v (mild_weds hsu_huang s event s' good' mild v wed kept has) in
@@ -109,7 +109,7 @@ same_edge p v e f up rise (inr x) (inr y) same = pair_is e f (sym x.0 ∙ same �
 same_edge p v e f up rise (inl x) (inr y) same = absurd (omega (arith, up, rise, x.0, x.1, y.0, y.1, same))
 same_edge p v e f up rise (inr x) (inl y) same = absurd (omega (arith, up, rise, x.0, x.1, y.0, y.1, same))
 
--- there are no more of them than neighbours that pass it
+-- there are at most as many as neighbours that pass it
 pub edges_few : (s s' : State) → IsState s → IsState s' → IsWithin s.network s'.network → (p : ℕ → Bool) (v : ℕ) → count_by (is_edge_to p v) (edge_list s'.network) ≤ count_by (λ w. linked s.network v w && p w) (names s.network)
 edges_few s s' good good' within p v =
     count_into (is_edge_to p v) (edge_list s'.network) (other_end v) (λ w. linked s.network v w && p w) (names s.network) (edges_without_repeats s'.network) (record {

@@ -1,4 +1,4 @@
--- What an edit or a fault costs a silent network: no neighbour counts that is married.
+-- What an edit or a fault costs a silent network: only unmarried neighbours count.
 use Rattle.std.specs.Prelude.{ℕ, ◌+◌, ◌*◌, Bool, cond, not, ◌&&◌, count_by, Option, None, Some, nat_eq}
 use Rattle.rule_machine.specs.declared.event.Event.{Event}
 use Rattle.rule_machine.specs.declared.event.Event.TheVariants.{Link, Unlink, Point, Flag, Leave}
@@ -9,7 +9,7 @@ use Rattle.rule_machine.specs.State.{State, is_at, pointer, married, is_mutual}
 abbrev pub single_neighbours : State → ℕ → ℕ
 single_neighbours s v = count_by (λ w. linked s.network v w && not (married s w)) (names s.network)
 
--- and of the node at which a pointer is, if it is anywhere
+-- and of a pointer's target; 0 for null
 abbrev pub single_neighbours_at : State → Option ℕ → ℕ
 single_neighbours_at s None = 0
 single_neighbours_at s (Some v) = single_neighbours s v
@@ -22,8 +22,9 @@ is_single_but s target w = not (married s w) && not (is_at target w)
 abbrev pub single_neighbours_but : State → ℕ → Option ℕ → ℕ
 single_neighbours_but s v target = count_by (λ w. linked s.network v w && is_single_but s target w) (names s.network)
 
--- Where a pointer is written, by where it was: a null one is set to a neighbour, which is married, and is taken back; one of a pair counts
--- the unmarried neighbours of both nodes but the new target, and what the two need to point at each other again.
+-- Cost of writing a pointer, by its old target. A null one is set to a neighbour, which is married, and is
+-- taken back. One of a pair counts the unmarried neighbours of both nodes except the new target, and the
+-- moves that the two need to point at each other again.
 abbrev pub silent_point_cost : State → ℕ → Option ℕ → Option ℕ → ℕ
 silent_point_cost s v None None = 0
 silent_point_cost s v None (Some w) = 1
@@ -31,8 +32,8 @@ silent_point_cost s v (Some u) None = 2 * (single_neighbours_but s v None + sing
 silent_point_cost s v (Some u) (Some w) =
     cond (nat_eq u w) 0 (2 * (single_neighbours_but s v (Some w) + single_neighbours s u) + 4)
 
--- 2 for a new edge between unmarried nodes; 2 for each unmarried neighbour of a node that is parted: of both if the edge of a pair goes, of
--- the partner if a node goes; where a pointer is written, as above
+-- 2 for a new edge between unmarried nodes; 2 for each unmarried neighbour of a parted node: of both if the
+-- edge of a pair goes, of the partner if a node goes; for a pointer as above
 abbrev pub silent_cost : State → Event → ℕ
 silent_cost s (Link a b) = cond (not (married s a) && not (married s b)) 2 0
 silent_cost s (Unlink a b) = cond (is_mutual s a b) (2 * (single_neighbours s a + single_neighbours s b)) 0
@@ -40,8 +41,8 @@ silent_cost s (Point v target) = silent_point_cost s v (pointer s v) target
 silent_cost s (Leave a) = 2 * single_neighbours_at s (pointer s a)
 silent_cost s event = 0
 
--- By the rules of Manne and others, whose flags are written too: a pair that is parted counts the unmarried neighbours as above, and what
--- the two need, and one pair more that may come.
+-- By Manne's rules, which write flags too: parting a pair counts the unmarried neighbours as above, the moves
+-- that the two need, and one pair more that may come.
 abbrev pub manne_silent_point_cost : State → ℕ → Option ℕ → Option ℕ → ℕ
 manne_silent_point_cost s v None None = 0
 manne_silent_point_cost s v None (Some w) = 1

@@ -1,5 +1,5 @@
--- Which pairs there are after a disturbance of a stable network: those that were there and have no marked node, and others, each with a
--- marked node of its own.
+-- The pairs after a disturbance of a stable network: those from before that have no marked node, and others,
+-- each with a marked node of its own.
 use Rattle.std.proofs.Common.{◌≡◌, ◌≢◌, ℕ, ◌+◌, ◌<◌, ◌≤◌, Bool, true, false, cond, not, ◌&&◌, ◌||◌, List, [], ◌∷◌, length, count_by, Option, None, Some, unwrap_or, nat_eq, IsTrue, IfSome, refl, sym, ap, ◌∙◌, subst, inl, inr, ◌⊎◌, ⊎_elim, arith}
 use Rattle.std.proofs.lemmas.Bool.{true≢false, and_parts, and_from, or_cases, or_left, or_right, or_parts, cond-true, cond-false, cases_Bool, cases_lt, cases_order, eq-eqb, eqb-true, not-true, false_from_ne_true}
 use Rattle.std.proofs.lemmas.Option.{same_Some}
@@ -42,7 +42,7 @@ marks s (Point a target) = a ∷ unwrap_or (pointer s a) a ∷ []
 marks s (Leave a) = unwrap_or (pointer s a) a ∷ []
 marks s event = []
 
--- a partner is where a node points
+-- a partner is the pointer's target
 partner_at : (s : State) (a v : ℕ) → is_mutual s a v ≡ true → unwrap_or (pointer s a) a ≡ v
 partner_at s a v h = ap (λ o. unwrap_or o a) (mutual_is s a v h).0
 
@@ -71,7 +71,7 @@ in_marks s Enabled v h = absurd (true≢false (sym h))
 in_marks s Matching v h = absurd (true≢false (sym h))
 in_marks s Status v h = absurd (true≢false (sym h))
 
--- who is not marked is not parted
+-- a node that is not marked is not parted
 unmarked_kept : (s : State) (event : Event) (v : ℕ) → is_marked s event v ≡ false → is_parted s event v ≡ false
 unmarked_kept s (Link a b) v h = refl
 unmarked_kept s (Unlink a b) v h = h
@@ -135,7 +135,7 @@ is_after t is s good stable spent event after answers log end run calm =
     }
 
 module _ (t : RuleTable) (s : State) (event : Event) (after : State) (end : Moment) (is : IsAfter t s event after end) where
-  -- who points somewhere at first and is not marked is still in its pair
+  -- an unmarked node with a pointer at first is still in its pair
   stays_at : (v w x : ℕ) → pointer end.state v ≡ Some w → pointer s v ≡ Some x → is_marked s event v ≡ false → (pointer s v ≡ Some w) × (pointer s w ≡ Some v)
   stays_at v w x at was unmarked =
       let back : pointer s x ≡ Some v = answered x was in
@@ -208,7 +208,7 @@ module _ (t : RuleTable) (s : State) (event : Event) (after : State) (end : Mome
   share_at e f v (inr a) (inl b) = inr (inr (inl (a ∙ sym b)))
   share_at e f v (inr a) (inr b) = inr (inr (inr (a ∙ sym b)))
 
-  -- no more pairs have a marked node than nodes may be marked
+  -- at most as many pairs have a marked node as nodes may be marked
   marked_few : (u : State) → count_by has_mark (mutual_pairs u) ≤ length (marks s event)
   marked_few u =
       let into = count_into has_mark (mutual_pairs u) mark_of (λ v. true) (marks s event) (pairs_once u) (record {
@@ -263,7 +263,7 @@ module _ (t : RuleTable) (s : State) (event : Event) (after : State) (end : Mome
           )
           (cases_order v w)
 
-  -- where nobody is marked none comes
+  -- if no node is marked no pair comes
   none_more : ((v : ℕ) → is_marked s event v ≡ false) → length (mutual_pairs end.state) ≤ length (mutual_pairs s)
   none_more none =
       let zero = none_count has_mark (mutual_pairs end.state) (λ e at. false_from_ne_true (has_mark e) (λ h. true≢false (sym (mark_is e h).0 ∙ none (mark_of e)))) in
@@ -272,7 +272,7 @@ module _ (t : RuleTable) (s : State) (event : Event) (after : State) (end : Mome
       let few = unmarked_few in
       omega (arith, zero, now, then, few)
 
-  -- else no more than may be marked
+  -- else at most as many pairs as may be marked
   some_more : length (mutual_pairs end.state) ≤ length (mutual_pairs s) + length (marks s event)
   some_more =
       let now = split end.state in
@@ -306,7 +306,7 @@ point_mark s a (Some w) h =
       both.1,
     )
 
--- a new edge marks nobody if one of the two is married
+-- a new edge marks no node if one of the two is married
 link_unmarked : (s : State) (a b v : ℕ) → (not (married s a) && not (married s b)) ≡ false → is_marked s (Link a b) v ≡ false
 link_unmarked s a b v none =
     false_from_ne_true (is_marked s (Link a b) v) (λ h.

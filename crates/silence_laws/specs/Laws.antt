@@ -1,4 +1,5 @@
--- What is claimed of one disturbance of a silent network, for a table of rules. The functions of src/law.rt have these as their contracts.
+-- The laws of one disturbance of a silent network, for a table of rules: the contracts of the functions of
+-- src/law.rt.
 use Rattle.std.specs.Prelude.{◌≡◌, ℕ, ◌+◌, ◌*◌, ◌≤◌, Bool, List, length, cond, false, true, Option, None, is_none}
 use Rattle.rule_machine.specs.declared.event.Event.{Event}
 use Rattle.rule_machine.specs.declared.event.Event.TheVariants.{Point}
@@ -15,66 +16,67 @@ use Rattle.charge_laws.specs.Costs.{hsu_huang_cost, manne_cost}
 use Rattle.silence_laws.specs.Changes.{most_gained, most_lost, nodes_gone}
 use Rattle.silence_laws.specs.Costs.{manne_silent_cost, silent_cost}
 
--- After one disturbance of a stable network, whatever the daemon chooses: no more pairs come than that.
+-- After one disturbance of a stable network at most this many pairs come, whatever the daemon chooses.
 abbrev pub FewAreGained : RuleTable → Type 0
 FewAreGained t =
     (s : State) → IsState s → IsStable t.flags s → (spent : ℕ) (event : Event) (after : State) → Answers t s spent event Accepted after
     → (log : List Entry) (end : Moment) → Run t (record { state = after; spent = 0 }) log end → IsUndisturbed log
     → length (mutual_pairs end.state) ≤ length (mutual_pairs s) + most_gained s event
 
--- And where it is stable again, no more were lost.
+-- And once the network is stable again, at most these were lost.
 abbrev pub FewAreLost : RuleTable → Type 0
 FewAreLost t =
     (s : State) → IsState s → IsStable t.flags s → (spent : ℕ) (event : Event) (after : State) → Answers t s spent event Accepted after
     → (log : List Entry) (end : Moment) → Run t (record { state = after; spent = 0 }) log end → IsUndisturbed log → IsStable t.flags end.state
     → length (mutual_pairs s) ≤ length (mutual_pairs end.state) + most_lost s event
 
--- So by the rules of Manne and others the moves after it are no more than its cost, two if a pair may come, and one for a node that goes.
+-- So by Manne's rules the moves after it are at most its cost, plus two if a pair may come, plus one for a
+-- node that goes.
 abbrev pub ManneMovesArePaid : Type 0
 ManneMovesArePaid =
     (s : State) → IsState s → IsStable manne.flags s → (spent : ℕ) (event : Event) (after : State) → Answers manne s spent event Accepted after
     → (log : List Entry) (end : Moment) → Run manne (record { state = after; spent = 0 }) log end → IsUndisturbed log
     → moves_in log ≤ manne_cost s event + 2 * most_gained s event + nodes_gone event
 
--- By the rules of Hsu and Huang the moves after it are no more than this cost, for which unmarried neighbours alone count.
+-- By Hsu and Huang's rules the moves after it are at most this cost, which counts unmarried neighbours alone.
 abbrev pub SilentCostPays : Type 0
 SilentCostPays =
     (s : State) → IsState s → IsStable false s → (spent : ℕ) (event : Event) (after : State) → Answers hsu_huang s spent event Accepted after
     → (log : List Entry) (end : Moment) → Run hsu_huang (record { state = after; spent = 0 }) log end → IsUndisturbed log
     → moves_in log ≤ silent_cost s event
 
--- By the rules of Manne and others they are no more than a cost of that kind.
+-- By Manne's rules they are at most a cost of that kind.
 abbrev pub ManneSilentCostPays : Type 0
 ManneSilentCostPays =
     (s : State) → IsState s → IsStable manne.flags s → (spent : ℕ) (event : Event) (after : State) → Answers manne s spent event Accepted after
     → (log : List Entry) (end : Moment) → Run manne (record { state = after; spent = 0 }) log end → IsUndisturbed log
     → moves_in log ≤ manne_silent_cost s event
 
--- And that is no more than the table of costs says, with two for a pair that may come, and one for a node that goes.
+-- And that is at most the table's cost, plus two for a pair that may come, plus one for a node that goes.
 abbrev pub ManneSilentCostIsLess : Type 0
 ManneSilentCostIsLess =
     (s : State) → IsState s → IsStable manne.flags s → (event : Event) → manne_silent_cost s event ≤ manne_cost s event + 2 * most_gained s event + nodes_gone event
 
--- And that of Hsu and Huang's is no more than the table of costs says.
+-- And the one for Hsu and Huang's rules is at most the table's cost.
 abbrev pub SilentCostIsLess : Type 0
 SilentCostIsLess =
     (s : State) → IsState s → IsStable false s → (event : Event) → silent_cost s event ≤ hsu_huang_cost s event
 
--- To write the pointer that is there changes nothing, from any state.
+-- Writing the value that a pointer already has changes nothing, from any state.
 abbrev pub RewritingChangesNothing : Type 0
 RewritingChangesNothing =
     (t : RuleTable) (s : State) (spent : ℕ) (v : ℕ) (after : State) → Answers t s spent (Point v (pointer s v)) Accepted after → after ≡ s
 
--- A pointer of a paired node that is written anew costs 2 less than the table of costs says, or 3 if it points nowhere then, by the rules
--- of Hsu and Huang.
+-- By Hsu and Huang's rules changing the pointer of a paired node costs 2 less than the table's cost, or 3
+-- less if the new one is null.
 abbrev pub TurnedCostsLess : Type 0
 TurnedCostsLess =
     (s : State) → IsState s → IsStable false s → (spent : ℕ) (v : ℕ) (target : Option ℕ) (after : State) → Answers hsu_huang s spent (Point v target) Accepted after
     → married s v ≡ true → (pointer s v ≡ target → ⊥) → (log : List Entry) (end : Moment) → Run hsu_huang (record { state = after; spent = 0 }) log end → IsUndisturbed log
     → moves_in log + cond (is_none target) 3 2 ≤ hsu_huang_cost s (Point v target)
 
--- In a stable network no pointer is unanswered, nobody who points nowhere has a suitor, and a pointer that crosses an edge is crossed by
--- one: what the table of costs has for such nodes and edges never applies.
+-- In a stable network no pointer is unanswered, no node with a null pointer has a suitor, and a pointer that
+-- crosses an edge is answered. So the table's costs for such nodes and edges never apply.
 abbrev pub NobodyWaits : Type 0
 NobodyWaits =
     (uses_flags : Bool) (s : State) → IsStable uses_flags s

@@ -65,7 +65,7 @@ module _ (t : RuleTable) (s : State) (event : Event) (after : State) (end : Mome
 
 -- ---- a pointer of a pair is written
 
--- whoever is parted is the node or points at it
+-- a parted node is the node or points at it
 point_parted : (s : State) (a : ℕ) (target : Option ℕ) (v w : ℕ) → is_parted s (Point a target) v ≡ true → pointer s v ≡ Some w → (v ≡ a) ⊎ (w ≡ a)
 point_parted s a target v w h at = by target h
   where
@@ -169,7 +169,7 @@ few_are_lost t is s good stable spent event after answers log end run calm settl
 
 -- ---- how many nodes
 
--- who is present before is present after it, but for the node that goes
+-- a present node is present after it, except for the node that goes
 nodes_by : (t : RuleTable) (s : State) → IsState s → (spent : ℕ) (event : Event) (after : State) → Does t s spent event Accepted after → node_count s.network ≤ node_count after.network + nodes_gone event
 nodes_by t s good spent (Link a b) after does = let same = ap (λ (u : State). node_count u.network) does in omega (arith, same)
 nodes_by t s good spent (Unlink a b) after does = let same = ap (λ (u : State). node_count u.network) does in omega (arith, same)

@@ -1,4 +1,4 @@
--- The silent costs pay for all moves, and a pointer of a pair that is turned costs less than the table of costs says.
+-- The silent costs pay for all moves, and changing the pointer of a pair costs less than the table's cost.
 use Rattle.std.proofs.Common.{◌≡◌, ℕ, ◌+◌, ◌*◌, ◌≤◌, false, cond, not, ◌&&◌, ◌||◌, Option, None, Some, is_none, is_some, nat_eq, refl, sym, ap, ◌∙◌, subst, ⊎_elim, arith}
 use Rattle.std.proofs.lemmas.Bool.{true≢false, cond-true, cond-false, cases_Bool, eq-eqb, eqb-true}
 use Rattle.std.proofs.lemmas.Option.{none-some, same_Some}

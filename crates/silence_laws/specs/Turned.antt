@@ -1,4 +1,5 @@
--- A pointer of a pair that is written anew in a stable network opens the edges of the two nodes to unmarried neighbours, and their own.
+-- Changing the pointer of a paired node in a stable network opens the edges of the two nodes to unmarried
+-- neighbours, and their own edge.
 use Rattle.std.proofs.Common.{◌≡◌, ℕ, ◌+◌, ◌*◌, ◌≤◌, Bool, true, false, cond, not, ◌&&◌, ◌||◌, [], ◌∷◌, count_by, Option, None, Some, is_some, nat_eq, IsTrue, refl, sym, ap, ◌∙◌, subst, inl, inr, ⊎_elim, arith}
 use Rattle.std.proofs.lemmas.Bool.{true≢false, and_parts, and_from, and_cases, or_parts, or_left, or_right, or_cases, cases_Bool, cases_eq, eq-eqb, eqb-true, not_from_false}
 use Rattle.std.proofs.lemmas.List.Sums.{length-filter}
@@ -83,7 +84,7 @@ module _ (s : State) (v u : ℕ) (target : Option ℕ) (good : IsState s) (stabl
       (cases_eq y v))
       (cases_eq x v)
 
-  -- what an edge that is not touched tells of its end x, and of the other
+  -- what an untouched edge implies for its end x, and for the other
   record IsFree (x y : ℕ) : Type 0 where
     pub of_v : x ≡ v → far y ≡ false
     pub of_u : x ≡ u → single y ≡ false
@@ -134,7 +135,7 @@ module _ (s : State) (v u : ℕ) (target : Option ℕ) (good : IsState s) (stabl
   yes true h = refl
   yes false h = absurd (true≢false h)
 
-  -- where v points nowhere its partner awaits it
+  -- if v's pointer is null its partner awaits it
   nowhere : is_some target ≡ false → pointer s' v ≡ None
   nowhere h = here ∙ by target h
     where
@@ -239,7 +240,7 @@ module _ (s : State) (v u : ℕ) (target : Option ℕ) (good : IsState s) (stabl
       let marks = marked_few in
       omega (arith, grows, zero, le, both, le_rest, both_rest, first, next, last, marks)
 
-  -- v has a neighbour, and a second one if that is its new target, none of which counts
+  -- v has a neighbour, and a second one if that is its new target; neither counts
   pub far_few : count_by (λ x. linked s.network v x && far x) (names s.network) + 1 + cond (is_some target) 1 0 ≤ degree s.network v
   far_few =
       let xs = names s.network in

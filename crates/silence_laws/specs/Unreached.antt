@@ -1,4 +1,4 @@
--- In a stable network nobody waits, and a disturbance that reaches nobody leaves it stable.
+-- In a stable network no node waits, and a disturbance that reaches no node leaves it stable.
 use Rattle.std.proofs.Common.{◌≡◌, ℕ, Bool, false, not, ◌&&◌, ◌||◌, Option, None, Some, is_some, find, IfSome, IsTrue, refl, sym, ap, ◌∙◌, subst, ⊎_elim}
 use Rattle.std.proofs.lemmas.Bool.{true≢false, and_parts, or_cases, cases_Bool, false_from_ne_true}
 use Rattle.std.proofs.lemmas.Option.{none-some}

@@ -4,50 +4,62 @@ ghost use Rattle.rule_machine.specs.HsuHuang.{hsu_huang};
 ghost use Rattle.rule_machine.specs.Manne.{manne};
 ghost use Rattle.silence_laws.specs.Laws.{FewAreGained, FewAreLost, ManneMovesArePaid, ManneSilentCostIsLess, ManneSilentCostPays, NobodyWaits, RewritingChangesNothing, SilentCostIsLess, SilentCostPays, TurnedCostsLess};
 
-/// After one disturbance of a stable network there is at most one pair more: only if an edge comes between two unmarried nodes, the edge of
-/// a pair goes, or the pointer of a paired node is written anew.
+/// After one disturbance of a stable network there is at most one pair more.
+///
+/// That is possible only if it links two unmarried nodes, removes the edge of a pair, or changes the pointer
+/// of a paired node.
 pub fn few_are_gained()
     ensures hsu_huang { FewAreGained hsu_huang }
     ensures manne { FewAreGained manne }
 {}
 
-/// Once it is stable again there is at most one pair fewer: only if the edge of a pair goes, or one of its nodes.
+/// After one disturbance, once the network is stable again, there is at most one pair fewer.
+///
+/// That is possible only if the edge of a pair goes, or one of its nodes.
 pub fn few_are_lost()
     ensures hsu_huang { FewAreLost hsu_huang }
     ensures manne { FewAreLost manne }
 {}
 
-/// By the rules of Manne and others the moves after it are no more than its cost, and two if a pair may come, and one for a node that goes.
+/// By Manne's rules the cost of one disturbance of a stable network, plus two terms, bounds its moves.
+///
+/// The terms: two if a pair may come, and one for a node that goes.
 pub fn manne_moves_are_paid()
     ensures { ManneMovesArePaid }
 {}
 
-/// By the rules of Manne and others the moves after it are no more than its silent cost, for which unmarried neighbours alone count, and
-/// which is no more than its cost, two if a pair may come, and one for a node that goes.
+/// By Manne's rules the silent cost of one disturbance of a stable network bounds its moves.
+///
+/// The silent cost counts unmarried neighbours alone. It is at most the cost, plus two if a pair may come,
+/// plus one for a node that goes.
 pub fn manne_silent_cost_pays()
     ensures pays { ManneSilentCostPays }
     ensures less { ManneSilentCostIsLess }
 {}
 
-/// By the rules of Hsu and Huang the moves after it are no more than its silent cost, for which unmarried neighbours alone count, and
-/// which is no more than its cost.
+/// By Hsu and Huang's rules the silent cost of one disturbance of a stable network bounds its moves.
+///
+/// The silent cost counts unmarried neighbours alone. It is at most the cost.
 pub fn silent_cost_pays()
     ensures pays { SilentCostPays }
     ensures less { SilentCostIsLess }
 {}
 
-/// To write the pointer that is there changes nothing, from any state.
+/// Writing the value that a pointer already has changes nothing, from any state.
 pub fn rewriting_changes_nothing()
     ensures { RewritingChangesNothing }
 {}
 
-/// By the rules of Hsu and Huang, to turn the pointer of a paired node of a stable network to another neighbour costs 2 less than
-/// its cost says, and to nowhere 3 less.
+/// By Hsu and Huang's rules changing the pointer of a paired node costs 2 or 3 less than its cost.
+///
+/// 2 less if the new target is another neighbour, 3 less if it is null. The network is stable before.
 pub fn turned_costs_less()
     ensures { TurnedCostsLess }
 {}
 
-/// In a stable network no pointer is unanswered and no null node courted: rows of the table of costs that no silent network reaches.
+/// In a stable network no pointer is unanswered and no null node is courted.
+///
+/// So no silent network reaches the rows of the table of costs for such nodes.
 pub fn nobody_waits()
     ensures { NobodyWaits }
 {}

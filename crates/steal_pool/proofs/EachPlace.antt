@@ -1,4 +1,4 @@
--- Each place stands once among what all have taken.
+-- Each place occurs once among all that were taken.
 use Rattle.std.proofs.Common.{◌≡◌, ℕ, zero, suc, ◌+◌, cond, List, [], ◌∷◌, ◌++◌, length, map, All, nat_eq, nat_lt, length-append, append_assoc, sym, refl, ap, ◌∙◌, arith}
 use Rattle.std.specs.Prelude.{if◌then◌else◌, slice_get, Some}
 use Rattle.std.specs.List.{sum_by, range_with_len}
@@ -20,11 +20,11 @@ use Rattle.steal_pool.specs.Hands.{hand_number, judged_places, all_taken, AreOf,
 use Rattle.steal_pool.specs.Once.{times, StandOnce, AllStandOnce, places_of}
 use Rattle.steal_pool.proofs.Laying.{more_numbers, place_from}
 
--- one number more below which a place can stand
+-- one more number below which a place can be
 one_below : (place count : ℕ) → (if nat_lt place count then 1 else 0) + cond (nat_eq place count) 1 0 ≡ (if nat_lt place (count + 1) then 1 else 0)
 one_below place count = grind arith
 
--- each place below the count stands once among all of them
+-- each place below the count occurs once among all of them
 pub each_once : (count place : ℕ) → times place (places count) ≡ (if nat_lt place count then 1 else 0)
 each_once zero place = grind arith
 each_once (suc count) place =
@@ -38,7 +38,7 @@ some_stand count taken are = λ place. omega (arith, are (λ x. cond (nat_eq pla
 pub all_stand : (count : ℕ) (taken : List ℕ) → AreAllPlaces count taken → AllStandOnce count taken
 all_stand count taken are = λ place. are (λ x. cond (nat_eq place x) 1 0) ∙ each_once count place
 
--- the verdicts at these places stand there
+-- the verdicts at these places are there
 pub judges_its_places : (t : RuleTable) (s : State) (items : List Item) (taken : List ℕ) (verdicts : List Verdict) → AreOf (verdicts_of t s items) taken verdicts → places_of verdicts ≡ taken
 judges_its_places t s items [] [] are = refl
 judges_its_places t s items [] (v ∷ vs) are = absurd cc
@@ -49,7 +49,7 @@ judges_its_places t s items (p ∷ ps) (v ∷ vs) are =
     let here : v.place ≡ p = (place_from t s 0 items p v first).1 ∙ omega arith in
     ap (λ (n : ℕ). n ∷ places_of vs) here ∙ ap (λ (l : List ℕ). p ∷ l) (judges_its_places t s items ps vs rest)
 
--- of no item no verdict is had, so none was taken
+-- without items there are no verdicts, so none was taken
 no_item : (taken : List ℕ) (verdicts : List Verdict) → AreOf [] taken verdicts → taken ≡ []
 no_item [] verdicts are = refl
 no_item (p ∷ ps) [] are = absurd cc
@@ -81,7 +81,7 @@ moves_taken h ends ends' shares rest all share more less same =
 pub all_merged : (count : ℕ) (shares : List Judged) (ends : List DequeEnd) (v : Ledger) (left : List ℕ) → AreJoined count ends v → ((h : ℕ → ℕ) → sum_by (λ e. sum_by h (end_taken e)) ends ≡ sum_by h (all_taken shares)) → AreAllPlaces count (v.taken ++ left) → AllStandOnce count (all_taken shares ++ left)
 all_merged count shares ends v left joined same all = all_stand count (all_taken shares ++ left) (λ h. omega (arith, joined.taken h, same h, all h, sum_by-append h v.taken left, sum_by-append h (all_taken shares) left))
 
--- one block more behind those that were taken since
+-- one more block after those taken since
 pub took_more : (first left : List ℕ) (v w : Ledger) (block : Block) → w ≡ ledger v.parts v.count (v.taken ++ places_in (block ∷ [])) → v.taken ≡ first ++ left → w.taken ≡ first ++ (left ++ places_in (block ∷ []))
 took_more first left v w block took before =
     ap (λ (u : Ledger). u.taken) took ∙ ap (λ (l : List ℕ). l ++ places_in (block ∷ [])) before ∙ append_assoc first left (places_in (block ∷ []))

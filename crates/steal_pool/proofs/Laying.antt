@@ -25,7 +25,7 @@ use Rattle.steal_pool.specs.declared.hand.Judged.{Judged}
 use Rattle.steal_pool.specs.Hands.{hand_hold, judged_hold, AreOf}
 use Rattle.steal_pool.specs.Laid.{laid, Fit, at_place, taken_in, IsRight}
 
--- the verdict at a place is the one that stands there among all
+-- the verdict at a place is the one there among all
 verdict_from : (t : RuleTable) (s : State) (from : ℕ) (items : List Item) (k place : ℕ) (v : Verdict) → from + k ≡ place → k < length items → IfSome (slice_get items k) (λ item. v ≡ verdict_of t s place item) → slice_get (verdicts_from t s from items) k ≡ Some v
 verdict_from t s from [] k place v at below is = absurd (omega (arith, below))
 verdict_from t s from (i ∷ is) zero place v at below same = ap Some (ap (λ (p : ℕ). verdict_of t s p i) (omega arith) ∙ sym same)
@@ -40,7 +40,7 @@ place_from t s from [] k v is = absurd cc
 place_from t s from (i ∷ rest) zero v is = (omega arith, (let e : verdict_of t s from i ≡ v = cc in ap (λ (x : Verdict). x.place) (sym e) ∙ omega arith))
 place_from t s from (i ∷ rest) (suc k) v is = let later = place_from t s (from + 1) rest k v is in (omega arith, omega arith)
 
--- a table is right where nothing was taken
+-- a table is right if nothing was taken
 pub no_weight : (all table : List Verdict) → length table ≡ length all → (weight : ℕ → ℕ) → ((k : ℕ) → weight k ≡ 0) → IsRight all table weight
 no_weight all table size weight none = record { size = size; right = λ k below some_weight. absurd (omega (arith, none k)) }
 
@@ -82,7 +82,7 @@ fits t s items (p ∷ ps) (v ∷ vs) are =
     let there = place_from t s 0 items p v first in
     All-cons (λ v. v.place < length items) v vs (omega arith) (fits t s items ps vs rest)
 
--- where all places were taken, the table is the list of all
+-- if all places were taken, the table is the list of all
 pub all_laid : (t : RuleTable) (s : State) (items : List Item) (taken : List ℕ) (table : List Verdict) → AreAllPlaces (length items) taken → IsRight (verdicts_of t s items) table (λ k. sum_by (at_place k) taken) → table ≡ verdicts_of t s items
 all_laid t s items taken table are r =
     let all = verdicts_of t s items in
@@ -99,7 +99,7 @@ shifted f g count xs xs' ys ys' x y more less same all =
     let now = moved count (map f xs) (map g ys') (g y) (subst (λ l. AreAllEnds count (map f xs ++ l)) from all) in
     subst (λ l. AreAllEnds count (l ++ map g ys')) (sym (to ∙ ap (λ h. map f xs ++ h ∷ []) same)) now
 
--- one number more, behind others
+-- one more number, after others
 pub more_numbers : (a n j m : ℕ) → a + n ≡ j → n + 1 ≡ m → range_with_len a m ≡ range_with_len a n ++ j ∷ []
 more_numbers a n j m at size =
     ap (range_with_len a) (sym size) ∙ sym (map-id (range_with_len a (n + 1))) ∙ map-range_with_len_more (λ x. x) a n j at ∙ ap (λ l. l ++ j ∷ []) (map-id (range_with_len a n))
@@ -117,7 +117,7 @@ pub judges_one : (all : List Verdict) (taken : List ℕ) (first place : ℕ) (ve
 judges_one all taken first place verdicts next v from is push so_far =
     judges all (taken ++ range_with_len first (place - first)) (taken ++ range_with_len first (place + 1 - first)) place verdicts next v is (ap (λ (l : List ℕ). taken ++ l) (more_places first place from) ∙ sym (append_assoc taken (range_with_len first (place - first)) (place ∷ []))) push so_far
 
--- so many places more were taken
+-- this many places more were taken
 pub more_taken : (before after : List ℕ) (block : Block) → after ≡ before ++ block_places block → length after ≡ length before + (block.end - block.first)
 more_taken before after block took = omega (arith, ap length took, length-append before (block_places block), length-range_with_len block.first (block.end - block.first))
 
@@ -128,7 +128,7 @@ as_many all taken verdicts are = sym (length-map verdicts Some) ∙ ap length ar
 pub reweighed : (all table : List Verdict) (before after : ℕ → ℕ) → ((k : ℕ) → after k ≡ before k) → IsRight all table before → IsRight all table after
 reweighed all table before after same r = record { size = r.size; right = λ k below some. r.right k below (omega (arith, same k)) }
 
--- no number stands between a number and itself
+-- no number is between a number and itself
 pub no_places : (first : ℕ) → range_with_len first (first - first) ≡ []
 no_places first = let none : first - first ≡ 0 = omega arith in ap (range_with_len first) none
 
@@ -150,7 +150,7 @@ takes_block v w block took k =
 pub as_long : {X Y : Type 0} → (xs xs' : List X) (ys ys' : List Y) (x : X) (y : Y) → xs' ≡ xs ++ x ∷ [] → ys ≡ ys' ++ y ∷ [] → {n : ℕ} → length xs + length ys ≡ n → length xs' + length ys' ≡ n
 as_long xs xs' ys ys' x y more less size = omega (arith, ap length more, ap length less, length-append xs (x ∷ []), length-append ys' (y ∷ []))
 
--- whoever has the whole and found nothing knows that all places were taken
+-- if a pass has the whole and found nothing, it knows that all places were taken
 pub all_known : (v w : Ledger) (count : ℕ) (result : Option Block) → v.parts ≡ 64 → v.count ≡ count → result ≡ None → MatchOption result ((w ≡ v) × KnowsAll v) (λ block. Takes v (block ∷ []) w) → AreAllPlaces count v.taken
 all_known v w count None whole is none told = subst (λ (n : ℕ). AreAllPlaces n v.taken) is (told.1 whole)
 all_known v w count (Some block) whole is none told = absurd cc

@@ -1,4 +1,4 @@
--- What clauses say of hands and shares.
+-- Hands and shares in contracts.
 use Rattle.std.specs.Prelude.{◌≡◌, ℕ, List, [], ◌∷◌, ◌++◌, map, Some, slice_get, All}
 use Rattle.place_deque.specs.Ends.{Hold, end_hold, end_taken}
 use Rattle.rule_machine.specs.declared.choice.Item.{Item}
@@ -9,7 +9,7 @@ use Rattle.rule_engine.specs.Choosing.{verdicts_of}
 use Rattle.steal_pool.specs.declared.hand.Hand.{Hand}
 use Rattle.steal_pool.specs.declared.hand.Judged.{Judged}
 
--- which deque a hand is an end of, how many places were put on that, and its part of the whole
+-- the deque of a hand, how many places were put on it, and its part of the whole
 abbrev pub hand_hold : Hand → Hold
 hand_hold hand = end_hold hand.end
 
@@ -24,7 +24,7 @@ judged_hold share = end_hold share.end
 abbrev pub judged_places : Judged → List ℕ
 judged_places share = end_taken share.end
 
--- the places that the workers of these shares took, one worker's behind another's
+-- the places that the workers of these shares took, one worker after another
 abbrev pub all_taken : List Judged → List ℕ
 all_taken [] = []
 all_taken (share ∷ shares) = judged_places share ++ all_taken shares
@@ -32,11 +32,11 @@ all_taken (share ∷ shares) = judged_places share ++ all_taken shares
 abbrev pub judged_verdicts : Judged → List Verdict
 judged_verdicts share = share.verdicts.items
 
--- these verdicts are those at these places, of all
+-- these verdicts are those of `all` at these places
 abbrev pub AreOf : List Verdict → List ℕ → List Verdict → Type 0
 AreOf all places verdicts = map Some verdicts ≡ map (slice_get all) places
 
--- behind the verdicts of whichever places were taken stand those of these places
+-- if `old` are the verdicts of any taken places, `new` are those with these places added
 abbrev pub GoOnWith : List Verdict → List ℕ → List Verdict → List Verdict → Type 0
 GoOnWith all places old new = (taken : List ℕ) → AreOf all taken old → AreOf all (taken ++ places) new
 

@@ -1,4 +1,4 @@
--- Verdicts that are laid out by place.
+-- Verdicts laid out by place.
 use Rattle.std.specs.Prelude.{◌≡◌, ℕ, ◌+◌, ◌-◌, ◌<◌, List, [], ◌∷◌, length, slice_get, slice_set, All}
 use Rattle.std.specs.List.{sum_by}
 use Rattle.place_deque.specs.declared.ledger.Ledger.{Ledger}
@@ -19,18 +19,18 @@ Fit size verdicts = All (λ verdict. verdict.place < size) verdicts
 abbrev pub at_place : ℕ → ℕ → ℕ
 at_place k y = 1 - ((y - k) + (k - y))
 
--- how often a place was taken, by these ends or by whoever knows this
+-- how often a place was taken, by these ends or by those that a ledger has joined
 abbrev pub taken_by : List DequeEnd → ℕ → ℕ
 taken_by ends k = sum_by (λ e. sum_by (at_place k) (end_taken e)) ends
 
 abbrev pub taken_in : Ledger → ℕ → ℕ
 taken_in v k = sum_by (at_place k) v.taken
 
--- the table has as many places as there are verdicts in all, and at each place that was taken the one that stands there
+-- the table has a place for each of all verdicts, and the right verdict at each place that was taken
 pub record IsRight (all table : List Verdict) (times : ℕ → ℕ) : Type 0 where
   pub size : length table ≡ length all
   pub right : (k : ℕ) → k < length all → 0 < times k → slice_get table k ≡ slice_get all k
 
--- so it is of the new table with these places more, if it was of the old
+-- if `old` is right, so is `new` with these places added
 abbrev pub IsRightWith : List Verdict → List ℕ → List Verdict → List Verdict → Type 0
 IsRightWith all places old new = (times : ℕ → ℕ) → IsRight all old times → IsRight all new (λ k. times k + sum_by (at_place k) places)

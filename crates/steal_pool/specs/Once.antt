@@ -1,9 +1,9 @@
--- Places that stand once.
+-- Places that occur once.
 use Rattle.std.specs.Prelude.{◌≡◌, ◌≤◌, ℕ, List, map, if◌then◌else◌, nat_eq, nat_lt}
 use Rattle.std.specs.List.{count_by}
 use Rattle.rule_machine.specs.declared.verdict.Verdict.{Verdict}
 
--- how often a place stands among these
+-- how often a place occurs among these
 abbrev pub times : ℕ → List ℕ → ℕ
 times place places = count_by (nat_eq place) places
 

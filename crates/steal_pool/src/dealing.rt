@@ -14,10 +14,10 @@ use std::alloc::Global;
 /// The most workers at once.
 pub const MAX_WORKERS: u32 = 64;
 
-/// Puts every place of the choice once on a new deque, and gives as many ends of it as there are workers, whose numbers are 0, 1, 2
-/// and so on; more than 64 count as 64, and an empty choice gives hands all the same. `ZeroWorkers` where there is no worker, which
-/// is told first; else `Memory` where memory runs out. Takes some fifty bytes a place, and for more than 2,048 places no more than
-/// for these.
+/// Puts each place of the choice once on a new deque, and returns a hand for each worker.
+/// Hands are numbered from 0. More than 64 workers count as 64. An empty choice gives hands too.
+/// `ZeroWorkers` if `workers` is 0, checked first; `Memory` if memory runs out.
+/// Takes about fifty bytes a place, up to what 2,048 places take.
 pub fn hands(alloc: Global, choice: &Choice, workers: u32) -> Result<Vec<Hand>, PoolFault>
     ensures number { IfOk result (λ hands. (0 < workers) × (length hands.items ≡ min workers 64)) }
     ensures all { IfOk result (λ hands. AreAllEnds (length choice.now) (map hand_hold hands.items)) }
@@ -30,7 +30,6 @@ pub fn hands(alloc: Global, choice: &Choice, workers: u32) -> Result<Vec<Hand>, 
     Ok(deal(alloc, choice, workers.min(MAX_WORKERS))?)
 }
 
-/// A hand for each end of a new deque with the places of the choice.
 pub(crate) fn deal(alloc: Global, choice: &Choice, workers: u32) -> Result<Vec<Hand>, Want>
     requires some { 0 < workers }
     requires few { workers ≤ 64 }

@@ -13,10 +13,11 @@ use std::alloc::Global;
 use std::sync::Wait;
 use std::thread::{Threads, join};
 
-/// What each item of a choice would do alone, in order of place. So many workers, of which more than 64 count as 64, take the
-/// places from one another, each in a thread of its own where threads can be had; before each place its worker, from 0, passes
-/// the gate. One worker goes through the places in their order. `ZeroWorkers` where there is none, which is told first; else
-/// `Memory` where memory runs out. It waits for the gate and for its workers.
+/// What each item of a choice would do alone, in order of place.
+/// Workers, at most 64, take places from each other, each in its own thread if threads are available. Before
+/// each place a worker, numbered from 0, passes the gate. One worker takes the places in order.
+/// `ZeroWorkers` if `workers` is 0, checked first; `Memory` if memory runs out.
+/// Waits for the gate and for its workers.
 pub fn evaluate<R: Rules + Sync, G: Gate + Sync, T: Threads + Wait + Sync>(
     rt: &T,
     alloc: Global,
@@ -41,7 +42,7 @@ pub fn evaluate<R: Rules + Sync, G: Gate + Sync, T: Threads + Wait + Sync>(
     Ok(merge(alloc, shares, net, choice)?)
 }
 
-// The verdicts of all items, found one after another.
+// The verdicts of all items, by one worker.
 fn judge_all<R: Rules, G: Gate, W: Wait>(
     rt: &W,
     alloc: Global,
@@ -60,7 +61,7 @@ fn judge_all<R: Rules, G: Gate, W: Wait>(
     Ok(verdicts)
 }
 
-// The shares of all hands. The hands are halved at each step and one half goes to a new thread.
+// The shares of all hands. Each call splits the hands in half and gives one half to a new thread.
 #[cycle(work)]
 fn work_all<R: Rules + Sync, G: Gate + Sync, T: Threads + Wait + Sync>(
     rt: &T,
@@ -94,7 +95,6 @@ fn work_all<R: Rules + Sync, G: Gate + Sync, T: Threads + Wait + Sync>(
     Ok(shares)
 }
 
-// The share of one hand, if there is one.
 fn work_first<R: Rules, G: Gate, W: Wait>(
     rt: &W,
     net: &Net<R>,

@@ -3,16 +3,16 @@
 use std::alloc::AllocError;
 use thiserror::Error;
 
-/// Why the verdicts of a choice were not had.
+/// Why there are no verdicts.
 #[derive(Clone, Copy, Debug, PartialEq, Eq, Error)]
 pub enum PoolFault {
     /// There were no workers.
     #[error("no workers")]
     ZeroWorkers,
-    /// A thread could not be started. `evaluate` answers it never: it does the work itself then.
+    /// A thread could not be started. `evaluate` never returns it: it does the work itself then.
     #[error("no thread")]
     Thread,
-    /// A growth of memory was refused.
+    /// Memory ran out.
     #[error("out of memory")]
     Memory,
 }

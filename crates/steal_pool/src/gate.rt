@@ -1,15 +1,15 @@
-//! Where workers can be held.
+//! Gates, which can hold workers.
 
 use std::sync::Wait;
 
-/// What every worker passes before each of its tasks: a place to watch workers, or to hold them. It changes no answer. Which
-/// number a worker has and which a task, its caller says.
+/// What each worker passes before each task: a point to watch or hold workers. It changes no result.
+/// The caller numbers workers and tasks.
 pub trait Gate {
     /// A worker, from 0, comes to the task at this place. It may be made to wait.
     fn pass<W: Wait>(&self, rt: &W, worker: u32, place: u32);
 }
 
-/// A gate that holds nobody.
+/// A gate that holds no worker.
 #[derive(Clone, Copy, Debug, PartialEq, Eq)]
 pub struct NoGate;
 

@@ -8,7 +8,7 @@ use place_deque::DequeEnd;
 use rule_engine::Verdict;
 use std::alloc::Global;
 
-/// One worker's end of the deque on which the places of a choice were put; nothing is taken yet.
+/// One worker's end of the deque of a choice's places. It has taken none yet.
 #[derive(Drop)]
 pub struct Hand {
     pub(crate) alloc: Global,
@@ -17,7 +17,7 @@ pub struct Hand {
     ghost fresh: { end_taken end ≡ [] },
 }
 
-/// What one worker took from the deque, each place judged once, with its end.
+/// The verdicts of the places that one worker took, each judged once, with its end of the deque.
 #[derive(Drop)]
 pub struct Judged {
     pub(crate) end: DequeEnd,

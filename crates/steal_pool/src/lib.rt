@@ -1,12 +1,13 @@
-//! What the items of a choice would do, found by workers that take them from one another.
+//! A pool of workers that judge the items of a choice and take them from each other.
 //!
-//! `evaluate` gives the verdict of each item of a choice, in order, the same for 1 to 64 workers in any schedule, while the network does
-//! not change: `Recorder::log_step` and `Journal::record_step` take them from there, without a second look at a guard. Before each place
-//! a worker passes a `Gate`: `NoGate` in the program, and what holds and counts workers in tests. `hands`, `Hand::work` and `merge` are
-//! its parts, for who has threads of their own.
+//! `evaluate` returns the verdict of each item of a choice, in order. The result is the same for 1 to 64
+//! workers in any schedule; the network must not change meanwhile. `Recorder::log_step` and
+//! `Journal::record_step` take the verdicts and evaluate no guard again. Before each place a worker passes a
+//! `Gate`; `NoGate` holds no worker. Callers with their own threads use its parts, `hands`, `Hand::work` and
+//! `merge`.
 //!
-//! It takes the list of verdicts, 28 bytes each, and a deque. Threads are had from `rt`; where there are none one thread does all. How
-//! few items are worth none is said in `script_run::paying_workers`.
+//! It takes the list of verdicts, 28 bytes each, and a deque. Threads come from `rt`; without any, one thread
+//! does all. `script_run::paying_workers` says for how many items several workers pay.
 //!
 //! ```rust
 //! let verdicts = evaluate(rt, alloc, &net, &choice, 4, &NoGate)?;

@@ -14,9 +14,11 @@ use place_deque::{Block, DequeEnd, Owner, gather};
 use rule_engine::{Choice, Net, Outcome, Rules, Verdict, Want};
 use std::alloc::Global;
 
-/// Joins all shares of one call of `hands`, which worked with its choice on this net: takes and judges what is left on the
-/// deque, passing no gate, and gives the verdicts in order of place. Each place was put once and is taken once, by a hand
-/// or here, so none is missing and none is doubled. At want of memory the shares are used up.
+/// Joins all shares of one call of `hands`, and returns the verdicts in order of place.
+/// The shares must have worked with that choice on this net. Places left on the deque are judged here,
+/// without a gate.
+/// Each place is taken once, so none is missing or doubled.
+/// `AllocError` if memory runs out; the shares are used up then.
 pub fn merge<R: Rules>(
     alloc: Global,
     shares: Vec<Judged>,
@@ -43,7 +45,7 @@ pub fn merge<R: Rules>(
     Ok(verdicts)
 }
 
-// Writes the verdicts of all shares at their places, and gives the ends of the shares.
+// Writes the verdicts of all shares at their places, and returns the ends of the shares.
 fn lay_out<R: Rules>(
     alloc: Global,
     mut shares: Vec<Judged>,
@@ -67,7 +69,6 @@ fn lay_out<R: Rules>(
     Ok(ends)
 }
 
-// Writes each verdict at its place.
 fn lay(table: &mut [Verdict], verdicts: &[Verdict])
     requires { Fit (length table.old) verdicts.now }
     ensures { table.new ≡ laid table.old verdicts.now }
@@ -90,7 +91,6 @@ fn judge_left<R: Rules>(mut owner: Owner, net: &Net<R>, choice: &Choice, table: 
     }
 }
 
-// Judges each place of a block and writes it there.
 fn write_block<R: Rules>(net: &Net<R>, choice: &Choice, block: Block, table: &mut [Verdict])
     requires within { block.end ≤ length choice.now }
     requires size { length table.old ≡ length choice.now }

@@ -11,7 +11,7 @@ use place_deque::Block;
 use rule_engine::{Choice, Net, Rules, Verdict, Want};
 use std::sync::Wait;
 
-/// A worker, by its number, and the gate that it passes before each place.
+/// A worker's number, and the gate that it passes before each place.
 #[derive(Drop)]
 struct Worker<'a, G: Gate> {
     number: u32,
@@ -19,10 +19,12 @@ struct Worker<'a, G: Gate> {
 }
 
 impl Hand {
-    /// Takes places of the choice until none is found, a block of them at a time, and judges each; before each it passes the gate with its own number and
-    /// the place. The choice must be the one that `hands` was given: what a hand keeps of that is how many places were put, and
-    /// the choice must have as many. At want of memory it has taken none, and the hand is used up. It may wait at the gate, and
-    /// where another worker takes a place first it looks again.
+    /// Takes blocks of places until none is left, and judges each place.
+    /// Before each it passes the gate with its number and the place. It may wait there, and tries again if
+    /// another worker takes a place first.
+    /// The choice must be the one given to `hands`; the contract checks only that the number of places is the
+    /// same.
+    /// `AllocError` if memory runs out: then it has taken none, and the hand is used up.
     pub fn work<R: Rules, G: Gate, W: Wait>(
         self,
         rt: &W,
@@ -45,13 +47,13 @@ impl Hand {
         while let Some(block) = end.take(rt) {
             judge_block(rt, &worker, net, choice, block, &mut verdicts);
         }
-        // what is left of the room goes back at once, so that the next list need not ask the system for more
+        // Unused room is freed at once, so that the next list need not ask the system for more.
         verdicts.shrink_to_fit();
         Ok(Judged { end, verdicts })
     }
 }
 
-// Judges each place of a block, behind the gate, into verdicts with room for them.
+// Judges each place of a block, after passing the gate, into verdicts with room for them.
 fn judge_block<R: Rules, G: Gate, W: Wait>(
     rt: &W,
     worker: &Worker<G>,
@@ -72,7 +74,7 @@ fn judge_block<R: Rules, G: Gate, W: Wait>(
 }
 
 impl Judged {
-    /// What `Net::verdict` gives for each place that the worker took, once, in the order in which it took them, and no other.
+    /// What `Net::verdict` returns for each place that the worker took, once, in the order taken.
     pub fn verdicts(&self) -> &[Verdict]
         ensures verdicts { result.now ≡ judged_verdicts self.now }
         ensures taken { places_of result.now ≡ judged_places self.now }

@@ -1,4 +1,4 @@
--- What answers lead to: from one moment, the same entries lead to one moment by one path.
+-- From one moment, the same entries lead to one moment by one path.
 use Rattle.std.proofs.Common.{◌≡◌, List, [], ◌∷◌, map, refl, sym, ap₂, ◌∙◌, subst}
 use Rattle.rule_machine.specs.State.{State}
 use Rattle.rule_machine.specs.RuleTable.{RuleTable}

@@ -63,7 +63,7 @@ kept_with_is_journal t weight table kept over begun is below event next are =
       told = subst (λ es. IsTold t (dropped kept.base + 1) (begun_at kept.base) k.start entries end es (begun_by reply (last_number kept + 1) begun)) (sym are) told_number;
     }
 
--- a journal with the moment after the next event, with its entry and with what that makes of the epochs
+-- a journal with the moment after the next event, with its entry and its epochs
 pub next_is_journal : (t : RuleTable) (weight : ℕ) → IsTable t → (kept : Kept) (over : List Epoch) (begun : Start) → IsJournal t weight kept over begun → last_number kept < kept.limit → (event : Event) (reply : Reply) (m : Moment) (entries : List Entry) (next : List Epoch) (now : Start) → reply ≡ reply_of t kept.state kept.spent event → m ≡ moment_after t (moment_in kept) event → entries ≡ kept.entries ++ (event, reply) ∷ [] → map of_run next ≡ map of_run over ++ ended_by reply (open_at begun (moment_in kept)) → now ≡ begun_by reply (last_number kept + 1) begun → IsJournal t weight (record { state = m.state; spent = m.spent; base = kept.base; entries = entries; limit = kept.limit; present = kept.present }) next now
 next_is_journal t weight table kept over begun is below event reply m entries next now replies after added ended starts =
     let before = moment_in kept in
@@ -74,7 +74,7 @@ next_is_journal t weight table kept over begun is below event reply m entries ne
     (subst (λ (l : Kept). IsJournal t weight l next (begun_by (reply_of t kept.state kept.spent event) (last_number kept + 1) begun)) (sym (ap₂ (λ (n : Moment) (es : List Entry). record { state = n.state; spent = n.spent; base = kept.base; entries = es; limit = kept.limit; present = kept.present }) after held))
     (kept_with_is_journal t weight table kept over begun is below event next over_is))
 
--- with the base at which its network stands, and no entry
+-- with its network's moment as the base, and no entry
 pub checkpointed_is_journal : (t : RuleTable) (weight : ℕ) → IsTable t → IsCharged t weight → IsFlagless t → (kept : Kept) → IsKept t weight kept → IsShort (Some (base_of (last_number kept) (moment_in kept))) → (over : List Epoch) → over ≡ [] → IsJournal t weight (checkpointed kept) over Forgotten
 checkpointed_is_journal t weight table charged flagless kept k short over none = record {
   is_kept = record {

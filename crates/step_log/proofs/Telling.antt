@@ -1,4 +1,4 @@
--- The epochs that a journal keeps are told on by one more entry, and are those of every path.
+-- The epochs that a journal keeps after one more entry are those of every path.
 use Rattle.std.proofs.Common.{◌≡◌, ◌≢◌, ℕ, ◌+◌, ◌*◌, ◌≤◌, List, [], ◌∷◌, ◌++◌, length, map, All, append_assoc, refl, sym, ap, ap₂, ◌∙◌, subst, arith}
 use Rattle.std.proofs.lemmas.List.{append-nil, get_or-map, map-append, length-map}
 use Rattle.rule_machine.specs.declared.base.Start.{Start}
@@ -55,9 +55,9 @@ path_add t start [] step is answers = (answers, tt)
 path_add t start (first ∷ path) step is answers =
     (is.0, path_add t (record { state = first.1; spent = spent_after start.spent first.0.1 }) path step is.1 answers)
 
--- ---- what one entry makes of the epochs
+-- ---- the epochs after one entry
 
--- the network stays where no disturbance is accepted
+-- the network stays if no disturbance is accepted
 stays : (t : RuleTable) (s : State) (n : ℕ) (event : Event) (reply : Reply) (s' : State) → Answers t s n event reply s' → reply ≢ Accepted → s'.network ≡ s.network
 stays t s n event reply s' answers calm = by_effect (effect t s n event reply s' answers)
   where
@@ -131,7 +131,7 @@ told_epochs t weight kept over begun is epochs are = record {
   is_path = is.told.is_path;
 }
 
--- along each path from where what is kept begins, they are within their bounds
+-- along each path from the beginning of what is kept, they are within their bounds
 pub bounded_along : (t : RuleTable) (weight : ℕ) → IsTable t → IsCharged t weight → (kept : Kept) (start : Moment) (path : List (Entry × State)) → Begins t weight kept start → IsPath t start path → All (λ (e : EpochOf). e.moves ≤ 2 * e.edges + weight * e.nodes) (epochs_along kept start path)
 bounded_along t weight table charged kept start path begins along =
     epochs_are_bounded t weight table charged start

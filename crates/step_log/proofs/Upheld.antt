@@ -1,4 +1,4 @@
--- The headline holds of what is kept of each log, for rules that keep the laws of rule sets.
+-- The headline holds of each log, for rules that keep the laws of rule sets.
 use Rattle.std.proofs.Common.{◌≡◌, ℕ, List, [], ◌++◌, sym, subst}
 use Rattle.rule_machine.specs.State.{State, IsState}
 use Rattle.rule_machine.specs.RuleTable.{RuleTable, enabled_names}
@@ -18,7 +18,7 @@ use Rattle.step_log.proofs.Telling.{bounded_along}
 
 -- ---- what is kept leads to one moment
 
--- a run goes on from where its beginning has led
+-- a run goes on from the end of its prefix
 run_goes_on : (t : RuleTable) (start : Moment) (some rest : List Entry) (middle end : Moment) → Run t start some middle → Run t start (some ++ rest) end → Run t middle rest end
 run_goes_on t start some rest middle end here run =
     let m = run_splits t start end some rest run in subst (λ (n : Moment). Run t n rest end) (run_once t start some m.0 middle m.1 here) m.2
@@ -28,7 +28,7 @@ from_there : (t : RuleTable) (weight : ℕ) (kept : Kept) (start : Moment) → B
 from_there t weight kept start begins entries m (other, begins', run) =
     subst (λ (n : Moment). Run t n entries m) (begins_once t (charge_bound weight) kept.state.network.size kept.present kept.base other start begins' begins) run
 
--- each beginning of what is kept leads to one moment
+-- each prefix of what is kept leads to one moment
 pub leads_somewhere : (t : RuleTable) (weight : ℕ) (kept : Kept) → Upholds t weight kept → (before after : List Entry) → before ++ after ≡ kept.entries → (m : Moment) × LeadsTo t weight kept before m × ((n : Moment) → LeadsTo t weight kept before n → n ≡ m)
 leads_somewhere t weight kept upholds before after same =
     let start = upholds.run.0 in

@@ -1,4 +1,4 @@
--- Where nothing was dropped, what is kept is the log.
+-- If nothing was dropped, what is kept is the log.
 use Rattle.std.proofs.Common.{◌≡◌, ℕ, None, ap, subst, arith}
 use Rattle.rule_machine.specs.RuleTable.{RuleTable}
 use Rattle.rule_machine.specs.Run.{Run}

@@ -17,17 +17,17 @@ use Rattle.step_log.specs.Kept.{Kept, Begins}
 abbrev pub of_run : Epoch → EpochOf
 of_run e = record { start = e.start; moves = e.moves; edges = e.edges; nodes = e.nodes }
 
--- what an entry with this reply ends of the epoch that goes on before it
+-- the epoch that an entry with this reply ends, if any
 abbrev pub ended_by : Reply → EpochOf → List EpochOf
 ended_by Accepted e = e ∷ []
 ended_by other e = []
 
--- where the epoch began that goes on behind the entry with this number
+-- the start of the epoch that is current after the entry with this number
 abbrev pub begun_by : Reply → ℕ → Start → Start
 begun_by Accepted number begun = At number
 begun_by other number begun = begun
 
--- along a path, the epochs that are over, and the one that goes on at its end
+-- along a path, the epochs that are over, and the current one at its end
 abbrev pub over_in : ℕ → EpochOf → List (Entry × State) → List EpochOf
 over_in number e [] = []
 over_in number e (step ∷ path) =
@@ -37,13 +37,13 @@ abbrev pub open_in : ℕ → EpochOf → List (Entry × State) → EpochOf
 open_in number e [] = e
 open_in number e (step ∷ path) = open_in (number + 1) (epochs_by step.0.1 number step.1 e).1 path
 
--- where a path leads
+-- the moment at the end of a path
 abbrev pub path_end : Moment → List (Entry × State) → Moment
 path_end start [] = start
 path_end start (step ∷ path) = path_end (record { state = step.1; spent = spent_after start.spent step.0.1 }) path
 
--- The entries, numbered from here on, lead from the start to the end by a path; along it these are the epochs that are over, where the first
--- began there, and the one that goes on began here.
+-- The entries, numbered from `number`, lead from `start` to `end` by a path. If the first epoch began at
+-- `began`, `over` are the epochs that are over along it, and the current one began at `begun`.
 pub record IsTold (t : RuleTable) (number : ℕ) (began : Start) (start : Moment) (log : List Entry) (end : Moment) (over : List EpochOf) (begun : Start) : Type 0 where
   pub path : List (Entry × State)
   pub entries : map (λ step. step.0) path ≡ log
@@ -52,16 +52,17 @@ pub record IsTold (t : RuleTable) (number : ℕ) (began : Start) (start : Moment
   pub ended : over ≡ over_in number (open_at began start) path
   pub goes_on : open_in number (open_at began start) path ≡ open_at begun end
 
--- no more moves than twice the edges and a weight for each node
+-- at most twice the edges, plus a weight for each node, as moves
 abbrev pub IsBounded : ℕ → Epoch → Type 0
 IsBounded weight e = e.moves ≤ 2 * e.edges + weight * e.nodes
 
--- those along a path of what is kept, which begins there
+-- the epochs along a path of what is kept, from its start
 abbrev pub epochs_along : Kept → Moment → List (Entry × State) → List EpochOf
 epochs_along kept start path = epochs_from (dropped kept.base + 1) (open_at (begun_at kept.base) start) path
 
--- The epochs of what is kept of a log: with any states after its entries in which the machine may have been, they are those of the
--- definitions; and there are such states. Where there is a base, the first began before it, and has the moves that were spent there.
+-- The epochs of what is kept of a log are those of the definitions, for any states that the machine may have
+-- had after its entries; and such states exist. With a base, the first epoch began before it and includes the
+-- moves spent there.
 pub record AreEpochs (t : RuleTable) (weight : ℕ) (kept : Kept) (epochs : List Epoch) : Type 0 where
   pub exact : (start : Moment) (path : List (Entry × State)) → Begins t weight kept start → map (λ step. step.0) path ≡ kept.entries → IsPath t start path → map of_run epochs ≡ epochs_along kept start path
   pub start : Moment

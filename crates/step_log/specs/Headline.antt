@@ -1,4 +1,4 @@
--- What every log says of the rule machine, whatever edits, faults, queries and daemon choices it was made of.
+-- What holds of every log, for any edits, faults, queries and daemon choices.
 use Rattle.std.specs.Prelude.{◌≡◌, ℕ, ◌+◌, ◌*◌, ◌≤◌, ◌↔◌, [], ◌++◌, List, map, All}
 use Rattle.rule_machine.specs.Network.{node_count, edge_count}
 use Rattle.rule_machine.specs.State.{State}
@@ -11,22 +11,25 @@ use Rattle.rule_engine.specs.Kept.{IsAnswered}
 use Rattle.step_log.specs.Epochs.{epochs_along}
 use Rattle.step_log.specs.Kept.{Kept, Begins, moment_in}
 
--- No rule is enabled exactly where the network is stable, and then its mutual pairs are a maximal matching; where every pointer is
--- null or answered and the flags are right, they are one only then.
+-- No rule is enabled exactly if the network is stable; its mutual pairs then are a maximal matching. If every
+-- pointer is null or answered and the flags are right, they are one only if it is stable.
 pub record IsQuietWhereStable (t : RuleTable) (s : State) : Type 0 where
   pub exact : (enabled_names t s ≡ []) ↔ IsStable t.flags s
   pub matching : IsStable t.flags s → IsMaximalMatching s.network (mutual_pairs s)
   pub only : IsAnswered t.flags s → IsMaximalMatching s.network (mutual_pairs s) → IsStable t.flags s
 
--- From where the entries that are kept begin, the opening state or a base, these are a run of the rule machine to this moment.
+-- From their beginning, the opening state or a base, these entries are a run of the rule machine to this
+-- moment.
 abbrev pub LeadsTo : RuleTable → ℕ → Kept → List Entry → Moment → Type 0
 LeadsTo t weight kept entries m = (start : Moment) × Begins t weight kept start × Run t start entries m
 
--- * run: what is kept of the log is a run of the rule machine, moves of one step reading the old registers, to where the network is;
--- * quiet: where a beginning of it leads, no rule is enabled exactly where the network is stable;
--- * budget: moves behind it, up to the next disturbance, with the charge that is left are no more than the charge there was, and
---   that is at most twice the edges and the weight for each node;
--- * epochs: so no epoch has more moves, whatever states the entries are said to lead through; those that a base stands behind count.
+-- * run: what is kept of the log is a run of the rule machine to the network's state; moves of one step read
+--   the old registers;
+-- * quiet: after each prefix of it, no rule is enabled exactly if the network is stable;
+-- * budget: the moves up to the next disturbance, with the remaining charge, are at most the charge at the
+--   prefix's end, and that is at most twice the edges plus the weight for each node;
+-- * epochs: so no epoch has more moves, for any states that the entries may lead through; moves before a base
+--   count.
 pub record Upholds (t : RuleTable) (weight : ℕ) (kept : Kept) : Type 0 where
   pub run : LeadsTo t weight kept kept.entries (moment_in kept)
   pub quiet : (before after : List Entry) (m : Moment) → before ++ after ≡ kept.entries → LeadsTo t weight kept before m → IsQuietWhereStable t m.state

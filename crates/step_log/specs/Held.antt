@@ -1,4 +1,4 @@
--- A journal as contracts see it, and when an entry is prepared for it.
+-- A journal as contracts see it, and entries that are prepared for it.
 use Rattle.std.specs.Prelude.{◌≡◌, ℕ, ◌+◌, ◌<◌, List, map, Option}
 use Rattle.rule_machine.specs.declared.base.Base.{Base}
 use Rattle.rule_machine.specs.declared.base.Start.{Start}
@@ -14,7 +14,7 @@ use Rattle.step_log.specs.Log.{Log}
 use Rattle.step_log.specs.Kept.{Kept, IsKept, last_number, moment_in, next_receipt}
 use Rattle.step_log.specs.Epochs.{IsTold, of_run}
 
--- what it keeps, with for how many more neighbours each name has room, and for how many more entries and how many more epochs there is room
+-- what it keeps, each name's room for more neighbours, and the room for more entries and epochs
 pub record Held : Type 0 where
   pub state : State
   pub spent : ℕ
@@ -26,12 +26,12 @@ pub record Held : Type 0 where
   pub spare : ℕ
   pub spare_epochs : ℕ
 
--- what it keeps alone
+-- what it keeps, without the rooms
 abbrev pub kept_of : Held → Kept
 kept_of held =
     record { state = held.state; spent = held.spent; base = held.base; entries = held.entries; limit = held.limit; present = held.present }
 
--- the log, where nothing was dropped
+-- the log, if nothing was dropped
 abbrev pub log_of : Held → Log
 log_of held = record { state = held.state; spent = held.spent; entries = held.entries; limit = held.limit; present = held.present }
 
@@ -39,17 +39,18 @@ log_of held = record { state = held.state; spent = held.spent; entries = held.en
 abbrev pub net_of : Held → NetView
 net_of held = record { state = held.state; spent = held.spent; room = held.room }
 
--- what is kept where a network stands, with this base and these entries behind it, and with the limit and the nodes of the start
+-- what is kept with this network, base, entries after it, limit, and nodes at the start
 abbrev pub kept_at : NetView → Option Base → List Entry → ℕ → ℕ → Kept
 kept_at net base entries limit present =
     record { state = net.state; spent = net.spent; base = base; entries = entries; limit = limit; present = present }
 
--- What a journal keeps is a run from where it begins, and its epochs are told: those that are over, and where the one began that goes on.
+-- What a journal keeps is a run from its beginning; `over` are the epochs that are over, and the current one
+-- began at `begun`.
 pub record IsJournal (t : RuleTable) (weight : ℕ) (kept : Kept) (over : List Epoch) (begun : Start) : Type 0 where
   pub is_kept : IsKept t weight kept
   pub told : IsTold t (dropped kept.base + 1) (begun_at kept.base) is_kept.start kept.entries (moment_in kept) (map of_run over) begun
 
--- The receipt is that of the next entry, and to record it takes no memory.
+-- The receipt is that of the next entry, and recording it takes no memory.
 pub record IsReady (t : RuleTable) (held : Held) (receipt : Receipt) : Type 0 where
   pub next : receipt ≡ next_receipt t (kept_of held) receipt.event
   pub net : IsPrepared t (net_of held) receipt.event receipt.reply

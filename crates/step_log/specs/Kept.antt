@@ -1,4 +1,4 @@
--- What a journal keeps of a log: where a checkpoint dropped entries, a base and those behind it.
+-- What a journal keeps of a log: after a checkpoint, a base and the entries after it.
 use Rattle.std.specs.Prelude.{ℕ, ◌+◌, ◌≤◌, List, [], ◌∷◌, ◌++◌, length, Option, None, Some}
 use Rattle.rule_machine.specs.declared.base.Base.{Base}
 use Rattle.rule_machine.specs.declared.event.Event.{Event}
@@ -11,8 +11,8 @@ use Rattle.charge_laws.specs.Charged.{charge_bound}
 use Rattle.step_log.specs.declared.receipt.Receipt.{Receipt}
 use Rattle.step_log.specs.Log.{Log, max_entries}
 
--- the state of a network, the moves since it was last disturbed, the base if there is one, the entries behind it, the greatest number that
--- an entry may have, and how many of the names were present at the start, from 1 on
+-- a network's state, the moves since its last disturbance, the base if any, the entries after it, the limit
+-- of entry numbers, and the number of nodes at the start, named from 1
 pub record Kept : Type 0 where
   pub state : State
   pub spent : ℕ
@@ -21,7 +21,7 @@ pub record Kept : Type 0 where
   pub limit : ℕ
   pub present : ℕ
 
--- where its network is
+-- the moment of its network
 abbrev pub moment_in : Kept → Moment
 moment_in kept = record { state = kept.state; spent = kept.spent }
 
@@ -29,16 +29,17 @@ moment_in kept = record { state = kept.state; spent = kept.spent }
 abbrev pub last_number : Kept → ℕ
 last_number kept = dropped kept.base + length kept.entries
 
--- where its entries begin
+-- the moment before its entries
 abbrev pub Begins : RuleTable → ℕ → Kept → Moment → Type 0
 Begins t weight kept start = BeginsAt t (charge_bound weight) kept.state.network.size kept.present kept.base start
 
--- a base that a graph can have
+-- a base within the sizes of a graph
 abbrev pub IsShort : Option Base → Type 0
 IsShort None = Unit {0}
 IsShort (Some base) = (length base.nodes ≤ 65535) × (length base.edges ≤ 1048576)
 
--- the entries are a run of the machine from where they begin to the state and what is spent, and their numbers are within the limit
+-- the entries are a run of the machine from their beginning to the state and what is spent; numbers are
+-- within the limit
 pub record IsKept (t : RuleTable) (weight : ℕ) (kept : Kept) : Type 0 where
   pub start : Moment
   pub begins : Begins t weight kept start
@@ -48,17 +49,17 @@ pub record IsKept (t : RuleTable) (weight : ℕ) (kept : Kept) : Type 0 where
   pub limit : kept.limit ≤ max_entries
   pub short : IsShort kept.base
 
--- what is kept of a log of which nothing was dropped
+-- what is kept of a log if nothing was dropped
 abbrev pub whole : Log → Kept
 whole log =
     record { state = log.state; spent = log.spent; base = None; entries = log.entries; limit = log.limit; present = log.present }
 
--- the log, where nothing was dropped
+-- the log, if nothing was dropped
 abbrev pub log_in : Kept → Log
 log_in kept =
     record { state = kept.state; spent = kept.spent; entries = kept.entries; limit = kept.limit; present = kept.present }
 
--- the event with the reply to it
+-- the event with its reply
 abbrev pub next_entry : RuleTable → Kept → Event → Entry
 next_entry t kept event = (event, reply_of t kept.state kept.spent event)
 
@@ -71,11 +72,11 @@ kept_with t kept event =
       entries = kept.entries ++ next_entry t kept event ∷ [];
     }
 
--- what the caller is told of it
+-- the caller's receipt of it
 abbrev pub next_receipt : RuleTable → Kept → Event → Receipt
 next_receipt t kept event =
     record { seq = last_number kept + 1; event = event; reply = reply_of t kept.state kept.spent event }
 
--- with the base at which its network stands, and without an entry
+-- with its network's moment as the base, and without entries
 abbrev pub checkpointed : Kept → Kept
 checkpointed kept = record kept { base = Some (base_of (last_number kept) (moment_in kept)); entries = [] }

@@ -1,4 +1,4 @@
--- What a journal holds, and what recording an event makes of it.
+-- What a journal holds, and recording an event.
 use Rattle.std.specs.Prelude.{ℕ, ◌+◌, ◌≤◌, List, [], ◌∷◌, ◌++◌, length}
 use Rattle.rule_machine.specs.declared.event.Event.{Event}
 use Rattle.rule_machine.specs.State.{State, opening_with}
@@ -8,8 +8,8 @@ use Rattle.rule_machine.specs.Run.{Entry, Run, beginning_with}
 use Rattle.step_log.specs.declared.receipt.Receipt.{Receipt}
 pub use Rattle.step_log.specs.Recording.{max_entries}
 
--- the state of a network, the moves since it was last disturbed, the events and replies that led to it, how many of them there may
--- be, and how many of the names were present at the start, from 1 on
+-- a network's state, the moves since its last disturbance, the entries that led to it, their limit, and the
+-- number of nodes at the start, named from 1
 pub record Log : Type 0 where
   pub state : State
   pub spent : ℕ
@@ -17,23 +17,24 @@ pub record Log : Type 0 where
   pub limit : ℕ
   pub present : ℕ
 
--- the entries are a run of the machine from the opening state to the state and what is spent, and they are not too many
+-- the entries are a run of the machine from the opening state to the state and what is spent, within the
+-- limit
 pub record IsLog (t : RuleTable) (log : Log) : Type 0 where
   pub run : Run t (beginning_with log.state.network.size log.present) log.entries (record { state = log.state; spent = log.spent })
   pub size : log.state.network.size ≤ 65535
   pub room : length log.entries ≤ log.limit
   pub limit : log.limit ≤ max_entries
 
--- the log before any event, with the first of the names present, so many
+-- the log before any event; the names 1 to `present` are nodes
 abbrev pub empty_log_with : ℕ → ℕ → ℕ → Log
 empty_log_with size present limit =
     record { state = opening_with size present; spent = 0; entries = []; limit = limit; present = present }
 
--- the one in which all are
+-- the same, with all names present
 abbrev pub empty_log : ℕ → ℕ → Log
 empty_log nodes limit = empty_log_with nodes nodes limit
 
--- the event with the reply to it
+-- the event with its reply
 abbrev pub entry_of : RuleTable → Log → Event → Entry
 entry_of t log event = (event, reply_of t log.state log.spent event)
 
@@ -46,7 +47,7 @@ recorded t log event =
       entries = log.entries ++ entry_of t log event ∷ [];
     }
 
--- what the caller is told of it
+-- the caller's receipt of it
 abbrev pub receipt_of : RuleTable → Log → Event → Receipt
 receipt_of t log event =
     record { seq = length log.entries + 1; event = event; reply = reply_of t log.state log.spent event }

@@ -1,4 +1,4 @@
--- How far a recording has come, and what an event makes of it.
+-- The progress of a recording, and recording an event.
 use Rattle.std.specs.Prelude.{ℕ, ◌+◌, ◌≤◌, List}
 use Rattle.rule_machine.specs.declared.event.Event.{Event}
 use Rattle.rule_machine.specs.State.{State, IsState, opening_with}
@@ -7,8 +7,8 @@ use Rattle.rule_machine.specs.Least.{reply_of, state_after, spent_by}
 use Rattle.line_text.specs.EntryText.{entry_line}
 pub use Rattle.log_entry.specs.Kinds.{max_entries}
 
--- the state of a network, the moves since it was last disturbed, how many entries led to it, how many there may be, and how many of
--- the names were present at the start, from 1 on
+-- a network's state, the moves since its last disturbance, how many entries led to it, their limit, and the
+-- number of nodes at the start, named from 1
 pub record Recording : Type 0 where
   pub state : State
   pub spent : ℕ
@@ -16,18 +16,18 @@ pub record Recording : Type 0 where
   pub limit : ℕ
   pub present : ℕ
 
--- the network is one, and the entries are not too many
+-- the state is valid, and the entries are within the limit
 pub record IsRecording (r : Recording) : Type 0 where
   pub is_state : IsState r.state
   pub room : r.len ≤ r.limit
   pub limit : r.limit ≤ max_entries
 
--- the recording before any event, with the first of the names present, so many
+-- the recording before any event; the names 1 to `present` are nodes
 abbrev pub opening_recording_with : ℕ → ℕ → ℕ → Recording
 opening_recording_with size present limit =
     record { state = opening_with size present; spent = 0; len = 0; limit = limit; present = present }
 
--- the one in which all are
+-- the same, with all names present
 abbrev pub opening_recording : ℕ → ℕ → Recording
 opening_recording nodes limit = opening_recording_with nodes nodes limit
 

@@ -14,10 +14,12 @@ use rule_engine::{Rules, Want};
 use rule_machine::{RuleSet, Start};
 
 impl<R: Rules> Journal<R> {
-    /// Makes the present state the base of the log and drops all entries; the next one's number goes on. Gives the number of the
-    /// last entry, dropped now or before; 0, which is then the base too, where there was never one. The network, `spent` and `len`
-    /// stay. At want of memory nothing has changed. What was prepared can't be committed behind it. Takes some eight bytes a node
-    /// and four an edge, and gives back what the entries took; a look at every name and at both ends of every edge.
+    /// Makes the present state the base of the log, drops all entries, and returns the base's number.
+    /// This is the number of the last entry, dropped now or before; 0 if there was none. Numbers continue
+    /// after it. The network, `spent` and `len` stay. An entry prepared before cannot be committed after it.
+    /// `AllocError` if memory runs out; nothing has changed then.
+    /// Takes about eight bytes a node and four an edge, and frees the entries. Looks at every name and both
+    /// ends of every edge.
     pub fn checkpoint(&mut self) -> Result<u32, Want>
         ensures number { IfOk result (λ number. number ≡ last_number (kept_of self.old)) }
         ensures log { OnOk result (kept_of self.new ≡ checkpointed (kept_of self.old)) }
@@ -34,7 +36,7 @@ impl<R: Rules> Journal<R> {
         Ok(number)
     }
 
-    /// The number of the last entry that a checkpoint dropped; `None` where none was made. Takes no memory.
+    /// The number of the last entry that a checkpoint dropped; `None` without a checkpoint. Takes no memory.
     pub fn base(&self) -> Option<u32>
         ensures { MatchOption result (self.now.base ≡ None) (λ number. (base : Base) × (self.now.base ≡ Some base) × (base.number ≡ number)) }
     {
@@ -52,8 +54,9 @@ impl<R: Rules> Journal<R> {
         }
     }
 
-    /// The lines of the base, each with its LF, with which a transcript of the entries behind it begins; no byte where there is no
-    /// base. At most some 18 megabytes; `Want` if memory runs out.
+    /// The lines of the base, each with its LF; empty without a base.
+    /// A transcript of the entries after the base begins with them. At most about 18 megabytes.
+    /// `AllocError` if memory runs out.
     pub fn base_text(&self, rules: RuleSet) -> Result<Vec<u8>, Want>
         ensures { IfOk result (λ text. MatchOption self.now.base (text.items ≡ []) (λ base. text.items ≡ base_text rules self.now.state.network.size base)) }
     {

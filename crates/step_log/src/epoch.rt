@@ -10,13 +10,13 @@ use rule_engine::{Net, Reply, Rules, Want};
 use rule_machine::Start;
 use std::alloc::Global;
 
-/// The moves between two accepted disturbances, the start or the end, and how large the network was then. They are at most
-/// twice the edges and the rules' weight for each node.
+/// The moves between two accepted disturbances, the start or the end, and the network's size.
+/// The moves are at most twice the edges, plus the rules' weight for each node.
 #[derive(Clone, Copy, Debug, PartialEq, Eq)]
 pub struct Epoch {
-    /// Where it began: at an accepted disturbance, at the start, or before the base, of which no entry tells.
+    /// Where it began: at an accepted disturbance, at the start, or before the base, in dropped entries.
     pub start: Start,
-    /// How many moves there were, those that were spent at a base included.
+    /// How many moves there were, with those spent before a base.
     pub moves: u32,
     /// How many edges there were after the disturbance.
     pub edges: u32,
@@ -25,7 +25,7 @@ pub struct Epoch {
 }
 
 impl Epoch {
-    /// The epoch that began there, where it has come to what the network is now.
+    /// The epoch that began at `start`, up to now.
     fn up_to_now<R: Rules>(start: Start, net: &Net<R>) -> Epoch
         ensures { of_run result ≡ open_at start (moment_of net.now) }
     {
@@ -39,8 +39,8 @@ impl Epoch {
     }
 }
 
-/// The epochs of a log: those that are over, and where the one began that goes on. What else there is to tell of that one the
-/// network knows.
+/// The epochs of a log: those that are over, and the start of the current one.
+/// The network knows the rest of the current one.
 #[derive(Drop)]
 pub(crate) struct Epochs {
     pub over: Vec<Epoch>,
@@ -48,7 +48,6 @@ pub(crate) struct Epochs {
 }
 
 impl Epochs {
-    /// The epochs before any entry, where the first began there. There is room for none.
     pub fn new(alloc: Global, begun: Start) -> Epochs
         ensures over { result.over.items ≡ [] }
         ensures room { vec_capacity result.over ≡ 0 }
@@ -60,7 +59,7 @@ impl Epochs {
         }
     }
 
-    /// Makes room for one more that is over, if an entry with this reply ends one.
+    /// Makes room for one more epoch that is over, if an entry with this reply ends one.
     pub fn make_room(&mut self, reply: &Reply) -> Result<(), Want>
         ensures room { OnOk result (reply.now ≡ Accepted → length self.new.over.items < vec_capacity self.new.over) }
         ensures over { self.new.over.items ≡ self.old.over.items }
@@ -72,8 +71,8 @@ impl Epochs {
         Ok(())
     }
 
-    /// Ends the epoch that goes on and begins the next, if the entry with this number and reply is an accepted disturbance. The
-    /// network is still as it was before the entry. It takes no memory.
+    /// Ends the current epoch and begins the next, if the entry is an accepted disturbance.
+    /// The network is still as before the entry. Takes no memory.
     pub fn turn<R: Rules>(&mut self, number: u32, reply: &Reply, net: &Net<R>)
         requires { reply.now ≡ Accepted → length self.old.over.items < vec_capacity self.old.over }
         ensures over { map of_run self.new.over.items ≡ map of_run self.old.over.items ++ ended_by reply.now (open_at self.old.begun (moment_of net.now)) }
@@ -85,7 +84,7 @@ impl Epochs {
         }
     }
 
-    /// All of them in order, the last up to what the network is now.
+    /// All epochs in order, the last up to now.
     pub fn list<R: Rules>(&self, alloc: Global, net: &Net<R>) -> Result<Vec<Epoch>, Want>
         ensures { IfOk result (λ epochs. map of_run epochs.items ≡ map of_run self.now.over.items ++ open_at self.now.begun (moment_of net.now) ∷ []) }
     {

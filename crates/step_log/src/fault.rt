@@ -1,15 +1,15 @@
-//! Why an event is not recorded, and why there is no entry to be shown.
+//! Why an event is not recorded, and why a number has no entry.
 
 use std::alloc::AllocError;
 use thiserror::Error;
 
-/// Why an event was not recorded. The journal is as before.
+/// Why an event was not recorded. The journal is unchanged.
 #[derive(Clone, Copy, Debug, PartialEq, Eq, Error)]
 pub enum RecordFault {
-    /// The last entry has the greatest number that one may have.
+    /// The limit of entries is reached.
     #[error("log full")]
     LogFull,
-    /// A growth of memory was refused.
+    /// Memory ran out.
     #[error("out of memory")]
     Memory,
 }
@@ -25,13 +25,13 @@ impl From<AllocError> for RecordFault {
     }
 }
 
-/// Why a journal shows no entry with a number.
+/// Why a journal has no entry with a number.
 #[derive(Clone, Copy, Debug, PartialEq, Eq, Error)]
 pub enum NoEntry {
     /// A checkpoint dropped it.
     #[error("forgotten")]
     Forgotten,
-    /// There was never one: the number is 0, or above the last.
+    /// It never existed: the number is 0, or above the last.
     #[error("no such entry")]
     Beyond,
 }

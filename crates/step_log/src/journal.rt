@@ -28,12 +28,13 @@ use std::alloc::Global;
 use std::marker::Model;
 use std::mem::size_of;
 
-// What an entry takes in the log, beside its lists.
+// The size of an entry in the log, without its lists.
 const _: () = prove!(size_of::<Entry>() <= 80);
 
-/// A network under the rules `R` and the log of its events, each with the reply to it: a run of the rule machine from
-/// the opening state to where the network is, or from a base, where a checkpoint dropped what came before. Contracts see beside
-/// these for what there is room.
+/// A network under the rules `R` with the log of its events and their replies.
+/// The log is a run of the rule machine, from the opening state or a checkpoint's base to the network's
+/// state.
+/// Contracts also see the room left for neighbours, entries and epochs.
 #[derive(Drop)]
 pub struct Journal<R: Rules> {
     pub(crate) alloc: Global,
@@ -71,8 +72,8 @@ impl<R: Rules> Model for Journal<R> {
 }
 
 impl<R: Rules> Journal<R> {
-    /// The journal of a new network of the nodes 1 to `nodes`, which may hold 16,777,216 entries. `TooManyNodes`
-    /// above 65,535 nodes, and `Memory` if memory runs out.
+    /// The journal of a new network of the nodes 1 to `nodes`, with a limit of 16,777,216 entries.
+    /// `TooManyNodes` above 65,535 nodes; `Memory` if memory runs out.
     pub fn new(alloc: Global, nodes: u32) -> Result<Journal<R>, GraphFault>
         ensures ok { IfOk result (λ journal. kept_of journal ≡ whole (empty_log nodes max_entries)) }
         ensures small { OnOk result (nodes ≤ 65535) }
@@ -81,8 +82,7 @@ impl<R: Rules> Journal<R> {
         Journal::with_limit(alloc, nodes, MAX_ENTRIES)
     }
 
-    /// The journal of a new network of the nodes 1 to `nodes`, which may hold `limit` entries; a limit above 16,777,216 counts
-    /// as that. `TooManyNodes` above 65,535 nodes, and `Memory` if memory runs out.
+    /// Like `new`, with a limit of `limit` entries; a limit above 16,777,216 counts as that.
     pub fn with_limit(alloc: Global, nodes: u32, limit: u32) -> Result<Journal<R>, GraphFault>
         ensures ok { IfOk result (λ journal. kept_of journal ≡ whole (empty_log nodes (min limit max_entries))) }
         ensures small { OnOk result (nodes ≤ 65535) }
@@ -91,9 +91,8 @@ impl<R: Rules> Journal<R> {
         Journal::with_present(alloc, nodes, nodes, limit)
     }
 
-    /// The journal of a new network of the names 1 to `nodes`, of which 1 to `present` are nodes at the start, which may hold
-    /// `limit` entries; a limit above 16,777,216 counts as that. `TooManyNodes` above 65,535 names, and `Memory` if memory runs
-    /// out.
+    /// Like `with_limit`, but only the names 1 to `present` are nodes at the start.
+    /// `TooManyNodes` above 65,535 names; `Memory` if memory runs out.
     pub fn with_present(
         alloc: Global,
         nodes: u32,
@@ -116,7 +115,7 @@ impl<R: Rules> Journal<R> {
         })
     }
 
-    /// The number of the last entry, also where it was dropped; 0 before the first.
+    /// The number of the last entry, kept or dropped; 0 before the first.
     pub fn len(&self) -> u32
         ensures number { result ≡ last_number (kept_of self.now) }
         ensures run { IsKept R.table R.NODE_WEIGHT (kept_of self.now) }
@@ -125,7 +124,8 @@ impl<R: Rules> Journal<R> {
         self.dropped() + self.entries.len() as u32
     }
 
-    /// The entry with this number. `Forgotten` for 1 to the base, `Beyond` for 0 and above `len`.
+    /// The entry with this number.
+    /// `Forgotten` from 1 to the base; `Beyond` for 0 and above `len`.
     pub fn entry(&self, number: u32) -> Result<&Entry, NoEntry>
         ensures found { IfOk result (λ entry. (dropped self.now.base < number) × (slice_get self.now.entries (number - dropped self.now.base - 1) ≡ Some entry.now)) }
         ensures forgotten { IsErrOf result Forgotten ↔ ((0 < number) × (number ≤ dropped self.now.base)) }
@@ -143,7 +143,7 @@ impl<R: Rules> Journal<R> {
         }
     }
 
-    /// The network as the entries have left it.
+    /// The network after all entries.
     pub fn net(&self) -> &Net<R>
         ensures state { result.now.state ≡ self.now.state }
         ensures spent { result.now.spent ≡ self.now.spent }
@@ -155,8 +155,7 @@ impl<R: Rules> Journal<R> {
         &self.net
     }
 
-    /// The charge: no more moves than this can come before the next accepted disturbance, and where it is zero the network is
-    /// stable. By the looks of `Net::charge`.
+    /// The charge, a bound on the moves before the next accepted disturbance. See `Net::charge`.
     pub fn charge(&mut self) -> u32
         ensures charge { result ≡ R.table.charge self.old.state }
         ensures settled { result ≡ 0 → IsStable R.table.flags self.old.state }
@@ -165,8 +164,7 @@ impl<R: Rules> Journal<R> {
         self.net.charge()
     }
 
-    /// The moves since the last accepted disturbance, or since the start. With the charge they are at most twice the
-    /// edges and the rules' weight for each node. One look.
+    /// The moves since the last accepted disturbance, or since the start. See `Net::spent`.
     pub fn spent(&self) -> u32
         ensures count { result ≡ self.now.spent }
         ensures bound { self.now.spent + R.table.charge self.now.state ≤ 2 * edge_count self.now.state.network + R.NODE_WEIGHT * node_count self.now.state.network }
@@ -174,8 +172,8 @@ impl<R: Rules> Journal<R> {
         self.net.spent()
     }
 
-    /// What an event would cost if it were recorded now, in moves: by how much it would let the charge grow at most. 0 for one that would
-    /// be refused, for a step and for a question. Nothing is recorded, and no memory taken; it costs what `Net::cost_of` does.
+    /// The most that an event, if it were recorded now, would add to the charge, in moves.
+    /// Records nothing. See `Net::cost_of`, also for the cost.
     pub fn cost_of(&self, event: &Event) -> u32
         ensures cost { result ≡ cost_of R.table R.cost self.now.state event.now }
         ensures grows { BoundsGrowth R.table self.now.state self.now.spent event.now result }
@@ -183,17 +181,15 @@ impl<R: Rules> Journal<R> {
         self.net().cost_of(event)
     }
 
-    /// Whether a node is at rest: whatever the daemon chooses, it never moves until a disturbance reaches it. Nothing is recorded; it costs
-    /// what `Net::is_at_rest` does.
+    /// Whether a node is at rest. Records nothing. See `Net::is_at_rest`, also for the cost.
     pub fn is_at_rest(&self, v: Node) -> bool
         ensures { result ≡ is_at_rest R.table.flags self.now.state v }
     {
         self.net().is_at_rest(v)
     }
 
-    /// The nodes, ascending, that an event would reach if it were recorded now: whoever is at rest and not among them stays at rest.
-    /// Empty for one that would be refused, for a step and for a question. Nothing is recorded. `AllocError` if memory runs out; it costs
-    /// what `Net::reach_of` does.
+    /// The nodes, ascending, that an event would reach if it were recorded now. Records nothing.
+    /// `AllocError` if memory runs out. See `Net::reach_of`, also for the cost.
     pub fn reach_of(&self, event: &Event) -> Result<Vec<Node>, Want>
         ensures reach { IfOk result (λ list. list.items ≡ reach_of R.table self.now.state event.now) }
         ensures few { IfOk result (λ list. length list.items ≤ reach_size self.now.state event.now) }
@@ -202,9 +198,9 @@ impl<R: Rules> Journal<R> {
         self.net().reach_of(event)
     }
 
-    /// The epochs of the log in order, the first from the start, or the one in which its base stands, the last up to now: each has at
-    /// most twice its edges and the rules' weight for each node as its moves. `Memory` if memory runs out. They are kept as the
-    /// log grows, so that it copies them, with no look at an entry.
+    /// The epochs of the log, in order. The first is from the start or contains the base; the last ends now.
+    /// Each has at most twice its edges, plus the rules' weight for each node, as its moves.
+    /// `AllocError` if memory runs out. They are copied from a list kept as the log grows.
     pub fn epochs(&self) -> Result<Vec<Epoch>, Want>
         ensures epochs { IfOk result (λ epochs. AreEpochs R.table R.NODE_WEIGHT (kept_of self.now) epochs.items) }
         ensures bound { IfOk result (λ epochs. All (IsBounded R.NODE_WEIGHT) epochs.items) }
@@ -212,17 +208,17 @@ impl<R: Rules> Journal<R> {
         self.epochs.list(self.alloc, &self.net)
     }
 
-    /// Whether the last entry has the greatest number that one may have.
+    /// Whether the log has reached its limit.
     pub fn is_full(&self) -> bool
         ensures { IsTrue result ↔ (last_number (kept_of self.now) ≡ self.now.limit) }
     {
         self.len() >= self.limit
     }
 
-    /// The entry that `record` would add for an event, with its receipt and all the memory that recording them takes:
-    /// `commit` does that, and can't fail. The log and the network stay, and where what is prepared is dropped nothing
-    /// has changed. `LogFull` exactly where `len` is the limit, which comes before all else;
-    /// `Memory` if memory runs out. It has copies of the event and the reply.
+    /// The entry that `record` would add for an event, with its receipt and all the memory that it needs.
+    /// `commit` then records it and cannot fail. The log and the network stay, also if the prepared entry is
+    /// dropped.
+    /// Faults are those of `record`.
     pub fn prepare(&mut self, event: Event) -> Result<Prepared, RecordFault>
         ensures receipt { IfOk result (λ prepared. prepared ≡ next_receipt R.table (kept_of self.old) event) }
         ensures ready { IfOk result (λ prepared. IsReady R.table self.new prepared) }
@@ -235,9 +231,9 @@ impl<R: Rules> Journal<R> {
         Ok(Prepared::new(seq, event, reply)?)
     }
 
-    /// The entry that `record_step` would add for a step, from the verdicts of its items and without a second look at a guard,
-    /// with its receipt and all the memory that recording them takes: `commit` does that, and can't fail. The log and the
-    /// network stay. `LogFull` exactly where `len` is the limit, which comes before all else; `Memory` if memory runs out.
+    /// The entry that `record_step` would add, with its receipt and all the memory that it needs.
+    /// `commit` then records it and cannot fail. The log and the network stay. No guard is evaluated again.
+    /// Faults are those of `record`.
     pub fn prepare_step(
         &mut self,
         choice: Choice,
@@ -255,8 +251,8 @@ impl<R: Rules> Journal<R> {
         Ok(Prepared::new(seq, Event::Step(choice), reply)?)
     }
 
-    /// Carries out and records what this journal has prepared, where it has recorded nothing and made no checkpoint since, and
-    /// gives the receipt. It takes no memory.
+    /// Carries out and records what this journal has prepared, and returns the receipt. Takes no memory.
+    /// The journal must have recorded nothing and made no checkpoint since.
     pub fn commit(&mut self, prepared: Prepared) -> Receipt
         requires { IsReady R.table self.old prepared }
         ensures receipt { result ≡ prepared }
@@ -269,8 +265,10 @@ impl<R: Rules> Journal<R> {
         receipt
     }
 
-    /// Carries out an event, adds it to the log with the reply to it, and gives a receipt of the entry, which has copies
-    /// of the event and the reply. `LogFull` exactly where `len` is the limit, which comes before all else; `Memory` if memory runs out. At a fault nothing has changed.
+    /// Carries out an event, adds it with its reply to the log, and returns the entry's receipt.
+    /// The receipt holds copies of the event and the reply.
+    /// `LogFull` exactly if `len` is the limit, before any other fault; `Memory` if memory runs out.
+    /// A fault changes nothing.
     pub fn record(&mut self, event: Event) -> Result<Receipt, RecordFault>
         ensures receipt { IfOk result (λ receipt. receipt ≡ next_receipt R.table (kept_of self.old) event) }
         ensures log { OnOk result (kept_of self.new ≡ kept_with R.table (kept_of self.old) event) }
@@ -281,9 +279,8 @@ impl<R: Rules> Journal<R> {
         Ok(self.commit(prepared))
     }
 
-    /// Carries out a step from the verdicts of its items and adds it to the log with its reply: what `record` of the step would
-    /// do, without a second look at a guard. `LogFull` exactly where `len` is the limit, which comes before all else; `Memory`
-    /// if memory runs out. At a fault nothing has changed.
+    /// Carries out a step from the verdicts of its items and logs it, as `record` of the step would.
+    /// No guard is evaluated again. Faults are those of `record`.
     pub fn record_step(
         &mut self,
         choice: Choice,
@@ -299,7 +296,7 @@ impl<R: Rules> Journal<R> {
         Ok(self.commit(prepared))
     }
 
-    /// Makes room for one more entry, and gives its number.
+    /// Makes room for one more entry, and returns its number.
     fn make_room(&mut self) -> Result<u32, RecordFault>
         ensures number { IfOk result (λ number. number ≡ last_number (kept_of self.old) + 1) }
         ensures below { OnOk result (last_number (kept_of self.old) < self.old.limit) }

@@ -1,5 +1,4 @@
-//! What the headline says of every log, beside its own words: the two bounds by their numbers, and that it speaks of moments that
-//! there are.
+//! Consequences of the headline, `Upholds`: the bound of each rule set, and that its moments exist.
 
 ghost use Rattle.std.specs.Prelude.{◌≡◌, ◌≤◌, ◌+◌, ◌*◌, ◌++◌, ℕ, List, All, map};
 ghost use Rattle.rule_machine.specs.HsuHuang.{hsu_huang};
@@ -14,8 +13,9 @@ ghost use Rattle.step_log.specs.Epochs.{epochs_along};
 ghost use Rattle.step_log.specs.Headline.{Upholds, LeadsTo};
 ghost use Rattle.step_log.specs.Kept.{Kept, Begins};
 
-/// Between two disturbances of a log at most 2m + n moves by the rules of Hsu and Huang, and at most 2m + 3n by those of Manne and
-/// others, with m edges and n nodes there; what is left of the charge counts too.
+/// Between two disturbances a log has at most 2m + n moves under `hh` and 2m + 3n under `manne`.
+/// Here m edges and n nodes are those at the time; the remaining charge counts too.
+/// Rules: Hsu and Huang (1992); Manne, Mjelde, Pilard and Tixeuil (2009).
 pub fn budgets_by_name()
     ensures hsu_huang { (kept : Kept) → Upholds hsu_huang 1 kept
         → (before calm after : List Entry) (m n : Moment) → before ++ (calm ++ after) ≡ kept.entries
@@ -27,7 +27,7 @@ pub fn budgets_by_name()
         → moves_in calm + manne.charge n.state ≤ 2 * edge_count m.state.network + 3 * node_count m.state.network }
 {}
 
-/// Every epoch of a log has at most so many moves, with the edges and nodes that it began with.
+/// Each epoch of a log, with m edges and n nodes, has at most as many moves.
 pub fn epochs_by_name()
     ensures hsu_huang { (kept : Kept) → Upholds hsu_huang 1 kept
         → (start : Moment) (path : List (Entry × State)) → Begins hsu_huang 1 kept start → map (λ step. step.0) path ≡ kept.entries → IsPath hsu_huang start path
@@ -37,7 +37,7 @@ pub fn epochs_by_name()
         → All (λ epoch. epoch.moves ≤ 2 * epoch.edges + 3 * epoch.nodes) (epochs_along kept start path) }
 {}
 
-/// Each beginning of what is kept of a log leads to a moment, and to one alone.
+/// Each prefix of the kept entries leads to exactly one moment.
 pub fn beginnings_lead_somewhere()
     ensures { (t : RuleTable) (weight : ℕ) (kept : Kept) → Upholds t weight kept
         → (before after : List Entry) → before ++ after ≡ kept.entries

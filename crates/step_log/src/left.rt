@@ -8,7 +8,8 @@ use crate::{Journal, Recorder};
 use rule_engine::NodeBound;
 
 impl<R: NodeBound> Recorder<R> {
-    /// How many moves can still come before the next accepted disturbance: at most this many, as `Net::moves_left` has it, by its looks.
+    /// How many moves can still come before the next accepted disturbance, at most.
+    /// See `Net::moves_left`, also for the cost.
     pub fn moves_left(&mut self) -> u32
         ensures value { result ≡ moves_left (R.table.charge self.old.state) (R.most (node_count self.old.state.network)) }
         ensures promise { BoundsMoves R.table self.old.state self.old.spent result }
@@ -19,7 +20,8 @@ impl<R: NodeBound> Recorder<R> {
 }
 
 impl<R: NodeBound> Journal<R> {
-    /// How many moves can still come before the next accepted disturbance: at most this many, as `Net::moves_left` has it, by its looks.
+    /// How many moves can still come before the next accepted disturbance, at most.
+    /// See `Net::moves_left`, also for the cost.
     pub fn moves_left(&mut self) -> u32
         ensures value { result ≡ moves_left (R.table.charge self.old.state) (R.most (node_count self.old.state.network)) }
         ensures promise { BoundsMoves R.table self.old.state self.old.spent result }

@@ -1,12 +1,13 @@
-//! The recorder, a network that numbers its entries, and the journal, one that keeps them as its log, too.
+//! Networks that number their entries: the recorder, which keeps none, and the journal, which keeps a log.
 //!
-//! A `Recorder` hands out each entry's number, reply and text and keeps none: a script's run stands on it. A `Journal` keeps its log from
-//! the start, or from its last checkpoint, whose base it keeps in place of what was dropped; numbers go on. Its type says that what it
-//! keeps is a run of the rule machine which ends where the network is, that each entry's reply is the machine's, and that the moves of
-//! each epoch are within the bound (`Upholds`). At a fault nothing has changed. `LogFull` comes exactly where the log's limit is reached.
+//! A `Recorder` hands out each entry's number, reply and text. A `Journal` keeps its log from the start or
+//! from its last checkpoint, whose base replaces the dropped entries; numbers continue. Its type states three
+//! facts (`Upholds`): it keeps a run of the rule machine to the network's state; each reply is the machine's;
+//! each epoch's moves are within the bound. A fault changes nothing. `LogFull` comes exactly if the log's
+//! limit is reached.
 //!
-//! `record` is `prepare`, which takes all the memory, and `commit`, which takes none and can't fail. An entry takes 80 bytes at most
-//! beside its lists.
+//! `record` is `prepare`, which takes all the memory, then `commit`, which cannot fail. An entry takes at
+//! most 80 bytes, plus its lists.
 //!
 //! ```rust
 //! let mut journal = Journal::<HsuHuang>::new(alloc, 3)?;

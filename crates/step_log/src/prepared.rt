@@ -8,7 +8,8 @@ use log_entry::Entry;
 use rule_machine::{Event, Reply, Want};
 use std::marker::Model;
 
-/// An entry that a journal has prepared, with its receipt, seen in contracts as the receipt. `Journal::commit` records it.
+/// An entry that a journal has prepared, with its receipt. `Journal::commit` records it.
+/// Contracts see the receipt.
 #[derive(Drop)]
 pub struct Prepared {
     entry: Entry,
@@ -27,7 +28,7 @@ impl Model for Prepared {
 }
 
 impl Prepared {
-    /// The entry with this number, with copies of the event and the reply for its receipt.
+    /// The entry with this number. Its receipt holds copies of the event and the reply.
     pub(crate) fn new(seq: u32, event: Event, reply: Reply) -> Result<Prepared, Want>
         requires { IsTrue (fits event reply) }
         ensures { IfOk result (λ prepared. prepared ≡ record { seq = seq; event = event; reply = reply }) }
@@ -41,7 +42,7 @@ impl Prepared {
         Ok(Prepared { entry, receipt })
     }
 
-    /// The entry's receipt, which `commit` gives.
+    /// The entry's receipt, which `commit` returns.
     pub fn receipt(&self) -> &Receipt
         ensures { result.now ≡ self.now }
     {

@@ -1,23 +1,23 @@
-//! What a caller is told of an event.
+//! What a caller gets for an event.
 
 use rule_machine::{Event, Reply};
 
-/// The entry that a call added: its number in the log, from 1, the event, and the reply to it.
+/// The entry that a call added: its number in the log, the event and the reply.
 #[derive(Debug, Drop, PartialEq, Eq)]
 pub struct Receipt {
     /// The number of the entry, 1 to 16,777,216.
     pub seq: u32,
-    /// What was asked.
+    /// The event.
     pub event: Event,
-    /// What was answered.
+    /// The reply.
     pub reply: Reply,
 }
 
-/// The number of the event's entry, and the reply to it.
+/// The number of the event's entry, and the reply.
 #[derive(Debug, Drop, PartialEq, Eq)]
 pub struct Answer {
     /// The number of the entry, 1 to 16,777,216.
     pub seq: u32,
-    /// What was answered.
+    /// The reply.
     pub reply: Reply,
 }

@@ -19,7 +19,7 @@ use rule_engine::{Choice, Event, GraphFault, Net, Reply, Rules, Verdict, Want};
 use std::alloc::Global;
 use std::marker::Model;
 
-/// A network under the rules `R` that numbers its entries and hands them out, up to a limit. It keeps none.
+/// A network under the rules `R` that numbers its entries up to a limit, hands them out and keeps none.
 #[derive(Drop)]
 pub struct Recorder<R: Rules> {
     pub(crate) net: Net<R>,
@@ -43,8 +43,8 @@ impl<R: Rules> Model for Recorder<R> {
 }
 
 impl<R: Rules> Recorder<R> {
-    /// The recorder of a new network of the nodes 1 to `nodes`, which may give 16,777,216 entries. `TooManyNodes`
-    /// above 65,535 nodes, and `Memory` if memory runs out.
+    /// The recorder of a new network of the nodes 1 to `nodes`, with a limit of 16,777,216 entries.
+    /// `TooManyNodes` above 65,535 nodes; `Memory` if memory runs out.
     pub fn new(alloc: Global, nodes: u32) -> Result<Recorder<R>, GraphFault>
         ensures ok { IfOk result (λ recorder. recorder ≡ opening_recording nodes max_entries) }
         ensures small { OnOk result (nodes ≤ 65535) }
@@ -53,8 +53,7 @@ impl<R: Rules> Recorder<R> {
         Recorder::with_limit(alloc, nodes, MAX_ENTRIES)
     }
 
-    /// The recorder of a new network of the nodes 1 to `nodes`, which may give `limit` entries; a limit above 16,777,216 counts
-    /// as that. `TooManyNodes` above 65,535 nodes, and `Memory` if memory runs out.
+    /// Like `new`, with a limit of `limit` entries; a limit above 16,777,216 counts as that.
     pub fn with_limit(alloc: Global, nodes: u32, limit: u32) -> Result<Recorder<R>, GraphFault>
         ensures ok { IfOk result (λ recorder. recorder ≡ opening_recording nodes (min limit max_entries)) }
         ensures small { OnOk result (nodes ≤ 65535) }
@@ -63,9 +62,8 @@ impl<R: Rules> Recorder<R> {
         Recorder::with_present(alloc, nodes, nodes, limit)
     }
 
-    /// The recorder of a new network of the names 1 to `nodes`, of which 1 to `present` are nodes at the start, which may give
-    /// `limit` entries; a limit above 16,777,216 counts as that. `TooManyNodes` above 65,535 names, and `Memory` if memory runs
-    /// out.
+    /// Like `with_limit`, but only the names 1 to `present` are nodes at the start.
+    /// `TooManyNodes` above 65,535 names; `Memory` if memory runs out.
     pub fn with_present(
         alloc: Global,
         nodes: u32,
@@ -93,7 +91,7 @@ impl<R: Rules> Recorder<R> {
         self.len
     }
 
-    /// Whether there were as many entries as there may be.
+    /// Whether the limit of entries is reached.
     pub fn is_full(&self) -> bool
         ensures full { IsTrue result ↔ (self.now.len ≡ self.now.limit) }
         ensures room { self.now.len ≤ self.now.limit }
@@ -101,7 +99,7 @@ impl<R: Rules> Recorder<R> {
         self.len >= self.limit
     }
 
-    /// The network as the entries have left it.
+    /// The network after all entries.
     pub fn net(&self) -> &Net<R>
         ensures state { result.now.state ≡ self.now.state }
         ensures spent { result.now.spent ≡ self.now.spent }
@@ -109,8 +107,7 @@ impl<R: Rules> Recorder<R> {
         &self.net
     }
 
-    /// The charge: no more moves than this can come before the next accepted disturbance, and where it is zero the network is
-    /// stable. By the looks of `Net::charge`.
+    /// The charge, a bound on the moves before the next accepted disturbance. See `Net::charge`.
     pub fn charge(&mut self) -> u32
         ensures charge { result ≡ R.table.charge self.old.state }
         ensures settled { result ≡ 0 → IsStable R.table.flags self.old.state }
@@ -119,8 +116,7 @@ impl<R: Rules> Recorder<R> {
         self.net.charge()
     }
 
-    /// The moves since the last accepted disturbance, or since the start. With the charge they are at most twice the
-    /// edges and the rules' weight for each node. One look.
+    /// The moves since the last accepted disturbance, or since the start. See `Net::spent`.
     pub fn spent(&self) -> u32
         ensures count { result ≡ self.now.spent }
         ensures bound { self.now.spent + R.table.charge self.now.state ≤ 2 * edge_count self.now.state.network + R.NODE_WEIGHT * node_count self.now.state.network }
@@ -128,11 +124,12 @@ impl<R: Rules> Recorder<R> {
         self.net.spent()
     }
 
-    /// Carries out an event, puts the reply to it where the caller keeps it, so that none is moved, and adds the text of its entry, with
-    /// its LF, to a text; the event's own text is copied where it is at hand, as a line that the event was read from. The entry's number
-    /// is `len` then. `LogFull` exactly where there were as many entries as there may be, which comes before all else; `Memory` if
-    /// memory runs out. At a fault the network, its entries and the text have not changed, so that no entry is lost where there was
-    /// memory for its reply and none for its text, and nothing is said of the reply. Takes the memory of the two and no other.
+    /// Carries out an event, puts the reply into `reply`, and appends the text of the entry, with its LF.
+    /// The entry's number then is `len`. If the caller has the event's own text, it passes `line`, which is
+    /// copied.
+    /// `LogFull` exactly if the limit is reached, before any other fault; `Memory` if memory runs out. Then
+    /// the network, its entries and the text are unchanged, and the value of `reply` is unspecified.
+    /// Takes memory only for the reply and the text.
     #[inline(always)]
     pub fn log_entry(
         &mut self,
@@ -162,8 +159,9 @@ impl<R: Rules> Recorder<R> {
         Ok(())
     }
 
-    /// Carries out a step from the verdicts of its items, without a second look at a guard, and gives the number of its entry and
-    /// the reply; adds no text. `LogFull` and `Memory` as `log_entry` has them; at a fault nothing has changed.
+    /// Carries out a step from the verdicts of its items; returns the entry's number and the reply.
+    /// It appends no text and evaluates no guard again.
+    /// `LogFull` and `Memory` as in `log_entry`. A fault changes nothing.
     pub fn log_step(&mut self, choice: &Choice, verdicts: &[Verdict]) -> Result<Answer, RecordFault>
         requires { verdicts.now ≡ verdicts_of R.table self.old.state choice.now }
         ensures number { IfOk result (λ answer. answer.seq ≡ self.old.len + 1) }
@@ -186,8 +184,8 @@ impl<R: Rules> Recorder<R> {
     }
 }
 
-/// Adds the text of an entry, with its LF, to a text; the event's is copied where it is at hand. At want of memory that has not
-/// changed.
+/// Appends the text of an entry, with its LF; copies the event's text from `line` if it is given.
+/// If memory runs out the text is unchanged.
 #[inline(always)]
 fn put_text(
     out: &mut Vec<u8>,

@@ -106,7 +106,7 @@ pub always : {A : Type 0} (P : Type 0) (told : Option A) → P → IfSome told (
 always P None p = tt
 always P (Some a) p = p
 
--- what was chosen on a beginning of what a clerk's note tells
+-- what was chosen on a beginning of what a clerk's note shows
 abbrev pub chose : (setting : Setting) (Chooses : State → Option Event → Type 0) (log : Log) (old mid : List Receipt) (new : ClerkView) (told : Option Reply) → IsLogIn setting log → call_fault (front_of old) log ≡ None
     → ChoosesOn setting.table log Chooses old mid told → new.receipts ≡ mid → IsPrefix log.entries (noted new.note) → Chose setting Chooses old new told
 chose setting Chooses log old mid new told own free taken same begins = record {
@@ -156,7 +156,7 @@ turn_at setting draws words left old new told receipt drew (Some event) is (answ
 
 -- ---- some turns
 
--- so many turns were taken
+-- this many turns were taken
 pub record Took (setting : Setting) (draws : Draws) (P : Receipt → Type 0) (words : Stream) (count : ℕ) (old : List Receipt) (new : ClerkView) (left : Stream) : Type 0 where
   pub own : List Receipt
   pub added : new.receipts ≡ old ++ own
@@ -193,7 +193,7 @@ drawn_from setting draws P base words left count old new so_far = (All-weaker (A
 pub took_above : (setting : Setting) (draws : Draws) (P : Receipt → Type 0) (base : Option ℕ) (words left : Stream) (count : ℕ) (old : List Receipt) (new : ClerkView) (so_far : Took setting draws (Above P base) words count old new left) → AreAbove base so_far.own
 took_above setting draws P base words left count old new so_far = All-weaker (Above P base) (λ r. base_from base < r.seq) (λ r is. is.1) so_far.own so_far.kind
 
--- the front of some receipts is that of those behind, from that of those before
+-- the front of some receipts is that of the later ones, from that of the earlier ones
 pub front_behind : (low : ℕ) (old own : List Receipt) → front_from low (old ++ own) ≡ front_from (front_from low old) own
 front_behind low [] own = refl
 front_behind low (receipt ∷ old) own = front_behind receipt.seq old own
@@ -206,14 +206,14 @@ none_drawn : (setting : Setting) (log : Log) (old new : List Receipt) (told : Op
 none_drawn setting log old new told None is none = refl
 none_drawn setting log old new told (Some event) (answer, more) none = absurd (false≢true (sym none ∙ ap is_some answer))
 
--- where a clerk looked that was told all of this, there is a beginning of what its note tells now
+-- a clerk with all of these receipts looked at a beginning of what its note then shows
 abbrev looked : (setting : Setting) (Chooses : State → Option Event → Type 0) (old mid own : List Receipt) (new : ClerkView) (told : Option Reply) → mid ≡ old ++ own → Chose setting Chooses mid new told → IsLogBehind (scene_of setting new) (front_of old) own
 looked setting Chooses old mid own new told added chose =
     let few : front_of mid ≤ length chose.took.log.entries = seen_few (front_of mid) chose.took.log chose.took.free in
     let front : front_of mid ≡ front_from (front_of old) own = ap front_of added ∙ front_behind 0 old own in
     record { log = chose.took.log; is_own = chose.took.own; begins = chose.begins; behind = omega (arith, few, front) }
 
--- a daemon that finds nothing finds no node enabled, behind all that its clerk was told
+-- a daemon that finds nothing finds no node enabled, after all its clerk's receipts
 quiet_behind : (setting : Setting) (words left : Stream) (old mid : List Receipt) (new : ClerkView) (own : List Receipt) → mid ≡ old ++ own → Draw setting drawn_step words left mid new None → IsQuietBehind (scene_of setting new) (front_of old) own
 quiet_behind setting words left old mid new own added drew =
     let log = drew.took.log in
@@ -231,7 +231,7 @@ pub daemon_rests : (setting : Setting) (words left : Stream) (mid : List Receipt
 daemon_rests setting words left mid new None drew none old own added = quiet_behind setting words left old mid new own added drew
 daemon_rests setting words left mid new (Some reply) drew none old own added = absurd (false≢true (sym none))
 
--- an injector that finds nothing finds no node, behind all that its clerk was told
+-- an injector that finds nothing finds no node, after all its clerk's receipts
 pub injector_rests : (setting : Setting) (words left : Stream) (mid : List Receipt) (new : ClerkView) (told : Option Reply) (drew : Draw setting drawn_fault words left mid new told)
     → (IsNone told ↔ (node_count drew.took.log.state.network ≡ 0)) → IsNone told → (old own : List Receipt) → mid ≡ old ++ own → IsEmptyBehind (scene_of setting new) (front_of old) own
 injector_rests setting words left mid new told drew empty none old own added =

@@ -53,7 +53,7 @@ halves_played setting scripts left right k ours theirs fault other first front b
       (played.each log (all_left Begins ours theirs begin)) (rest.each log (all_right Begins ours theirs begin));
 }
 
--- scripts that were played each on the log as its clerk's note tells it
+-- scripts that were played, each on the log that its clerk's note shows
 pub on_one_log : (setting : Setting) (scripts : List (List ScriptLine)) (clerks : List ClerkView) (fault : Option CallFault) → AllStop setting scripts clerks fault → PlayedOn setting scripts clerks fault
 on_one_log setting scripts clerks fault stop = record { each = λ log begin. go scripts clerks fault log stop begin }
   where

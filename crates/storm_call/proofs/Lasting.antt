@@ -1,4 +1,4 @@
--- What was told of a log holds of each log that goes on from it.
+-- What receipts say of a log holds of each log that extends it.
 use Rattle.std.proofs.Common.{ℕ, List, [], ◌∷◌, Option, None, Some, IfSome}
 use mathlib.Core.List.{IsPrefix}
 use Rattle.rand_core.specs.Stream.{Stream}

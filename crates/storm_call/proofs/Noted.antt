@@ -38,7 +38,7 @@ may_follow book before old new is was has = follow before (subst (λ (o : Option
     follow None own = tt
     follow (Some told) own = subst (λ b. IsOfBook b new) (sym own) (of_book book new has)
 
--- an event was told, with a number above the clerk's base
+-- an event was recorded, with a number above the clerk's base
 pub told_one : (scene : Scene) (front : ℕ) (event : Event) (old new : ClerkView) (reply : Reply) → Keeps old.receipts new.receipts event reply → seen_by old < front_of new.receipts → Adds (λ own. IsFor scene front (Tell event) own × AreAbove old.base own) old.receipts new.receipts
 told_one scene front event old new reply kept above =
     let receipt : Receipt = record { seq = kept.seq; event = event; reply = reply } in
@@ -50,7 +50,7 @@ pub recalled : (book : Book) (old new : ClerkView) (before : Option Told) → Ha
 recalled book old new None has own same = subst (λ (c : ClerkView). HasNoteOf book c) (sym same) has
 recalled book old new (Some told) has own now = subst (λ b. HasNoteOf b new) own now
 
--- what no note tells begins what any tells
+-- what no note shows begins what any note shows
 pub nothing_before : (before note : Option Told) → ((told : Told) → before ≡ Some told → ⊥) → IsPrefix (noted before) (noted note)
 nothing_before None note none = (noted note, refl)
 nothing_before (Some told) note none = absurd (none told refl)

@@ -39,7 +39,7 @@ module _ {t : RuleTable} {weight : ℕ} {asked : Asked} {scripts : List (List Sc
   leaves_read {read} {met} same leaves = subst (λ (s : List (List ScriptLine)). Leaves t weight asked s met kept) same leaves
 
 module _ {t : RuleTable} {weight : ℕ} {asked : Asked} {scripts : List (List ScriptLine)} {kept : Kept} (texts : List (Option (List ℕ))) (old new : Option (List ℕ)) where
-  -- all was written, and the first fault that a script met is told
+  -- all was written, and the first fault that a script met is returned
   told_fault : (fault : CallFault) → AllHold texts scripts → Leaves t weight asked scripts (Some fault) kept → Appends old new (text_of asked kept)
       → Ends t weight asked texts old new (Err (of_call fault))
   told_fault (Behind front seen) held leaves wrote = (front, seen, (scripts, kept, held, leaves, wrote))
@@ -59,7 +59,7 @@ module _ {t : RuleTable} {weight : ℕ} {asked : Asked} {scripts : List (List Sc
   failed storm.Thread held leaves never = absurd never
   failed (storm.Unsettled why) held leaves never = absurd never
 
-  -- so that is what is told
+  -- so that is returned
   pub told_failed : {met : Option CallFault} (fault : StormFault) (result : Result Unit StormFault) → IsErr result → IsErrAnd result (λ found. found ≡ fault) → AllHold texts scripts
       → Leaves t weight asked scripts met kept → FailsToWrite old new (text_of asked kept) fault → Ends t weight asked texts old new result
   told_failed fault result is gives held leaves fails =

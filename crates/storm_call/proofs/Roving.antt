@@ -1,4 +1,4 @@
--- What clerks have that had called nobody before they roamed.
+-- Fresh clerks after they have roamed.
 use Rattle.std.proofs.Common.{◌≡◌, ◌≢◌, ◌↔◌, ◌∙◌, ℕ, suc, ◌≤◌, List, [], ◌∷◌, ◌++◌, length, take, Result, Ok, Err, Option, None, Some, IfErr, IfSome, IsSomeAnd, OnOk, IsErrOf, ⊎_elim, refl, sym, ap, subst, arith}
 use Rattle.std.specs.List.{All}
 use Rattle.std.proofs.lemmas.List.{length-drop, take_all}
@@ -37,7 +37,7 @@ all_workers turns old new few roamed =
     let left : length new ≤ 64 = omega (arith, ap length roamed.others, length-drop 64 new, length-drop 64 old) in
     subst (λ news. AllRoam turns old news) (take_all 64 new left) (subst (λ olds. AllRoam turns olds (take 64 new)) (take_all 64 old few) roamed.workers)
 
--- none of them wanted a thread
+-- none of them needed a thread
 no_thread : (clerks : List ClerkView) (ended : Result Unit RoamFault) → IfErr ended (λ fault. MayStop clerks fault) → IfErr ended (λ fault. fault ≢ Thread)
 no_thread clerks (Ok done) may_stop = tt
 no_thread clerks (Err fault) may_stop = λ is. subst (MayStop clerks) is may_stop
@@ -59,7 +59,7 @@ all_took setting turns old new (Ok done) few same fresh took =
     let left : length new ≤ 64 = omega (arith, few, same) in
     fresh_turns setting turns old new (subst (λ news. AllTakeTurns setting turns old news) (take_all 64 new left) (subst (λ olds. AllTakeTurns setting turns olds (take 64 new)) (take_all 64 old few) took)) fresh
 
--- who has called nobody has no receipts
+-- a fresh clerk has no receipts
 no_receipts : (clerks : List ClerkView) → All (λ clerk. clerk ≡ fresh) clerks → All (λ clerk. clerk.receipts ≡ []) clerks
 no_receipts clerks all = All-weaker (λ clerk. clerk ≡ fresh) (λ clerk. clerk.receipts ≡ []) (λ clerk is. ap (λ (c : ClerkView). c.receipts) is) clerks all
 
@@ -79,7 +79,7 @@ roamed_afresh setting book turns old new ended few new_clerks roamed took none m
     let all = all_turns turns old new (all_workers turns old new few roamed) (no_receipts old new_clerks) in
     record { as_many = all.0; steps = all.1; whole = all_took setting turns old new ended few all.0 (no_receipts old new_clerks) took; unbased = all_unbased book old new new_clerks keep; nobody = none; thread = no_thread new ended may_stop }
 
--- so their notes are of the network in which they roamed
+-- so their notes are of the network that they roamed
 one_noted : (book : Book) (old new : ClerkView) → old ≡ fresh → KeepsNote book old new → IsOfBook book new
 one_noted book old new is keeps =
     ⊎_elim
@@ -108,7 +108,7 @@ no_clerk (own ∷ clerks) none = absurd (omega (arith, none))
 nobody_met : (ended : Result Unit RoamFault) → IsErrOf ended ZeroWorkers → roam_fault ended ≡ None
 nobody_met ended nobody = ap (λ (e : Result Unit RoamFault). roam_fault e) nobody
 
--- where they met no fault, or nobody was there
+-- if they met no fault, or there were none
 whole_turns : (setting : Setting) (turns : ℕ) (old new : List ClerkView) (ended : Result Unit RoamFault) → RoamedAfresh setting turns old new ended → roam_fault ended ≡ None → All (λ clerk. TakesTurns setting turns [] clerk.receipts) new
 whole_turns setting turns old new (Ok done) roamed none = roamed.whole
 whole_turns setting turns old new (Err roam.ZeroWorkers) roamed none =

@@ -1,4 +1,4 @@
--- How far the lines of a script have been told.
+-- How far the lines of a script have been played.
 use Rattle.std.proofs.Common.{◌≡◌, ◌∙◌, ℕ, ◌+◌, ◌<◌, ◌≤◌, max, List, [], ◌∷◌, ◌++◌, length, take, drop, get_or, Bool, true, false, ◌||◌, Option, None, Some, IfSome, Result, Ok, Err, refl, sym, ap, ap₂, subst, append_assoc, append-nil, arith}
 use Rattle.std.proofs.lemmas.List.{take_more, take-append-drop}
 use Rattle.std.proofs.lemmas.List.Folds.{list_any_more, list_any-append}
@@ -32,11 +32,11 @@ stands_more scene front (first ∷ lines) line receipts own (told, rest, is, for
       stands_more scene (front_from front told) lines line rest own others (subst (λ n. IsFor scene n line.command own) low for),
     )
 
--- the line at a place, behind those before it
+-- the line at an index, after those before it
 next_line : (lines : List ScriptLine) (k : ℕ) (line : ScriptLine) → k < length lines → line ≡ get_or lines k line → take (k + 1) lines ≡ take k lines ++ line ∷ []
 next_line lines k line below is = take_more lines k line below ∙ ap (λ (l : ScriptLine). take k lines ++ l ∷ []) (sym is)
 
--- the lines before a place stand, and the line there was carried out
+-- the lines before an index were played, and the line there was carried out
 pub stands_next : (scene : Scene) (base : Option ℕ) (lines : List ScriptLine) (k : ℕ) (line : ScriptLine) (old new : List Receipt) → k < length lines → line ≡ get_or lines k line → Stands scene 0 (take k lines) old → Adds (λ own. IsFor scene (front_of old) line.command own × AreAbove base own) old new → Stands scene 0 (take (k + 1) lines) new
 stands_next scene base lines k line old new below is stands adds =
     subst (λ ls. Stands scene 0 ls new) (sym (next_line lines k line below is)) (subst (Stands scene 0 (take k lines ++ line ∷ [])) (sym adds.added) (stands_more scene 0 (take k lines) line old adds.own stands adds.fits.0))
@@ -49,7 +49,7 @@ greater_is : (one : Option ℕ) (number : ℕ) → is_some (greater_base one (So
 greater_is None number = refl
 greater_is (Some n) number = refl
 
--- a clerk has a base behind a command where it had one before it, or where it is a checkpoint
+-- a clerk has a base after a command if it had one before, or if the command is a checkpoint
 based_more : (setting : Setting) (command : Command) (old new : ClerkView) → IsBased setting command old new → is_some new.base ≡ is_some old.base || is_checkpoint command
 based_more setting (Tell event) old new same = ap is_some same ∙ sym (or-false (is_some old.base))
 based_more setting (Drive turns) old new same = ap is_some same ∙ sym (or-false (is_some old.base))
@@ -64,7 +64,7 @@ based_next setting lines k line old new below is so_far based =
 
 -- ---- where the last checkpoint was made
 
--- a line that is no checkpoint leaves it where it was
+-- a line that is no checkpoint leaves it unchanged
 placed_more : (scene : Scene) (lines : List ScriptLine) (line : ScriptLine) (receipts own : List Receipt) (number : ℕ) → is_checkpoint line.command ≡ false → IsFor scene (front_of receipts) line.command own → AreAbove (Some number) own → IsLastCheckpoint scene lines receipts number
     → IsLastCheckpoint scene (lines ++ line ∷ []) (receipts ++ own) number
 placed_more scene lines line receipts own number plain for above is = record {
@@ -139,7 +139,7 @@ placed_next setting scene lines k line old new below at stands adds based is =
     (subst (λ rs. IfSome new.base (IsLastCheckpoint scene (take k lines ++ line ∷ []) rs)) (sym adds.added)
     (placed_by setting scene (take k lines) line line.command old new adds.own refl stands adds.fits.0 adds.fits.1 based is))
 
--- the lines before a place stand, and the line there was broken off
+-- the lines before an index were played, and the line there was broken off
 pub stands_part : (scene : Scene) (lines : List ScriptLine) (k : ℕ) (line : ScriptLine) (old new : ClerkView) → k < length lines → line ≡ get_or lines k line → Stands scene 0 (take k lines) old.receipts
     → Adds (λ own. IsPartOf scene line.command own × AreAbove old.base own) old.receipts new.receipts → is_some old.base ≡ has_checkpoint (take k lines) → IfSome old.base (IsLastCheckpoint scene (take k lines) old.receipts) → new.base ≡ old.base
     → StandsInPart scene lines new

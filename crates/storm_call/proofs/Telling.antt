@@ -3,7 +3,7 @@ use Rattle.std.proofs.Common.{◌≡◌, ◌∙◌, ℕ, Bool, true, false, List
 use Rattle.std.proofs.lemmas.Bool.{true≢false}
 use Rattle.std.specs.Io.KnownBytes.{Appends}
 
--- it is written whole where no write failed
+-- it is written whole if no write failed
 pub written_whole : {E : Type 0} (old new : Option (List ℕ)) (text : List ℕ) (failed : Bool) (result : Result Unit E) → OnOk result (Appends old new text) → OnErr result (failed ≡ true) → failed ≡ false → Appends old new text
 written_whole old new text failed (Ok done) wrote unwritten good = wrote
 written_whole old new text failed (Err fault) wrote unwritten good = absurd (true≢false (sym unwritten ∙ good))

@@ -18,7 +18,7 @@ use Rattle.storm_call.specs.Played.{Adds, Plays, TurnsEnd, scene_of}
 use Rattle.storm_call.proofs.Adding.{Above, Took, drawn_from, took_above}
 use Rattle.storm_call.proofs.Lasting.{drawn_lasts}
 
--- a clerk that was told nothing has the receipts that it had
+-- a clerk without a new receipt has the receipts that it had
 pub rested : (Kept : Reply → Type 0) (old new : ClerkView) (told : Option Reply) (b : Bool) → MatchOption told (new.receipts ≡ old.receipts) Kept → is_some told ≡ not b → b ≡ true → new.receipts ≡ old.receipts
 rested Kept old new None b same e f = same
 rested Kept old new (Some reply) b kept e f = absurd (false≢true (sym (e ∙ ap not f)))

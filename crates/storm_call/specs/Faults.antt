@@ -1,4 +1,4 @@
--- What the faults of a storm's parts are in a storm.
+-- The fault of a storm that each fault of its parts becomes.
 use Rattle.locked_net.specs.declared.call_fault.CallFault.{CallFault}
 use Rattle.locked_net.specs.declared.call_fault.CallFault.TheVariants as call
 use Rattle.locked_net.specs.declared.settle_fault.SettleFault.{SettleFault}
@@ -10,27 +10,27 @@ use Rattle.storm_call.specs.declared.fault.PlayFault.TheVariants as play
 use Rattle.storm_call.specs.declared.fault.StormFault.{StormFault}
 use Rattle.storm_call.specs.declared.fault.StormFault.TheVariants.{TooManyScripts, BadLine, LogFull, Read, Memory, Behind, Unsettled}
 
--- of settling, to who plays scripts
+-- settling, in the playing of scripts
 abbrev pub fault_for : SettleFault → PlayFault
 fault_for settle.CountDiffers = play.Unsettled settle.CountDiffers
 fault_for settle.BaseDiffers = play.Unsettled settle.BaseDiffers
 fault_for (settle.Stranger clerk place) = play.Unsettled (settle.Stranger clerk place)
 fault_for settle.Memory = play.Memory
 
--- of reading the scripts
+-- reading the scripts
 abbrev pub of_texts : TextsFault → StormFault
 of_texts texts.TooManyScripts = TooManyScripts
 of_texts (texts.BadLine script line) = BadLine script line
 of_texts texts.Read = Read
 of_texts texts.Memory = Memory
 
--- of a clerk's call
+-- a clerk's call
 abbrev pub of_call : CallFault → StormFault
 of_call (call.Behind front seen) = Behind
 of_call call.LogFull = LogFull
 of_call call.Memory = Memory
 
--- of playing and settling
+-- playing and settling
 abbrev pub of_play : PlayFault → StormFault
 of_play (play.Unsettled settle.CountDiffers) = Unsettled settle.CountDiffers
 of_play (play.Unsettled settle.BaseDiffers) = Unsettled settle.BaseDiffers

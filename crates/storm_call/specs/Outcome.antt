@@ -1,10 +1,10 @@
 -- How a storm of scripts ends, and what it has written.
 --
--- The scripts that were read leave what a journal keeps of a log: all of it, or the part above the last checkpoint. It is a run of the
--- rule machine from the opening state or from the base; and the clerks, one for each script and one for each worker who roams, account
--- for the whole of it: what each was told is the log's, each entry was told to one of them alone, what the clerk of a script was told
--- is what the script asks for, line after line, as far as it came, and what that of a worker was told are steps of one node alone, at
--- most as many as it has turns.
+-- The scripts leave the log that a journal keeps: all of it, or the part after the last checkpoint. It is a
+-- run of the rule machine from the opening state or from the base. The clerks, one for each script and one
+-- for each roaming worker, account for all of it. Each receipt is an entry of the log, and each entry has one
+-- clerk's receipt. The receipts of a script's clerk are what the script asks for, line after line, as far as
+-- it came. Those of a worker's clerk are steps of one node, at most as many as it has turns.
 use Rattle.std.specs.Prelude.{◌≡◌, ◌≢◌, ℕ, ◌<◌, ◌⊎◌, List, [], length, map, Option, None, Some, Result, Ok, Err}
 use Rattle.std.specs.Io.KnownBytes.{Appends, Keeps}
 use Rattle.rule_machine.specs.declared.rules.RuleSet.{RuleSet}
@@ -26,12 +26,12 @@ use Rattle.script_text.specs.Readers.{AllHold, FirstBadScript}
 use Rattle.storm_call.specs.declared.fault.StormFault.{StormFault}
 use Rattle.storm_call.specs.declared.fault.StormFault.TheVariants.{TooManyScripts, BadLine, LogFull, Read, Write, Memory, Behind, Thread, Unsettled}
 
--- what every log of such a network has
+-- the setting of every log of such a network
 abbrev pub asked_setting : RuleTable → Asked → Setting
 asked_setting t asked = record { table = t; nodes = asked.nodes; present = asked.present; limit = asked.limit }
 
--- These scripts leave what is kept of a log, on as many names and nodes, with the limit and with the workers that are asked for, and this is the first fault
--- that a script met, or where none did, one of the workers'.
+-- These scripts leave this kept log, with the names, nodes, limit and workers that were asked for. The fault
+-- is the first that a script met, or else one that a worker met.
 pub record Leaves (t : RuleTable) (weight : ℕ) (asked : Asked) (scripts : List (List ScriptLine)) (fault : Option CallFault) (kept : Kept) : Type 0 where
   pub run : IsKept t weight kept
   pub nodes_are : kept.state.network.size ≡ asked.nodes
@@ -49,9 +49,10 @@ abbrev pub LeavesText : RuleTable → ℕ → Asked → List (Option (List ℕ))
 LeavesText t weight asked texts fault P =
     (scripts : List (List ScriptLine)) × (kept : Kept) × AllHold texts scripts × Leaves t weight asked scripts fault kept × P (text_of asked kept)
 
--- The whole text was written where all scripts were played to their ends and no worker met a fault, or the first fault that was met
--- is told; a beginning of it where the writer failed; and nothing where the receipts do not account for the log, or the scripts could
--- not be read. Want of memory is a script's or a worker's, or nothing was written.
+-- The whole text was written if all scripts were played to their ends and no worker met a fault, or if the
+-- first fault is returned. If the writer failed, a beginning was written; if the receipts do not account for
+-- the log or the scripts could not be read, nothing was. After `Memory` a script or worker met it and all was
+-- written, or nothing was.
 abbrev pub Ends : RuleTable → ℕ → Asked → List (Option (List ℕ)) → Option (List ℕ) → Option (List ℕ) → Result Unit StormFault → Type 0
 Ends t weight asked texts old new (Ok done) = LeavesText t weight asked texts None (Appends old new)
 Ends t weight asked texts old new (Err LogFull) = LeavesText t weight asked texts (Some call.LogFull) (Appends old new)
@@ -76,7 +77,7 @@ weight_of Manne = 3
 abbrev pub IsOutcome : Asked → List (Option (List ℕ)) → Option (List ℕ) → Option (List ℕ) → Result Unit StormFault → Type 0
 IsOutcome asked texts old new result = Ends (table_of asked.rules) (weight_of asked.rules) asked texts old new result
 
--- the storm of the texts that readers had, under the rules of a table, and what a writer has got
+-- the storm of the readers' texts, under the rules of a table, and what the writer has
 abbrev pub EndsUnder : {In Out : Type 0} → RuleTable → ℕ → Asked → (In → Option (List ℕ)) → List In → (Out → Option (List ℕ)) → Out → Out
     → Result Unit StormFault → Type 0
 EndsUnder t weight asked left readers got old new result = Ends t weight asked (map left readers) (got old) (got new) result

@@ -1,4 +1,4 @@
--- How workers roam beside scripts, and what their fault is to a storm.
+-- How workers roam during scripts, and what their fault is to a storm.
 use Rattle.std.specs.Prelude.{◌≡◌, ◌≢◌, ◌↔◌, ℕ, List, [], length, Option, None, Some, Result, Ok, Err, IfErr, OnOk, IsErrOf}
 use Rattle.std.specs.List.{All}
 use Rattle.locked_net.specs.Receipts.{ClerkView}
@@ -10,8 +10,8 @@ use Rattle.locked_net.specs.declared.roam_fault.RoamFault.{RoamFault}
 use Rattle.locked_net.specs.declared.roam_fault.RoamFault.TheVariants as roam
 use Rattle.storm_call.specs.Storm.{IsRoaming}
 
--- Clerks who had called nobody have roamed for so many turns, and it ended so: each took them all where it ended well, none made a base,
--- nobody was there exactly where there are no clerks, and no thread was wanted.
+-- Fresh clerks have roamed for this many turns. If it ended well, each took all its turns. None made a base,
+-- `ZeroWorkers` comes exactly if there are no clerks, and `Thread` never comes.
 pub record RoamedAfresh (setting : Setting) (turns : ℕ) (old new : List ClerkView) (ended : Result Unit RoamFault) : Type 0 where
   pub as_many : length new ≡ length old
   pub steps : All (λ clerk. IsRoaming turns clerk.receipts) new
@@ -20,7 +20,7 @@ pub record RoamedAfresh (setting : Setting) (turns : ℕ) (old new : List ClerkV
   pub nobody : IsErrOf ended roam.ZeroWorkers ↔ (old ≡ [])
   pub thread : IfErr ended (λ fault. fault ≢ roam.Thread)
 
--- the fault as that of a call; none where nobody was there
+-- the fault as that of a call; none if there were no workers
 abbrev pub roam_fault : Result Unit RoamFault → Option CallFault
 roam_fault (Ok done) = None
 roam_fault (Err roam.ZeroWorkers) = None

@@ -1,11 +1,11 @@
--- What scripts that were played at once leave behind.
+-- What scripts that were played at once leave.
 --
--- Each script has a clerk of its own. What a clerk was told stands as its list of receipts, oldest first, and a script as its
--- lines. Beside them workers may roam, each with a clerk of its own too. A storm is over where the log and the clerks are settled
--- (so each entry of the log was told to one clerk alone, and what each clerk was told is the log's), and where each clerk was told
--- what it is there for: that of a script what the script asks for, line after line, the whole of it, or a beginning where the
--- script met a fault; that of a worker steps of one node alone, so many at most. The clerk of a script has made a base exactly where
--- a checkpoint of the script was carried out, behind what it was told before and before what it was told then; and a worker's never.
+-- Each script has its own clerk, and so has each roaming worker. A clerk is its list of receipts, oldest
+-- first; a script is its lines. A storm is over if log and clerks are settled: each entry has one clerk's
+-- receipt, and each receipt is an entry. The receipts of a script's clerk are what the script asks for, line
+-- after line: all of it, or a beginning if the script met a fault. Those of a worker's clerk are steps of one
+-- node, at most one a turn. A script's clerk has made a base exactly if a checkpoint of the script was
+-- carried out, between its receipts before it and after it; a worker's clerk never has.
 use Rattle.std.specs.Prelude.{◌≡◌, ℕ, ◌<◌, ◌≤◌, List, [], ◌∷◌, ◌++◌, Bool, true, false, IsTrue, length, map, Option, None, Some, IfSome}
 use Rattle.std.specs.List.{All, list_any}
 use Rattle.std.specs.Option.{is_some, option_or}
@@ -28,7 +28,7 @@ use Rattle.locked_net.specs.declared.call_fault.CallFault.{CallFault}
 use Rattle.script_text.specs.declared.script.ScriptLine.{ScriptLine}
 use Rattle.storm_call.specs.Turns.{Scene, DrawnFrom, IsQuietBehind, IsEmptyBehind}
 
--- the receipt of a step that was answered by its moves
+-- the receipt of a step whose reply is its moves
 pub record IsOfStep (receipt : Receipt) : Type 0 where
   pub items : List Item
   pub moves : List Moved
@@ -40,9 +40,10 @@ pub record IsOfFault (receipt : Receipt) : Type 0 where
   pub register : IsTrue (is_register_fault receipt.event)
   pub accepted : receipt.reply ≡ Accepted
 
--- What a command is told when it was carried out, behind what its clerk was told before, up to this number: one receipt of its event; none of a
--- checkpoint; or the receipts of its turns, by the words of the generator that it seeds. There are fewer turns than it asks for only where a
--- daemon found no node enabled, or an injector no node to break, behind the last of them.
+-- The receipts of a command that was carried out, after its clerk's receipts up to this number: one for an
+-- event, none for a checkpoint, and one for each turn, by the words of the seeded generator. There are fewer
+-- turns than asked for only if, after the last of them, the daemon found no enabled node, or the injector no
+-- node.
 abbrev pub IsFor : Scene → ℕ → Command → List Receipt → Type 0
 IsFor scene front (Tell event) own = map (λ r. r.event) own ≡ event ∷ []
 IsFor scene front (Drive turns) own =
@@ -51,7 +52,8 @@ IsFor scene front (Scramble turns) own =
     (length own ≤ turns.count) × DrawnFrom scene drawn_fault (seeded_stream turns.seed) IsOfFault own × (length own < turns.count → IsEmptyBehind scene front own)
 IsFor scene front Checkpoint own = own ≡ []
 
--- what it is told when a fault broke it off: nothing of its event, or of its checkpoint; or fewer turns than it asks for
+-- the receipts of a command that a fault broke off: none of an event or a checkpoint, or fewer turns than
+-- asked for
 abbrev pub IsPartOf : Scene → Command → List Receipt → Type 0
 IsPartOf scene (Tell event) own = own ≡ []
 IsPartOf scene (Drive turns) own =
@@ -60,7 +62,7 @@ IsPartOf scene (Scramble turns) own =
     (length own < turns.count) × DrawnFrom scene drawn_fault (seeded_stream turns.seed) IsOfFault own
 IsPartOf scene Checkpoint own = own ≡ []
 
--- the receipts are those of these lines, each line's behind those of the line before it, and the first's behind this number
+-- the receipts are those of these lines in order, after this number
 abbrev pub Stands : Scene → ℕ → List ScriptLine → List Receipt → Type 0
 Stands scene front [] receipts = receipts ≡ []
 Stands scene front (line ∷ lines) receipts =
@@ -80,8 +82,9 @@ has_checkpoint lines = list_any (λ line. is_checkpoint line.command) lines
 abbrev pub AreAbove : Option ℕ → List Receipt → Type 0
 AreAbove base own = All (λ receipt. base_from base < receipt.seq) own
 
--- The last checkpoint among the lines answered this number, behind the receipts of the lines before it and before those of the lines behind it: so
--- many entries the log had, no fewer than the clerk had seen, and fewer than each number that it was told later.
+-- The last checkpoint among the lines returned this number, between the receipts of the lines before and
+-- after it. The log then had this many entries: at least those that the clerk had seen, and fewer than each
+-- later receipt's number.
 pub record IsLastCheckpoint (scene : Scene) (lines : List ScriptLine) (receipts : List Receipt) (number : ℕ) : Type 0 where
   pub before : List ScriptLine
   pub line : ScriptLine
@@ -97,8 +100,8 @@ pub record IsLastCheckpoint (scene : Scene) (lines : List ScriptLine) (receipts 
   pub above : front_of done ≤ number
   pub below : AreAbove (Some number) rest
 
--- the receipts are those of the lines before one that was broken off, and then of a part of it; and the clerk has a base exactly where
--- a checkpoint is among the lines before it, from the last of them
+-- the receipts are those of the lines before one that was broken off, and of a part of it; the clerk has a
+-- base exactly if a checkpoint is among the lines before, from the last of them
 pub record StandsInPart (scene : Scene) (lines : List ScriptLine) (clerk : ClerkView) : Type 0 where
   pub before : List ScriptLine
   pub line : ScriptLine
@@ -113,28 +116,28 @@ pub record StandsInPart (scene : Scene) (lines : List ScriptLine) (clerk : Clerk
   pub placed : IfSome clerk.base (IsLastCheckpoint scene before done)
   pub behind_base : AreAbove clerk.base part
 
--- A script was played to its end, and its clerk has a base exactly where a checkpoint is among its lines, from the last of them; or it was
--- played up to a fault.
+-- A script was played to its end, and its clerk has a base exactly if it has a checkpoint, from the last one;
+-- or it was played up to a fault.
 abbrev pub MayStop : Scene → List ScriptLine → ClerkView → Option CallFault → Type 0
 MayStop scene lines clerk None =
     Stands scene 0 lines clerk.receipts × (is_some clerk.base ≡ has_checkpoint lines) × IfSome clerk.base (IsLastCheckpoint scene lines clerk.receipts)
 MayStop scene lines clerk (Some fault) = StandsInPart scene lines clerk
 
--- Each script was played by the clerk at its place; the fault is the first that a script met, in the order of the scripts, and
--- there is none where all were played to their ends.
+-- Each script was played by the clerk at its index. The fault is the first that a script met, in the scripts'
+-- order; there is none if all were played to their ends.
 abbrev pub AllPlayed : Scene → List (List ScriptLine) → List ClerkView → Option CallFault → Type 0
 AllPlayed scene [] [] fault = fault ≡ None
 AllPlayed scene (script ∷ scripts) (clerk ∷ clerks) fault =
     (own : Option CallFault) × (others : Option CallFault) × (fault ≡ option_or own others) × MayStop scene script clerk own × AllPlayed scene scripts clerks others
 AllPlayed scene scripts clerks fault = ⊥
 
--- what a worker is told who roams for so many turns: steps of one node alone, one a turn at most
+-- the receipts of a worker that roams for this many turns: steps of one node, at most one a turn
 abbrev pub IsRoaming : ℕ → List Receipt → Type 0
 IsRoaming turns own = (length own ≤ turns) × All IsLoneStep own
 
--- The clerks of a storm are one for each script, by which it was played, and behind them one for each worker that roamed. The fault
--- is the first that a script met, in the order of the scripts; where none did, it is one that a worker met, if there are workers and
--- one of them met any. Where none of these did, each took all its turns, and each turn was one on a run of the rules.
+-- The clerks of a storm are one for each script, which played it, and then one for each worker, which roamed.
+-- The fault is the first that a script met, in the scripts' order, or else one that a worker met. If no
+-- worker met one, each took all its turns, each on a run of the rules.
 pub record AllTold (scene : Scene) (scripts : List (List ScriptLine)) (roamers turns : ℕ) (clerks : List ClerkView) (fault : Option CallFault) : Type 0 where
   pub own : List ClerkView
   pub roaming : List ClerkView
@@ -149,8 +152,8 @@ pub record AllTold (scene : Scene) (scripts : List (List ScriptLine)) (roamers t
   pub nobody : roamers ≡ 0 → other ≡ None
   pub whole : other ≡ None → All (λ clerk. TakesTurns scene.setting turns [] clerk.receipts) roaming
 
--- What these scripts leave with so many workers beside them, and the first fault that was met: the clerks account for what is kept, which
--- is the part above the last checkpoint of a whole log, and each turn of a script was taken on a beginning of that log.
+-- What these scripts leave with these workers, and the first fault. The clerks account for what is kept, the
+-- part of a whole log after the last checkpoint; each turn of a script was taken on a beginning of that log.
 pub record IsStorm (setting : Setting) (kept : Kept) (scripts : List (List ScriptLine)) (roamers turns : ℕ) (fault : Option CallFault) : Type 0 where
   pub clerks : List ClerkView
   pub settled : Settled kept clerks

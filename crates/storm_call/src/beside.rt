@@ -1,4 +1,4 @@
-//! Scripts that are played while workers roam beside them.
+//! Playing scripts while workers roam.
 
 ghost use Rattle.std.specs.Prelude.{◌≡◌, ◌≢◌, ◌+◌, ◌≤◌, length, IfErr};
 ghost use Rattle.std.specs.List.{All};
@@ -19,8 +19,9 @@ use std::sync::Wait;
 use std::thread::{Threads, join_mut};
 use steal_pool::{Gate, NoGate};
 
-/// Plays each script by the clerk at its place, and lets the clerks behind those of the scripts roam at the same time, where a
-/// thread can be had.
+/// Plays each script by the clerk at its index, and lets the remaining clerks roam.
+///
+/// Both go on at once if a thread can be started.
 pub(crate) fn play_beside<R: Rules + Send + Sync, G: Gate + Sync, T: Threads + Wait + Sync>(
     rt: &T,
     stage: &Stage<R, G>,
@@ -38,7 +39,6 @@ pub(crate) fn play_beside<R: Rules + Send + Sync, G: Gate + Sync, T: Threads + W
     first_fault(met, roamed)
 }
 
-/// What the scripts met, and the workers.
 fn play_and_roam<R: Rules + Send + Sync, G: Gate + Sync, T: Threads + Wait + Sync>(
     rt: &T,
     stage: &Stage<R, G>,
@@ -80,7 +80,7 @@ fn play_and_roam<R: Rules + Send + Sync, G: Gate + Sync, T: Threads + Wait + Syn
     (met, roamed)
 }
 
-/// Lets clerks roam who have called nobody, each for so many turns.
+/// Lets fresh clerks roam, each for `turns` turns.
 fn roam_new<R: Rules + Send, G: Gate, T: Threads + Wait + Sync>(
     rt: &T,
     stage: &Stage<R, G>,
@@ -95,7 +95,7 @@ fn roam_new<R: Rules + Send, G: Gate, T: Threads + Wait + Sync>(
     roam(rt, stage.net, clerks, turns, &NoGate)
 }
 
-/// The fault that a storm tells: the scripts', and the workers' where the scripts met none.
+/// The storm's fault: that of the scripts, or else that of the workers.
 fn first_fault(met: Option<CallFault>, roamed: Result<(), RoamFault>) -> Option<CallFault>
     requires { IfErr roamed (λ fault. fault ≢ Thread) }
     ensures { result ≡ option_or met (roam_fault roamed) }

@@ -1,4 +1,4 @@
-//! How a program ends that ran a storm.
+//! How a program ends after a storm.
 
 ghost use Rattle.std.specs.Prelude.{◌≡◌, false};
 ghost use Rattle.std.specs.Io.KnownBytes.{Appends};
@@ -12,8 +12,14 @@ use byte_streams::Writes;
 use locked_net::SettleFault;
 use std::io::Write;
 
-/// The exit status of a storm that ended so: 1 where the receipts do not account for the log, 2 for a bad line or too many
-/// scripts, 3 where a read or a write failed, 4 for a full log, want of memory, a clerk that is behind, or no thread.
+/// The exit status of a fault.
+///
+/// | Status | Fault |
+/// |---|---|
+/// | 1 | the receipts do not account for the log |
+/// | 2 | a bad line, or too many scripts |
+/// | 3 | a failed read or write |
+/// | 4 | a full log, no memory, a clerk that is behind, or no thread |
 pub fn status(fault: StormFault) -> u8
     ensures { result ≡ status_of fault }
 {
@@ -27,8 +33,9 @@ pub fn status(fault: StormFault) -> u8
     }
 }
 
-/// Tells how a storm ended, in one line, where it is a fault, and gives the exit status: 0 for none, else the fault's. The
-/// status is the same where the line cannot be written, or only a beginning of it, which comes only where a write failed.
+/// Writes a storm's fault, if any, as one line, and returns the exit status: 0, or the fault's.
+///
+/// If a write fails, only a beginning of the line is written; the status is the same.
 pub fn storm_end<Faults: Write>(ended: Result<(), StormFault>, faults: &mut Writes<Faults>) -> u8
     ensures status { result ≡ end_status ended }
     ensures told { AppendsBeginning (Faults.contents faults.old.writer) (Faults.contents faults.new.writer) (end_line ended) }

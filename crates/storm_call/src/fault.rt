@@ -1,4 +1,4 @@
-//! Why scripts are not played to their ends, and why a storm ends as it should not.
+//! The errors of playing scripts and of a storm.
 
 use byte_streams::OutputFault;
 use locked_net::{CallFault, SettleFault};
@@ -6,13 +6,13 @@ use script_text::TextsFault;
 use std::alloc::AllocError;
 use thiserror::Error;
 
-/// Why scripts that were to be played left no log.
+/// Why played scripts left no log.
 #[derive(Clone, Copy, Debug, PartialEq, Eq, Error)]
 pub enum PlayFault {
-    /// The clerks and the log do not settle. It is never said with `SettleFault::Memory`, which is `Memory`.
+    /// The clerks and the log do not settle. Never `SettleFault::Memory`, which is `Memory`.
     #[error("unsettled: {0}")]
     Unsettled(SettleFault),
-    /// A growth of memory was refused, before the first command or after the last.
+    /// Memory ran out, before the first command or after the last.
     #[error("out of memory")]
     Memory,
 }
@@ -37,10 +37,10 @@ pub enum StormFault {
     /// There are more than 64 scripts.
     #[error("too many scripts")]
     TooManyScripts,
-    /// In the script with this number, the line with that one is neither empty nor a command; both count from 1.
+    /// This line of this script, both counted from 1, is neither empty nor a command.
     #[error("script {script} line {line}: not a command")]
     BadLine { script: u32, line: u64 },
-    /// A script's command or a worker's turn came when there were as many entries as there may be.
+    /// A script's command or a worker's turn met a full log.
     #[error("log full")]
     LogFull,
     /// A read of a script failed.
@@ -49,13 +49,13 @@ pub enum StormFault {
     /// A write of the transcript failed.
     #[error("write failed")]
     Write,
-    /// A growth of memory was refused.
+    /// Memory ran out.
     #[error("out of memory")]
     Memory,
-    /// The clerk of a script or of a worker has seen more entries than there are.
+    /// The clerk of a script or worker has seen more entries than there are.
     #[error("behind")]
     Behind,
-    /// A thread could not be started. `storm` answers it never: it does that thread's work itself then.
+    /// A thread could not be started. `storm` never returns it: it does that thread's work itself.
     #[error("no thread")]
     Thread,
     /// The clerks' receipts do not account for the log.

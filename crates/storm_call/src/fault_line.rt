@@ -1,4 +1,4 @@
-//! The lines that tell why a storm ended as it should not. They take no memory.
+//! The lines that report a storm's fault, which take no memory.
 
 ghost use Rattle.std.specs.Prelude.{◌≡◌, ◌++◌, true, OnOk, OnErr};
 ghost use Rattle.std.specs.Io.KnownBytes.{Appends};
@@ -12,7 +12,7 @@ use itoa::Buffer;
 use locked_net::SettleFault;
 use std::io::Write;
 
-// Writes a number behind a text.
+// Writes a text and then a number.
 fn write_numbered<Faults: Write>(
     text: &[u8],
     number: u64,
@@ -41,7 +41,7 @@ fn write_bad_line<Faults: Write>(
     faults.finish(b": not a command\n")
 }
 
-/// Writes the line of a fault and flushes the writer.
+/// Writes the line of a fault, and flushes the writer.
 pub fn write_fault<Faults: Write>(
     fault: StormFault,
     faults: &mut Writes<Faults>,
@@ -56,7 +56,7 @@ pub fn write_fault<Faults: Write>(
     }
 }
 
-// The line of a fault that has no number.
+// The line of a fault without numbers.
 fn plain_line(fault: StormFault) -> &'static [u8]
     requires { IsPlain fault }
     ensures { result.now ≡ fault_line fault }

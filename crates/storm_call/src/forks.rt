@@ -1,4 +1,4 @@
-//! How many scripts are played at once.
+//! Playing many scripts at once, by forks in two.
 
 ghost use Rattle.std.specs.Prelude.{◌≡◌, ◌+◌, ◌<◌, ◌^◌, length};
 ghost use Rattle.std.specs.List.{All};
@@ -15,7 +15,7 @@ use std::sync::Wait;
 use std::thread::{Threads, join_mut};
 use steal_pool::Gate;
 
-/// Scripts in two rows, the right one behind the left, and the number of the first.
+/// Two rows of scripts, `right` after `left`, and the number of the first script.
 #[derive(Drop)]
 struct Halves<'a> {
     first: u32,
@@ -23,8 +23,9 @@ struct Halves<'a> {
     right: &'a [Script],
 }
 
-/// Plays each script by the clerk at its place, all at once where threads can be had, and answers the first fault in their
-/// order. The first script has the number handed in.
+/// Plays each script by the clerk at its index, at once as far as threads can be started.
+///
+/// Returns the first fault in the scripts' order. The first script has the number `first`.
 #[cycle(forks)]
 #[tactic(auto, using(crate::proofs::Forking::on_one_log))]
 pub(crate) fn play_all<R: Rules + Send + Sync, G: Gate + Sync, T: Threads + Wait + Sync>(
@@ -51,7 +52,7 @@ pub(crate) fn play_all<R: Rules + Send + Sync, G: Gate + Sync, T: Threads + Wait
     fault.or(other)
 }
 
-/// Plays two rows of scripts at once, where a thread can be had.
+/// Plays two rows of scripts, at once if a thread can be started.
 #[cycle(forks)]
 fn play_halves<R: Rules + Send + Sync, G: Gate + Sync, T: Threads + Wait + Sync>(
     rt: &T,

@@ -1,13 +1,13 @@
-//! Scripts that are played at once on one locked network, each by a clerk of its own, with workers who roam beside them: readers in, the
-//! transcript of the settled log out.
+//! Storms: scripts that are played at once on one locked network, each by its own clerk, while workers roam.
 //!
-//! `storm` reads and checks every script, then lets them meet on a `LockedNet`, where the lock alone says whose line comes next, settles
-//! all clerks, and writes the one log. Of the text that it writes the claim of the whole holds: a run of the machine, in which each
-//! script's entries are the events of its lines in order and all others steps of one node by those who roam. Where the receipts don't
-//! account for the log it says so and writes nothing. Two storms of the same scripts may write different logs, and `audit` accepts each.
+//! `storm` reads and checks every script, and plays them on a `LockedNet`, whose lock alone decides the order
+//! of their lines. Then it settles all clerks and writes the one log. The text is that of a run of the
+//! machine: each script's entries are the events of its lines in order, and all other entries are steps of
+//! one node by the workers. If the receipts do not account for the log, it reports that and writes nothing.
+//! Two storms of the same scripts may write different logs; `audit` accepts each.
 //!
-//! It holds the scripts, what was told and the log from its last base on; threads are started by forks in two, and where none can be had
-//! scripts are played one after another.
+//! It holds the scripts, the receipts and the log since its last base. Forks in two start the threads; if
+//! none can be started, scripts are played one after another.
 //!
 //! ```rust
 //! storm(rt, alloc, &options.with_roam(2, 1_000), files, &mut Writes::new(stdout), &NoGate)?;    // `StormFault`

@@ -22,7 +22,7 @@ fn append_entries<R: Rules>(out: &mut Vec<u8>, journal: &Journal<R>) -> Result<(
     Ok(())
 }
 
-// Writes a header, or where there is a base its lines.
+// Writes a header, or the lines of the base if there is one.
 fn put_opening<R: Rules>(
     out: &mut Vec<u8>,
     rules: RuleSet,
@@ -40,9 +40,11 @@ fn put_opening<R: Rules>(
     out.extend_from_slice(&text)
 }
 
-/// Writes the text of what a journal keeps of its log: a header with the rule set, the number of names and that of the nodes at
-/// the start, or where entries were dropped the lines of its base; and a line for each entry, numbered on. At want of memory nothing
-/// was written. Takes the memory of the text, a base's twice, and a look at each entry.
+/// Writes the text of the log that a journal keeps.
+///
+/// It is a header (rule set, names, nodes at the start), or the lines of the base if entries were dropped;
+/// then a numbered line for each entry. `Want` if memory runs out; then nothing was written. Looks at each
+/// entry; takes the memory of the text, and that of a base twice.
 pub fn put_log<R: Rules>(
     out: &mut Vec<u8>,
     rules: RuleSet,

@@ -22,7 +22,7 @@ use std::thread::Threads;
 use steal_pool::Gate;
 use step_log::Journal;
 
-/// As many clerks, who have called nobody.
+/// `count` fresh clerks.
 fn clerks_of<R: Rules>(alloc: Global, net: &LockedNet<R>, count: usize) -> Result<Vec<Clerk>, Want>
     ensures count { IfOk result (λ clerks. vec_len clerks ≡ count) }
     ensures fresh { IfOk result (λ clerks. All (λ clerk. clerk ≡ fresh) clerks.items) }
@@ -34,18 +34,26 @@ fn clerks_of<R: Rules>(alloc: Global, net: &LockedNet<R>, count: usize) -> Resul
     Ok(clerks)
 }
 
-/// Plays scripts on a network, each by a clerk of its own and all at once where threads can be had, while as many workers roam
-/// in it as the crew has, each by a clerk of its own and for so many turns; and settles all clerks against the log. It answers
-/// what the journal keeps of that log, with the first fault that a script met, in the order of the scripts, and where none did, with
-/// the first of the workers': `Behind`, `LogFull`, or `Memory` in a call. Who meets a fault ends there, and the others go on.
+/// Plays scripts on a network, each by its own clerk, while workers roam in it, and settles all clerks.
 ///
-/// A `step` line is evaluated by as many of the workers that the crew has for it as pay for its items. Before each command the gate is passed with the number
-/// of the script, from 0, and that of the line; workers pass none. Where no thread can be had, scripts are played one after
-/// another, and then workers roam: a gate that holds one script until another has come holds it for ever then.
+/// The scripts are played at once as far as threads can be started. The crew says how many workers roam and
+/// for how many turns; each has its own clerk. As many of the crew's step workers as pay for its items
+/// evaluate a `step`.
 ///
-/// `Unsettled` where clerks and log do not settle; `Memory` where there is none for all clerks before the first command, or for
-/// settling. It waits for the network's lock, for the gate, and for the threads that it starts: one for each script and each
-/// worker but one. Beside what the calls take, it takes a clerk for each of them and a byte for each entry of the log.
+/// Returns the log that the journal keeps, and the first fault: `Behind`, `LogFull`, or `Memory` in a call.
+/// Scripts come before workers, and both in their order. A script or worker that meets a fault ends there;
+/// the others go on.
+///
+/// Before each command the script passes the gate with its number, from 0, and the line's; workers pass none.
+/// If no thread can be started, the scripts are played one after another, and then the workers roam. A gate
+/// that holds one script until another has come then holds it for ever.
+///
+/// - `Unsettled` if clerks and log do not settle.
+/// - `Memory` if memory runs out for the clerks, before the first command, or for settling.
+///
+/// It waits for the network's lock, for the gate, and for its threads: one for each script and worker, less
+/// one. Besides what the calls take, it takes a clerk for each script and worker, and a byte for each entry
+/// of the log.
 pub fn play_scripts<R: Rules + Send + Sync, G: Gate + Sync, T: Threads + Wait + Sync>(
     rt: &T,
     alloc: Global,

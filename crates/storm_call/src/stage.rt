@@ -1,4 +1,4 @@
-//! Where scripts are played, and how one is.
+//! The place where scripts are played.
 
 ghost use Rattle.std.specs.Prelude.{◌≡◌, ◌<◌, ◌≤◌, length};
 ghost use Rattle.std.specs.List.{All};
@@ -17,20 +17,20 @@ use std::sync::Wait;
 use std::thread::Threads;
 use steal_pool::Gate;
 
-/// How many workers evaluate a step, how many roam, and for how many turns each of these.
+/// How many workers evaluate a step, how many roam, and for how many turns.
 #[derive(Clone, Copy, Debug, PartialEq, Eq)]
 pub struct Crew {
-    /// How many workers evaluate a step of a script, one at least.
+    /// How many workers evaluate a script's step, at least 1.
     pub workers: u32,
-    /// How many workers roam beside the scripts, at most 64.
+    /// How many workers roam during the scripts, at most 64.
     pub roamers: u32,
-    /// How many turns each of them has.
+    /// How many turns each roaming worker takes.
     pub turns: u32,
     ghost some_workers: { 1 ≤ workers },
     ghost few_roamers: { roamers ≤ 64 },
 }
 
-/// The network on which scripts are played, the gate that they pass, and who works beside them.
+/// The network on which scripts are played, their gate, and the crew.
 #[derive(Drop)]
 pub(crate) struct Stage<'a, R: Rules, G: Gate> {
     pub alloc: Global,
@@ -39,8 +39,9 @@ pub(crate) struct Stage<'a, R: Rules, G: Gate> {
     pub crew: Crew,
 }
 
-/// Plays a script line by line, up to its end or a fault. Before each line, the gate is passed with the number of the script,
-/// from 0, and that of the line.
+/// Plays a script line by line, up to its end or a fault.
+///
+/// Before each line the gate is passed with the script's number, from 0, and the line's.
 fn play_script<R: Rules + Sync, G: Gate, T: Threads + Wait + Sync>(
     rt: &T,
     stage: &Stage<R, G>,

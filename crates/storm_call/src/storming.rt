@@ -24,7 +24,7 @@ use std::thread::Threads;
 use steal_pool::Gate;
 use step_log::Journal;
 
-// Plays scripts on a new network, with workers who roam beside them: the log that they leave, with the first fault that was met.
+// Plays scripts on a new network while workers roam; returns the log that they leave, and the first fault.
 fn play<R: Rules + Send + Sync, G: Gate + Sync, T: Threads + Wait + Sync>(
     rt: &T,
     alloc: Global,
@@ -80,23 +80,30 @@ fn storm_on<
     }
 }
 
-/// Reads a script from each reader, plays them at once on one new network, each by a clerk of its own, with as many workers
-/// roaming beside them as the options say, settles all clerks against the log, and writes its text: a header, and an entry for
-/// each command of a script that was answered and for each node that a worker moved; or, where a script made a checkpoint, the
-/// lines of the last one's base, and the entries behind it. With no reader the header is written alone. A `step` line is evaluated
-/// by the workers of the options.
+/// Plays a script from each reader at once on one new network, and writes the settled log.
 ///
-/// `TooManyScripts` above 64; then, script by script, `Read` at the first error of its reader, and `BadLine` at the first line
-/// that is neither empty nor a command: nothing was played or written. Then the first of these that is so: `Unsettled` where
-/// the receipts do not account for the log, and nothing was written; `Write` only where a write or a flush failed, after a
-/// beginning of the text was written; and, after all of it was written, the fault of the first script that met one, else that of
-/// the first worker that did: `LogFull` at a command or a turn beyond the limit, `Behind`, or `Memory` in a call. Who meets a fault
-/// ends there, and the others go on. `Memory` also where memory runs out elsewhere, before anything was written. `Thread` never
-/// comes.
+/// Each script has its own clerk. The options say how many workers roam meanwhile, and how many evaluate a
+/// `step`. The text is a header, an entry for each answered command of a script, and an entry for each node
+/// that a worker moved. After a checkpoint it is the lines of the last one's base and the entries after it.
+/// Without readers it is the header alone.
 ///
-/// Before each command the gate is passed, with the script's number, from 0, and the line's; workers pass none. It waits for the
-/// gate, for the network's lock and for the threads that it starts; where no thread can be had, scripts are played one after
-/// another, and then workers roam.
+/// The first of these errors is returned:
+///
+/// | Error | When | Written before it |
+/// |---|---|---|
+/// | `TooManyScripts` | above 64 readers | nothing |
+/// | `Read`, `BadLine` | script by script: the reader's first error; the first line neither empty nor a command | nothing |
+/// | `Unsettled` | the receipts do not account for the log | nothing |
+/// | `Write` | only if a write or a flush failed | a beginning of the text |
+/// | `LogFull`, `Behind`, `Memory` | the fault of the first script that met one, or else of the first worker | all of the text |
+///
+/// `LogFull` is a command or turn beyond the limit; `Memory` here comes in a call. The script or worker that
+/// meets a fault ends there, and the others go on. `Memory` also comes if memory runs out elsewhere, before
+/// anything is written. `Thread` never comes.
+///
+/// Before each command the script passes the gate with its number, from 0, and the line's; workers pass none.
+/// It waits for the gate, for the network's lock, and for its threads. If no thread can be started, the
+/// scripts are played one after another, and then the workers roam.
 pub fn storm<In: Read + Drop, Out: Write, G: Gate + Sync, T: Threads + Wait + Sync>(
     rt: &T,
     alloc: Global,

@@ -1,4 +1,4 @@
-//! What a storm writes.
+//! Writing the log of a storm.
 
 ghost use Rattle.std.specs.Prelude.{◌≡◌, true, OnOk, IfErr, IsErrOf};
 ghost use Rattle.std.specs.Io.KnownBytes.{Appends};
@@ -16,7 +16,7 @@ use std::alloc::Global;
 use std::io::Write;
 use step_log::Journal;
 
-/// Writes the text of what a journal keeps of its log. `Memory` before anything is written.
+/// Writes the text of the log that a journal keeps. `Memory` comes before anything is written.
 pub fn write_log<R: Rules, Out: Write>(
     alloc: Global,
     options: &Options,

@@ -1,4 +1,4 @@
-//! How the turns of one line are taken.
+//! Taking the turns of one line.
 
 ghost use Rattle.std.specs.Prelude.{◌≡◌, ◌++◌, ◌<◌, ℕ, IfOk, IfSome, IsNone, List, MatchOption, OnErr, OnOk};
 ghost use mathlib.Core.List.{IsPrefix};
@@ -24,9 +24,9 @@ use script_text::Turns;
 use std::alloc::Global;
 use std::sync::Wait;
 
-/// Who finds the event of a clerk's turn under the network's lock, by the words of a generator.
+/// A source of a clerk's turns: it finds each event under the network's lock, from a generator's words.
 pub(crate) trait TurnTaker {
-    /// The event that a state and the words to come give, and the words that are left.
+    /// The event that a state and the next words give, and the words left.
     ghost draws: { Draws };
 
     /// The words to come.
@@ -35,11 +35,12 @@ pub(crate) trait TurnTaker {
     /// What the receipts of its turns are.
     ghost fits: { Receipt → Type 0 };
 
-    /// That there was nothing to do behind these receipts, and the number before them.
+    /// That nothing was left to do after these receipts, and the number before them.
     ghost rests: { Scene → ℕ → List Receipt → Type 0 };
 
-    /// Has the clerk take a turn; `None` where there is nothing to do, and nothing is logged then. The clerk's note tells what was
-    /// published when the turn ended.
+    /// Has the clerk take a turn; `None` if there is nothing to do, and then nothing is logged.
+    ///
+    /// The clerk's note then shows what was published when the turn ended.
     fn turn<R: Rules, W: Wait>(
         &mut self,
         rt: &W,
@@ -109,7 +110,7 @@ impl TurnTaker for Injector<Pcg32> {
     }
 }
 
-/// Has the clerk's note tell what it told before, if there was one, and what was published when its turn ended.
+/// Has the clerk's note show what was published when its turn ended, and what it showed before.
 fn take_in(clerk: &mut Clerk, before: Option<Note>, seen: Note)
     requires own { IsOfBook seen.book clerk.old }
     requires before { IfSome before (λ told. told.book ≡ seen.book) }
@@ -124,7 +125,7 @@ fn take_in(clerk: &mut Clerk, before: Option<Note>, seen: Note)
     recall(clerk, before);
 }
 
-/// Has the clerk's note tell what it told before a call, if there was one.
+/// Has the clerk's note show what it showed before a call, if there was one.
 pub(crate) fn recall(clerk: &mut Clerk, before: Option<Note>)
     requires { IfSome before (λ told. IsOfBook told.book clerk.old) }
     ensures before { IsPrefix (noted before) (noted clerk.new.note) }
@@ -138,7 +139,7 @@ pub(crate) fn recall(clerk: &mut Clerk, before: Option<Note>)
     }
 }
 
-/// Has the clerk take so many turns, or those up to one that finds nothing to do.
+/// Has the clerk take up to `count` turns, and stops at one that finds nothing to do.
 fn take_turns<R: Rules, S: TurnTaker, W: Wait>(
     rt: &W,
     net: &LockedNet<R>,
@@ -160,7 +161,7 @@ fn take_turns<R: Rules, S: TurnTaker, W: Wait>(
     Ok(())
 }
 
-/// Steps of a daemon that draws its choices from the generator with this seed, up to one that finds no node enabled.
+/// Takes up to `turns.count` steps of a daemon seeded with `turns.seed`; stops when no node is enabled.
 pub(crate) fn drive<R: Rules, W: Wait>(
     rt: &W,
     alloc: Global,
@@ -178,7 +179,7 @@ pub(crate) fn drive<R: Rules, W: Wait>(
     take_turns(rt, net, clerk, &mut daemon, turns.count)
 }
 
-/// Register faults that are drawn from the generator with this seed; none where the network has no node.
+/// Makes up to `turns.count` register faults drawn with `turns.seed`; none if the network has no node.
 pub(crate) fn scramble<R: Rules, W: Wait>(
     rt: &W,
     net: &LockedNet<R>,

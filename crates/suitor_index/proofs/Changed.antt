@@ -1,4 +1,4 @@
--- An index that is told of one node's change.
+-- An index that is updated for one node's change.
 use Rattle.std.proofs.Common.{◌≡◌, ℕ, ◌<◌, ◌≤◌, ◌++◌, Bool, true, ◌&&◌, List, length, take, Option, IfSome, nat_eq, IsTrue, refl, sym, ap, ◌∙◌, subst, arith}
 use Rattle.std.specs.List.{list_any}
 use Rattle.std.proofs.Math.Seq.{take-append_seam}
@@ -52,7 +52,7 @@ change_of_flag above opens n was now v value kept start it whole same here at go
   index = subst (IsIndexOf above opens n.state) (sym whole) it.index;
 }
 
--- what was written is what stands
+-- the pointer is the one written
 pub pointer_is : (above : Bool) (opens : Option ℕ → Bool → Bool) (net : Network) (r q : Registers) (v : ℕ) (target : Option ℕ) (start : List Tally) → IsChange above opens net r q v start → pointer_of (with_pointer r v target) v ≡ target
 pointer_is above opens net r q v target start c =
     let within = present_range net v c.here in
@@ -80,7 +80,7 @@ new_fits above opens net r q v start left old new c was is told =
     (sym is ∙ e)
     )
 
--- taken out at the old target and put in at the new one
+-- removed at the old target and added at the new one
 pub repointed : (v : ℕ) (start left pointed : List Tally) (old new p q : Option ℕ) → p ≡ old → new ≡ q → IsCourted old v left start → IsCourted new v left pointed → IsRepointed p q v start pointed
 repointed v start left pointed old new p q was is out into =
     subst (λ o. IsRepointed o q v start pointed) (sym was) (subst (λ o. IsRepointed old o v start pointed) is record {
@@ -90,7 +90,7 @@ repointed v start left pointed old new p q was is out into =
       reached = λ k. into.reached k ∙ sym (out.reached k);
     })
 
--- once the pointer's part is told: these nodes are to be told next whether v was open, and whether it is
+-- after the pointer's part: these nodes are next to learn whether v was open, and whether it is
 pub record IsHalfTold (above : Bool) (opens : Option ℕ → Bool → Bool) (net : Network) (r q : Registers) (v : ℕ) (start pointed : List Tally) (nodes : List ℕ) (was is : Bool) : Type 0 where
   pub change : IsChange above opens net r q v start
   pub told : IsRepointed (pointer_of r v) (pointer_of q v) v start pointed
@@ -125,7 +125,7 @@ told_within above opens net r q v start pointed nodes was is half k listed =
     let bounds = present_range net k (near_present net r v k half.change.before near_k) in
     omega (arith, bounds.1, half.told.places, half.change.index.places)
 
--- and what they are told fits there
+-- and their counts have room for it
 pub told_fits : (above : Bool) (opens : Option ℕ → Bool → Bool) (net : Network) (r q : Registers) (v : ℕ) (start pointed : List Tally) (nodes : List ℕ) (was is : Bool) → IsHalfTold above opens net r q v start pointed nodes was is → (k : ℕ) → (list_any (nat_eq k) nodes && asks_for above k v) ≡ true → CanTurn was is (tally_of pointed k)
 told_fits above opens net r q v start pointed nodes was is half k listed =
     let c = half.change in

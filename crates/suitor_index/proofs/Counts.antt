@@ -1,4 +1,4 @@
--- What is counted at a node says what a search among its neighbours finds.
+-- A node's counts decide whether a search among its neighbours finds something.
 use Rattle.std.proofs.Common.{◌≡◌, ◌≢◌, ℕ, zero, suc, ◌+◌, ◌≤◌, Bool, true, false, cond, not, ◌&&◌, reverse, find, Option, Some, None, SomeIff, is_some, nat_eq, nat_lt, nat_le, IsTrue, MatchOption, refl, sym, ap, ap₂, ◌∙◌, subst, ⊎_elim, arith}
 use Rattle.std.specs.List.{count_by, sum_by}
 use Rattle.std.proofs.lemmas.Bool.{and_parts, cases_eq, eq-eqb, false_from_ne_true, le-leb, lt-leb, lt-ltb, ne_eqb, true≢false}
@@ -16,12 +16,12 @@ use Rattle.suitor_index.proofs.Sums.{count_some, count_none, count_one, count_re
 pub suitors_counted : (above : Bool) (opens : Option ℕ → Bool → Bool) (s : State) (v : ℕ) (t : Tally) → t ≡ tally_at above opens s v → nat_lt 0 t.suitors ≡ has_suitor s v
 suitors_counted above opens s v t is = ap (λ (u : Tally). nat_lt 0 u.suitors) is ∙ count_some (suits s v) (neighbours s.network v)
 
--- the open neighbours, where the guards ask for any
+-- the open neighbours, if the guards ask for any
 pub open_counted : (above : Bool) (opens : Option ℕ → Bool → Bool) (s : State) (v : ℕ) (t : Tally) → above ≡ false → t ≡ tally_at above opens s v → t.reached ≡ count_by (is_open opens s) (neighbours s.network v)
 open_counted above opens s v t any is =
     ap (λ (u : Tally). u.reached) is ∙ ap (λ a. count_by (is_reached a opens s v) (neighbours s.network v)) any
 
--- and those above the node, where they ask for those alone
+-- and those above the node, if they ask for those alone
 pub open_above_counted : (above : Bool) (opens : Option ℕ → Bool → Bool) (s : State) (v : ℕ) (t : Tally) → above ≡ true → t ≡ tally_at above opens s v → t.reached ≡ count_by (λ w. is_open opens s w && nat_lt v w) (reverse (neighbours s.network v))
 open_above_counted above opens s v t higher is =
     ap (λ (u : Tally). u.reached) is
@@ -47,12 +47,12 @@ one_suitor_counted above opens s v t o is_state is few one named =
     named_some None P x h p = absurd (h p)
     named_some (Some y) P x h p = ap Some h.1
 
--- one count is another and a part, so it is no more than the part where the other is none
+-- one count is another plus a part, so it is at most the part if the other is 0
 at_most_part : (a b : ℕ) (part : Bool) → a ≡ b + one_if part → nat_le a (one_if part) ≡ not (nat_lt 0 b)
 at_most_part a zero part is = le-leb a (one_if part) (omega (arith, is))
 at_most_part a (suc b) part is = lt-leb a (one_if part) (omega (arith, is)) ∙ ap not (sym (lt-ltb 0 (suc b) (omega arith)))
 
--- v is no more than one of the neighbours that pass
+-- v is at most one of the neighbours that pass
 pub others_counted : (net : Network) (p : ℕ → Bool) (w v : ℕ) → IsNetwork net → IsTrue (linked net w v) → nat_le (count_by p (neighbours net w)) (one_if (p v)) ≡ not (is_some (find (λ x. not (nat_eq x v) && p x) (neighbours net w)))
 others_counted net p w v is_network h =
     let here = linked_present net v w is_network (linked_back net v w ∙ h) in
@@ -67,7 +67,7 @@ others_counted net p w v is_network h =
     nothing : (b : Bool) (x : ℕ) → cond b x x ≡ x
     nothing b x = grind arith
 
--- where one neighbour points at a node, it is the first that does, and no other does
+-- if one neighbour points at a node, it is the first that does, and no other does
 pub lone : (s : State) (v w : ℕ) → IsState s → suitor_count s v ≡ 1 → first_suitor s v ≡ Some w → IsLoneSuitor s v w
 lone s v w is_state one first = record {
   here = linked_present net w v good (linked_back net w v ∙ near.0);
@@ -98,7 +98,7 @@ lone s v w is_state one first = record {
         let found = near_found net (λ y. not (nat_eq y w) && suits s v y) v x good there (ap₂ (λ (b c : Bool). not b && c) (ne_eqb x w apart) points) in
         true≢false (sym (ap is_some found.1) ∙ none)
 
--- so it is where the count is 1 and the sum its name
+-- so it is if the count is 1 and the sum its name
 pub lone_counted : (above : Bool) (opens : Option ℕ → Bool → Bool) (s : State) (v : ℕ) (t : Tally) (o : Option ℕ) → IsState s → t ≡ tally_at above opens s v → s.network.size ≤ 65535 → t.suitors ≡ 1 → SomeIff o ((1 ≤ t.sum) × (t.sum ≤ 65535)) t.sum → MatchOption o (suitor_count s v ≢ 1) (IsLoneSuitor s v)
 lone_counted above opens s v t o is_state is few one named =
     let count : suitor_count s v ≡ 1 = sym (ap (λ (u : Tally). u.suitors) is) ∙ one in

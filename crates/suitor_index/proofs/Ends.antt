@@ -1,4 +1,4 @@
--- What an edge changes in what is counted at its two ends.
+-- What an edge changes in the counts of its two ends.
 use Rattle.std.proofs.Common.{◌≡◌, ◌≢◌, ℕ, ◌+◌, Bool, true, false, cond, ◌&&◌, List, Option, nat_eq, IsTrue, sym, ap, ◌∙◌, ⊎_elim, arith}
 use Rattle.std.specs.List.{sum_by}
 use Rattle.std.proofs.lemmas.Bool.{cases_eq, eq-eqb, ne_eqb}
@@ -73,7 +73,7 @@ no_pointer r a b k n fails =
     (λ (apart : k ≢ a). at_false k a _ apart)
     (cases_eq k a)
 
--- whether b counts as open at a, where k is it
+-- whether b counts as open at a, if k is a
 open_end : (above o : Bool) (a b k : ℕ) → cond (nat_eq k a) (cond (asks_for above k b && o) 1 0) 0 ≡ one_if ((asks_for above a b && o) && nat_eq k a)
 open_end above o a b k =
     ⊎_elim
@@ -84,11 +84,11 @@ open_end above o a b k =
     both_if : (e x : Bool) → cond e (one_if x) 0 ≡ one_if (x && e)
     both_if e x = grind arith
 
--- w alone, where v, its neighbour over the edge, is open and asked for
+-- w alone, if v, its neighbour over the edge, is open and asked for
 abbrev pub end_of : Bool → (Option ℕ → Bool → Bool) → Registers → ℕ → ℕ → ℕ → Bool
 end_of above opens r v w k = (asks_for above w v && opens (pointer_of r v) (flag_of r v)) && nat_eq k w
 
--- how the tally at k in the two states is one but for the edge
+-- how the tallies at k in the two states are equal except for the edge
 pub record IsTallyMore (above : Bool) (opens : Option ℕ → Bool → Bool) (net more : Network) (r : Registers) (a b k : ℕ) : Type 0 where
   pub suitors : (tally_at above opens (state_of more r) k).suitors ≡ (tally_at above opens (state_of net r) k).suitors
   pub sum : (tally_at above opens (state_of more r) k).sum ≡ (tally_at above opens (state_of net r) k).sum
@@ -103,7 +103,7 @@ tally_more above opens net more r a b k e =
       reached = omega (arith, edge_sum net more r a b k (λ x. cond (asks_for above k x && open_at x) 1 0) e, open_is above opens (state_of net r) k, open_is above opens (state_of more r) k, open_end above (open_at b) a b k, open_end above (open_at a) b a k);
     }
 
--- told of the edge at both ends, the tallies are those of the state with it
+-- updated for the edge at both ends, the tallies are those of the state with it
 pub index_more : (above : Bool) (opens : Option ℕ → Bool → Bool) (net more : Network) (r : Registers) (a b : ℕ) (start half done : List Tally) → IsEdgeMore net more r a b → IsIndexOf above opens (state_of net r) start → IsOpenTo (end_of above opens r b a) start half → IsOpenTo (end_of above opens r a b) half done → IsIndexOf above opens (state_of more r) done
 index_more above opens net more r a b start half done e index one two = record {
   places = two.places ∙ one.places ∙ index.places ∙ ap (λ n. n + 1) e.size;
@@ -116,7 +116,7 @@ index_more above opens net more r a b start half done e index one two = record {
       (two.sum k ∙ one.sum k ∙ ap (λ (x : Tally). x.sum) was ∙ sym t.sum);
 }
 
--- and told that it went, those of the state without it
+-- and updated for its removal, those of the state without it
 pub index_less : (above : Bool) (opens : Option ℕ → Bool → Bool) (net more : Network) (r : Registers) (a b : ℕ) (start half done : List Tally) → IsEdgeMore net more r a b → IsIndexOf above opens (state_of more r) start → IsOpenTo (end_of above opens r a b) half start → IsOpenTo (end_of above opens r b a) done half → IsIndexOf above opens (state_of net r) done
 index_less above opens net more r a b start half done e index two one = record {
   places = sym one.places ∙ sym two.places ∙ index.places ∙ ap (λ n. n + 1) (sym e.size);

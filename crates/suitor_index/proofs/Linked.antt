@@ -1,4 +1,4 @@
--- An index that is told of an edge.
+-- An index that is updated for an edge.
 use Rattle.std.proofs.Common.{◌≡◌, ◌≢◌, ℕ, ◌<◌, ◌≤◌, Bool, true, false, not, ◌&&◌, List, Option, None, nat_eq, IsTrue, refl, sym, ap, subst, ◌∙◌, arith}
 use Rattle.std.specs.Ordering.{eq_by_cmp}
 use Rattle.std.proofs.lemmas.Bool.{eq-eqb, ne_eqb, false_from_ne_true, true≢false, or_left, and_right}
@@ -26,7 +26,7 @@ no_pointer_across : (net : Network) (r : Registers) (a b : ℕ) → IsState (sta
 no_pointer_across net r a b good absent =
     false_from_ne_true (points r a b) (λ at. true≢false (sym (pointer_linked (state_of net r) a b good (points_true (state_of net r) a b at)) ∙ absent))
 
--- an edge that is put in
+-- an edge that is added
 pub edge_linked : (net more : Network) (r : Registers) (a b : ℕ) → IsState (state_of net r) → link_refusal net a b ≡ None → more ≡ with_edge net a b → IsEdgeMore net more r a b
 edge_linked net more r a b good accepted change =
     let two : nat_eq a b ≡ false = grind arith in
@@ -48,7 +48,7 @@ edge_linked net more r a b good accepted change =
       not_back = no_pointer_across net r b a good back;
     }
 
--- an edge that is taken out
+-- an edge that is removed
 pub edge_unlinked : (net more : Network) (r : Registers) (a b : ℕ) → IsState (state_of more r) → IsTrue (linked more a b) → points r a b ≡ false → points r b a ≡ false → net ≡ without_edge more a b → IsEdgeMore net more r a b
 edge_unlinked net more r a b good there not_there not_back change =
     let size : net.size ≡ more.size = ap (λ n. n.size) change in
@@ -70,7 +70,7 @@ edge_unlinked net more r a b good there not_there not_back change =
       not_back = not_back;
     }
 
--- an edge that is put in: the tallies are those of the network without it
+-- an edge that is added: the tallies are those of the network without it
 pub before_link : (above : Bool) (opens : Option ℕ → Bool → Bool) (n was now : Held) (a b : ℕ) (kept start : List Tally) → IsIndexed above opens n.state kept → start ≡ kept → n ≡ was → link_fault was.state.network a b ≡ None → now.state ≡ after_link n.state a b → IsEdgeMore n.state.network now.state.network now.state.registers a b × IsIndexOf above opens (state_of n.state.network now.state.registers) start
 before_link above opens n was now a b kept start it value same free at =
     let registers : n.state.registers ≡ now.state.registers = ap (λ (s : State). s.registers) (sym at) in
@@ -79,7 +79,7 @@ before_link above opens n was now a b kept start it value same free at =
       subst (λ r. IsIndexOf above opens (state_of n.state.network r) start) registers (subst (IsIndexOf above opens n.state) (sym value) it.index),
     )
 
--- one that is taken out: they are those of the network with it
+-- one that is removed: they are those of the network with it
 pub before_unlink : (above : Bool) (opens : Option ℕ → Bool → Bool) (n was now : Held) (a b : ℕ) (kept start : List Tally) → IsIndexed above opens n.state kept → start ≡ kept → n ≡ was → IsTrue (linked was.state.network a b) → points was.state.registers a b ≡ false → points was.state.registers b a ≡ false → now.state ≡ record n.state { network = without_edge n.state.network a b } → IsEdgeMore now.state.network n.state.network now.state.registers a b × IsIndexOf above opens (state_of n.state.network now.state.registers) start
 before_unlink above opens n was now a b kept start it value same there not_there not_back at =
     let registers : n.state.registers ≡ now.state.registers = ap (λ (s : State). s.registers) (sym at) in
@@ -126,7 +126,7 @@ end_room above opens net more r a b start e index few counts =
     let x = ap (λ (y : Tally). y.reached) was in
     omega (arith, now, most, end_here above opens r a b counts, x)
 
--- and it is counted where the edge is
+-- and it is counted at the edge's end
 pub end_counted : (above : Bool) (opens : Option ℕ → Bool → Bool) (net more : Network) (r : Registers) (a b : ℕ) (start : List Tally) → IsEdgeMore net more r a b → IsIndexOf above opens (state_of more r) start → (asks_for above a b && opens (pointer_of r b) (flag_of r b)) ≡ true → 1 ≤ (tally_of start a).reached
 end_counted above opens net more r a b start e index counts =
     let t = tally_more above opens net more r a b a e in
@@ -142,7 +142,7 @@ open_still p a b w told fails =
     let none : one_if (p w) ≡ 0 = ap one_if fails in
     omega arith
 
--- once the first end is told, the other is as it was
+-- after the first end is updated, the other is as it was
 pub second_room : (above : Bool) (opens : Option ℕ → Bool → Bool) (net more : Network) (r : Registers) (a b : ℕ) (start half : List Tally) → IsEdgeMore net more r a b → IsIndexOf above opens (state_of net r) start → net.size ≤ 65535 → IsOpenTo (end_of above opens r b a) start half → (asks_for above b a && opens (pointer_of r a) (flag_of r a)) ≡ true → (tally_of half b).reached < 65535
 second_room above opens net more r a b start half e index few told counts =
     let same = open_still (end_of above opens r b a) start half b told (end_elsewhere above opens r a b b (λ same. e.apart (sym same))) in

@@ -36,7 +36,7 @@ turned_alike was is p q a b same told = record {
   reached = λ k. subst (λ t. (tally_of b k).reached + cond was (one_if t) 0 ≡ (tally_of a k).reached + cond is (one_if t) 0) (same k) (told.reached k);
 }
 
--- a name of a rising list stands nowhere before its place
+-- a name of an ascending list does not occur before its index
 pub not_before : (nodes : List ℕ) (i w : ℕ) → IsStrictlyIncreasing nodes → i < length nodes → w ≡ get_or nodes i w → list_any (nat_eq w) (take i nodes) ≡ false
 not_before nodes i w rising inside is =
     list_any_none (nat_eq w) (take i nodes) (λ k d there.
@@ -88,7 +88,7 @@ taken_any p nodes i found =
     let (k, x, low, at, passes) = Any-from_list_any p (take i nodes) found in
     list_any_at p nodes k x (omega (arith, low, length-take i nodes)) (ap p (sym (get_or-take i nodes k x (omega (arith, low, length-take i nodes))) ∙ at) ∙ passes)
 
--- a name that is below the place's stands before it
+-- a name below the index's is before it
 any_before : (nodes : List ℕ) (i w k : ℕ) → IsStrictlyIncreasing nodes → i < length nodes → w ≡ get_or nodes i w → list_any (nat_eq k) nodes ≡ true → (w ≤ k → ⊥) → list_any (nat_eq k) (take i nodes) ≡ true
 any_before nodes i w k rising inside is listed below =
     let (j, x, low, at, passes) = Any-from_list_any (nat_eq k) nodes listed in
@@ -107,12 +107,12 @@ any_before nodes i w k rising inside is listed below =
         (λ (apart : i ≢ j). let lt = AllPairs-from_increasing nodes rising i j w (omega arith) low in omega (arith, lt, found, is))
         (cases_eq i j)))
 
--- who does not ask is above v, and so is every later name
+-- a name that does not ask is above v, and so is every later name
 later_ask_not : (above : Bool) (v w k : ℕ) → asks_for above w v ≡ false → w ≤ k → asks_for above k v ≡ false
 later_ask_not true v w k none later = let high = ltb-false w v none in le-ltb k v (omega arith)
 later_ask_not false v w k none later = absurd (let e : true ≡ false = none in cc)
 
--- where one does not ask, those so far are all that do
+-- if one does not ask, those so far are all that do
 pub asked_so_far : (above : Bool) (v : ℕ) (nodes : List ℕ) (i w k : ℕ) → IsStrictlyIncreasing nodes → i < length nodes → w ≡ get_or nodes i w → asks_for above w v ≡ false → AllAsk above v (take i nodes) → list_any (nat_eq k) (take i nodes) ≡ (list_any (nat_eq k) nodes && asks_for above k v)
 asked_so_far above v nodes i w k rising inside is none so_far = both_ways _ _ there back
   where

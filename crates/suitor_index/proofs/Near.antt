@@ -86,7 +86,7 @@ near_names net k f size few =
 pub neighbours_rise : (net : Network) (v : ℕ) → IsStrictlyIncreasing (neighbours net v)
 neighbours_rise net v = IsStrictlyIncreasing-filter (linked net v) (names net) (names_increasing net)
 
--- a name is in a filtered list where it passes and the list has it
+-- a name is in a filtered list if it passes and is in the list
 kept_is : (p : ℕ → Bool) (k : ℕ) (xs : List ℕ) → list_any (nat_eq k) (filter p xs) ≡ (p k && list_any (nat_eq k) xs)
 kept_is p k xs = any-filter_same (nat_eq k) p (p k) (λ x same. ap p (sym (eqb-true k x same))) xs
 
@@ -95,7 +95,7 @@ in_range k a n low high =
     let at = get_or-range_with_len a n (k - a) 0 (omega arith) in
     list_any_at (nat_eq k) (range_with_len a n) (k - a) 0 (omega (arith, length-range_with_len a n)) (eq-eqb k _ (omega (arith, at)))
 
--- the names in the list of a node's neighbours are the names to which it is linked
+-- the names in a node's list of neighbours are those that it is linked to
 pub listed_linked : (net : Network) (v k : ℕ) → list_any (nat_eq k) (neighbours net v) ≡ true → IsTrue (linked net v k)
 listed_linked net v k h =
     (and_parts (linked net v k) (list_any (nat_eq k) (names net)) (sym (kept_is (linked net v) k (names net)) ∙ h)).0

@@ -1,4 +1,4 @@
--- Who is present changes nothing of what is counted, but where a node comes.
+-- Presence changes none of the counts, except at a node that joins.
 use Rattle.std.proofs.Common.{◌&&◌, ◌≡◌, ◌≢◌, ℕ, ◌+◌, ◌≤◌, Bool, true, false, cond, List, [], ◌∷◌, filter, replicate, set, Option, IsTrue, refl, sym, ap, subst, ◌∙◌, ⊎_elim, arith}
 use Rattle.std.specs.List.{count_by, sum_by, range_with_len}
 use Rattle.std.proofs.lemmas.Bool.{cases_eq, false_from_ne_true, true≢false}
@@ -27,11 +27,11 @@ over_all above opens net r v =
     let now = tally_at above opens (state_of net r) v in
     λ i. record { suitors = now.suitors; reached = open_is above opens (state_of net r) v i; sum = now.sum }
 
--- a network with another row of those who are present
+-- a network with another row of present nodes
 abbrev with_row : Network → List Bool → Network
 with_row net row = record net { here = row }
 
--- a node's tally goes by its edges alone
+-- a node's tally depends on its edges alone
 tally_stays : (above : Bool) (opens : Option ℕ → Bool → Bool) (net : Network) (row : List Bool) (r : Registers) (k : ℕ) → IsNetwork net → IsNetwork (with_row net row) → tally_at above opens (state_of net r) k ≡ tally_at above opens (state_of (with_row net row) r) k
 tally_stays above opens net row r k good now =
     over_all above opens net r k
@@ -42,7 +42,7 @@ none_pass : (p : ℕ → Bool) (xs : List ℕ) → ((x : ℕ) → p x ≡ false)
 none_pass p [] h = refl
 none_pass p (x ∷ xs) h = ap (λ b. cond b (x ∷ filter p xs) (filter p xs)) (h x) ∙ none_pass p xs h
 
--- at a node without an edge nothing is counted
+-- all counts of a node without an edge are 0
 pub nothing_counted : (above : Bool) (opens : Option ℕ → Bool → Bool) (net : Network) (r : Registers) (v : ℕ) → ((w : ℕ) → linked net v w ≡ false) → tally_at above opens (state_of net r) v ≡ nothing
 nothing_counted above opens net r v apart =
     over_all above opens net r v ∙ ap (tally_over above opens net r v) (none_pass (linked net v) (filter (present net) (range_with_len 1 net.size)) apart)
@@ -77,7 +77,7 @@ index_parted above opens net r v tallies good now was index = record {
       ∙ tally_stays above opens net (set net.here v false) r k good now;
 }
 
--- at first there is no edge, and nothing is counted
+-- at first there is no edge, and all counts are 0
 pub indexed_at_first : (above : Bool) (opens : Option ℕ → Bool → Bool) (size count : ℕ) (s : State) (tallies : List Tally) → size ≤ 65535 → s ≡ opening_with size count → tallies ≡ replicate (size + 1) nothing → IsIndexed above opens s tallies
 indexed_at_first above opens size count s tallies few at all =
     subst (λ (t : State). IsIndexed above opens t tallies) (sym at) (subst (IsIndexed above opens (opening_with size count)) (sym all) record {

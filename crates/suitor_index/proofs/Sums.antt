@@ -66,7 +66,7 @@ some_step : (b : Bool) (x n : ℕ) (o : Option ℕ) → nat_lt 0 n ≡ is_some o
 some_step true x n o rest = lt-ltb 0 (1 + n) (omega arith)
 some_step false x n o rest = ap (nat_lt 0) (let e : 0 + n ≡ n = omega arith in e) ∙ rest
 
--- a search finds something just where the count is not 0
+-- a search finds something exactly if the count is not 0
 pub count_some : (p : ℕ → Bool) (xs : List ℕ) → nat_lt 0 (count_by p xs) ≡ is_some (find p xs)
 count_some p [] = refl
 count_some p (x ∷ xs) = ap (nat_lt 0) (count-cons p x xs) ∙ some_step (p x) x (count_by p xs) (find p xs) (count_some p xs)
@@ -83,7 +83,7 @@ names_step : (b : Bool) (x n m : ℕ) → cond b 1 0 + n ≡ 0 → (n ≡ 0 → 
 names_step true x n m none rest = absurd (omega (arith, none))
 names_step false x n m none rest = let e = rest (omega (arith, none)) in omega (arith, e)
 
--- where nothing passes, no name is added
+-- if none passes, no name is added
 names_none : (p : ℕ → Bool) (xs : List ℕ) → count_by p xs ≡ 0 → sum_by (name_if p) xs ≡ 0
 names_none p [] none = refl
 names_none p (x ∷ xs) none = sum_by-cons (name_if p) x xs ∙ names_step (p x) x (count_by p xs) (sum_by (name_if p) xs) (sym (count-cons p x xs) ∙ none) (names_none p xs)
@@ -92,7 +92,7 @@ one_step : (b : Bool) (x n m : ℕ) (o : Option ℕ) → cond b 1 0 + n ≡ 1 �
 one_step true x n m o one none rest = let e = none (omega (arith, one)) in ap Some (omega (arith, e))
 one_step false x n m o one none rest = rest (omega (arith, one)) ∙ ap Some (omega arith)
 
--- where one name passes, the sum is its name
+-- if one name passes, the sum is its name
 pub count_one : (p : ℕ → Bool) (xs : List ℕ) → count_by p xs ≡ 1 → find p xs ≡ Some (sum_by (name_if p) xs)
 count_one p [] one = absurd (let e : 0 ≡ 1 = one in omega arith)
 count_one p (x ∷ xs) one =

@@ -1,4 +1,4 @@
--- What one node's registers change in what is counted at the others.
+-- What one node's registers change in the counts of the others.
 use Rattle.std.proofs.Common.{◌≡◌, ◌≢◌, ℕ, ◌+◌, ◌<◌, ◌≤◌, Bool, true, false, cond, ◌&&◌, List, Option, Some, nat_eq, IsTrue, refl, sym, ap, ap₂, ◌∙◌, subst, arith}
 use Rattle.std.specs.List.{sum_by, list_any}
 use Rattle.rule_machine.specs.Network.{Network, IsNetwork, linked, neighbours, present}
@@ -27,7 +27,7 @@ near above net v k = list_any (nat_eq k) (neighbours net v) && asks_for above k 
 held : (l b : Bool) (n : ℕ) → (b ≡ true → l ≡ true) → cond l (cond b n 0) 0 ≡ cond b n 0
 held l b n h = grind arith
 
--- who points at k is its neighbour
+-- a node that points at k is its neighbour
 pub held_at : (net : Network) (r : Registers) (v k n : ℕ) → IsState (state_of net r) → cond (linked net k v) (cond (points r v k) n 0) 0 ≡ cond (points r v k) n 0
 held_at net r v k n good = held (linked net k v) (points r v k) n (λ at. suitor_linked (state_of net r) k v good (points_true (state_of net r) v k at))
 
@@ -45,7 +45,7 @@ open_term above opens net r v k is_network =
     swap_and (linked net k v) (asks_for above k v) (is_open opens (state_of net r) v)
     ∙ ap (λ b. cond (is_open opens (state_of net r) v) (one_if (b && asks_for above k v)) 0) (linked_back net k v ∙ sym (listed_is_linked net v k is_network))
 
--- how the tally at k in two states is one but for v
+-- how the tallies at k in two states are equal except for v
 pub record IsTallyTurned (above : Bool) (opens : Option ℕ → Bool → Bool) (net : Network) (r q : Registers) (v k : ℕ) : Type 0 where
   pub suitors : (tally_at above opens (state_of net q) k).suitors + one_if (points r v k) ≡ (tally_at above opens (state_of net r) k).suitors + one_if (points q v k)
   pub sum : (tally_at above opens (state_of net q) k).sum + cond (points r v k) v 0 ≡ (tally_at above opens (state_of net r) k).sum + cond (points q v k) v 0
@@ -63,14 +63,14 @@ tally_turned above opens net r q v k before now alike here =
       reached = omega (arith, turn, open_is above opens s k, open_is above opens u k, open_term above opens net r v k before.is_network, open_term above opens net q v k before.is_network);
     }
 
--- tallies are one where each count is
+-- tallies are equal if each count is
 pub tally_is : (t u : Tally) → t.suitors ≡ u.suitors → t.reached ≡ u.reached → t.sum ≡ u.sum → t ≡ u
 tally_is t u a b c = λ i. record { suitors = a i; reached = b i; sum = c i }
 
 cancel : (a b c d w i : ℕ) → a + w ≡ b + i → b ≡ c → d + w ≡ c + i → a ≡ d
 cancel a b c d w i told was turned = omega arith
 
--- the tallies of the state before, told of v's change, are those of the state now
+-- the tallies of the state before, updated for v's change, are those of the state after
 pub index_turned : (above : Bool) (opens : Option ℕ → Bool → Bool) (net : Network) (r q : Registers) (v : ℕ) (start pointed turned : List Tally) → IsState (state_of net r) → IsState (state_of net q) → AreAlike v r q → IsTrue (present net v) → IsIndexOf above opens (state_of net r) start → IsRepointed (pointer_of r v) (pointer_of q v) v start pointed → IsTurned (near above net v) (is_open opens (state_of net r) v) (is_open opens (state_of net q) v) pointed turned → IsIndexOf above opens (state_of net q) turned
 index_turned above opens net r q v start pointed turned before now alike here index told told_open = record {
   places = told_open.places ∙ told.places ∙ index.places;
@@ -102,7 +102,7 @@ tally_small above opens s k few = record {
   sum = omega (arith, near_names s.network k (λ x. cond (points s.registers x k) x 0) few (λ x. name_small (points s.registers x k) x));
 }
 
--- a node's pointer is counted where it is
+-- a node's pointer is counted at its target
 pub has_suitor : (above : Bool) (opens : Option ℕ → Bool → Bool) (net : Network) (r : Registers) (v w : ℕ) (ts : List Tally) → IsState (state_of net r) → IsIndexOf above opens (state_of net r) ts → IsTrue (present net v) → IsTrue (present net w) → pointer_of r v ≡ Some w → HasSuitor v (tally_of ts w)
 has_suitor above opens net r v w ts good index here has at =
     let was = index.counted w has in
@@ -116,7 +116,7 @@ has_suitor above opens net r v w ts good index here has at =
       sum = omega (arith, two, held_two, ap (λ (x : Tally). x.sum) was);
     }
 
--- there is room to count it where it is written
+-- there is room to count it at its new target
 pub has_room : (above : Bool) (opens : Option ℕ → Bool → Bool) (net : Network) (r q : Registers) (v w : ℕ) (start left : List Tally) → IsState (state_of net r) → IsState (state_of net q) → AreAlike v r q → IsTrue (present net v) → IsTrue (present net w) → net.size ≤ 65535 → IsIndexOf above opens (state_of net r) start → IsCourted (pointer_of r v) v left start → pointer_of q v ≡ Some w → HasRoomFor v (tally_of left w)
 has_room above opens net r q v w start left before now alike here has few index told at =
     let t = tally_turned above opens net r q v w before now alike here in
@@ -138,7 +138,7 @@ turn_step false false t before now small same turned = tt
 turn_step true false t before now small same turned = omega (arith, same, turned)
 turn_step false true t before now small same turned = let low = small.reached in omega (arith, same, turned, low)
 
--- there is room to count v as open where it turns open, and it is counted where it turns
+-- there is room to count v as open if it opens, and it is counted if it closes
 pub can_turn : (above : Bool) (opens : Option ℕ → Bool → Bool) (net : Network) (r q : Registers) (v k : ℕ) (start pointed : List Tally) → IsState (state_of net r) → IsState (state_of net q) → AreAlike v r q → IsTrue (present net v) → IsTrue (present net k) → near above net v k ≡ true → net.size ≤ 65535 → IsIndexOf above opens (state_of net r) start → IsRepointed (pointer_of r v) (pointer_of q v) v start pointed → CanTurn (is_open opens (state_of net r) v) (is_open opens (state_of net q) v) (tally_of pointed k)
 can_turn above opens net r q v k start pointed before now alike here has listed few index told =
     let t = tally_turned above opens net r q v k before now alike here in

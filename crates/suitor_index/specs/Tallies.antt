@@ -1,4 +1,4 @@
--- What is counted at a node, and a table of it with a place for each name; place 0 is nobody's.
+-- The counts of a node, and a table of them with an entry for each name; entry 0 is unused.
 use Rattle.std.specs.Prelude.{◌≡◌, ℕ, ◌+◌, ◌≤◌, Bool, true, false, cond, ◌&&◌, List, length, Option, IsTrue, nat_eq, nat_lt, slice_index_or}
 use Rattle.std.specs.List.{count_by, sum_by}
 use Rattle.rule_machine.specs.Network.{linked, present, neighbours}
@@ -6,23 +6,24 @@ use Rattle.rule_machine.specs.State.{State, IsState, suits}
 use Rattle.rule_set.specs.Glance.{is_reached}
 use Rattle.suitor_index.specs.declared.tally.Tally.{Tally}
 
--- nothing is counted
+-- all counts are 0
 abbrev pub nothing : Tally
 nothing = record { suitors = 0; reached = 0; sum = 0 }
 
 abbrev pub tally_of : List Tally → ℕ → Tally
 tally_of tallies v = slice_index_or tallies v nothing
 
--- a name that counts where it passes the test
+-- a name that counts if it passes the test
 abbrev pub name_if : (ℕ → Bool) → ℕ → ℕ
 name_if test w = cond (test w) w 0
 
--- whether the guard of v asks for open neighbours of which w may be one: those above v, or any
+-- whether the guard of v asks for open neighbours such as w: those above v alone, or any
 abbrev pub asks_for : Bool → ℕ → ℕ → Bool
 asks_for true v w = nat_lt v w
 asks_for false v w = true
 
--- what a scan of v's neighbours counts: its suitors, the open ones that its guard asks for, and the suitors' names
+-- what a scan of v's neighbours counts: its suitors, the open ones that its guard asks for, and the suitors'
+-- names
 abbrev pub tally_at : Bool → (Option ℕ → Bool → Bool) → State → ℕ → Tally
 tally_at above opens s v = record {
   suitors = count_by (suits s v) (neighbours s.network v);

@@ -1,14 +1,14 @@
--- How two tables of tallies differ by one node: who it points at, and at which places it counts as open.
+-- How two tables of tallies differ by one node: by its target, and by the entries that count it as open.
 use Rattle.std.specs.Prelude.{◌≡◌, ℕ, ◌+◌, ◌<◌, ◌≤◌, Bool, true, false, cond, List, length, Option}
 use Rattle.rule_machine.specs.State.{is_at}
 use Rattle.suitor_index.specs.declared.tally.Tally.{Tally}
 use Rattle.suitor_index.specs.Tallies.{tally_of}
 
--- one where the test passes
+-- 1 if the test passes
 abbrev pub one_if : Bool → ℕ
 one_if b = cond b 1 0
 
--- the second table has v as a suitor of the node at which the pointer is, and the first has not
+-- the second table counts v as a suitor of the pointer's target, and the first does not
 pub record IsCourted (pointer : Option ℕ) (v : ℕ) (without has : List Tally) : Type 0 where
   pub places : length has ≡ length without
   pub suitors : (k : ℕ) → (tally_of has k).suitors ≡ (tally_of without k).suitors + one_if (is_at pointer k)
@@ -45,7 +45,7 @@ pub record IsTurned (near : ℕ → Bool) (was is : Bool) (before after : List T
   pub sum : (k : ℕ) → (tally_of after k).sum ≡ (tally_of before k).sum
   pub reached : (k : ℕ) → (tally_of after k).reached + cond was (one_if (near k)) 0 ≡ (tally_of before k).reached + cond is (one_if (near k)) 0
 
--- the first table has v as a suitor where its pointer was, and the second where it is
+-- the first table counts v as a suitor of its old target, and the second of its new one
 pub record IsRepointed (was is : Option ℕ) (v : ℕ) (before after : List Tally) : Type 0 where
   pub places : length after ≡ length before
   pub suitors : (k : ℕ) → (tally_of after k).suitors + one_if (is_at was k) ≡ (tally_of before k).suitors + one_if (is_at is k)

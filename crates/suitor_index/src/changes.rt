@@ -1,4 +1,4 @@
-//! How a network changes, and with it what is counted at its nodes.
+//! How a network changes, with the counts of its nodes.
 
 ghost use Rattle.std.specs.Prelude.{◌≡◌, ◌<◌, ◌≤◌, ◌&&◌, IfErr, IfSome, IsTrue, None, OnOk, false, true, length, nat_eq, not, slice_set};
 ghost use Rattle.std.specs.Bool.{beq};
@@ -24,16 +24,16 @@ use rule_set::Rules;
 /// What a write of a node's pointer changed.
 #[derive(Clone, Copy)]
 pub struct Change {
-    /// Where the node pointed before, if anywhere.
+    /// The node's pointer before the write.
     pub left: Option<Node>,
-    /// Whether it became open to a seduction, or ceased to be.
+    /// Whether the node became open to a seduction, or ceased to be.
     pub turned: bool,
 }
 
 impl<R: Rules> SuitorIndex<R> {
-    /// Makes room for the edge between two nodes, so that `link_reserved` of them takes no memory: a look-up by halves, and the
-    /// growth of at most two neighbour lists. `UnknownNode`, `SelfLoop`, `AlreadyLinked`, `TooManyEdges`, `Memory`, in that
-    /// order; the state stays.
+    /// Makes room for the edge between two nodes, so that `link_reserved` takes no memory.
+    ///
+    /// Errors and cost: as for `NetState::reserve_link`. The state never changes.
     pub fn reserve_link(&mut self, a: Node, b: Node) -> Result<(), GraphFault>
         ensures ok { OnOk result ((link_fault self.old.state.network a b ≡ None) × HasRoomFor self.new.room a b) }
         ensures fault { IfErr result (λ fault. Explains (link_fault self.old.state.network a b) fault) }
@@ -43,8 +43,9 @@ impl<R: Rules> SuitorIndex<R> {
         self.net.reserve_link(a, b)
     }
 
-    /// Adds the edge between two nodes for which there is room: a look-up by halves, a shift in two neighbour lists, and a write at
-    /// each end that asks for the other, at most. Takes no memory.
+    /// Adds the edge between two nodes that have room for it.
+    ///
+    /// Cost: a binary search, a shift in two neighbour lists, and at most one count at each end; no memory.
     pub fn link_reserved(&mut self, a: Node, b: Node)
         requires free { link_fault self.old.state.network a b ≡ None }
         requires room { HasRoomFor self.old.room a b }
@@ -58,9 +59,11 @@ impl<R: Rules> SuitorIndex<R> {
         count_end::<R>(tallies, b, a, &self.net);
     }
 
-    /// Writes a node's pointer, to null or to a neighbour, and tells what that changed: a write at its old target and at the new
-    /// one, and one at each neighbour that asks for the node, where it became open or ceased to be. Where neighbours ask for higher
-    /// names alone, no look at those above the node but one. Takes no memory.
+    /// Writes a node's pointer, to null or to a neighbour, and returns what that changed.
+    ///
+    /// Cost: a write at the old target and at the new one. If the node became open or ceased to be, one more
+    /// at each neighbour whose guard asks for it; if guards ask for higher names alone, the scan stops at the
+    /// first neighbour above the node. Takes no memory.
     pub fn write_pointer(&mut self, v: Node, target: Option<Node>) -> Change
         requires present { IsTrue (present self.old.state.network v) }
         requires near { IfSome target (λ w. IsTrue (linked self.old.state.network v w)) }
@@ -69,7 +72,7 @@ impl<R: Rules> SuitorIndex<R> {
         ensures left { result.left ≡ pointer self.old.state v }
         ensures turned { result.turned ≡ not (beq (RuleTable.is_open R.table.opens self.old.state v) (RuleTable.is_open R.table.opens self.new.state v)) }
     {
-        // Each use has a copy: of a value that is passed on proofs say no more.
+        // Copied: the prover drops facts about a moved value.
         let old = self.net.pointer(v);
         let flag = self.net.flag(v);
         let left = old;
@@ -89,9 +92,10 @@ impl<R: Rules> SuitorIndex<R> {
         }
     }
 
-    /// Writes a node's flag, and tells whether the node became open or ceased to be: a write at each neighbour that asks for it
-    /// where it did, and none where it did not. Where neighbours ask for higher names alone, no look at those above the node but
-    /// one. Takes no memory.
+    /// Writes a node's flag, and returns whether the node became open or ceased to be.
+    ///
+    /// Cost: if it did, a write at each neighbour whose guard asks for it; if guards ask for higher names
+    /// alone, the scan stops at the first neighbour above the node. Takes no memory.
     pub fn write_flag(&mut self, v: Node, value: bool) -> bool
         requires { IsTrue (present self.old.state.network v) }
         ensures value { self.new ≡ record self.old { state = after_flag self.old.state v value } }
@@ -106,7 +110,7 @@ impl<R: Rules> SuitorIndex<R> {
         was_open != is_open
     }
 
-    /// Makes a name a node, with no edge, a null pointer and its flag false: one write beside those of the network. Takes no memory.
+    /// Makes a name a node, without an edge, its pointer null and its flag false. Takes no memory.
     pub fn join(&mut self, v: Node)
         requires within { v ≤ self.old.state.network.size }
         requires absent { present self.old.state.network v ≡ false }
@@ -118,8 +122,9 @@ impl<R: Rules> SuitorIndex<R> {
         self.tallies[v.place()] = NOTHING;
     }
 
-    /// Says what a name makes of the edges at it from now on, where at first each name shuts them: one look where that was said
-    /// before, else one at each neighbour. Takes no memory.
+    /// Sets the stance of a name towards its edges; at first every name shuts them.
+    ///
+    /// Cost: one look if the stance is the same as before, else one at each neighbour; no memory.
     pub fn turn(&mut self, v: Node, end: End)
         requires { v ≤ self.old.state.network.size }
         ensures told { end_at self.new.ends v ≡ end }
@@ -148,7 +153,7 @@ impl<R: Rules> Disturb for SuitorIndex<R> {
         let _turned = self.write_flag(v, value);
     }
 
-    /// Beside the shift a write at each end that asks for the other, at most.
+    /// Cost: the shift, and at most one count at each end.
     fn take_out(&mut self, a: Node, b: Node) {
         self.net.take_out(a, b);
         let tallies = self.tallies.as_mut_slice();
@@ -161,7 +166,7 @@ impl<R: Rules> Disturb for SuitorIndex<R> {
     }
 }
 
-/// Counts v at w where it is open and asked for.
+/// Adds v to the count of w if v is open and w's guard asks for it.
 fn count_end<R: Rules>(tallies: &mut [Tally], w: Node, v: Node, net: &NetState)
     requires known { v ≤ net.now.state.network.size }
     requires within { w < length tallies.old }
@@ -173,7 +178,7 @@ fn count_end<R: Rules>(tallies: &mut [Tally], w: Node, v: Node, net: &NetState)
     }
 }
 
-/// Counts v at w no longer, where it is open and asked for.
+/// Takes v from the count of w if v is open and w's guard asks for it.
 fn discount_end<R: Rules>(tallies: &mut [Tally], w: Node, v: Node, net: &NetState)
     requires known { v ≤ net.now.state.network.size }
     requires within { w < length tallies.old }

@@ -1,4 +1,4 @@
-//! What can be asked of a network with its index.
+//! Queries of a network with its index.
 
 ghost use Rattle.std.specs.Prelude.{◌≡◌, ◌≢◌, ◌≤◌, ◌&&◌, IfErr, IfOk, IsTrue, MatchOption, OnOk, is_some, not};
 ghost use Rattle.graph_store.specs.Fault.{nodes_fault, Explains};
@@ -18,8 +18,9 @@ use rule_set::Rules;
 use std::alloc::Global;
 use std::marker::{Model, PhantomData};
 
-/// A network that knows who courts each node and which neighbours are open to it under the rules `R`, seen in contracts as the
-/// network: each look-up is what a scan of the neighbours gives.
+/// A network that counts each node's suitors and the neighbours open to it under the rules `R`.
+///
+/// Contracts see the network: each look-up returns what a scan of the neighbours would.
 #[derive(Drop)]
 pub struct SuitorIndex<R: Rules> {
     pub(crate) net: NetState,
@@ -41,8 +42,10 @@ impl<R: Rules> Model for SuitorIndex<R> {
 }
 
 impl<R: Rules> SuitorIndex<R> {
-    /// The nodes 1 to `present`, for names up to `nodes`, without an edge, all pointers null and all flags false. Takes eight bytes
-    /// a name beside the network. `TooManyNodes` above 65,535 names, and `Memory` if memory runs out.
+    /// Creates names 1 to `nodes`; 1 to `present` are nodes, without an edge, pointers null, flags false.
+    ///
+    /// `TooManyNodes` above 65,535 names; `Memory` if memory runs out. Takes eight bytes a name besides the
+    /// network.
     pub fn with_present(
         alloc: Global,
         nodes: u32,
@@ -64,7 +67,7 @@ impl<R: Rules> SuitorIndex<R> {
         })
     }
 
-    /// The edges and registers.
+    /// Returns the edges and registers.
     #[inline(always)]
     pub fn net(&self) -> &NetState
         ensures value { result.now ≡ self.now }
@@ -74,7 +77,7 @@ impl<R: Rules> SuitorIndex<R> {
         &self.net
     }
 
-    // What is counted at a node.
+    // The counts of a node.
     fn tally(&self, v: Node) -> Tally
         requires { IsTrue (present self.now.state.network v) }
         ensures value { result ≡ tally_at R.ABOVE R.table.opens self.now.state v }
@@ -92,8 +95,10 @@ impl<R: Rules> SuitorIndex<R> {
         self.tally(v).suitors > 0
     }
 
-    /// Whether a neighbour is open. One look where the guards ask for any open neighbour; else a scan of the neighbours, which
-    /// stops at the first.
+    /// Whether a neighbour is open.
+    ///
+    /// Cost: one look if the guards ask for any open neighbour, else a scan of the neighbours up to the
+    /// first.
     pub fn has_open(&self, v: Node) -> bool
         requires { IsTrue (present self.now.state.network v) }
         ensures { result ≡ is_some (first_open R.table.opens self.now.state v) }
@@ -105,8 +110,10 @@ impl<R: Rules> SuitorIndex<R> {
         }
     }
 
-    /// Whether an open neighbour has a higher name than the node. One look where the guards ask for those alone; else a scan of
-    /// the neighbours from the last, which stops at the first.
+    /// Whether an open neighbour has a higher name than the node.
+    ///
+    /// Cost: one look if the guards ask for those alone, else a scan of the neighbours from the last to the
+    /// first that is.
     pub fn has_open_above(&self, v: Node) -> bool
         requires { IsTrue (present self.now.state.network v) }
         ensures { result ≡ is_some (last_open_above R.table.opens self.now.state v) }
@@ -118,8 +125,9 @@ impl<R: Rules> SuitorIndex<R> {
         }
     }
 
-    /// Whether no neighbour that the node's guard asks for is open but v, which is a neighbour, and open or not as is said here. One
-    /// look.
+    /// Whether no neighbour but `v` that the guard of `w` asks for is open. One look.
+    ///
+    /// `v` is a neighbour of `w`, and `is_open` is whether `v` is open.
     pub fn relies_on(&self, w: Node, v: Node, is_open: bool) -> bool
         requires present { IsTrue (present self.now.state.network w) }
         requires linked { IsTrue (linked self.now.state.network w v) }
@@ -130,8 +138,9 @@ impl<R: Rules> SuitorIndex<R> {
             .has_none_but(scan::asks_for::<R>(w, v) && is_open)
     }
 
-    /// The first neighbour that points at the node. One look where there is none or one; else a scan of the neighbours, which
-    /// stops at the first.
+    /// Returns the first neighbour that points at the node, if any.
+    ///
+    /// Cost: one look if there is none or one, else a scan of the neighbours up to the first.
     pub fn first_suitor(&self, v: Node) -> Option<Node>
         requires { IsTrue (present self.now.state.network v) }
         ensures { result ≡ first_suitor self.now.state v }
@@ -144,7 +153,7 @@ impl<R: Rules> SuitorIndex<R> {
         }
     }
 
-    /// The neighbour that points at the node, where it is the only one; `None` where none does, or several do. One look.
+    /// Returns the only neighbour that points at the node; `None` if none or several do. One look.
     pub fn lone_suitor(&self, v: Node) -> Option<Node>
         requires { IsTrue (present self.now.state.network v) }
         ensures { MatchOption result (suitor_count self.now.state v ≢ 1) (IsLoneSuitor self.now.state v) }
@@ -157,8 +166,10 @@ impl<R: Rules> SuitorIndex<R> {
         }
     }
 
-    /// The first open neighbour. One look where there is none and the guards ask for any; else a scan of the neighbours, which
-    /// stops at the first.
+    /// Returns the first open neighbour, if any.
+    ///
+    /// Cost: one look if there is none and the guards ask for any, else a scan of the neighbours up to the
+    /// first.
     pub fn first_open(&self, v: Node) -> Option<Node>
         requires { IsTrue (present self.now.state.network v) }
         ensures { result ≡ first_open R.table.opens self.now.state v }
@@ -169,8 +180,10 @@ impl<R: Rules> SuitorIndex<R> {
         scan::first_open::<R>(self.net.neighbours(v), &self.net)
     }
 
-    /// The greatest open neighbour, where its name is above the node's. One look where there is none and the guards ask for
-    /// those alone; else a scan of the neighbours from the last, which stops at the first.
+    /// Returns the greatest open neighbour if its name is above the node's.
+    ///
+    /// Cost: one look if there is none and the guards ask for those alone, else a scan of the neighbours from
+    /// the last to the first that is.
     pub fn last_open_above(&self, v: Node) -> Option<Node>
         requires { IsTrue (present self.now.state.network v) }
         ensures { result ≡ last_open_above R.table.opens self.now.state v }
@@ -189,7 +202,7 @@ impl<R: Rules> SuitorIndex<R> {
         self.net.registers().points_at(w, v)
     }
 
-    /// Whether a name is an open neighbour. A look-up by halves among the neighbours of the node.
+    /// Whether a name is an open neighbour. A binary search among the neighbours of the node.
     pub fn is_open(&self, v: Node, w: Node) -> bool
         requires { IsTrue (present self.now.state.network v) }
         ensures { result ≡ (linked self.now.state.network v w && is_open R.table.opens self.now.state w) }

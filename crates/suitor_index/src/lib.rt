@@ -1,12 +1,13 @@
-//! A network that counts who courts a node and which neighbours are open to it, so that a look-up that finds nothing scans nothing.
+//! A network with counts of suitors and open neighbours, so that a look-up with no result scans nothing.
 //!
-//! Beside the edges and registers (`net_state`) three numbers stand at each node: how many neighbours point at it, the sum of their names
-//! (which is the name where there is one), and how many of its neighbours are open that the rules ask for. Each look-up answers what a
-//! scan of the neighbours would, since each change brings the counts up to date; contracts see the network alone.
+//! Besides the edges and registers (`net_state`) each node has three numbers: how many neighbours point at
+//! it, the sum of their names, and how many open neighbours its guard asks for. If one neighbour points at
+//! it, the sum is its name. Each change updates the counts, so that a look-up returns what a scan of the
+//! neighbours would. Contracts see the network alone.
 //!
-//! Whether there is a suitor or an open neighbour is one look; which it is, a scan that stops at the first. A pointer or flag that turns
-//! whether its node is open costs a write at each neighbour that asks for it. Only `with_present`, eight bytes a name beside the network,
-//! and `reserve_link` take memory.
+//! Whether there is a suitor or an open neighbour takes one look; which one, a scan up to the first. A write
+//! that opens or closes its node costs a write at each neighbour whose guard asks for the node. Only
+//! `with_present` (eight bytes a name besides the network) and `reserve_link` take memory.
 //!
 //! ```rust
 //! let mut index = SuitorIndex::<R>::with_present(alloc, 2, 2)?;

@@ -1,4 +1,4 @@
-//! Looks at a node's neighbours one after another.
+//! Scans of a node's neighbours.
 
 ghost use Rattle.std.specs.Prelude.{◌≡◌, ◌≤◌, ◌&&◌, All, find, nat_lt, reverse, IsTrue};
 ghost use Rattle.suitor_index.specs.Tallies.{asks_for};
@@ -9,7 +9,6 @@ use net_state::NetState;
 use rule_machine::Node;
 use rule_set::Rules;
 
-/// The first of these nodes that points at v.
 pub(crate) fn first_pointing_at(nodes: &[Node], net: &NetState, v: Node) -> Option<Node>
     ensures { result ≡ find (λ w. points net.now.state.registers w v) nodes.now }
 {
@@ -21,7 +20,6 @@ pub(crate) fn first_pointing_at(nodes: &[Node], net: &NetState, v: Node) -> Opti
     None
 }
 
-/// Whether a node's registers make it open to a seduction.
 pub(crate) fn is_open<R: Rules>(net: &NetState, w: Node) -> bool
     requires known { w ≤ net.now.state.network.size }
     ensures { result ≡ R.table.opens (pointer net.now.state w) (flag net.now.state w) }
@@ -29,14 +27,14 @@ pub(crate) fn is_open<R: Rules>(net: &NetState, w: Node) -> bool
     R::opens(net.pointer(w), net.flag(w))
 }
 
-/// Whether the guard of v asks for open neighbours of which w may be one.
+/// Whether the guard of `v` asks for neighbours such as `w`: any, or those above `v` alone.
 pub(crate) fn asks_for<R: Rules>(v: Node, w: Node) -> bool
     ensures { result ≡ asks_for R.ABOVE v w }
 {
     !R::ABOVE || v < w
 }
 
-/// Whether w is open, and one that the guard of v asks for.
+/// Whether `w` is open, and one that the guard of `v` asks for.
 pub(crate) fn is_reached<R: Rules>(net: &NetState, v: Node, w: Node) -> bool
     requires known { w ≤ net.now.state.network.size }
     ensures { result ≡ (asks_for R.ABOVE v w && R.table.opens (pointer net.now.state w) (flag net.now.state w)) }
@@ -44,7 +42,6 @@ pub(crate) fn is_reached<R: Rules>(net: &NetState, v: Node, w: Node) -> bool
     asks_for::<R>(v, w) && is_open::<R>(net, w)
 }
 
-/// The first of these nodes that is open.
 pub(crate) fn first_open<R: Rules>(nodes: &[Node], net: &NetState) -> Option<Node>
     requires present { All (λ w. IsTrue (present net.now.state.network w)) nodes.now }
     ensures { result ≡ find (λ w. R.table.opens (pointer net.now.state w) (flag net.now.state w)) nodes.now }
@@ -57,7 +54,7 @@ pub(crate) fn first_open<R: Rules>(nodes: &[Node], net: &NetState) -> Option<Nod
     None
 }
 
-/// The first of these nodes from the end that is open and has a name above v's.
+/// Returns the last of these nodes that is open and above `v`.
 pub(crate) fn last_open_above<R: Rules>(nodes: &[Node], net: &NetState, v: Node) -> Option<Node>
     requires present { All (λ w. IsTrue (present net.now.state.network w)) nodes.now }
     ensures { result ≡ find (λ w. R.table.opens (pointer net.now.state w) (flag net.now.state w) && nat_lt v w) (reverse nodes.now) }

@@ -1,4 +1,4 @@
-//! A table of tallies, a place for each name, as one node changes.
+//! A table of tallies, one for each name, as one node changes.
 
 ghost use Rattle.std.specs.Prelude.{◌≡◌, ℕ, ◌<◌, ◌≤◌, ◌&&◌, true, IfSome, length, nat_eq};
 ghost use Rattle.std.specs.List.{list_any};
@@ -11,7 +11,7 @@ use crate::tally::Tally;
 use rule_machine::Node;
 use rule_set::Rules;
 
-/// Takes v out of the suitors of the node at which its pointer was.
+/// Removes `v` from the suitors of the node that its pointer was at.
 pub(crate) fn leave(tallies: &mut [Tally], pointer: Option<Node>, v: Node)
     requires within { IfSome pointer (λ w. w < length tallies.old) }
     requires counted { IfSome pointer (λ w. HasSuitor v (tally_of tallies.old w)) }
@@ -23,7 +23,7 @@ pub(crate) fn leave(tallies: &mut [Tally], pointer: Option<Node>, v: Node)
     }
 }
 
-/// Puts v among the suitors of the node at which its pointer is.
+/// Adds `v` to the suitors of the node that its pointer is at.
 pub(crate) fn court(tallies: &mut [Tally], pointer: Option<Node>, v: Node)
     requires within { IfSome pointer (λ w. w < length tallies.old) }
     requires room { IfSome pointer (λ w. HasRoomFor v (tally_of tallies.old w)) }
@@ -35,7 +35,6 @@ pub(crate) fn court(tallies: &mut [Tally], pointer: Option<Node>, v: Node)
     }
 }
 
-/// Counts one more open node at a node.
 pub(crate) fn open_at(tallies: &mut [Tally], w: Node)
     requires within { w < length tallies.old }
     requires room { (tally_of tallies.old w).reached < 65535 }
@@ -44,7 +43,6 @@ pub(crate) fn open_at(tallies: &mut [Tally], w: Node)
     tallies[w.place()].reached += 1;
 }
 
-/// Counts one open node less at a node.
 pub(crate) fn close_at(tallies: &mut [Tally], w: Node)
     requires within { w < length tallies.old }
     requires counted { 1 ≤ (tally_of tallies.old w).reached }
@@ -53,7 +51,7 @@ pub(crate) fn close_at(tallies: &mut [Tally], w: Node)
     tallies[w.place()].reached -= 1;
 }
 
-/// Counts an open node more or less at a node, where one was open or not and is now.
+/// Updates the count of `w` for one node that was open or not, and is open or not.
 #[inline(always)]
 fn turn_at(tallies: &mut [Tally], w: Node, was: bool, is: bool)
     requires within { w < length tallies.old }
@@ -67,8 +65,10 @@ fn turn_at(tallies: &mut [Tally], w: Node, was: bool, is: bool)
     }
 }
 
-/// Counts v at those of these nodes, which are by rising names, whose guard asks for it, as open or not as it is now, where it
-/// was so before. Where guards ask for higher names alone, ends at the first that is not below v.
+/// Updates the counts of those of `nodes`, ascending, whose guard asks for `v`.
+///
+/// `was` and `is` are whether `v` was open and is open. If guards ask for higher names alone, stops at the
+/// first node not below `v`.
 pub(crate) fn turn<R: Rules>(tallies: &mut [Tally], nodes: &[Node], v: Node, was: bool, is: bool)
     requires rising { IsStrictlyIncreasing nodes.now }
     requires within { (k : ℕ) → list_any (nat_eq k) nodes.now ≡ true → k < length tallies.old }

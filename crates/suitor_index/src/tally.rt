@@ -1,10 +1,11 @@
-//! What is counted at a node.
+//! The counts of a node.
 
 ghost use Rattle.std.specs.Prelude.{◌≡◌, nat_le};
 ghost use Rattle.suitor_index.specs.Told.{one_if};
 
-/// How many neighbours point at a node, how many are open to a seduction and asked for by its guard, each at most 65,535, and
-/// the sum of the names of those that point at it: where one does, its name.
+/// A node's counts: suitors, open neighbours that its guard asks for, and the sum of suitors' names.
+///
+/// The first two are at most 65,535. If one neighbour points at the node, the sum is its name.
 #[derive(Clone, Copy)]
 pub(crate) struct Tally {
     pub(crate) suitors: u16,
@@ -12,7 +13,6 @@ pub(crate) struct Tally {
     pub(crate) sum: u32,
 }
 
-/// The tally of a node without neighbours.
 pub(crate) const NOTHING: Tally = Tally {
     suitors: 0,
     reached: 0,
@@ -20,7 +20,7 @@ pub(crate) const NOTHING: Tally = Tally {
 };
 
 impl Tally {
-    /// Whether no neighbour is reached but one, which is or not as is said here.
+    /// Whether at most one neighbour is reached, or none if `is_reached` is false.
     pub(crate) fn has_none_but(self, is_reached: bool) -> bool
         ensures { result ≡ nat_le self.reached (one_if is_reached) }
     {

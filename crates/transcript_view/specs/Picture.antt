@@ -1,4 +1,4 @@
--- The picture of a state: a graph as Graphviz reads it, with a line for each node and for each edge.
+-- The picture of a state: a Graphviz graph, with a line for each node and each edge.
 use Rattle.std.specs.Prelude.{ℕ, Bool, true, false, List, [], ◌++◌, Option, None, Some, filter, nat_lt, codes}
 use Rattle.std.specs.List.{flat_map}
 use Rattle.rule_machine.specs.declared.act.Act.{Act}
@@ -20,28 +20,29 @@ abbrev pub fill_text : Bool → List ℕ
 fill_text false = []
 fill_text true = codes ", style=filled"
 
--- a node by its name
+-- the line of a node
 abbrev pub node_line : RuleTable → State → ℕ → List ℕ
 node_line t s v =
     number_text v ++ codes " [label=\"" ++ number_text v ++ rule_text (rule_at t s v) ++ codes "\"" ++ fill_text (married s v) ++ codes "];\n"
 
--- An edge by whether its lower end points along it, and its higher end: a mutual pair is bold, one pointer is an arrow.
+-- An edge, by whether its lower end and its higher end point along it: a mutual pair is bold, one pointer is
+-- an arrow.
 abbrev pub style_text : Bool → Bool → List ℕ
 style_text true true = codes " [style=bold]"
 style_text true false = codes " [dir=forward]"
 style_text false true = codes " [dir=back]"
 style_text false false = []
 
--- the edge from a to b, which is above it
+-- the edge from a to the higher node b
 abbrev pub edge_line : State → ℕ → ℕ → List ℕ
 edge_line s a b =
     number_text a ++ codes " -- " ++ number_text b ++ style_text (points s.registers a b) (points s.registers b a) ++ codes ";\n"
 
--- the neighbours above a node, ascending
+-- the higher neighbours of a node, ascending
 abbrev pub above : Network → ℕ → List ℕ
 above net v = filter (nat_lt v) (neighbours net v)
 
--- the edges of which a node is the lower end, ascending by the higher one
+-- the edges from a node to its higher neighbours, ascending
 abbrev pub edges_at : State → ℕ → List ℕ
 edges_at s v = flat_map (edge_line s v) (above s.network v)
 

@@ -1,4 +1,4 @@
--- The table of epochs: a header, and a line for each epoch, in its order.
+-- The table of epochs: a header, and a line for each epoch in order.
 use Rattle.std.specs.Prelude.{ℕ, List, ◌++◌, Option, None, Some, codes}
 use Rattle.std.specs.List.{flat_map}
 use Rattle.rule_machine.specs.declared.base.Start.{Start}
@@ -8,21 +8,21 @@ use Rattle.line_text.specs.Words.{number_text}
 use Rattle.auditor.specs.declared.epoch.CostedEpoch.{CostedEpoch}
 use Rattle.auditor.specs.Epochs.{bound_of}
 
--- a number and what parts it from the next
+-- a number and the separator after it
 abbrev pub cell : ℕ → List ℕ
 cell n = number_text n ++ codes ","
 
--- the entry that began an epoch; none is named where it began before the base that the transcript begins with
+-- the entry that began an epoch; none if it began before the transcript's opening base
 abbrev pub start_cell : Start → List ℕ
 start_cell (At number) = cell number
 start_cell Forgotten = codes "-,"
 
--- the most that the disturbance which began it may have added to the charge; none of the run began the first epoch
+-- the bound on what the epoch's disturbance added to the charge; none for the first epoch
 abbrev pub cost_text : Option ℕ → List ℕ
 cost_text None = codes "-"
 cost_text (Some cost) = number_text cost
 
--- the entry that began the epoch, its moves, edges and nodes, the most moves that it can have, and what the disturbance cost
+-- the entry that began the epoch, its moves, edges and nodes, its bound, and the cost of its disturbance
 abbrev pub epoch_row : RuleSet → CostedEpoch → List ℕ
 epoch_row rules row =
     start_cell row.epoch.start ++ cell row.epoch.moves ++ cell row.epoch.edges ++ cell row.epoch.nodes ++ cell (bound_of rules row.epoch) ++ cost_text row.cost ++ codes "\n"

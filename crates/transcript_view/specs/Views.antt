@@ -1,4 +1,4 @@
--- What is shown of a transcript.
+-- The views of a transcript.
 use Rattle.std.specs.Prelude.{◌≡◌, ℕ, List, Option, All}
 use Rattle.rule_machine.specs.declared.rules.RuleSet.{RuleSet}
 use Rattle.rule_machine.specs.State.{State}
@@ -18,7 +18,7 @@ pub record IsPictureOf (bytes : List ℕ) (last : Option ℕ) (text : List ℕ) 
   pub reached : IsStateAfter bytes last rules state
   pub text_is : text ≡ picture_of rules state
 
--- the text is the table of the run's epochs, each of which is within its bound
+-- the text is the table of the run's epochs, each within its bound
 pub record IsTableOf (bytes : List ℕ) (text : List ℕ) : Type 0 where
   pub rules : RuleSet
   pub rows : List CostedEpoch
@@ -26,8 +26,8 @@ pub record IsTableOf (bytes : List ℕ) (text : List ℕ) : Type 0 where
   pub bounded : All (IsWithinItsBound rules) (epochs_in rows)
   pub text_is : text ≡ epoch_table rules rows
 
--- The state after this entry, or after all, is drawn; or a line up to it has the damage; or there is no such entry, since the
--- transcript ends before it or begins behind it.
+-- The state after this entry, or after all, is drawn; or a line up to it has the damage; or there is no such
+-- entry, because the transcript ends before it or begins after it.
 abbrev pub IsPicture : List ℕ → Option ℕ → View → Type 0
 IsPicture bytes last (Text text) = IsPictureOf bytes last text.items
 IsPicture bytes last (Refused damage) = IsMetDamage bytes last damage
@@ -41,7 +41,7 @@ IsTable bytes (Refused damage) = IsDamage bytes damage
 IsTable bytes (TooFew asked entries) = ⊥
 IsTable bytes (Forgotten asked base) = ⊥
 
--- two views are one: the texts are, or the damages, or the numbers
+-- two views are equal: in their texts, damages or numbers
 abbrev pub SameView : View → View → Type 0
 SameView (Text text) (Text also) = text.items ≡ also.items
 SameView (Refused damage) (Refused other) = damage ≡ other

@@ -9,7 +9,7 @@ use crate::words::put_name;
 use judge::Judge;
 use rule_machine::{Node, Want};
 
-// Writes how an edge is drawn, by whether its lower end points along it, and its higher end.
+// Writes how an edge is drawn: `forward` if its lower end points along it, `back` if its higher end does.
 fn put_style(out: &mut Vec<u8>, forward: bool, back: bool) -> Result<(), Want>
     ensures { OnOk result (out.new.items ≡ out.old.items ++ style_text forward back) }
 {
@@ -31,7 +31,7 @@ fn put_edge(out: &mut Vec<u8>, judge: &Judge, a: Node, b: Node) -> Result<(), Wa
     out.extend_from_slice(b";\n")
 }
 
-// Writes a line for each edge of which a node is the lower end.
+// Writes a line for each edge from `v` to a higher node.
 fn put_edges_at(out: &mut Vec<u8>, judge: &Judge, v: Node) -> Result<(), Want>
     requires { IsTrue (present judge.now.network v) }
     ensures { OnOk result (out.new.items ≡ out.old.items ++ edges_at judge.now v) }
@@ -44,7 +44,6 @@ fn put_edges_at(out: &mut Vec<u8>, judge: &Judge, v: Node) -> Result<(), Want>
     Ok(())
 }
 
-// The edges of a node to those above it, where the node is present.
 #[tactic(auto, using(crate::proofs::Names::drawn, crate::proofs::Names::left_out))]
 fn put_edges_if_present(out: &mut Vec<u8>, judge: &Judge, v: Node) -> Result<(), Want>
     ensures { OnOk result (out.new.items ≡ out.old.items

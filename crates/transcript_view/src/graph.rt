@@ -9,8 +9,10 @@ use judge::Judge;
 use rule_machine::{RuleSet, Want};
 use std::alloc::Global;
 
-/// The picture of the state that a judge is in, under these rules. Costs a look at the neighbours of each node, and takes
-/// some fifty bytes a node and thirty an edge. Fails for want of memory alone.
+/// The picture of the judge's state under these rules, as a Graphviz graph.
+///
+/// Fails only if memory runs out. Looks at the neighbours of each node; takes some fifty bytes a node and
+/// thirty an edge.
 pub fn picture(alloc: Global, judge: &Judge, rules: RuleSet) -> Result<Vec<u8>, Want>
     ensures { IfOk result (λ text. text.items ≡ picture_of rules judge.now) }
 {

@@ -10,7 +10,7 @@ use crate::words::{put_act, put_name};
 use judge::Judge;
 use rule_machine::{Act, Node, RuleSet, Want};
 
-// Writes a node's rule, where one is enabled at it.
+// Writes the rule that is enabled at a node, if any is.
 fn put_rule(out: &mut Vec<u8>, rule: Option<Act>) -> Result<(), Want>
     ensures { OnOk result (out.new.items ≡ out.old.items ++ rule_text rule) }
 {
@@ -21,7 +21,7 @@ fn put_rule(out: &mut Vec<u8>, rule: Option<Act>) -> Result<(), Want>
     Ok(())
 }
 
-// Writes that a node is filled, where it is married.
+// Fills a married node.
 fn put_fill(out: &mut Vec<u8>, married: bool) -> Result<(), Want>
     ensures { OnOk result (out.new.items ≡ out.old.items ++ fill_text married) }
 {
@@ -44,7 +44,6 @@ fn put_node(out: &mut Vec<u8>, judge: &Judge, rules: RuleSet, v: Node) -> Result
     out.extend_from_slice(b"];\n")
 }
 
-// Writes a node's line, where the node is present.
 #[tactic(auto, using(crate::proofs::Names::drawn, crate::proofs::Names::left_out))]
 fn put_node_if_present(
     out: &mut Vec<u8>,

@@ -54,7 +54,7 @@ fn put_row(out: &mut Vec<u8>, rules: RuleSet, row: CostedEpoch) -> Result<(), Wa
     out.extend_from_slice(b"\n")
 }
 
-/// The table of a run's epochs, of which a line takes some forty bytes. Fails for want of memory alone.
+/// The table of a run's epochs, some forty bytes a line. Fails only if memory runs out.
 pub(crate) fn epoch_table(alloc: Global, epochs: &Epochs) -> Result<Vec<u8>, Want>
     ensures { IfOk result (λ text. text.items ≡ epoch_table epochs.now.rules epochs.now.list.items) }
 {

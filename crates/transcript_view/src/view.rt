@@ -1,4 +1,4 @@
-//! What a transcript is shown as.
+//! The views of a transcript.
 
 ghost use Rattle.std.specs.Prelude.{IfOk};
 ghost use Rattle.transcript_view.specs.Views.{IsPicture, IsTable};
@@ -9,23 +9,24 @@ use auditor::{Damage, JudgeFault, ReplayFault, epochs_of, state_after};
 use rule_machine::Want;
 use std::alloc::{AllocError, Global};
 
-/// What is shown of a transcript.
+/// A view of a transcript, or why there is none.
 #[derive(Drop)]
 pub enum View {
     /// The text that was asked for.
     Text(Vec<u8>),
-    /// The bytes are no transcript of a run, and this is their first damage.
+    /// The bytes are no transcript of a run; this is their first damage.
     Refused(Damage),
     /// The transcript has fewer entries than were asked for.
     TooFew { asked: u32, entries: u32 },
-    /// The transcript begins with a base behind the entry that was asked for.
+    /// The transcript begins with a base after the entry that was asked for.
     Forgotten { asked: u32, base: u32 },
 }
 
-/// The picture of the state after the entry with the number `last`, 0 for the opening state and the number of the base that the
-/// transcript begins with for that of the base, or after all entries. The line
-/// of that entry is the last one that is looked at. Fails for want of memory alone. Costs the audit of these lines, and a
-/// look at each node and its neighbours.
+/// The picture of the state after entry `last`, or after all entries if it is `None`.
+///
+/// `last` is 0 for the opening state, or the number of the base that the transcript begins with. No line
+/// after that entry is looked at. Fails only if memory runs out. Costs the audit of these lines and a look at
+/// each node and its neighbours.
 pub fn view_picture(alloc: Global, bytes: &[u8], last: Option<u32>) -> Result<View, Want>
     ensures { IfOk result (IsPicture bytes.now last) }
 {
@@ -41,7 +42,9 @@ pub fn view_picture(alloc: Global, bytes: &[u8], last: Option<u32>) -> Result<Vi
     }
 }
 
-/// The table of the run's epochs. Fails for want of memory alone. Costs the audit, and a line for each epoch.
+/// The table of the run's epochs.
+///
+/// Fails only if memory runs out. Costs the audit, and a line for each epoch.
 pub fn view_epochs(alloc: Global, bytes: &[u8]) -> Result<View, Want>
     ensures { IfOk result (IsTable bytes.now) }
 {

@@ -1,4 +1,4 @@
-//! Words at the end of a text.
+//! Writing names and rule words.
 
 ghost use Rattle.std.specs.Prelude.{◌≡◌, ◌++◌, OnOk};
 ghost use Rattle.line_text.specs.Words.{number_text};
@@ -7,7 +7,6 @@ ghost use Rattle.line_text.specs.ReplyText.{act_word};
 use itoa::Buffer;
 use rule_machine::{Act, Node, Want};
 
-/// Writes a node's name.
 pub(crate) fn put_name(out: &mut Vec<u8>, node: Node) -> Result<(), Want>
     ensures { OnOk result (out.new.items ≡ out.old.items ++ number_text node) }
 {
@@ -15,7 +14,6 @@ pub(crate) fn put_name(out: &mut Vec<u8>, node: Node) -> Result<(), Want>
     out.extend_from_slice(digits.format(node.name()).as_bytes())
 }
 
-/// Writes a rule's word.
 pub(crate) fn put_act(out: &mut Vec<u8>, act: Act) -> Result<(), Want>
     ensures { OnOk result (out.new.items ≡ out.old.items ++ act_word act) }
 {

@@ -1,4 +1,4 @@
-//! How a clerk that may call keeps what it is told.
+//! How a clerk that may call records an event and keeps the receipt.
 
 ghost use Rattle.std.specs.Prelude.{◌≡◌, ◌+◌, ◌<◌, ◌≤◌, ◌++◌, ◌∷◌, [], length, None, Some, IfOk, IfErr, OnOk, OnErr, vec_capacity};
 ghost use mathlib.Core.List.{IsPrefix};
@@ -17,7 +17,7 @@ use std::sync::Wait;
 use step_log::Receipt;
 
 impl Clerk {
-    /// Whether it may call: `Behind` where the log holds fewer entries than it has seen, then `LogFull`.
+    /// Whether it may call: `Behind` if the log holds fewer entries than it has seen, then `LogFull`.
     pub(crate) fn may_call<R: Rules>(&self, desk: &Desk<R>) -> Result<(), CallFault>
         ensures run { IsLog R.table desk.now.log }
         ensures free { OnOk result (call_fault (front_of self.now.receipts) desk.now.log ≡ None) }
@@ -28,7 +28,7 @@ impl Clerk {
         admit(desk, self.seen())
     }
 
-    /// Records an event for a clerk who may call, and keeps its receipt and the note of what is published then.
+    /// Records an event for a clerk that may call, and keeps the receipt and a note of the log then.
     pub(crate) fn record_on<R: Rules, W: Wait>(
         &mut self,
         rt: &W,
@@ -53,7 +53,6 @@ impl Clerk {
     }
 }
 
-/// Whether a clerk who has seen that many entries may call: `Behind` where the log holds fewer, then `LogFull`.
 pub(crate) fn admit<R: Rules>(desk: &Desk<R>, seen: u32) -> Result<(), CallFault>
     ensures run { IsLog R.table desk.now.log }
     ensures ok { OnOk result (call_fault seen desk.now.log ≡ None) }
@@ -69,7 +68,7 @@ pub(crate) fn admit<R: Rules>(desk: &Desk<R>, seen: u32) -> Result<(), CallFault
     Ok(())
 }
 
-/// Keeps a receipt, in the room for one, and a note, and answers the reply.
+/// Keeps a receipt, for which there is room, and a note, and returns the reply.
 pub(super) fn keep(
     receipts: &mut Vec<Receipt>,
     note: &mut Option<Note>,

@@ -12,12 +12,14 @@ use rule_engine::Rules;
 use std::sync::Wait;
 
 impl Clerk {
-    /// Makes the present state the base of the network's log, which drops all its entries; the next one's number goes on. Answers the
-    /// number of the last entry, dropped now or before; 0 where there was never one. It is no event: it gives no receipt, and what is
-    /// published stays as it is. Waits for the network's lock.
+    /// Makes the present state the base of the network's log, and returns the base's number.
+    /// All entries are dropped. The number is that of the last entry, dropped now or before; 0 if there was
+    /// none. Numbers continue after it. A checkpoint is no event: it gives no receipt, and what is published
+    /// stays.
     ///
-    /// `Behind` where the log holds fewer entries, with those that were dropped, than this clerk has seen, then `Memory`; a full log
-    /// can be made a base too. At a fault nothing has changed. Takes the memory and the time of the journal's `checkpoint`.
+    /// `Behind` if the log, dropped entries included, holds fewer entries than this clerk has seen; then
+    /// `Memory`. A full log is no fault. A fault changes nothing.
+    /// Waits for the network's lock. Takes the memory and time of `Journal::checkpoint`.
     pub fn checkpoint<R: Rules, W: Wait>(
         &mut self,
         rt: &W,
@@ -35,7 +37,7 @@ impl Clerk {
         answer
     }
 
-    /// Keeps the number that a checkpoint answered, where it is greater than each before.
+    /// Keeps the number that a checkpoint returned, if it is the greatest so far.
     pub(crate) fn take_base(&mut self, number: u32)
         ensures { self.new ≡ record self.old { base = greater_base self.old.base (Some number) } }
     {
@@ -43,7 +45,6 @@ impl Clerk {
     }
 }
 
-/// The greater of two numbers, where there is any.
 pub(crate) fn greater(one: Option<u32>, other: Option<u32>) -> Option<u32>
     ensures { result ≡ greater_base one other }
 {

@@ -1,4 +1,4 @@
-//! How a clerk that may call keeps what it is told of a step that workers judged.
+//! How a clerk that may call records a step that workers judged.
 
 ghost use Rattle.std.specs.Prelude.{◌≡◌, ◌+◌, ◌++◌, ◌∷◌, [], length, None, IfOk, IfErr, OnOk, OnErr};
 ghost use Rattle.rule_machine.specs.declared.event.Event.TheVariants.{Step};
@@ -17,7 +17,7 @@ use rule_engine::{Choice, Reply, Rules, Verdict};
 use std::sync::Wait;
 
 impl Clerk {
-    /// Records a step from its verdicts for a clerk who may call, and keeps its receipt and the note of what is published then.
+    /// Records a step from its verdicts for a clerk that may call, and keeps the receipt and the note.
     pub(crate) fn record_judged<R: Rules, W: Wait>(
         &mut self,
         rt: &W,

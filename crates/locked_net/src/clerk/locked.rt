@@ -1,4 +1,4 @@
-//! A clerk's calls: each takes the network's lock, and gives it back when it is done.
+//! A clerk's calls: each takes the network's lock, and frees it when it is done.
 
 ghost use Rattle.std.specs.Prelude.{◌≡◌, ◌≢◌, ◌<◌, IfOk, IfErr, IfSome, OnOk, OnErr, MatchOption};
 ghost use Rattle.rule_machine.specs.declared.event.Event.TheVariants.{Step};
@@ -19,11 +19,12 @@ use std::thread::Threads;
 use steal_pool::Gate;
 
 impl Clerk {
-    /// Carries out an event on the network, keeps a receipt of it, and answers the reply. Waits for the network's lock,
-    /// and for readers that still look at the copy of before.
+    /// Carries out an event on the network, keeps the receipt, and returns the reply.
+    /// Waits for the network's lock, and for readers that still look at the previous copy.
     ///
-    /// `Behind` where the log holds fewer entries than this clerk has seen, then `LogFull`, then `Memory`; at a fault
-    /// nothing has changed. Takes the memory of three replies and the journal's.
+    /// `Behind` if the log holds fewer entries than this clerk has seen, then `LogFull`, then `Memory`. A
+    /// fault changes nothing.
+    /// Takes the memory of three replies and the journal's.
     pub fn call<R: Rules, W: Wait>(
         &mut self,
         rt: &W,
@@ -44,11 +45,11 @@ impl Clerk {
         answer
     }
 
-    /// Carries out a step, as `call` does, with the verdicts of its items found by as many workers, at most 64. They look at the
-    /// network as it is under the lock, which is held until they have joined; each passes the gate before each of its items.
+    /// Carries out a step, as `call` does; `workers` workers, at most 64, find the verdicts of its items.
+    /// They work under the lock, which is held until they have joined. Each passes the gate before each item.
     ///
-    /// `Behind` and `LogFull` come before anything is judged, then `Pool(ZeroWorkers)` where there are no workers, then `Memory`; at
-    /// a fault nothing has changed.
+    /// `Behind` and `LogFull` come before any item is judged, then `Pool(ZeroWorkers)` if `workers` is 0,
+    /// then `Memory`. A fault changes nothing.
     pub fn step_with<R: Rules + Sync, G: Gate + Sync, T: Threads + Wait + Sync>(
         &mut self,
         rt: &T,
@@ -72,12 +73,12 @@ impl Clerk {
         answer
     }
 
-    /// Lets a daemon choose among the enabled nodes, carries out that step, keeps a receipt of it, and answers the reply,
-    /// which has its moves; `None` where the daemon chose nothing, and nothing is logged then. Choice and record are made
-    /// under one hold of the network's lock, for which it waits.
+    /// Lets a daemon choose among the enabled nodes, carries out that step, and returns the reply: its moves.
+    /// The clerk keeps the receipt. `None`, and no entry, if the daemon chose nothing. Waits for the
+    /// network's lock; choice and record come under one hold of it.
     ///
-    /// The faults are those of `call`. `Behind` and `LogFull` come before the daemon is asked; at `Memory` it may have
-    /// gone on, and log and clerk are as before.
+    /// Faults are those of `call`. `Behind` and `LogFull` come before the daemon is asked. At `Memory` the
+    /// daemon may have advanced; log and clerk are unchanged.
     pub fn drive_with<R: Rules, W: Wait, D: Daemon>(
         &mut self,
         rt: &W,
@@ -100,9 +101,11 @@ impl Clerk {
         answer
     }
 
-    /// Lets an injector draw a register fault, carries it out, keeps a receipt of it, and answers the reply, which accepts it;
-    /// `None` exactly where the network has no node then, and nothing is logged. Fault and record are made under one hold of the
-    /// network's lock, for which it waits. The faults are those of `call`; `Behind` and `LogFull` come before a fault is drawn.
+    /// Lets an injector draw a register fault, carries it out, and returns the reply, which accepts it.
+    /// The clerk keeps the receipt. `None`, and no entry, exactly if the network has no node then. Waits for
+    /// the network's lock; fault and record come under one hold of it.
+    ///
+    /// Faults are those of `call`. `Behind` and `LogFull` come before a fault is drawn.
     pub fn fault_with<R: Rules, W: Wait, G: Rng>(
         &mut self,
         rt: &W,

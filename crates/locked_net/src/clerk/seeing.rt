@@ -1,4 +1,4 @@
-//! What a clerk has seen beside its own entries.
+//! What a clerk has seen besides its own entries.
 
 ghost use Rattle.std.specs.Prelude.{◌≡◌};
 ghost use mathlib.Core.List.{IsPrefix};
@@ -9,8 +9,8 @@ use crate::ending::begins;
 use board::Note;
 
 impl Clerk {
-    /// Takes in another note of its network: what its own tells then begins with what both told before. Receipts and base stay. It takes
-    /// no memory.
+    /// Takes in another note of its network: its own note then includes the logs of both.
+    /// Receipts and base stay. Takes no memory.
     pub fn sees(&mut self, other: Note)
         requires { IsOfBook other.book self.old }
         ensures seen { IsPrefix other.log (noted self.new.note) }

@@ -11,8 +11,8 @@ use rule_engine::{Event, Reply, Rules};
 use std::sync::Wait;
 
 impl<R: Rules> HeldNet<'_, R> {
-    /// Carries out an event, and has the clerk keep a receipt of it: `Clerk::call`, where the lock is held already. Its faults are that
-    /// call's, in its order.
+    /// Carries out an event, and has the clerk keep the receipt: `Clerk::call` under a held lock.
+    /// Its faults are that call's, in the same order.
     pub fn call<W: Wait>(
         &mut self,
         rt: &W,

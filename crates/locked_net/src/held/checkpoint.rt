@@ -9,7 +9,7 @@ use crate::{CallFault, Clerk, HeldNet};
 use rule_engine::Rules;
 
 impl<R: Rules> HeldNet<'_, R> {
-    /// Makes the present state the base of the log: `Clerk::checkpoint`, where the lock is held already.
+    /// Makes the present state the base of the log: `Clerk::checkpoint` under a held lock, with its faults.
     pub fn checkpoint(&mut self, clerk: &mut Clerk) -> Result<u32, CallFault>
         ensures number { IfOk result (λ number. number ≡ length self.old.log.entries) }
         ensures held { OnOk result (self.new ≡ based self.old) }

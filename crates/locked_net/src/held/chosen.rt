@@ -1,4 +1,4 @@
-//! Calls of a network whose lock is held, where somebody else chooses the event.
+//! Calls of a network whose lock is held, whose event a daemon or an injector chooses.
 
 ghost use Rattle.std.specs.Prelude.{◌≡◌, ◌≢◌, ◌<◌, ◌↔◌, None, IsNone, IfOk, IfErr, IfSome, OnOk, OnErr, MatchOption};
 ghost use mathlib.Core.List.{IsPrefix};
@@ -17,7 +17,7 @@ use rule_engine::{Event, Reply, Rules};
 use std::sync::Wait;
 
 impl<R: Rules> HeldNet<'_, R> {
-    /// Lets a daemon choose a step among the enabled nodes: `Clerk::drive_with`, where the lock is held already.
+    /// Lets a daemon choose a step among the enabled nodes: `Clerk::drive_with` under a held lock.
     pub fn drive<W: Wait, D: Daemon>(
         &mut self,
         rt: &W,
@@ -45,7 +45,7 @@ impl<R: Rules> HeldNet<'_, R> {
         }
     }
 
-    /// Lets an injector draw a register fault: `Clerk::fault_with`, where the lock is held already.
+    /// Lets an injector draw a register fault: `Clerk::fault_with` under a held lock.
     pub fn fault<W: Wait, G: Rng>(
         &mut self,
         rt: &W,

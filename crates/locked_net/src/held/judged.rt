@@ -14,7 +14,7 @@ use std::thread::Threads;
 use steal_pool::{Gate, evaluate};
 
 impl<R: Rules + Sync> HeldNet<'_, R> {
-    /// Carries out a step that workers judge: `Clerk::step_with`, where the lock is held already.
+    /// Carries out a step that workers judge: `Clerk::step_with` under a held lock.
     pub fn step<G: Gate + Sync, T: Threads + Wait + Sync>(
         &mut self,
         rt: &T,

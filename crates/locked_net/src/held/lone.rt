@@ -36,7 +36,6 @@ impl<R: Rules> HeldNet<'_, R> {
         }
     }
 
-    /// Lets one node move alone.
     fn step_alone<W: Wait>(
         &mut self,
         rt: &W,
@@ -59,7 +58,8 @@ impl<R: Rules> HeldNet<'_, R> {
     }
 }
 
-/// The node whose turn it is: the (turn mod count)-th that is enabled, ascending from 0; `None` where none is.
+/// The node whose turn it is: the (turn mod count)-th enabled one, ascending from 0; `None` if none is
+/// enabled.
 fn next_mover<R: Rules>(desk: &Desk<R>, turn: u32) -> Option<Node>
     ensures mover { result ≡ mover R.table desk.now.log.state turn }
     ensures run { IsLog R.table desk.now.log }

@@ -8,7 +8,7 @@ use board::{NoPlace, Note, Reader, Runs};
 use rule_engine::{Event, Rules};
 
 impl<R: Rules> HeldNet<'_, R> {
-    /// What an event would cost, with a note of the log: `LockedNet::cost_of`, where the lock is held already.
+    /// What an event would cost, with a note of the log: `LockedNet::cost_of` under a held lock.
     pub fn cost_of(&self, event: &Event) -> SeenCost
         ensures cost { result.cost ≡ cost_of R.table R.cost self.now.log.state event.now }
         ensures grows { BoundsGrowth R.table self.now.log.state self.now.log.spent event.now result.cost }
@@ -17,14 +17,13 @@ impl<R: Rules> HeldNet<'_, R> {
         self.desk.cost_of(event)
     }
 
-    /// A note of what is published: the whole log, just as it lies behind the lock. It takes no memory.
+    /// A note of what is published: the whole log under the lock. Takes no memory.
     pub fn note(&self) -> Note
         ensures { (result.log ≡ self.now.log.entries) × (result.book ≡ self.now.name.book) }
     {
         self.desk.note()
     }
 
-    /// A reader of what is published.
     pub(crate) fn reader(&mut self) -> Result<Reader<Runs<R>>, NoPlace>
         ensures kept { self.new ≡ self.old }
         ensures name { IfOk result (λ reader. reader.name ≡ self.old.name) }

@@ -1,4 +1,4 @@
-//! Looks behind a held lock at who is at rest, and at whom an event would reach.
+//! Nodes at rest and nodes that an event would reach, under a held lock.
 
 ghost use Rattle.std.specs.Prelude.{◌≡◌, IfOk};
 ghost use Rattle.containment_laws.specs.Rest.{is_at_rest};
@@ -8,7 +8,7 @@ use crate::{HeldNet, SeenReach, SeenRest};
 use rule_engine::{Event, Node, Rules, Want};
 
 impl<R: Rules> HeldNet<'_, R> {
-    /// Whether a node is at rest, with a note of the log: `LockedNet::is_at_rest`, where the lock is held already.
+    /// Whether a node is at rest, with a note of the log: `LockedNet::is_at_rest` under a held lock.
     pub fn is_at_rest(&self, v: Node) -> SeenRest
         ensures rests { result.rests ≡ is_at_rest R.table.flags self.now.log.state v }
         ensures note { (result.note.log ≡ self.now.log.entries) × (result.note.book ≡ self.now.name.book) }
@@ -19,7 +19,8 @@ impl<R: Rules> HeldNet<'_, R> {
         }
     }
 
-    /// The nodes that an event would reach, with a note of the log: `LockedNet::reach_of`, where the lock is held already.
+    /// The nodes that an event would reach, with a note of the log: `LockedNet::reach_of` under a held lock.
+    /// `AllocError` if memory runs out.
     pub fn reach_of(&self, event: &Event) -> Result<SeenReach, Want>
         ensures reach { IfOk result (λ seen. seen.nodes.items ≡ reach_of R.table self.now.log.state event.now) }
         ensures spares { IfOk result (λ seen. Spares R.table self.now.log.state self.now.log.spent event.now seen.nodes.items) }

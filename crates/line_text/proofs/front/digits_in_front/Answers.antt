@@ -8,7 +8,7 @@ use Rattle.std.proofs.lemmas.Str.Parse.{digits_value_short}
 use Rattle.line_text.proofs.Digits.{own}
 use Rattle.line_text.proofs.front.digits_in_front.Goals as goal
 
--- the number with one digit more, of which nothing wraps
+-- the number with one more digit, without a wrap
 step : (bytes : List ℕ) (i value digit : ℕ) → i < length bytes → i ≤ 8 → AllDigits 10 (take i bytes) → IsInRange 48 57 (get_or bytes i 0)
     → value ≡ digits_value 10 (take i bytes) → digit + 48 ≡ get_or bytes i 0 → (value * 10 % 4294967296 + digit) % 4294967296 ≡ digits_value 10 (take (i + 1) bytes)
 step bytes i value digit lt few d r is from =
@@ -16,7 +16,7 @@ step bytes i value digit lt few d r is from =
     let short : value < 100000000 = omega (arith, is, digits_value_short own (take i bytes) 8 d (omega (arith, k, few))) in
     omega (arith, short, is, from, r.0, r.1, digits_value_more 10 bytes i lt, digit_value_digit (get_or bytes i 0) r)
 
--- a byte is a digit where it is at most nine above the first, counted round
+-- a byte is a digit if it is at most nine above the first, modulo the word size
 digit_of : (byte digit : ℕ) → byte < 256 → digit ≡ (byte + 4294967248) % 4294967296 → digit ≤ 9 → (digit + 48 ≡ byte) × IsInRange 48 57 byte
 digit_of byte digit fits is low = let same : digit + 48 ≡ byte = omega arith in (same, (omega (arith, same), omega (arith, same)))
 

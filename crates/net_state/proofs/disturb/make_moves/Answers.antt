@@ -5,7 +5,7 @@ use Rattle.rule_machine.specs.Step.{after_moves, registers_after}
 use Rattle.machine_laws.specs.TwoPasses.{flag_read, pointer_written, written_in_two}
 use Rattle.net_state.proofs.disturb.make_moves.Goals as goal
 
--- the state in which these are the registers
+-- the state with these registers
 carried : (s u : State) → IsState s → (moves : List Moved) → u.network ≡ s.network → u.registers ≡ fold pointer_written (fold flag_read s.registers moves) moves → u ≡ after_moves s moves
 carried s u good moves network wrote =
     let registers : u.registers ≡ registers_after s moves = wrote ∙ written_in_two s good moves in

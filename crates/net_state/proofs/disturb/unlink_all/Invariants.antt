@@ -3,7 +3,7 @@ use Rattle.rule_machine.specs.Network.{present, edge_count}
 use Rattle.rule_machine.specs.Disturbance.{after_leave}
 use Rattle.net_state.proofs.disturb.unlink_all.Given as goal
 
--- the node is there, and to leave now would leave what it would have left before
+-- the node is present, and its leave would have the same result as before
 abbrev pub invariant-loop-w : goal.invariant-loop-w
 invariant-loop-w g l = record {
   here : IsTrue (present (g.D.Disturb.state l.it).network l.v);

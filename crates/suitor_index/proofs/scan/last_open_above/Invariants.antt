@@ -2,7 +2,7 @@ use Rattle.std.proofs.Common.{◌≡◌, ℕ, Bool, find, take, reverse, ◌&&�
 use Rattle.rule_machine.specs.State.{pointer_of, flag_of}
 use Rattle.suitor_index.proofs.scan.last_open_above.Given as goal
 
--- nothing was found behind the place
+-- nothing was found after the index
 abbrev pub invariant-loop-place : goal.invariant-loop-place
 invariant-loop-place g l =
     let test : ℕ → Bool = λ w. g.R.Rules.table.opens (pointer_of l.net.state.registers w) (flag_of l.net.state.registers w) && nat_lt l.v w in

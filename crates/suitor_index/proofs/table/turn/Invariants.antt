@@ -4,7 +4,7 @@ use Rattle.suitor_index.specs.Told.{IsTurned}
 use Rattle.suitor_index.proofs.Loops.{AllAsk}
 use Rattle.suitor_index.proofs.table.turn.Given as goal
 
--- the names so far ask, and are told
+-- the names so far ask, and are updated
 abbrev pub invariant-loop-w : goal.invariant-loop-w
 invariant-loop-w g l = record {
   ask : AllAsk g.R.Rules.ABOVE l.v (take l.w-index l.nodes);

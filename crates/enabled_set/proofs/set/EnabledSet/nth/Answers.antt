@@ -7,7 +7,7 @@ use Rattle.enabled_set.proofs.Nth.{enough_lots, enough_groups, enough_words, pas
 use Rattle.enabled_set.proofs.set.EnabledSet.nth.Goals as goal
 use Rattle.enabled_set.proofs.set.EnabledSet.nth.Goals.{After-pass_words-spot, After-index}
 
--- the word at which the last scan stands is there
+-- the word that the last scan found exists
 there : (c : After-pass_words-spot) → c.pass_words-spot.result.place < length c.self.inside.words.items
 there c =
     let it = c.self.inside in

@@ -4,7 +4,7 @@ use Rattle.machine_laws.specs.Half.{maximal_is_half}
 use Rattle.rule_engine.specs.Prepared.{NetView}
 use Rattle.rule_engine.proofs.net.Net.is_quiet.Goals as goal
 
--- a maximal matching has half of the edges of any other at least
+-- a maximal matching has at least half of the edges of any other
 pub returns-clause-half : goal.returns-clause-half
 returns-clause-half g c quiet other is =
     let most = subst (λ (n : NetView). IsMaximalMatching n.state.network (mutual_pairs n.state)) c.self.view_is (c.is_quiet.ensures.matching quiet) in

@@ -8,7 +8,7 @@ use Rattle.suitor_index.proofs.Near.{neighbours_rise}
 use Rattle.suitor_index.proofs.Changed.{IsHalfTold, change_of_flag, half_flagged, told_within, told_fits, told_index, written_whole}
 use Rattle.suitor_index.proofs.index.SuitorIndex.write_flag.Goals as goal
 
--- what the neighbours are told is the flag's change
+-- the neighbours are updated for the flag's change
 half : (g : _) (c : goal.After-neighbours g) → IsHalfTold g.R.Rules.ABOVE g.R.Rules.table.opens c.self.inside.net.state.network c.self.inside.net.state.registers (with_flag c.self.inside.net.state.registers c.args.v c.args.value) c.args.v c.as_mut_slice-tallies.result.now c.as_mut_slice-tallies.result.now c.neighbours.result.now c.opens-was_open.result c.opens-is_open.result
 half g c =
     let s : State = c.self.inside.net.state in

@@ -28,7 +28,7 @@ court-requires-clause-room g c =
 pub turn-requires-clause-rising : goal.turn-requires-clause-rising
 turn-requires-clause-rising g c = subst IsStrictlyIncreasing (sym c.neighbours.ensures.all) (neighbours_rise c.set_pointer.new.self.state.network c.args.v)
 
--- what the neighbours are told is the pointer's change
+-- the neighbours are updated for the pointer's change
 half : (g : _) (c : goal.After-neighbours g) → IsHalfTold g.R.Rules.ABOVE g.R.Rules.table.opens c.self.inside.net.state.network c.self.inside.net.state.registers (with_pointer c.self.inside.net.state.registers c.args.v c.args.target) c.args.v c.as_mut_slice-tallies.result.now c.court.new.tallies c.neighbours.result.now c.opens-was_open.result c.opens-is_open.result
 half g c =
     let s : State = c.self.inside.net.state in
