@@ -1,3 +1,2 @@
-pub mod Memory
 pub mod Lists
 pub mod Rules

@@ -1,8 +1,7 @@
-//! A plain, slow interpreter of the rule machine, and a judge of replies: its code is the definitions, by
-//! scans.
+//! A plain, slow interpreter of the rule machine: its code is the definitions, by scans.
 //!
 //! `PlainNet` is a network without an index, a set of enabled nodes or sorted rows: each function scans all
-//! names or all edges. Tests compare the engine and the auditor with it, on every small network and along
+//! names or all edges. Tests compare the engine with it, on every small network and along
 //! long runs, and it computes the worked examples. It shares no code with either except the plain types.
 //!
 //! It is for small networks. With n names and m edges a step costs some n·n·m for each chosen node, and a
@@ -11,7 +10,6 @@
 //! ```rust
 //! let mut net = PlainNet::new(alloc, 3)?;
 //! let reply = net.answer(alloc, RuleSet::Hh, 0, &Event::Link(a, b))?;
-//! let right = replay(&mut net, alloc, RuleSet::Hh, 0, &event, &told)?;      // may the machine say so?
 //! ```
 #![tactic(auto)]
 
@@ -21,20 +19,16 @@ mod counts;
 mod edge_set;
 mod guards;
 mod hsu_huang;
-mod judge;
 mod lists;
 mod manne;
-mod moves;
 mod outcomes;
 mod plain_net;
 mod refusals;
 mod register_table;
-mod replies;
 mod rules;
 mod scans;
 mod steps;
 
 use edge_set::EdgeSet;
-pub use judge::replay;
 pub use plain_net::PlainNet;
 use register_table::RegisterTable;

@@ -26,11 +26,8 @@ impl PlainNet {
         Ok(moves)
     }
 
-    /// Makes the moves of one step, whether or not a rule allows them.
-    ///
-    /// `Want` if memory runs out; that changes nothing. Cost: some n·m for each move, with n names and m
-    /// edges.
-    pub fn make_moves(&mut self, alloc: Global, moves: &[Moved]) -> Result<(), Want>
+    /// Makes the moves of one step. `Want` if memory runs out; that changes nothing.
+    fn make_moves(&mut self, alloc: Global, moves: &[Moved]) -> Result<(), Want>
         ensures ok { OnOk result (self.new ≡ after_moves self.old moves.now) }
         ensures err { OnErr result (self.new ≡ self.old) }
     {
