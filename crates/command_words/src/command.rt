@@ -183,7 +183,7 @@ fn top_command<'a>(alloc: Global) -> Command<'a>
     ensures { app_of result ≡ top_app }
 {
     Command::new(alloc, "console")
-        .version("0.1.0")
+        .version("1.0.0")
         .about(ABOUT)
         .after_help(EXAMPLES)
         .subcommand_required(true)

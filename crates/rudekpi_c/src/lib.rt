@@ -38,3 +38,4 @@ mod sessions;
 mod slot;
 mod status;
 mod told;
+mod version;
