@@ -23,6 +23,11 @@ namespace rudekpi {
 using Node = std::uint32_t;
 using Entry = std::uint32_t;
 
+/* Returns the version of the library: 1,000,000 times the major, plus 1,000 times the minor, plus the patch number. */
+inline std::uint32_t version() {
+    return rudekpi_version();
+}
+
 enum class Rules : std::uint32_t { hsu_huang = RUDEKPI_HSU_HUANG, manne = RUDEKPI_MANNE };
 
 enum class Rule : std::uint32_t {

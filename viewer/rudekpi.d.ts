@@ -178,6 +178,9 @@ export declare class Network {
   audit(): Summary;
 }
 
+/** Returns the version of the engine, as `1.0.0`. */
+export declare function version(): string;
+
 /** Judges a transcript. Throws `Damaged` if it is none. */
 export declare function audit(text: string | ArrayBuffer | ArrayBufferView): Summary;
 

@@ -64,7 +64,7 @@ from .schedules import longest
 from .storms import storm
 from .sweeps import sweep
 
-__version__ = "0.1.0"
+__version__ = "1.0.0"
 
 __all__ = [
     "Accepted",

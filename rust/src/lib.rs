@@ -26,3 +26,8 @@ pub use network::{Counts, Enabled, Item, Move, Network, Rule, Rules};
 
 /// A node's name, from 1 on.
 pub type Node = u32;
+
+/// Returns the version of the library: 1,000,000 times the major, plus 1,000 times the minor, plus the patch number.
+pub fn version() -> u32 {
+    unsafe { ffi::rudekpi_version() }
+}

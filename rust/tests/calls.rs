@@ -1,6 +1,6 @@
 //! Each call once, with answers worked out by hand, and each fault.
 
-use rudekpi::{audit, Audit, Counts, Damage, Enabled, Fault, Item, Move, Network, Refusal, Rule, Rules, Verdict};
+use rudekpi::{audit, version, Audit, Counts, Damage, Enabled, Fault, Item, Move, Network, Refusal, Rule, Rules, Verdict};
 
 /// Three nodes in a row, 1 - 2 - 3, of four names, that nobody has moved.
 fn row(rules: Rules) -> Network {
@@ -106,4 +106,11 @@ fn audits() {
     assert_eq!(net.keep_transcript(false), Ok(()));
     assert_eq!(net.show(1), Ok(None));
     assert!(net.take_transcript().is_empty());
+}
+
+#[test]
+fn version_of_the_package() {
+    let number = version();
+    let text = format!("{}.{}.{}", number / 1_000_000, number / 1000 % 1000, number % 1000);
+    assert_eq!(text, env!("CARGO_PKG_VERSION"));
 }

@@ -94,7 +94,15 @@ static void audits() {
     expect("no text is kept", net.transcript().empty());
 }
 
+static void versions() {
+    const std::uint32_t number = rudekpi::version();
+    const std::string text =
+        std::to_string(number / 1000000) + "." + std::to_string(number / 1000 % 1000) + "." + std::to_string(number % 1000);
+    expect("version", number == RUDEKPI_VERSION_NUMBER && text == RUDEKPI_VERSION);
+}
+
 int main() {
+    versions();
     edits_and_steps();
     reach_and_faults();
     exceptions();

@@ -12,7 +12,7 @@ const PATH = process.env.RUDEKPI_MJS ?? fileURLToPath(new URL("../../release/rud
 const EXAMPLE = fileURLToPath(new URL("../../examples/javascript/ring.mjs", import.meta.url));
 const SCRIPTS = Number(process.env.SCRIPTS ?? 200);
 const skip = existsSync(PATH) ? whatIsMissing() : `no module at ${PATH}`;
-const { Audit, audit, Damaged, Ended, Network, Refused, RudekpiError, Wish } =
+const { Audit, audit, Damaged, Ended, Network, Refused, RudekpiError, version, Wish } =
   skip ? {} : await import(pathToFileURL(PATH));
 
 const TURNED = ["drive", "scramble"];
@@ -186,6 +186,10 @@ test("names of the caller's own stand for numbers, in replies and in errors", { 
   assert.deepEqual(one.step(new Set([2, 1])), other.step(new Set([1, 2])));
   assert.equal(one.transcript(), other.transcript());
   assert.ok(enabled.length > 0);
+});
+
+test("the module tells the program's version", { skip }, () => {
+  assert.equal(`console ${version()}\n`, program(["--version"], "").text);
 });
 
 test("what an edit or a fault costs, and whom it reaches, by the tables of docs/BOUNDS.md", { skip }, () => {
