@@ -1,22 +1,22 @@
 //! The texts of the help, in lines of at most 80 columns, as clap sets them.
 
 pub(crate) const ABOUT: &str =
-    "Pairs up the nodes of a changing network by local rules that mend every
-disturbance by themselves, and writes down each event and its answer.";
+    "Keeps a maximal matching on a changing network by self-stabilising rules, and
+writes a numbered transcript of every event and its reply.";
 
 pub(crate) const RULES_HELP: &str = "Hsu and Huang's, or Manne's";
 
-pub(crate) const NODES_HELP: &str = "How many nodes there may be, named 1 to N; at most 65535";
+pub(crate) const NODES_HELP: &str = "The capacity: nodes are named 1 to N; at most 65535";
 
-pub(crate) const PRESENT_HELP: &str = "The nodes at the start, 1 to P; P from 0 to N, else all";
+pub(crate) const PRESENT_HELP: &str = "Nodes 1 to P are present at the start; default: all";
 
-pub(crate) const WORKERS_HELP: &str = "How many workers judge a step; 1 to 64";
+pub(crate) const WORKERS_HELP: &str = "How many workers evaluate a step; 1 to 64";
 
-pub(crate) const ROAM_HELP: &str = "Workers who move nodes themselves; 0 to 64";
+pub(crate) const ROAM_HELP: &str = "Workers that move nodes alone; 0 to 64";
 
-pub(crate) const TURNS_HELP: &str = "Turns for each of them; at most 1000000";
+pub(crate) const TURNS_HELP: &str = "Turns of each of them; at most 1000000";
 
-pub(crate) const ENTRY_HELP: &str = "Draws the network after entry K, 0 the start; else at the end";
+pub(crate) const ENTRY_HELP: &str = "Draws the state after entry K; 0 the start; default: the end";
 
 pub(crate) const EXAMPLES: &str = "\
 Examples:
@@ -30,25 +30,24 @@ pub(crate) const RUN_ABOUT: &str = "Runs the script on standard input and writes
 
 pub(crate) const RUN_NOTES: &str = "\
 Under hh one enabled node moves in a step, under manne any set of them. The
-transcript is the same for every number of workers.
+number of workers does not change the transcript.
 
-The entries of all whole lines that were read are written before more is read.
-So the daemon can be a person or a program at the other end of a pipe, who looks
-at the replies and then chooses; and a long run can be watched through tee, or
-by tail -f.
+The entries of all whole lines are written before more input is read. So a
+person or a program at the other end of a pipe can read the replies and then
+choose, and tee or tail -f shows a long run as it goes.
 
-Commands of a script, one a line, where A and B are names of nodes:
+Commands of a script, one per line; A and B are names of nodes:
   link A B      adds an edge            unlink A B    removes it
   point A B     A's pointer becomes B   point A -     A's pointer becomes null
   flag A 1      sets A's married flag   flag A 0      clears it
-  join A        makes A a node          leave A       A goes, with its edges
-  step A B>A    moves the chosen nodes at once, B with a wish for its target
+  join A        A becomes present       leave A       A leaves with its edges
+  step A B>A    moves the chosen nodes at once; B is to point at A
   show A        where A points          enabled       the enabled nodes' rules
   matching      the pairs               status        counts, charge and spent
-  drive S K     takes up to K steps of a daemon with the seed S, until no node
+  drive S K     takes at most K steps of a daemon with the seed S, until no node
                 is enabled
   scramble S K  changes up to K registers, drawn with the seed S
-  checkpoint    writes the state as a base, at which a transcript may begin
+  checkpoint    writes the state as a base, from which a transcript may begin
 
 Examples:
   console run --rules manne --nodes 4 < script > transcript
@@ -62,16 +61,15 @@ Exit status:
   3  a read or a write failed
   4  memory ran out, or the log is full";
 
-pub(crate) const AUDIT_ABOUT: &str = "Judges the transcript on standard input, in one line.";
+pub(crate) const AUDIT_ABOUT: &str = "Judges the transcript on standard input and prints one line.";
 
 pub(crate) const AUDIT_USAGE: &str = "console audit < FILE";
 
 pub(crate) const AUDIT_NOTES: &str = "\
-It is accepted where it is the text of a run of the rules, whatever allowed
-targets were taken: from its start, or from the base that a checkpoint wrote.
-Each further base has to be that of the state there. Else the first line that
-fails is named, with the first of these that it fails: its form, its number, its
-reply.
+The transcript is accepted if it is the text of a run of the rules, with any
+allowed targets, from the start or from the base of a checkpoint. Each later
+base must be that of the state reached. Otherwise the first wrong line is named,
+with the first of these that is wrong: its form, its number, its reply.
 
 Examples:
   console audit < transcript
@@ -90,20 +88,19 @@ pub(crate) const PICTURE_ABOUT: &str =
 pub(crate) const PICTURE_USAGE: &str = "console picture [OPTIONS] < FILE";
 
 pub(crate) const PICTURE_NOTES: &str = "\
-The transcript is read from standard input. The graph has a line for each node
-and for each edge, ascending. A married node is filled, and an enabled node has
-its rule below its name. A mutual pair is a bold edge, and a pointer that is not
-answered is an arrow along its edge. The line of entry K, the last of which the
-graph tells, is the last one that is read: where audit refuses a line up to it,
-what audit says stands in place of the graph. Of a transcript that begins with a
-base, the base's number draws the base, and there is no smaller one.
+The transcript is read from standard input, up to the line of entry K. The graph
+has a line for each node and each edge, ascending. A married node is filled, and
+an enabled node has its rule below its name. A pair is a bold edge; a pointer
+that is not answered is an arrow along its edge. If audit refuses a line up to
+entry K, its verdict is printed and no graph. If the transcript begins with a
+base, K is at least the base's number, which draws the base.
 
 Examples:
   console picture < transcript | dot -Tsvg > matching.svg
   console picture --entry 0 < transcript
   diff <(console picture --entry 5 < transcript) <(console picture < transcript)
 
-Many nodes are laid out sooner by another of Graphviz's engines:
+For many nodes another engine of Graphviz is faster:
   console picture < transcript | dot -Ksfdp -Tsvg > matching.svg
 
 To watch a long run and to draw where it ended:
@@ -117,18 +114,22 @@ Exit status:
   3  a read or a write failed
   4  memory ran out";
 
-pub(crate) const EPOCHS_ABOUT: &str = "Lists the epochs of a transcript, a line each.";
+pub(crate) const EPOCHS_ABOUT: &str = "Lists the epochs of a transcript, one per line.";
 
 pub(crate) const EPOCHS_USAGE: &str = "console epochs < FILE";
 
 pub(crate) const EPOCHS_NOTES: &str = "\
 The transcript is read from standard input. An epoch begins at the start and at
-each accepted disturbance. Its line has the number of the entry that began it, 0
-for the start, and - where it began before the base that the transcript begins
-with; its moves; how many edges and nodes there are in it; the most moves that
-it can have; and what the disturbance that began it cost, a sum of degrees of
-the nodes that it touched, or - in the first epoch. A transcript that audit
-refuses is refused in the same words.
+each accepted disturbance. Its line has these fields:
+  start  the entry that began it, 0 for the start; - if it began before the base
+         at the transcript's start
+  moves  its moves
+  edges, nodes   the size of its network
+  bound  the most moves that an epoch of this size has
+  cost   the most that its disturbance added to the charge; - in the first epoch
+Costs add up: the moves of an epoch may exceed its own cost, if earlier epochs
+ended before the network was silent. A transcript that audit refuses is refused
+in the same words.
 
 Examples:
   console epochs < transcript > epochs.csv
@@ -142,17 +143,18 @@ Exit status:
   4  memory ran out";
 
 pub(crate) const STORM_ABOUT: &str =
-    "Runs scripts at once on one network and writes their common log.";
+    "Runs scripts at once on one network; writes their common transcript.";
 
 pub(crate) const STORM_NOTES: &str = "\
-Each script has a thread and the commands of run, which are carried out in its
-order, between those of the others in any way. All scripts are read before the
-first command. When all have ended, the log is settled against what each of them
-did, and is written; from the last checkpoint on, where there was one.
+Each script has its own thread and the commands of run. A script's commands are
+carried out in order, interleaved with those of the others. All scripts are read
+before the first command. After the last one the log is settled: compared with
+every reply that a script got. Then it is written, from the last checkpoint on
+if there was one.
 
-Roaming workers need no script: in turn t, from 0, such a worker lets one
-enabled node move, the one at place t modulo their number, ascending from 0;
-where no node is enabled, the turn passes.
+Roaming workers need no script. In turn t, from 0, a worker lets one enabled
+node move: the one at index t modulo how many there are, ascending. If no node
+is enabled, the turn passes.
 
 Examples:
   console storm --rules hh --nodes 4 script other > transcript
@@ -160,9 +162,9 @@ Examples:
   console storm --rules manne --nodes 9 script other | console audit
 
 Exit status:
-  0  every script was run, and the log is settled
+  0  every script was run, and the log agrees with all replies
   1  a settle was refused
   2  bad words, a P above N (! bad present), a line that is not a command, or
      more than 64 scripts
   3  a read or a write failed, or a script cannot be opened
-  4  memory ran out, the log is full, a clerk is behind, or no thread was had";
+  4  memory ran out, the log is full, a clerk is behind, or no thread started";
