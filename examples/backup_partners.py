@@ -1,7 +1,8 @@
 #!/usr/bin/env python3
-"""Hosts that keep a copy of each other's data, in pairs of neighbours. When a host fails its partner looks for
-another, and when it returns it looks for one itself. What each failure costs is told beside its budget, the charge:
-no schedule can make it cost more.
+"""Hosts that keep a copy of each other's data, in pairs of neighbours.
+
+A host whose partner fails looks for another partner; a host that returns looks for one too. The cost of each
+failure is printed with its budget, the charge: no schedule can make it cost more.
 
 usage: examples/backup_partners.py
 """
@@ -32,12 +33,12 @@ EVENTS = [
 
 
 def some(enabled: Enabled, drawn: random.Random = random.Random(7)) -> list[Any]:
-    """The daemon: each enabled host moves or not as chance has it, and one at least."""
+    """The daemon: each enabled host moves with probability one half, and at least one does."""
     return [host for host in enabled if drawn.random() < 0.5] or [drawn.choice(list(enabled))]
 
 
 def tell(net: Network, event: str, down: set[str]) -> int:
-    """Lets the network settle, and tells what that cost and who backs up whom. Answers the moves."""
+    """Lets the network settle, and prints the cost and who backs up whom. Returns the moves."""
     settled, pairs = net.settle(some), net.matching()
     alone = [host for host in HOSTS if pairs.partner(host) is None and host not in down]
     print(

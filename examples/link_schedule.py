@@ -1,7 +1,8 @@
 #!/usr/bin/env python3
-"""Gives each link of a changing mesh a slot. In each round the links of a maximal matching have theirs, so that no
-host talks to two others at once; then they are done, and the next round is for the links that still wait. Links
-come and go on the way.
+"""Gives each link of a changing mesh a slot.
+
+In each round the links of a maximal matching get theirs, so that no host talks to two others at once. The
+next round is for the links that still wait. Links come and go meanwhile.
 
 usage: examples/link_schedule.py
 """
@@ -17,7 +18,7 @@ sys.path.insert(0, os.path.join(os.path.dirname(os.path.realpath(__file__)), "..
 from rudekpi import Network  # noqa: E402
 
 ROWS, COLUMNS = "abcd", "12345"
-# what changes before a round: a link comes, or goes without having had its slot, if it still waits
+# changes before a round: a link comes, or a link that still waits goes without its slot
 COME = {2: [("a1", "b2"), ("b2", "c3")], 4: [("a1", "d5"), ("d1", "d3")]}
 GO = {3: [("c2", "c3"), ("a4", "a5")]}
 
@@ -33,7 +34,7 @@ def mesh() -> Iterator[tuple[str, str]]:
 
 
 def change(net: Network, waiting: set[Any], number: int) -> None:
-    """Carries out what changes before a round."""
+    """Carries out the changes before a round."""
     for link in COME.get(number, []):
         net.link(*link)
         waiting.add(link)
@@ -56,7 +57,7 @@ def main() -> None:
         while waiting:
             number += 1
             change(net, waiting, number)
-            settled = net.settle(list)  # all who are enabled move at once
+            settled = net.settle(list)  # all enabled hosts move at once
             pairs = net.matching()
             print(
                 f"round {number}:",

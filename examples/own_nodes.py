@@ -1,14 +1,15 @@
 #!/usr/bin/env python3
-"""Somebody's own pairing layer, whose log is judged: nodes that know each other by messages alone, each with registers
-and rules of its own, while the world cuts links, takes nodes out and writes into registers.
+"""A pairing layer of your own, whose log is judged: nodes that know each other by messages alone.
+
+Each node has its own registers and rules, while the world cuts links, removes nodes and writes registers.
 
 usage: examples/own_nodes.py [--rules hh|manne] [--events N] [--seed S] [--mistake low|stale] [--log FILE]
 
-A node moves once all its neighbours, and it itself, have granted it their locks. With each grant comes what the granter
-holds. Then the node chooses its move by these copies, writes the move into the log, and lets all go with what it holds
-now. With a mistake one node does not follow the rules: `low` seduces a neighbour below it, `stale` chooses by the
-copies from before it asked. The log is written to FILE too; if that is `-`, to standard output, and no verdict is
-given.
+A node moves once all its neighbours, and it itself, have granted it their locks. Each grant carries the
+granter's registers. Then the node chooses its move by these copies, writes the move into the log, and
+releases all locks with its new registers. With a mistake one node breaks the rules: `low` seduces a neighbour
+below it, `stale` chooses by the copies from before it asked. The log is also written to FILE; if that is `-`,
+to standard output, without a verdict.
 """
 
 from __future__ import annotations
@@ -47,7 +48,7 @@ class Log:
 
 
 class Peer:
-    """Whoever locks nodes: it asks in the order of their names, so that nobody waits in a circle."""
+    """A holder of locks: it asks for them in the order of the names, so that no circle of waiting arises."""
 
     def __init__(self, name: str, mail: dict[str, asyncio.Queue[Message]]) -> None:
         self.name, self.mail = name, mail
@@ -58,7 +59,7 @@ class Peer:
         self.mail[to].put_nowait((word, self.name, held))
 
     async def lock(self, names: set[str]) -> dict[str, Held]:
-        """Waits until these nodes have granted their locks; what each of them holds."""
+        """Waits until these nodes have granted their locks; returns what each of them holds."""
         found: dict[str, Held] = {}
         for name in sorted(names):
             self.send(name, "ask")
@@ -83,8 +84,7 @@ class Peer:
 
 
 class Node(Peer):
-    """A node of the layer: its registers, its neighbours with what they were last seen to hold, and who has its
-    lock."""
+    """A node of the layer: its registers, its neighbours' last known ones, and the holder of its lock."""
 
     def __init__(self, name: str, mail: dict[str, asyncio.Queue[Message]], rules: str, log: Log) -> None:
         super().__init__(name, mail)
@@ -94,7 +94,7 @@ class Node(Peer):
         self.copies: dict[str, Held] = {}
         self.waiting: list[str] = []
         self.is_locked = False
-        # that it, or what it knows of its neighbours, is another than before
+        # set when it, or what it knows of its neighbours, changes
         self.news = asyncio.Event()
         self.mistake = ""
 
@@ -112,13 +112,13 @@ class Node(Peer):
             self.send(self.waiting.pop(0), "grant", (self.pointer, self.flag))
 
     def tell(self) -> None:
-        """Tells its neighbours what it holds now, without a lock: the gossip by which they see that they may move."""
+        """Sends its registers to its neighbours, without a lock, so that they see that they may move."""
         self.news.set()
         for name in self.copies:
             self.send(name, "told", (self.pointer, self.flag))
 
     async def live(self, chance: random.Random) -> None:
-        """Moves some time after its copies say that it may."""
+        """Moves some time after its copies allow it."""
         while True:
             await self.news.wait()
             self.news.clear()
@@ -147,7 +147,7 @@ class Node(Peer):
         self.tell()
 
     def choose(self, near: dict[str, Held], chance: random.Random) -> Optional[dict[str, Any]]:
-        """The register that its rules let it write, by what its neighbours are taken to hold."""
+        """The register that its rules let it write, given its neighbours' registers."""
         if self.rules == "hh":
             return self.choose_alone(near, chance)
         return self.choose_with_flag(near, chance)
@@ -180,7 +180,7 @@ class Node(Peer):
 
 
 class World(Peer):
-    """What happens to the nodes: links come and go, nodes leave and return, registers are written to."""
+    """What happens to the nodes: links come and go, nodes leave and return, registers are written."""
 
     def __init__(self, nodes: dict[str, Node], mail: dict[str, asyncio.Queue[Message]], log: Log) -> None:
         super().__init__(WORLD, mail)
@@ -193,7 +193,7 @@ class World(Peer):
         other.news.set()
 
     def cut(self, a: str, b: str) -> None:
-        """Takes out a link, and the pointers that crossed it."""
+        """Removes a link, and the pointers that crossed it."""
         for node, other in ((self.nodes[a], b), (self.nodes[b], a)):
             del node.copies[other]
             if node.pointer == other:
@@ -224,7 +224,7 @@ class World(Peer):
         self.let_go({a, b})
 
     async def write(self, chance: random.Random) -> None:
-        """Something writes into a register of a node."""
+        """A fault writes a register of a node."""
         name = chance.choice([name for name in NODES if name not in self.away])
         node = self.nodes[name]
         await self.lock({name})
@@ -238,7 +238,7 @@ class World(Peer):
         self.let_go({name})
 
     async def go(self, chance: random.Random) -> None:
-        """A node leaves, or one that had left is there again, with no link."""
+        """A node leaves, or one that had left returns without a link."""
         name = chance.choice(NODES)
         node = self.nodes[name]
         names = {name, *node.copies}
@@ -256,7 +256,7 @@ class World(Peer):
 
 
 async def played(rules: str, events: int, seed: int, mistake: str) -> list[str]:
-    """The log of so many events."""
+    """The log of this many events."""
     mail: dict[str, asyncio.Queue[Message]] = {}
     log, chance = Log(events), random.Random(seed)
     nodes = {name: Node(name, mail, rules, log) for name in NODES}

@@ -1,5 +1,5 @@
-/* Judges the transcript that comes on standard input as it comes, and says what `console audit` says. It holds no more of it than a line, or
- * a base, that is not whole yet. Build: cc audit.c $(pkg-config --cflags --libs rudekpi.pc) */
+/* Judges a transcript as it comes on standard input, and prints what `console audit` prints. It holds only an
+ * unfinished line or base. Build: cc audit.c $(pkg-config --cflags --libs rudekpi.pc) */
 #include <stdio.h>
 #include "rudekpi.h"
 
@@ -12,7 +12,7 @@ int main(void) {
     struct rudekpi_verdict verdict;
     uint32_t status = rudekpi_audit_new(&audit);
     size_t length;
-    /* a damage is one whatever comes behind it, so nothing more need be read */
+    /* what follows cannot undo a damage, so reading ends there */
     while (status == RUDEKPI_DONE && (length = fread(piece, 1, sizeof piece, stdin)) > 0)
         status = rudekpi_audit_feed(&audit, piece, length);
     if (ferror(stdin)) {

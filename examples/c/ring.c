@@ -1,5 +1,5 @@
-/* A ring of twelve nodes settles, is broken by a fault and by a node that leaves, and mends itself. The transcript is written as it
- * comes, and judged in the end. Build: cc ring.c $(pkg-config --cflags --libs rudekpi.pc) */
+/* A ring of twelve nodes settles, is broken by a fault and a leaving node, and mends itself. The transcript
+ * is printed as it comes, and judged in the end. Build: cc ring.c $(pkg-config --cflags --libs rudekpi.pc) */
 #include <stdio.h>
 #include <stdlib.h>
 #include <string.h>
@@ -9,7 +9,7 @@ static struct rudekpi_slot ring = RUDEKPI_NONE;
 static uint8_t transcript[1 << 16];
 static size_t length;
 
-/* Gives the session a line, and ends the program where it is not carried out. */
+/* Gives the session a line, and ends the program if it is not carried out. */
 static void tell(const char *line) {
     uint64_t number = 0;
     uint32_t status = rudekpi_session_feed(&ring, (const uint8_t *)line, strlen(line), &number);
@@ -19,7 +19,7 @@ static void tell(const char *line) {
     }
 }
 
-/* Takes the text that has come, behind what was taken before. */
+/* Appends the new text to the transcript, and prints it. */
 static void take(void) {
     size_t come = rudekpi_session_read(&ring, transcript + length, sizeof transcript - length);
     if (come > sizeof transcript - length) exit(1);

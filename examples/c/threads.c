@@ -1,5 +1,5 @@
-/* Four threads share one network behind a mutex. Each links and unlinks a pair of nodes of its own again and again, and
- * lets the network settle. The order of the log is that of the lock; its transcript is judged in the end.
+/* Four threads share one network, protected by a mutex. Each repeatedly links and unlinks its own pair of
+ * nodes, and lets the network settle. The log has the order of the lock; its transcript is judged in the end.
  * Build: cc -pthread threads.c $(pkg-config --cflags --libs rudekpi.pc) */
 #include <pthread.h>
 #include <stdio.h>
@@ -11,7 +11,8 @@ enum { THREADS = 4, TURNS = 1000 };
 static struct rudekpi_slot net = RUDEKPI_NONE;
 static pthread_mutex_t lock = PTHREAD_MUTEX_INITIALIZER;
 
-/* An edit and what it leads to, under one hold of the lock: nobody's entries come between. Returns whether all was done. */
+/* An edit and the moves after it, under one lock, so no other thread's entries come between. Returns whether
+ * all was carried out. */
 static bool edit(uint32_t a, uint32_t b, bool comes, uint64_t seed) {
     struct rudekpi_told told;
     pthread_mutex_lock(&lock);
@@ -28,7 +29,7 @@ static void *edits(void *given) {
     return given;
 }
 
-/* Returns whether the transcript is that of a run of the rules that has all edits, and prints its counts. */
+/* Returns whether the transcript is that of a run of the rules with all edits, and prints its counts. */
 static bool is_right(void) {
     struct rudekpi_verdict verdict;
     size_t length = rudekpi_session_length(&net);

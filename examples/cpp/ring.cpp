@@ -1,5 +1,6 @@
-/* A ring of twelve nodes settles, is broken by a fault and by a node that leaves, and mends itself. The transcript is
- * printed, and judged in the end. Build: c++ -std=c++17 ring.cpp -I../../include ../../release/librudekpi.a */
+/* A ring of twelve nodes settles, is broken by a fault and a leaving node, and mends itself. The transcript
+ * is printed, and judged in the end.
+ * Build: c++ -std=c++17 ring.cpp -I../../include ../../release/librudekpi.a */
 #include <exception>
 #include <iostream>
 #include "rudekpi.hpp"

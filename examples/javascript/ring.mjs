@@ -1,8 +1,8 @@
-// A ring of twelve nodes settles, is broken by a fault and by a node that leaves, and mends itself. The transcript is
-// written, and the pairs and the verdict to standard error. Run: node ring.mjs
+// A ring of twelve nodes settles, is broken by a fault and a leaving node, and mends itself. The transcript
+// is printed; the pairs and the verdict go to standard error. Run: node ring.mjs
 import {audit, Network, Refused} from "../../release/rudekpi.mjs";
 
-/** A network that has settled after a fault and a node that left. */
+/** A network that has settled after a fault and a leaving node. */
 function mended() {
   const ring = new Network("manne", 12);
   for (let node = 1; node <= 12; node += 1) {

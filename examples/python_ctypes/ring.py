@@ -1,7 +1,8 @@
 #!/usr/bin/env python3
-"""A ring of twelve nodes settles, is broken by a fault and by a node that leaves, and mends itself: the library for
-C, called by ctypes alone. The transcript is written, and the pairs and the verdict to standard error.
-(`rudekpi.Network` does all of this by itself.)
+"""A ring of twelve nodes settles, is broken by a fault and a leaving node, and mends itself.
+
+It calls the C library by ctypes alone; `rudekpi.Network` does all of this by itself. The transcript is
+printed; the pairs and the verdict go to standard error.
 
 usage: ring.py LIBRARY
 """
@@ -15,7 +16,7 @@ MANNE, DONE, ACCEPTED = 1, 0, 0
 
 
 class Slot(ctypes.Structure):
-    """Where a session is kept: all bytes 0 at first, and never copied while it is full."""
+    """The place of a session: all bytes 0 at first, and never copied while it is full."""
 
     _fields_ = [("at", ctypes.c_void_p), ("full", ctypes.c_bool)]
 
@@ -62,7 +63,7 @@ class Ring:
         self.library.rudekpi_session_free(ctypes.byref(self.slot))
 
     def ask(self, name: str, *words: object) -> None:
-        """Makes a call of which one entry, or some, is the answer."""
+        """Makes a call that one or more entries answer."""
         status = getattr(self.library, f"rudekpi_{name}")(ctypes.byref(self.slot), *words, ctypes.byref(self.told))
         if status != DONE:
             raise ValueError(f"{name}: status {status}, refusal {self.told.refusal}")
@@ -74,7 +75,7 @@ class Ring:
         return [(row.node, row.other) for row in rows]
 
     def text(self) -> bytes:
-        """All that was written and not yet read."""
+        """All text written and not yet read."""
         size = self.library.rudekpi_session_length(ctypes.byref(self.slot))
         room = ctypes.create_string_buffer(size)
         self.library.rudekpi_session_read(ctypes.byref(self.slot), room, ctypes.c_size_t(size))

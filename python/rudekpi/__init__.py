@@ -1,5 +1,4 @@
-"""Networks that keep their nodes in pairs, played by the library for C or by the program `console`, and driven from
-Python.
+"""Networks that keep their nodes in pairs, played by the C library or the program `console`.
 
     with Network(rules="manne", nodes=["ann", "bob", "cleo"]) as net:
         net.link("ann", "bob")
@@ -7,17 +6,17 @@ Python.
         net.settle(lambda enabled: list(enabled))    # a daemon: from the enabled nodes to those that move
         print(net.matching().partner("bob"))
 
-Each call is one of the library in this process; or it writes a line to `console run` and waits for its entry, and
-inside `with net.batch() as batch:` those of `batch` do not wait. A command that the network refuses raises `Refused`,
-and where the program ends, `Ended` has its status and last line. `drive` and `scramble` write an entry a turn, and how
-many is not known beforehand. So the client asks for the `status` behind them, and that entry ends them: it stands in
-the transcript like any other, and in the reply. `checkpoint` writes the lines of a base, which are no entry.
+Each call runs the library in this process, or writes a line to `console run` and waits for its entry. The
+calls of a batch (`with net.batch() as batch:`) do not wait. A refused command raises `Refused`; if the
+program ends, `Ended` has its status and last line.
 
-The program is the argument `program`, else the environment's RUDEKPI_CONSOLE, else the `console` that lies beside this
-package (`bin/console` in it), else that of the repository in which the package lies. The library is that of
-RUDEKPI_LIBRARY, else `bin/librudekpi.so` or the repository's `release/librudekpi.so`; `engine="program"`, or
-RUDEKPI_ENGINE, has a program play where there is a library. By a program a network is for one thread. A transcript is
-kept in memory as long as its network.
+`drive` and `scramble` write one entry a turn, an unknown number. So the client then asks for the `status`,
+which ends them and is part of transcript and reply. `checkpoint` writes a base, which is no entry.
+
+The program is the argument `program`, else RUDEKPI_CONSOLE's, else `bin/console` in this package, else the
+`console` of its repository. The library is RUDEKPI_LIBRARY's, else `bin/librudekpi.so`, else the repository's
+`release/librudekpi.so`. `engine="program"`, or RUDEKPI_ENGINE, uses the program even if there is a library. A
+network played by the program is for one thread. A network keeps its transcript in memory.
 """
 
 from . import daemons, graphs

@@ -1,4 +1,4 @@
-"""The command line: the words of the program are handed to it, those of the bench are the package's own."""
+"""The command line: carries out the bench's commands, and hands the program's own to it."""
 
 from __future__ import annotations
 
@@ -17,16 +17,19 @@ OF_PROGRAM = ("run", "audit", "picture", "epochs", "storm")
 HELP = """\
 usage: rudekpi COMMAND ..
 
-Of the bench:        sweep, compare, worst, check, shell, json, conform, explain, bursts, again
-Of the program:      run, audit, picture, epochs, storm
+Of the bench:
+  sweep, compare, worst, check, shell, json, conform, explain, bursts, again
+Of the program:
+  run, audit, picture, epochs, storm
 
-`rudekpi COMMAND --help` tells of each; `rudekpi --version` tells which one this is.
+`rudekpi COMMAND --help` explains a command; `rudekpi --version` prints the
+version. To begin: `rudekpi compare --graph ring:20 --seeds 5`.
 """
 FAILED, BAD_WORDS, NO_PROGRAM, NO_MEMORY, INTERRUPTED = 1, 2, 3, 4, 130
 
 
 def handed_on(words: Sequence[str]) -> int:
-    """Becomes the program, with these words; or waits for it where nothing can become another program."""
+    """Becomes the program with these words; if impossible, runs it and returns its exit status."""
     program = found_program()
     if os.name == "posix":
         sys.stdout.flush()
@@ -38,18 +41,18 @@ def handed_on(words: Sequence[str]) -> int:
 
 
 def told(text: object, status: int) -> int:
-    """Tells what is wrong, in one line on standard error."""
+    """Prints one line on standard error; returns the status."""
     print(f"! {text}", file=sys.stderr)
     return status
 
 
 def fault_of(error: OSError) -> str:
-    """What the system has said, of which file."""
+    """The system's message, after the file's name if there is one."""
     return f"{error.filename}: {error.strerror}" if error.filename and error.strerror else error.strerror or str(error)
 
 
 def done(words: Sequence[str]) -> int:
-    """Does what the words of the bench say."""
+    """Carries out a command of the bench; returns the exit status."""
     from . import commands
 
     try:
@@ -65,7 +68,7 @@ def done(words: Sequence[str]) -> int:
 
 
 def begun(words: Sequence[str]) -> int:
-    """Does what the words say, which are one or more."""
+    """Carries out at least one word; returns the exit status."""
     word, rest = words[0], words[1:]
     if word == "--version":
         print(f"rudekpi {__version__}", flush=True)
@@ -85,7 +88,7 @@ def begun(words: Sequence[str]) -> int:
 
 
 def main(words: Optional[Sequence[str]] = None) -> int:
-    """Does what the words say, by default those of the command line; returns the exit status."""
+    """Carries out the words, by default the command line's; returns the exit status."""
     if words is None:
         streams.prepare()
     words = list(sys.argv[1:] if words is None else words)

@@ -16,7 +16,7 @@ Command = Callable[[str, Callable[[argparse.Namespace], int], str], argparse.Arg
 
 
 def run_again(given: argparse.Namespace) -> int:
-    """The transcript of a row, and its page."""
+    """Writes the transcript of a row, and its page if asked."""
     with open(given.rows, newline="") as file:
         row = row_in(file, number_within(given.number, MOST_EXPERIMENTS, "the number of a row"))
     played = play_again(row, given.undirected, given.program)
@@ -31,13 +31,12 @@ def run_again(given: argparse.Namespace) -> int:
 
 
 def add_commands(command: Command) -> None:
-    """Adds it to the commands of the client."""
     again = command("again", run_again, "plays a row of a sweep again, and writes its transcript")
     again.add_argument("rows", help="a file that sweep wrote")
-    again.add_argument("number", type=int, help="which of its rows, the first of which is 1")
+    again.add_argument("number", type=int, help="the row to play; the first is 1")
     again.add_argument("--output", help="a file for the transcript (standard output)")
-    again.add_argument("--page", help="a file for a page that plays it")
+    again.add_argument("--page", help="a file for a page that plays the transcript")
     again.add_argument(
-        "--undirected", action="store_true", help="takes a directed graph of a file, without its directions"
+        "--undirected", action="store_true", help="takes a directed graph of a file without its directions"
     )
     again.add_argument("--program", help="the program that plays")

@@ -1,4 +1,4 @@
-"""How far the answers of a program were read: lines of its transcript, each given to the command that it answers."""
+"""Reads a program's transcript, and gives each line to the command that it answers."""
 
 from __future__ import annotations
 
@@ -11,16 +11,15 @@ from .names import Names
 if TYPE_CHECKING:
     from .batch import Pending
 
-# the word that is answered by a base, and the second line of one; its numbers are below 2^32
+# the word that a base answers, and the second line of a base; its numbers are below 2^32
 CHECKPOINT = "checkpoint"
 BASE = re.compile(r"base ([0-9]{1,10}) spent=([0-9]{1,10}) nodes=([0-9]{1,10}) edges=([0-9]{1,10})")
-# by how much the numbers of commands rise
+# the distance between the numbers of two commands
 STEP = 2
 
 
 class Setting:
-    """What stays the same in a run: its names, the first line of its transcript and of its bases, and whether all of it
-    is kept."""
+    """What stays the same in a run: names, first lines of transcript and base, whether all text is kept."""
 
     def __init__(self, names: Names, header: bytes, base_head: bytes, keeps: bool) -> None:
         self.names, self.header, self.base_head, self.keeps = names, header, base_head, keeps
@@ -33,11 +32,11 @@ def refusal(names: Names, event: bytes, text: bytes, entry: int) -> Refused:
 
 
 class Answers:
-    """Where the reading of answers stands.
+    """The state of reading at one point.
 
-    Reading goes on in a copy, which comes behind this. So an interrupt leaves this as it is, and the same bytes are
-    read again; and where a handler of a signal has read on meanwhile, its copy stands there already, and the other one
-    is let go of. What both write into what they share, commands and text, is the same.
+    Reading goes on in a copy, which follows this one. So an interrupt leaves this one unchanged, and the same
+    bytes are read again. If a signal's handler has read on meanwhile, its copy is already linked, and the
+    other is dropped. Both write equal values into the shared commands and text.
     """
 
     __slots__ = (
@@ -63,29 +62,29 @@ class Answers:
 
     def __init__(self, setting: Setting, asked: dict[int, Pending[object]]) -> None:
         self.setting = setting
-        # the commands by their numbers, of which those from `front` on wait
+        # the commands by number; those from `front` on wait
         self.asked = asked
         self.front = 0
-        # where the reading stood behind the next part of what came, once that was read; at most one, of which a second
-        # does not take the place
+        # the state after the next part, once that was read; at most one, which a second does not replace
         self.later: dict[int, Answers] = {}
-        # how many parts were read, and the beginning of a line
+        # how many parts were read, and the beginning of an unfinished line
         self.parts = 0
         self.rest = b""
         self.lines, self.entries = 0, -1
-        # the lines so far of an answer that has several, those of earlier parts and those of this one; of a base, how
-        # many nodes and lines it has, once that is known
+        # an answer's lines so far: those of earlier parts, and of this one; a base's numbers of nodes and
+        # lines once known
         self.held: tuple[list[bytes], ...] = ()
         self.new: list[bytes] = []
         self.held_size = self.base_nodes = self.base_size = 0
-        # what is kept, how much of it counts, and how much was kept in front of it or let go of, or more
+        # the kept text, how many of its bytes count, and how many bytes, or more, came before it or were
+        # dropped
         self.said, self.said_size, self.said_place = bytearray(), 0, 0
-        # the number of the line that ended the last base that is whole, and its lines
+        # the number of the last line of the last whole base, and its lines
         self.last_base: Optional[tuple[int, list[bytes]]] = None
         self.wrong: Optional[Garbled] = None
 
     def read_on(self, part: bytes) -> Answers:
-        """Where the reading stands behind the next part of what came."""
+        """The state after the next part of the output."""
         new = self.copy()
         *lines, new.rest = (self.rest + part).split(b"\n")
         take = new.take
@@ -105,13 +104,13 @@ class Answers:
         return new
 
     def keep(self, part: bytes, lines: list[bytes], before: int) -> None:
-        """Adds what was read, in front of which so many lines were, to what is kept, and notes how long that is."""
+        """Adds the part that was read after `before` lines to the kept text, and notes its length."""
         if self.new:
             self.held = (*self.held, self.new)
         end = self.said_size + len(part)
         if self.last_base and not self.setting.keeps:
             last, base = self.last_base
-            # another place than before, so that what is known of places is known to be over
+            # another place than before, so that earlier places are known to be void
             self.said_place += end
             self.said = bytearray(b"\n".join([*base, *lines[last - before :], self.rest]))
             self.said_size = len(self.said)
@@ -125,7 +124,6 @@ class Answers:
         self.held_size += 1
 
     def all_held(self) -> list[bytes]:
-        """The lines that are held, which are let go of."""
         lines = [line for part in (*self.held, self.new) for line in part]
         self.held, self.new, self.held_size = (), [], 0
         return lines
@@ -148,7 +146,7 @@ class Answers:
             self.garble(pending, line)
 
     def take_of_base(self, pending: Pending[object], line: bytes) -> None:
-        """Gives a line of a base to the checkpoint that it answers, whose answer is all of them."""
+        """Gives a line of a base to its checkpoint, whose answer is all lines of the base."""
         if not self.is_next_of_base(line):
             return self.garble(pending, line)
         self.hold(line)
@@ -158,7 +156,7 @@ class Answers:
             self.answer(pending, b"\n".join(lines))
 
     def is_next_of_base(self, line: bytes) -> bool:
-        """Whether this may be the next line of a base: as far as it takes to know where that ends."""
+        """Whether this may be the next line of a base, checked as far as finding its end needs."""
         place = self.held_size
         if place == 0:
             return line == self.setting.base_head
@@ -170,7 +168,7 @@ class Answers:
         return found is not None and int(found[1]) == self.entries
 
     def answer(self, pending: Pending[object], text: bytes) -> None:
-        """The answer to the command that has waited longest."""
+        """Stores the answer to the command that has waited longest."""
         if pending._ahead:
             pending._turns = self.all_held()
         pending._text = text

@@ -25,8 +25,7 @@ Text = Union[str, bytes, bytearray, memoryview]
 
 @dataclass(frozen=True)
 class Slice:
-    """The bytes of a file from a place to another, of which no copy is made; the file is a path, the number of an open
-    one, or bytes."""
+    """A range of a file's bytes, without a copy; the file is a path, an open file's number, or bytes."""
 
     file: Union[str, int, bytes]
     start: int
@@ -39,7 +38,7 @@ class Slice:
             return judge.audit_file(file.fileno(), self.start, self.end)
 
     def send(self, pipe: int) -> None:
-        """Writes them to a pipe. A file that has become shorter has no more."""
+        """Writes the range to a pipe, or less if the file has become shorter."""
         if isinstance(self.file, bytes):
             return send(memoryview(self.file)[self.start : self.end], pipe)
         at = self.start
@@ -52,18 +51,21 @@ class Slice:
 
 
 def bytes_of(transcript: Text) -> bytes:
-    """The bytes of a transcript. Raises `TypeError` for what is neither text nor bytes."""
+    """The bytes of a transcript. Raises `TypeError` if it is neither text nor bytes."""
     if isinstance(transcript, str):
         return transcript.encode()
     if not isinstance(transcript, (bytes, bytearray, memoryview)):
-        # `bytes` would make something of a number, and of a path
+        # `bytes` would accept a number, and read something into it
         raise TypeError(f"a transcript is text or bytes, and not {transcript!r}; a pathlib.Path is for audit_parts")
     return bytes(transcript)
 
 
 def audit(transcript: Union[Text, Slice], *, program: Program = None, engine: Optional[str] = None) -> Summary:
-    """Judges a transcript: what it has where it is that of a run of the rules; else raises `Damaged`. By an engine as
-    that of a `Network`; where there is no memory the library raises `MemoryError`, and the program `Ended`."""
+    """Judges a transcript: returns its counts if it is one of a run of the rules, else raises `Damaged`.
+
+    The engine is chosen as for a `Network`. If memory runs out, the library raises `MemoryError`, and the
+    program `Ended`.
+    """
     judge = chosen(engine, program)
     if judge:
         if isinstance(transcript, Slice):
@@ -73,16 +75,15 @@ def audit(transcript: Union[Text, Slice], *, program: Program = None, engine: Op
 
 
 def summary_read(said: str) -> Summary:
-    """What the program says of a transcript that its `audit` accepts."""
+    """The counts that the program prints for an accepted transcript."""
     return Summary(*numbers_in("audit", said, r"accepted: ([0-9]+) entries, ([0-9]+) epochs, ([0-9]+) moves\n")[0])
 
 
 def epochs(transcript: Text, *, program: Program = None) -> list[Epoch]:
-    """The epochs of a transcript, each with its bound, what the disturbance that began it cost, and how many nodes that
-    had in its reach.
+    """The epochs of a transcript, each with its bound, its disturbance's cost, and the size of its reach.
 
-    The program judges the transcript and lists all but the reach, which the client counts along the entries. Raises
-    `Damaged` if `audit` refuses it, `Ended`, or `Garbled` if the program lists other epochs than the entries begin.
+    The program judges the transcript and lists all but the reach, which the client counts. Raises `Damaged`
+    if `audit` refuses it, `Ended`, or `Garbled` if the program's epochs are not those of the entries.
     """
     first, *rest = judged_epochs(transcript, program)
     lines = (line.decode().rstrip("\n") for line in io.BytesIO(bytes_of(transcript)))
@@ -93,10 +94,10 @@ def epochs(transcript: Text, *, program: Program = None) -> list[Epoch]:
 
 
 def judged_epochs(transcript: Text, program: Program = None) -> list[Epoch]:
-    """The epochs as `epochs` lists them, but for their reach, which is None."""
+    """The epochs as `epochs` lists them, but with None for the reach."""
     row = ",".join(["([0-9]+|-)", *["([0-9]+)"] * 4, "([0-9]+|-)"]) + "\n"
     rows = numbers_in("epochs", judged(["epochs"], transcript, program), row, "start,moves,edges,nodes,bound,cost\n")
-    # a header's second word, which is that of a transcript that begins with a base, too
+    # the second word of a header, also if the transcript begins with a base
     rules = "hh" if bytes_of(transcript[:16]).split(b" ")[1] == b"hh" else "manne"
     return [bounded(Epoch(*numbers), rules) for numbers in rows]
 
@@ -104,8 +105,8 @@ def judged_epochs(transcript: Text, program: Program = None) -> list[Epoch]:
 def bounded(epoch: Epoch, rules: str) -> Epoch:
     """An epoch with the smaller of its bounds.
 
-    The epoch that an opening base cuts keeps the bound of the program: the base says what was spent, and no move shows
-    it.
+    An epoch cut by an opening base keeps the program's bound: the base states what was spent, and no move
+    shows it.
     """
     if epoch.start is None:
         return epoch
@@ -113,9 +114,9 @@ def bounded(epoch: Epoch, rules: str) -> Epoch:
 
 
 def picture(transcript: Text, entry: Optional[int] = None, *, program: Program = None) -> str:
-    """The network of a transcript behind an entry, or behind all, for Graphviz.
+    """The network after an entry of a transcript, by default the last, as text for Graphviz.
 
-    Raises `Damaged` where `audit` refuses the transcript, `ValueError` where it has no such entry, or `Ended`.
+    Raises `Damaged` if `audit` refuses the transcript, `ValueError` if it has no such entry, or `Ended`.
     """
     words = (
         ["picture"] if entry is None else ["picture", "--entry", str(number_within(entry, MOST_ENTRIES, "an entry"))]
@@ -132,13 +133,13 @@ def picture(transcript: Text, entry: Optional[int] = None, *, program: Program =
 
 
 def judged(words: list[str], transcript: Union[Text, Slice], program: Program) -> str:
-    """What the program says of a transcript that it accepts."""
+    """What the program prints about a transcript that it accepts."""
     given = transcript if isinstance(transcript, (Slice, bytearray, memoryview)) else bytes_of(transcript)
     return said_by(*fed([found_program(program), *words], given))
 
 
 def said_by(status: int, out: bytes, told: bytes) -> str:
-    """What a program has said that has accepted; raises what it has refused, or how it has ended."""
+    """A successful program's output; else raises `Damaged` or `Ended`."""
     said = text_of(out)
     if status == 1 and VERDICT.fullmatch(said):
         raise Damaged.read(said)
@@ -148,7 +149,7 @@ def said_by(status: int, out: bytes, told: bytes) -> str:
 
 
 def send(given: Union[bytes, bytearray, memoryview, Slice], pipe: int) -> None:
-    """Writes all bytes to a pipe, as many at once as it takes, which `subprocess.run` does not do."""
+    """Writes all bytes to a pipe in large pieces, unlike `subprocess.run`."""
     if isinstance(given, Slice):
         return given.send(pipe)
     whole = memoryview(given)
@@ -158,7 +159,7 @@ def send(given: Union[bytes, bytearray, memoryview, Slice], pipe: int) -> None:
 
 
 def fed(words: list[str], given: Union[bytes, bytearray, memoryview, Slice]) -> tuple[int, bytes, bytes]:
-    """Runs a program on these bytes: its status, what it writes and what it tells."""
+    """Runs a program on these bytes; returns its status, output and standard error."""
     with tempfile.TemporaryFile() as out, tempfile.TemporaryFile() as told:
         with subprocess.Popen(words, stdin=subprocess.PIPE, stdout=out, stderr=told, bufsize=0) as run:
             try:
@@ -173,7 +174,7 @@ def fed(words: list[str], given: Union[bytes, bytearray, memoryview, Slice]) -> 
 
 
 def numbers_in(word: str, said: str, line: str, head: str = "") -> list[tuple[Any, ...]]:
-    """The numbers in each line of what the program says of a transcript, below a head; None where a `-` stands."""
+    """The numbers in each line of the program's output after a head; None for `-`."""
     if not re.fullmatch(f"{head}(?:{line})+", said):
         raise Garbled(f"{said[:200]!r} is no answer to {word}")
     return [numbers_of(found) for found in re.finditer(line, said)]

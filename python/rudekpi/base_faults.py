@@ -1,4 +1,4 @@
-"""What is wrong with a line of a base: its form, its place, or the state that its lines make."""
+"""What is wrong with a line of a base: its form, its order, or the state described."""
 
 from __future__ import annotations
 
@@ -19,7 +19,7 @@ KINDS = {
 
 
 def spent_in(transcript: str) -> int:
-    """The moves since the last accepted edit or fault, or the base that a transcript begins with."""
+    """The moves since the last accepted edit or fault, or the opening base."""
     spent = 0
     for line in transcript.splitlines():
         word, _, rest = line.partition(" ")
@@ -42,7 +42,7 @@ def numbered(line: str, entry: int, spent: int) -> str:
 
 
 def compared(line: str, wanted: str, is_cut: bool) -> Fault:
-    """Where a line of a base differs from that of the state that was reached."""
+    """Where a line of a base differs from that of the state reached."""
     ours, theirs = line.split(" "), wanted.split(" ")
     if line == wanted and is_cut:
         return Fault(len(line), len(line) + 1, "the line lacks its line feed: the base is cut here")
@@ -62,9 +62,7 @@ def compared(line: str, wanted: str, is_cut: bool) -> Fault:
 
 
 def of_line(raw: bytes, number: int, lines: list[str], is_cut: bool) -> Optional[Fault]:
-    """What is wrong with the form or the place of a line of a base in which a transcript begins; None if it is neither.
-
-    `lines` are those of the transcript."""
+    """What is wrong with a line's form or order in an opening base; None if neither is."""
     line = lines[number - 1]
     if number == 2:
         if not SECOND.fullmatch(line):
@@ -84,7 +82,7 @@ def of_line(raw: bytes, number: int, lines: list[str], is_cut: bool) -> Optional
 
 
 def of_order(line: str, before: str, word: str) -> Optional[Fault]:
-    """What is wrong with a line's place among those of its kind."""
+    """What is wrong with a line's order."""
     count = 1 if word == "node" else 2
     ours, theirs = ([int(text) for text in it.split(" ")[1 : 1 + count]] for it in (line, before))
     if word == "edge" and ours[0] >= ours[1]:
@@ -95,7 +93,7 @@ def of_order(line: str, before: str, word: str) -> Optional[Fault]:
 
 
 def of_state(lines: list[str]) -> tuple[Fault, list[str]]:
-    """Why the lines of a base, each of which is right, make no state at which a run may begin."""
+    """Why the lines of a base, each right by itself, give no possible state."""
     found = SECOND.fullmatch(lines[1])
     if not found:
         return whole(lines[1], "here stands `base B spent=S nodes=C edges=E`"), []
@@ -120,7 +118,7 @@ def of_state(lines: list[str]) -> tuple[Fault, list[str]]:
 
 
 def why_no_state(head: list[str], body: list[list[str]]) -> str:
-    """Which line of a base does not agree with the others."""
+    """Why a line of a base contradicts the others; empty if none does."""
     present = {int(words[1]) for words in body if words[0] == "node"}
     near = {(int(words[1]), int(words[2])) for words in body if words[0] == "edge"}
     for words in body:

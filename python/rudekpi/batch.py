@@ -1,4 +1,4 @@
-"""Commands that do not wait for one another."""
+"""Commands that do not wait for each other."""
 
 from __future__ import annotations
 
@@ -49,27 +49,27 @@ class Pending(Generic[Reply_co]):
     def __init__(
         self, session: Session, event: str, refusals: Optional[dict[int, Refused]] = None, ahead: bytes = b""
     ) -> None:
-        # what the program is told ahead of the event, whose entries then stand in front of that event's
+        # what the program gets before the event; its entries then come before that event's
         self._session, self._ahead, self._event, self._refusals = session, ahead, event.encode(), refusals
         self._is_base = event == CHECKPOINT
-        # no entry yet; a base's is 0 where it is made in front of all entries
+        # no entry yet; a base's is 0 if it precedes all entries
         self._entry = -1
         self._text: bytes
         self._turns: Sequence[bytes]
 
     def result(self) -> Reply_co:
-        """The reply, waited for; raises `Refused` where the event was refused."""
+        """Waits for the reply and returns it; raises `Refused` if the event was refused."""
         if self._entry < 0:
             self._session.wait(self)
         return self._session.reply(self)
 
     def _reply(self, names: Names) -> Reply_co:
-        """What its texts say, which have come. Raises `ValueError` or `LookupError` for what is no such reply."""
+        """The reply, read from its texts once they came. Raises `ValueError` or `LookupError` if none."""
         raise NotImplementedError
 
 
 class Asked(Pending[Reply_co]):
-    """The answer to a command that has one entry, or a base."""
+    """The answer to a command with one entry, or a base."""
 
     __slots__ = ("_read",)
 
@@ -84,7 +84,7 @@ class Asked(Pending[Reply_co]):
 
 
 class AskedTurns(Pending[Turns[Reply]]):
-    """The answer to a command that has an entry a turn, which the entry of a `status` ends."""
+    """The answer to a command with an entry a turn, ended by that of a `status`."""
 
     __slots__ = ("_read",)
 
@@ -103,22 +103,22 @@ class AskedTurns(Pending[Turns[Reply]]):
 
 
 class Batch:
-    """Commands of a network, as its own, but written without waiting for replies; each answers with a `Pending`, whose
-    `result()` is the reply. By the library each is carried out at once.
+    """Commands of a network, written without waiting; each returns a `Pending`.
 
-    At the end of its `with` all replies have come. Where events were refused, the first `Refused` is raised there; the
-    other commands were carried out, and `refusals` has all that were refused. With `raises=False` none is raised.
+    Its `result()` is the reply. The library carries out each at once. All replies have come at the end of the
+    `with`; then the first `Refused` is raised, unless `raises=False`. The other commands were carried out;
+    `refusals` lists every refusal.
     """
 
     def __init__(self, session: Session, raises: bool = True, keeps: bool = True) -> None:
         self._session, self._raises, self._number = session, raises, session.names.number_of
-        # by their entries
+        # by entry
         self._kept: Optional[dict[int, Refused]] = {} if keeps else None
         self._last: Optional[Pending[object]] = None
 
     @property
     def refusals(self) -> list[Refused]:
-        """All events so far that are known to be refused, in the order of their entries."""
+        """All events known so far to be refused, in the order of their entries."""
         return [refused for _, refused in sorted((self._kept or {}).items())]
 
     def __enter__(self) -> Batch:

@@ -16,7 +16,6 @@ Command = Callable[[str, Callable[[argparse.Namespace], int], str], argparse.Arg
 
 
 def run_bursts(given: argparse.Namespace) -> int:
-    """The bursts of a transcript as CSV."""
     try:
         found = bursts(read(given.transcript), program=given.program)
     except Damaged as damaged:
@@ -28,7 +27,6 @@ def run_bursts(given: argparse.Namespace) -> int:
 
 
 def add_commands(command: Command) -> None:
-    """Adds it to the commands of the client."""
-    of_bursts = command("bursts", run_bursts, "how long a network took to mend, from silence to silence, as CSV")
+    of_bursts = command("bursts", run_bursts, "lists moves and summed costs from silence to silence, as CSV")
     of_bursts.add_argument("transcript", nargs="?", default="-", help="a file (standard input)")
     of_bursts.add_argument("--program", help="the program that judges")

@@ -1,7 +1,7 @@
-"""Bursts: the parts of a run from silence to silence. How long does it take to mend, against the bound?
+"""Bursts: the parts of a run from silence to silence, with their lengths and bounds.
 
-The program judges the transcript and lists moves and costs. Silence, rounds and who is reached are found here, along
-the entries.
+The program judges the transcript and lists moves and costs. Silence, rounds and the nodes reached are found
+here, along the entries.
 """
 
 from __future__ import annotations
@@ -27,17 +27,18 @@ from .state import WORDS, State
 class Burst:
     """What happened from a silent network to the next silent one.
 
-    It begins with the edit or fault of the entry `start`, and ends after the entry `end`, once nobody is enabled; those
-    that follow each other directly come at once, and belong to one burst even if the network stays silent. The start is
-    None if the transcript begins with a base at which somebody is enabled, and the end None if somebody is enabled at
-    the end. `disturbances` has how many there were of each word, `moves`, `steps` and `rounds` what came of them.
+    It begins with the edit or fault of the entry `start`, and ends in silence after the entry `end`. Edits
+    and faults that directly follow each other come at once, in one burst even if the network stays silent.
+    `start` is None if the transcript begins with a base that has enabled nodes; `end` is None if nodes are
+    enabled at its end.
 
-    `cost` is the sum of their costs. The moves are at most the `bound`, which is proved: the cost; under `manne` two
-    more for each pair that was gained and one for each node that left. Both are None if the start is.
+    `disturbances` counts edits and faults by word; `moves`, `steps` and `rounds` count what followed. `cost`
+    is the sum of their costs. The moves are at most `bound`, which is proved: the cost and, under `manne`,
+    two more for each pair gained and one for each node that left. Both are None if `start` is.
 
-    `pairs_before` and `pairs_after` are the numbers of pairs. `reached` are the nodes in the reach of one of the
-    disturbances when it came, `moved` those that moved, in the order of their numbers. If the burst began in a silent
-    network, no other nodes moved.
+    `pairs_before` and `pairs_after` are numbers of pairs. `reached` has the nodes in the reach of a
+    disturbance when it came, `moved` those that moved, in order of number. If the burst began in a silent
+    network, no node outside `reached` moved.
     """
 
     start: Optional[int]
@@ -55,13 +56,15 @@ class Burst:
 
 
 def bound_of_costs(rules: str, cost: int, gained: int, left: int) -> int:
-    """The most moves that come of edits and faults with this sum of costs, from a silent network on, if so many pairs
-    are gained, or lost, and so many nodes leave."""
+    """The most moves, from silence on, after disturbances of this total cost.
+
+    `gained` is the number of pairs gained, below 0 if lost; `left` is that of the nodes that left.
+    """
     return cost + 2 * max(0, gained) + left if rules == "manne" else cost
 
 
 class BurstReader:
-    """Reads the bursts of an accepted transcript, entry by entry, beside the epochs that the program lists."""
+    """Reads the bursts of an accepted transcript entry by entry, given its epochs."""
 
     def __init__(self, rules: str, names: Names, state: State, epochs: Iterable[Epoch]) -> None:
         self.rules, self.names, self.watch = rules, names, Watch(state)
@@ -87,7 +90,7 @@ class BurstReader:
         number, word, *rest = event.split(" ")
         is_edit = word in WORDS and reply == "ok"
         if self.is_open and self.watch.is_silent and not is_edit:
-            # those that came at once are over, and nothing has to be mended
+            # those that came at once are over, and nothing needs mending
             yield self.ended(self.last)
         self.last = int(number)
         if is_edit:
@@ -136,15 +139,15 @@ class BurstReader:
 def bursts(transcript: Text, *, names: Optional[Iterable[Name]] = None, program: Program = None) -> list[Burst]:
     """The bursts of a transcript, from silence to silence, in order.
 
-    `names` are the caller's, in the order of the numbers. The program judges the transcript, and lists the moves and
-    costs. Raises `Damaged` if `audit` refuses it, `Ended`, `ValueError` for another number of names, or `Garbled` if
-    the program lists other moves than the entries have.
+    `names` are the caller's, in the order of the numbers. Raises `Damaged` if `audit` refuses the transcript,
+    `Ended`, `ValueError` if the number of names differs, or `Garbled` if the program lists other moves than
+    the entries have.
     """
     epochs = judged_epochs(transcript, program)
     parts = parts_of(bytes_of(transcript).decode())
     state, head = State(), next(parts)
     state.follow(head)
-    # the first epoch has the moves before the base at which a transcript begins, too
+    # the first epoch also has the moves before the base that begins a transcript
     spent = numbers_of_base(head)[0] if len(head) > 1 else 0
     reader = BurstReader(state.rules, names_for(state.count, names), state, epochs)
     # a base in the middle changes nothing
@@ -156,7 +159,7 @@ def bursts(transcript: Text, *, names: Optional[Iterable[Name]] = None, program:
 
 
 def names_for(count: int, names: Optional[Iterable[Name]]) -> Names:
-    """The names of a network of so many nodes: the caller's, or the numbers."""
+    """The names of `count` nodes: the caller's, or the numbers."""
     own = None if names is None else own_names(names)
     if own is not None and len(own) != count:
         raise ValueError(f"{len(own)} names for {count} nodes")
@@ -167,7 +170,7 @@ HEAD = "start,end,disturbances,cost,bound,moves,steps,rounds,pairs_before,pairs_
 
 
 def row_of(burst: Burst) -> list[str]:
-    """A burst as a row of CSV below `HEAD`: a `-` for None, and lists with blanks between their items."""
+    """A burst as a row of CSV below `HEAD`: `-` for None, lists separated by blanks."""
     words = " ".join(f"{count} {word}" for word, count in burst.disturbances.items())
     figures = (burst.cost, burst.bound, burst.moves, burst.steps, burst.rounds, burst.pairs_before, burst.pairs_after)
     lists = (" ".join(map(str, nodes)) for nodes in (burst.reached, burst.moved))

@@ -1,4 +1,4 @@
-"""The commands of a session of the library, each a call of C, and the replies that are made of what it reports."""
+"""The commands of a library session, each one C call, and the replies built from its results."""
 
 from __future__ import annotations
 
@@ -38,7 +38,7 @@ if TYPE_CHECKING:
 
 
 class Desk:
-    """What one call of C reports, in numbers of 32 bits, and the counts of a `status`."""
+    """The results of one C call as 32-bit numbers, and the counts of a `status`."""
 
     __slots__ = ("told", "at", "counts", "counts_at")
 
@@ -48,7 +48,7 @@ class Desk:
         self.at, self.counts_at = ctypes.byref(told), ctypes.byref(self.counts)
 
 
-# those that no call has now: a call takes one out, and a handler that runs in the middle of it takes another one
+# those not in use: a call takes one out, and a handler that interrupts it takes another
 DESKS: list[Desk] = []
 
 
@@ -60,13 +60,13 @@ def taken_desk() -> Desk:
 
 
 class Rooms:
-    """Buffers for the rows of answers, that no call has now."""
+    """Buffers for rows of answers that no call uses."""
 
     def __init__(self) -> None:
         self.free: list[ctypes.Array[ctypes.c_uint32]] = []
 
     def taken(self, count: int) -> ctypes.Array[ctypes.c_uint32]:
-        """One of so many numbers or more."""
+        """A buffer of at least `count` numbers."""
         try:
             room = self.free.pop()
         except IndexError:
@@ -119,7 +119,7 @@ def status_of(names: Names, entry: int, counts: Sequence[int]) -> Status:
 
 
 def turns_of(names: Names, entry: int, read: Reader[Reply], lines: bytes, counts: Sequence[int]) -> Turns[Reply]:
-    """The turns of a `drive` or `scramble`, out of their entries' lines, with the status behind them."""
+    """The turns of a `drive` or `scramble`, read from their lines, with the status after them."""
     turns = []
     for line in text_of(lines).splitlines():
         number, _, rest = line.partition(" ")
@@ -133,13 +133,15 @@ def base_of(names: Names, entry: int, lines: bytes) -> Base:
 
 
 class Done(Tuple[Any, ...], Generic[Reply_co]):
-    """The answer to a command that was carried out: what makes the reply, of the names, the entry and more. A tuple is
-    made in the least time."""
+    """The answer to a command that was carried out: what builds the reply, and its arguments.
+
+    A tuple is the fastest to build.
+    """
 
     __slots__ = ()
 
     def result(self) -> Reply_co:
-        """The reply. Raises `Refused` where the event was refused, and `NoReply` where there is no memory for it."""
+        """The reply. Raises `Refused` if the event was refused, `NoReply` if memory for it runs out."""
         try:
             make: Callable[..., Reply_co]
             make, *given = self
@@ -149,7 +151,7 @@ class Done(Tuple[Any, ...], Generic[Reply_co]):
 
 
 class DirectBatch(Batch):
-    """Commands that are carried out one by one, as they are asked: their answers are there."""
+    """Commands that are carried out at once, so their answers are ready."""
 
     def __init__(self, session: Direct, raises: bool = True, keeps: bool = True) -> None:
         self._direct, self._raises, self._number = session, raises, session.names.number_of
@@ -161,7 +163,7 @@ class DirectBatch(Batch):
             raise self.refusals[0]
 
     def _refused(self, status: int, desk: Desk, event: str) -> Done[NoReturn]:
-        """The answer of a call that was refused; raises what its status says, where there is no answer."""
+        """The answer of a refused call; raises what the status means if there is no answer."""
         entry, refusal = desk.told[ENTRY], desk.told[REFUSAL]
         DESKS.append(desk)
         if status != REFUSED:
@@ -171,7 +173,7 @@ class DirectBatch(Batch):
         return Done((raise_refusal, self._names, entry, refusal, event))
 
     def show(self, node: Name) -> Answer[Shown]:
-        # what `_number` says of a plain number, at a third of its time
+        # what `_number` returns for a plain number, in a third of its time
         number = node if type(node) is int and 0 < node <= MOST_NODES and self._has_numbers else self._number(node)
         try:
             desk = DESKS.pop()
@@ -196,7 +198,7 @@ class DirectBatch(Batch):
         with session.lock:
             status = call(session.at, *numbers, desk.at)
         if status:
-            # the pointer that is null is no number in a line
+            # the null pointer is no number in a line
             written = [str(number) if number or word == "flag" else "-" for number in numbers]
             return self._refused(status, desk, " ".join([word, *written]))
         try:
@@ -232,7 +234,7 @@ class DirectBatch(Batch):
         event: Callable[[], str],
         *words: object,
     ) -> Answer[Reply]:
-        """A call whose answer has rows, `most` at the most, which are fetched with it."""
+        """A call whose answer has at most `most` rows, fetched with it."""
         session, desk = self._direct, taken_desk()
         room = session.rooms.taken(ROW_NUMBERS * most)
         library = session.library
@@ -248,7 +250,7 @@ class DirectBatch(Batch):
             DESKS.append(desk)
             return Done((make, self._names, entry, room[: ROW_NUMBERS * count]))
         except MemoryError:
-            # no entry is told where the library itself found none
+            # no entry is set if the library itself ran out of memory
             if entry:
                 raise NoReply(entry) from None
             raise
@@ -271,7 +273,7 @@ class DirectBatch(Batch):
         return self._listed(matching_of, "pairs", self._names.count // 2, lambda: "matching")
 
     def _standing(self) -> tuple[int, list[int]]:
-        """The entry of a `status`, and what it says."""
+        """The entry of a `status`, and its counts."""
         session, desk = self._direct, taken_desk()
         with session.lock:
             status = session.library.status(session.at, desk.counts_at, desk.at)
@@ -293,7 +295,7 @@ class DirectBatch(Batch):
         return self._turned("scramble", read_fault, seed, faults)
 
     def _turned(self, word: str, read: Reader[Reply], seed: int, turns: int) -> Answer[Turns[Reply]]:
-        """Many entries, of which the turns are read from the transcript, and the status behind them."""
+        """Many entries, whose turns are read from the transcript, and the status after them."""
         numbers = ctypes.c_uint64(number_within(seed, MOST_SEED, "a seed")), number_within(
             turns, MOST_TURNS, "a number of turns"
         )
@@ -310,7 +312,7 @@ class DirectBatch(Batch):
         return Done((base_of, self._names, entry, lines))
 
     def _written(self, word: str, *words: object) -> tuple[int, bytes]:
-        """The last entry of a call that writes several lines, and the lines. Raises what its status says."""
+        """The last entry of a call that writes several lines, and these. Raises what its status means."""
         session, desk = self._direct, taken_desk()
         call = functools.partial(getattr(session.library, word), session.at, *words, desk.at)
         with session.lock:

@@ -1,4 +1,4 @@
-"""What daemons choose."""
+"""The choices of daemons."""
 
 from __future__ import annotations
 
@@ -13,10 +13,11 @@ Daemon = Callable[[Enabled], Choice]
 
 
 def numbers_of(choice: Choice, number_of: Callable[[Name], int]) -> list[tuple[int, int]]:
-    """The nodes of a choice's items with their targets, 0 for none; those of a set by number, so that the same set is
-    the same step.
+    """The number of each chosen node with its target's, 0 for none.
 
-    Raises `TypeError` for what is no list of nodes."""
+    Those of a set ascend, so that the same set is the same step. Raises `TypeError` if it is no list of
+    nodes, and `ValueError` if it has more items than a step takes.
+    """
     if isinstance(choice, (str, bytes, Wish)) or not isinstance(choice, abc.Iterable):
         raise TypeError(f"a step is given a list of nodes, as [1] or [Wish(1, 2)], and not {choice!r}")
     items = []
@@ -36,7 +37,7 @@ def items_of(choice: Choice, number_of: Callable[[Name], int]) -> list[str]:
 
 
 def checked_choice(choice: Choice, enabled: Enabled) -> Choice:
-    """A daemon's choice, where it has somebody and only who is enabled."""
+    """A daemon's choice. Raises `WrongChoice` if it is no list, is empty, or has a disabled node."""
     if isinstance(choice, (str, bytes, Wish)) or not isinstance(choice, abc.Iterable):
         raise WrongChoice(f"a daemon gives a list of nodes, and not {choice!r}")
     items = choice if isinstance(choice, abc.Set) else list(choice)

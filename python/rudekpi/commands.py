@@ -1,5 +1,7 @@
-"""The bench's commands: `python3 -m rudekpi sweep`, `compare`, `worst`, `check`, `shell`, `json`, `conform`,
-`explain`, `bursts` and `again`."""
+"""The bench's commands: `python3 -m rudekpi sweep`, `compare`, `worst`, `check`, `shell` and others.
+
+The others are `json`, `conform`, `explain`, `bursts` and `again`.
+"""
 
 from __future__ import annotations
 
@@ -38,9 +40,8 @@ from .disturbances import REGISTERS, Disturbance
 from .sweeps import Row
 
 DONE, FAILED, BAD_WORDS, INTERRUPTED = 0, 1, 2, 130
-# how many seconds a scheduler may take to be reached
+# how many seconds reaching a scheduler may take
 REACHED_SECONDS = 5
-# what a plan has
 IN_PLAN = (
     *("--graph", "--undirected", "--rules", "--daemon", "--seeds", "--first-seed", "--faults", "--registers"),
     *("--joins", "--leaves", "--cut", "--add", "--rewire", "--move", "--every"),
@@ -55,7 +56,7 @@ MADE = (
 
 @contextlib.contextmanager
 def written(path: Optional[str], appends: bool = False) -> Iterator[TextIO]:
-    """A file that is written, or goes on, or standard output where no path, or `-`, is given."""
+    """A file opened to write or append; standard output if the path is None or `-`."""
     if path is None or path == "-":
         yield sys.stdout
     else:
@@ -64,7 +65,7 @@ def written(path: Optional[str], appends: bool = False) -> Iterator[TextIO]:
 
 
 def read(path: str) -> bytes:
-    """What a file has, or standard input where the path is `-`."""
+    """The bytes of a file; of standard input if the path is `-`."""
     if path == "-":
         return sys.stdin.buffer.read()
     with open(path, "rb") as file:
@@ -72,7 +73,7 @@ def read(path: str) -> bytes:
 
 
 def listed(text: str) -> list[str]:
-    """Words with commas between them, one at least."""
+    """The words between commas, at least one."""
     words = [word for word in text.split(",") if word]
     if not words:
         raise argparse.ArgumentTypeError("no word is given")
@@ -80,7 +81,7 @@ def listed(text: str) -> list[str]:
 
 
 def least(fewest: int) -> Callable[[str], int]:
-    """A reader of numbers, of which none is below the least."""
+    """A reader of whole numbers from `fewest` on."""
 
     def read(text: str) -> int:
         if not (text.isascii() and text.isdigit()) or int(text) < fewest:
@@ -95,7 +96,7 @@ def counts(text: str) -> list[int]:
 
 
 def graph_given(parser: argparse.ArgumentParser, text: str, undirected: bool) -> Graph:
-    """The graph of a word; ends by the parser if there is none, and prints what is left out of it."""
+    """The graph that a word names, after printing its warnings; exits by the parser if there is none."""
     try:
         with warnings.catch_warnings(record=True) as told:
             warnings.simplefilter("always")
@@ -108,15 +109,14 @@ def graph_given(parser: argparse.ArgumentParser, text: str, undirected: bool) ->
 
 
 def words_of_graph(parser: argparse.ArgumentParser) -> None:
-    """What each command that takes graphs is told about them."""
     parser.add_argument(
-        "--undirected", action="store_true", help="takes a directed graph of a file, without its directions"
+        "--undirected", action="store_true", help="takes a directed graph of a file without its directions"
     )
     parser.set_defaults(parser=parser)
 
 
 def read_graphs(given: argparse.Namespace) -> None:
-    """Makes graphs of the words behind --graph, once all words are known."""
+    """Turns the words of --graph into graphs, once all words are known."""
     if given.graph is None:
         if given.plan is None:
             given.parser.error("the following arguments are required: --graph, or a plan")
@@ -127,63 +127,57 @@ def read_graphs(given: argparse.Namespace) -> None:
 
 
 def words_of_sweep(parser: argparse.ArgumentParser, rules: str) -> None:
-    """What `sweep` and `compare` are told."""
-    parser.add_argument("plan", nargs="?", help="a file that has what is played, .toml or .json")
+    parser.add_argument("plan", nargs="?", help="a file with what to play, .toml or .json")
     parser.add_argument("--graph", action="append", help=f"{MADE}; may be given again")
     words_of_graph(parser)
-    parser.add_argument("--rules", type=listed, default=rules, help="hh,manne or one of them (%(default)s)")
+    parser.add_argument("--rules", type=listed, default=rules, help="hh, manne or hh,manne (%(default)s)")
     parser.add_argument(
         "--daemon", type=listed, default="seeded", help=f"some of {','.join(daemons.WORDS)} (%(default)s)"
     )
     parser.add_argument("--seeds", type=least(1), default=10, help="how many seeds (%(default)s)")
-    parser.add_argument("--first-seed", type=least(0), default=0, help="the first of them (%(default)s)")
+    parser.add_argument("--first-seed", type=least(0), default=0, help="the first seed (%(default)s)")
     parser.add_argument(
         "--faults",
         type=counts,
         default="0",
-        help="numbers of faults, as 10,50, once it is silent; 0: from the start (%(default)s)",
+        help="how many faults hit the silent network, as 10,50; 0: it settles from the start (%(default)s)",
     )
     parser.add_argument(
         "--registers",
         choices=REGISTERS,
         default="any",
-        help="which registers faults hit; flags are there under manne alone (%(default)s)",
+        help="which registers the faults write; flags only under manne (%(default)s)",
     )
-    parser.add_argument("--joins", type=least(0), default=0, help="how many nodes come, with their edges (%(default)s)")
-    parser.add_argument("--leaves", type=least(0), default=0, help="how many nodes go (%(default)s)")
+    parser.add_argument("--joins", type=least(0), default=0, help="how many nodes join, with their edges (%(default)s)")
+    parser.add_argument("--leaves", type=least(0), default=0, help="how many nodes leave (%(default)s)")
     words_of_links(parser)
-    parser.add_argument("--csv", help="a file for the rows, each as it comes (standard output)")
+    parser.add_argument("--csv", help="a file for the rows, written one by one (standard output)")
+    parser.add_argument("--resume", action="store_true", help="makes only the rows that the file of --csv lacks")
+    parser.add_argument("--plot", help="a file for a plot, .svg, .png or .pdf; needs matplotlib")
+    parser.add_argument("--processes", type=least(1), help="how many processes (one a processor)")
     parser.add_argument(
-        "--resume", action="store_true", help="goes on: rows that are in the file of --csv are not made again"
-    )
-    parser.add_argument("--plot", help="a file for a plot: .svg, .png or .pdf; wants matplotlib")
-    parser.add_argument("--processes", type=least(1), help="how many (one a processor)")
-    parser.add_argument(
-        "--dask", metavar="tcp://HOST:PORT", help="a scheduler of Dask, whose workers then play; wants distributed"
+        "--dask", metavar="tcp://HOST:PORT", help="a Dask scheduler, whose workers play; needs distributed"
     )
     parser.add_argument("--program", help="the program that plays")
 
 
 def words_of_links(parser: argparse.ArgumentParser) -> None:
-    """What `sweep` and `compare` are told of links that come and go."""
     parser.add_argument("--cut", type=least(0), default=0, help="how many links are cut (%(default)s)")
     parser.add_argument("--add", type=least(0), default=0, help="how many links are added (%(default)s)")
-    parser.add_argument(
-        "--rewire", type=least(0), default=0, help="how many links have an end that goes elsewhere (%(default)s)"
-    )
+    parser.add_argument("--rewire", type=least(0), default=0, help="how many links are moved at one end (%(default)s)")
     parser.add_argument(
         "--move",
         type=length,
         default=0,
         metavar="R",
-        help="how far nodes walk, whose links come and go by distance; those of disk graphs alone (%(default)s)",
+        help="how far each node of a disk graph walks; its links come and go by distance (%(default)s)",
     )
     parser.add_argument(
         "--every",
         type=least(0),
         default=0,
         metavar="M",
-        help="how many moves are made between two disturbances; 0: all come at once (%(default)s)",
+        help="how many moves come between two disturbances; 0: all come at once (%(default)s)",
     )
 
 
@@ -199,14 +193,13 @@ def length(text: str) -> float:
 
 
 def disturbances_of(given: argparse.Namespace) -> list[Disturbance]:
-    """What hits each network, for each number of faults."""
+    """The disturbances of each network, one for each number of faults."""
     counts = given.joins, given.leaves, given.cut, given.add, given.rewire, given.move, given.every
     return [Disturbance(count, given.registers, *counts) for count in given.faults]
 
 
 def reach(address: str) -> None:
-    """Raises `OSError` at once where nobody listens at an address of a scheduler, for which distributed would wait in
-    silence."""
+    """Raises `OSError` at once if a scheduler's address does not answer; distributed would wait silently."""
     kind, host, port = re.fullmatch(r"(?:(\w+)://)?(.*?)(?::([0-9]+))?", address).groups()  # type: ignore[union-attr]
     if kind not in (None, "tcp", "tls") or not port:
         return
@@ -218,7 +211,7 @@ def reach(address: str) -> None:
 
 @contextlib.contextmanager
 def executor_of(given: argparse.Namespace) -> Iterator[Optional[Executor]]:
-    """What plays: a cluster, or processes of this machine."""
+    """The executor of a cluster, or None for processes of this machine."""
     if given.dask:
         try:
             import distributed
@@ -232,14 +225,14 @@ def executor_of(given: argparse.Namespace) -> Iterator[Optional[Executor]]:
 
 
 def words_to_play(given: argparse.Namespace) -> Words:
-    """What a sweep plays: that of its plan, or what stands behind its flags."""
+    """What a sweep plays: its plan, or the values of its flags."""
     if given.plan is None:
         seeds = range(given.first_seed, given.first_seed + given.seeds)
         return given.graph, given.rules, given.daemon, seeds, disturbances_of(given)
     for flag in IN_PLAN:
         name = flag[2:].replace("-", "_")
         is_usual = getattr(given, name) in (None, given.parser.get_default(name))
-        # argparse reads texts that are defaults
+        # argparse converts defaults that are texts
         if not is_usual and getattr(given, name) != usual_of(given.parser, name):
             raise ValueError(f"{flag} stands in the plan, and not beside it")
     plan = read_plan(given.plan)
@@ -247,7 +240,7 @@ def words_to_play(given: argparse.Namespace) -> Words:
 
 
 def usual_of(parser: argparse.ArgumentParser, name: str) -> object:
-    """What a flag has that is not given."""
+    """The value of a flag that is not given."""
     [action] = (it for it in parser._actions if it.dest == name)
     return parser._get_value(action, action.default) if isinstance(action.default, str) else action.default
 
@@ -304,7 +297,7 @@ def run_compare(given: argparse.Namespace) -> int:
 
 
 def run_worst(given: argparse.Namespace) -> int:
-    """The longest schedule, as a script that was played and judged."""
+    """Writes the longest schedule, as a script that was played and judged."""
     found = longest(given.graph, given.rules, seconds=given.seconds, seed=given.seed)
     transcript = found.play(program=given.program)
     known = (
@@ -321,7 +314,7 @@ def run_worst(given: argparse.Namespace) -> int:
 
 
 def run_check(given: argparse.Namespace) -> int:
-    """Each line that is no command, and why."""
+    """Prints each line that is no command, and why."""
     script = read(given.script)
     count = 0
     for count, (number, why) in enumerate(script_words.faults_of(script), 1):
@@ -362,34 +355,34 @@ def parser_of() -> argparse.ArgumentParser:
         made.set_defaults(run=run)
         return made
 
-    words_of_sweep(command("sweep", run_sweep, "plays networks by the thousand, a CSV row each"), "manne")
-    compare = command("compare", run_compare, "a table of the moves under both rule sets, beside the bound")
+    words_of_sweep(command("sweep", run_sweep, "plays networks by the thousand and writes a CSV row for each"), "manne")
+    compare = command("compare", run_compare, "prints a table of the moves under both rule sets, with the bound")
     words_of_sweep(compare, "hh,manne")
     compare.add_argument("--markdown", action="store_true", help="writes the table in Markdown")
-    worst = command("worst", run_worst, "the longest schedule of a network, as a script")
+    worst = command("worst", run_worst, "writes the longest schedule of a network as a script")
     worst.add_argument("--graph", required=True, help=MADE)
     words_of_graph(worst)
-    worst.add_argument("--rules", choices=("hh", "manne"), default="manne")
+    worst.add_argument("--rules", choices=("hh", "manne"), default="manne", help="the rules (%(default)s)")
     worst.add_argument(
         "--seconds",
         type=least(0),
         default=10,
-        help="for a search, where there are too many states to look at all (%(default)s)",
+        help="seconds of a search, if there are too many states to look at all (%(default)s)",
     )
-    worst.add_argument("--seed", type=least(0), default=0, help="of that search (%(default)s)")
-    worst.add_argument("--transcript", action="store_true", help="writes the transcript, and not the script")
+    worst.add_argument("--seed", type=least(0), default=0, help="the seed of that search (%(default)s)")
+    worst.add_argument("--transcript", action="store_true", help="writes the transcript instead of the script")
     worst.add_argument("--output", help="a file (standard output)")
-    worst.add_argument("--program")
-    check = command("check", run_check, "why lines of a script are no commands")
+    worst.add_argument("--program", help="the program that plays")
+    check = command("check", run_check, "explains which lines of a script are no commands, and why")
     check.add_argument("script", nargs="?", default="-", help="a file (standard input)")
-    session = command("shell", run_shell, "a session at a terminal that forgives typing errors")
-    session.add_argument("--rules", choices=("hh", "manne"), default="manne")
-    session.add_argument("--nodes", type=int, required=True)
-    session.add_argument("--present", type=int)
-    session.add_argument("--program")
-    objects = command("json", run_json, "a transcript as JSON Lines, an object an entry")
+    session = command("shell", run_shell, "plays a network line by line, and explains typing errors")
+    session.add_argument("--rules", choices=("hh", "manne"), default="manne", help="the rules (%(default)s)")
+    session.add_argument("--nodes", type=int, required=True, help="how many nodes there may be, at most 65535")
+    session.add_argument("--present", type=int, help="how many of them are present at the start (all)")
+    session.add_argument("--program", help="the program that plays")
+    objects = command("json", run_json, "writes a transcript as JSON Lines, an object for each entry")
     objects.add_argument("transcript", nargs="?", default="-", help="a file (standard input)")
-    objects.add_argument("--program")
+    objects.add_argument("--program", help="the program that judges")
     log_commands.add_commands(command)
     burst_commands.add_commands(command)
     again_commands.add_commands(command)

@@ -1,7 +1,7 @@
-"""Judges the log of one's own implementation: whether the rules allow each move that was observed.
+"""Judges the log of your own implementation: whether the rules allow each move observed.
 
-Each move is put to the machine as a step with its target. The verdict is the machine's answer: its refusal, the moves
-that it makes, or its list of who is enabled. The registers that are followed here choose the question, and say why.
+The machine judges each move as a step with its target: by its refusal, the moves that it makes, or its list
+of enabled nodes. The registers followed here choose the question and explain the answer.
 """
 
 from __future__ import annotations
@@ -32,17 +32,19 @@ from .streams import Output
 UPDATE, ABANDON = RULES["update"], RULES["abandon"]
 # those that have a target
 CHOOSING = RULES["marry"], RULES["seduce"]
-# how many of the last writes of neighbours may be a node's stale copy
+# how many of the neighbours' last writes are tried as a node's stale copy
 MOST_TRIED = 64
-# a line in which a node's registers were written, and what they were before
+# the line that wrote a node's registers, and their values before it
 Write = Tuple[int, int, bool]
 Target = Union[str, "os.PathLike[str]", BinaryIO, None]
 
 
 @dataclass(frozen=True)
 class Divergence:
-    """A move that the rules do not allow: the log's line with its number, the node, what it wrote, the rule that was
-    enabled there (None: none was) with its targets, why, and how many entries the transcript had before.
+    """A move that the rules do not allow.
+
+    `line` is the log's line number. `rule` is the enabled rule, None if there was none, and `targets` its
+    targets. `entries` is how many entries the transcript had before.
     """
 
     line: int
@@ -59,11 +61,12 @@ class Divergence:
 
 @dataclass(frozen=True)
 class Conformance:
-    """The verdict on a log. `moves` has how many moves of each rule were accepted, `first` the first divergence.
+    """The verdict on a log.
 
-    `stand` is the machine's status at the end; its `charge` and what is spent since the last edit or fault are within
-    `bound`. `names` are the log's, in the order of the transcript's numbers. `stopped` says why no fault could write
-    what was observed, so that the rest was not judged.
+    `moves` counts the accepted moves by rule; `first` is the first divergence. `stand` is the machine's last
+    status; its `charge` plus what is spent since the last edit or fault is within `bound`. `names` are the
+    log's, in the order of the numbers. `stopped` says why no fault could write what was observed, so that the
+    rest was not judged.
     """
 
     rules: str
@@ -87,8 +90,11 @@ class Conformance:
 
 
 class Observed(NamedTuple):
-    """What a node held before a move and after it, pointers by number, 0 for null; the target that a step wishes then,
-    or 0; and the one rule that writes so: 0 for marry or seduce, or -1 if none does."""
+    """What a node held before and after a move, its wish, and the one rule that writes so.
+
+    Pointers are numbers, 0 for null. `wish` is the step's target, or 0. `rule` is 0 for marry or seduce, -1
+    for no rule.
+    """
 
     node: int
     old: int
@@ -185,8 +191,8 @@ class Named:
 class LogJudge:
     """Judges a log line by line, from its first line on.
 
-    `on_divergence` is called with each divergence as it is met. With `resync` what was observed is then written as
-    faults, and the judge goes on.
+    `on_divergence` is called with each divergence as it is met. With `resync` the judge then writes what was
+    observed as faults, and goes on.
     """
 
     def __init__(
@@ -205,7 +211,7 @@ class LogJudge:
         self.made_of = program, engine
         self.named: Optional[Named] = None
         self.has_flags = rules == "manne"
-        # numbers by names as most writers spell them
+        # numbers by names in the spelling of most writers
         self.raw: dict[bytes, int] = {}
         self.machine: Engine
         self.state: State
@@ -213,13 +219,13 @@ class LogJudge:
         self.counts = [0] * len(MOVES)
         self.first: Optional[Divergence] = None
         self.stopped, self.is_over, self.is_closed = "", False, False
-        # the verdict on what came before an interrupt
+        # the verdict up to an interrupt
         self.so_far: Optional[Conformance] = None
         # the last two writes of each node
         self.written: dict[int, tuple[Write, Optional[Write]]] = {}
 
     def take(self, block: log_lines.Block) -> None:
-        """Judges the next lines, up to a divergence that ends it. Raises `BadLine`."""
+        """Judges the next lines, until a divergence ends it. Raises `BadLine`."""
         register, edge = log_lines.REGISTER.fullmatch, log_lines.EDGE.fullmatch
         for number, line in block:
             if self.is_over:
@@ -241,7 +247,7 @@ class LogJudge:
             self.events += 1
 
     def take_register(self, number: int, line: bytes, found: re.Match[bytes]) -> bool:
-        """Judges a line that names one register; False if its names are spelled otherwise than most writers do."""
+        """Judges a line that names one register; False if its names are not in the usual spelling."""
         kind, name, target, flag = found.groups()
         node = self.raw.get(name)
         if node is None:
@@ -262,7 +268,7 @@ class LogJudge:
         return True
 
     def take_edge(self, number: int, found: re.Match[bytes]) -> bool:
-        """The same of a line that names an edge."""
+        """The same for a line that names an edge."""
         kind, *names = found.groups()
         a, b = map(self.raw.get, names)
         if not self.named or not a or not b:
@@ -271,7 +277,7 @@ class LogJudge:
         return True
 
     def begin(self, number: int, head: Any) -> None:
-        """The first line."""
+        """Reads the first line."""
         named = Named(number, head)
         present = len(named.all)
         self.raw = named.raw
@@ -291,7 +297,7 @@ class LogJudge:
             self.edit(number, event, kind, named)
 
     def observed(self, number: int, event: Any, kind: str, named: Named) -> Observed:
-        """What a move or a fault has written, beside what the node held. Raises `BadLine`."""
+        """What a move or a fault wrote, with what the node held. Raises `BadLine`."""
         node = named.number(number, event[kind])
         state = self.state
         old = new = state.pointers.get(node, 0)
@@ -324,7 +330,7 @@ class LogJudge:
         return found
 
     def edit(self, number: int, event: Any, kind: str, named: Named) -> None:
-        """A link or a node that comes or goes. Raises `BadLine` if the machine refuses it."""
+        """Adds or removes a link or a node. Raises `BadLine` if the machine refuses it."""
         given = event[kind]
         if kind in ("link", "unlink"):
             if not isinstance(given, list) or len(given) != 2:
@@ -337,7 +343,6 @@ class LogJudge:
         self.edit_numbers(number, kind, numbers, named)
 
     def edit_numbers(self, number: int, kind: str, numbers: Sequence[int], named: Named) -> None:
-        """The same, of nodes by their numbers."""
         refusal = self.machine.edit(kind, *numbers)
         if refusal:
             names = " and ".join(map(named.shown, numbers))
@@ -357,7 +362,7 @@ class LogJudge:
                 self.remember(number, node, other, node in state.flags)
 
     def fault(self, number: int, seen: Observed, has_pointer: bool, has_flag: bool) -> None:
-        """Registers that something else than the rules has written. Raises `BadLine` if no fault can write them."""
+        """Writes registers that no rule wrote. Raises `BadLine` if no fault can write them."""
         refusal = self.machine.edit("point", seen.node, seen.new) if has_pointer else 0
         if has_flag and not refusal:
             refusal = self.machine.edit("flag", seen.node, int(seen.flag))
@@ -377,12 +382,12 @@ class LogJudge:
         self.written[node] = (number, old, was), before[0] if before else None
 
     def remember(self, number: int, node: int, old: int, was: bool) -> None:
-        """Keeps what a node held before a line, and before the one in which it was written to before that."""
+        """Keeps what a node held before this line and before its previous write."""
         before = self.written.get(node)
         self.written[node] = (number, old, was), before[0] if before else None
 
     def move(self, number: int, line: Any, seen: Observed) -> None:
-        """Puts a move to the machine, whose refusal is a divergence."""
+        """Puts a move to the machine; a refusal is a divergence."""
         if not self.can_be_asked(seen):
             return self.ask_enabled(number, line, [seen], seen)
         rule = self.machine.moved(seen.node, seen.wish)
@@ -394,7 +399,7 @@ class LogJudge:
         self.write(number, seen)
 
     def moves(self, number: int, line: Any, seen: Sequence[Observed]) -> None:
-        """The same of several at once."""
+        """The same for several moves at once."""
         is_central = not self.has_flags and len(seen) > 1
         odd = None if is_central else next((it for it in seen if not self.can_be_asked(it)), None)
         if odd:
@@ -411,10 +416,10 @@ class LogJudge:
             self.write(number, it)
 
     def can_be_asked(self, seen: Observed) -> bool:
-        """Whether a step that the machine accepts can be the one that was observed, and no other.
+        """Whether a step that the machine accepts must be the one observed.
 
-        A step that wishes a target is that one. With no wish the machine chooses the rule, so it is asked who is
-        enabled instead if that seems to be another rule than the observed one.
+        A step with a target is. Without one the machine chooses the rule; if that seems not to be the
+        observed one, its enabled nodes are asked for instead.
         """
         node, old, _, was, _, wish, rule = seen
         if wish:
@@ -425,14 +430,14 @@ class LogJudge:
         return rule == (UPDATE if is_wrong else ABANDON)
 
     def ask_enabled(self, number: int, line: Any, seen: Sequence[Observed], odd: Observed) -> None:
-        """Asks who is enabled, if one of the moves is that of no rule, or of another one than is enabled there."""
+        """Asks for the enabled nodes, if a move's rule is none, or not the enabled one."""
         rule = self.machine.enabled().get(odd.node)
         if rule and RULES[rule] == odd.rule:
             raise Garbled(f"line {number}: the machine has {rule} enabled at {self.shown(odd.node)}")
         self.diverge(number, line, seen, 0)
 
     def diverge(self, number: int, line: Any, seen: Sequence[Observed], refusal: int) -> None:
-        """Moves of a line that the machine refuses. They are written as faults if the judge goes on."""
+        """Reports moves that the machine refuses; writes them as faults if the judge goes on."""
         found = self.divergence(number, line, seen, refusal)
         self.divergences += 1
         self.first = self.first or found
@@ -446,7 +451,7 @@ class LogJudge:
                 self.write_as_fault(number, it)
 
     def write_as_fault(self, number: int, seen: Observed) -> None:
-        """Writes what was observed as faults; if none can write it, the judge ends."""
+        """Writes what was observed as faults; ends the judge if none can write it."""
         node = seen.node
         for word, is_new, value in (
             ("point", seen.new != self.state.pointers.get(node, 0), seen.new),
@@ -463,9 +468,8 @@ class LogJudge:
         state.flag(node, seen.flag)
 
     def divergence(self, number: int, line: Any, seen: Sequence[Observed], refusal: int) -> Divergence:
-        """What is said of moves that the machine refuses."""
         words = Reasons(self.state, self.shown)
-        # the first whose move the rules do not allow; none if it is only that several move at once
+        # the first move that the rules do not allow; none if the only fault is that several move at once
         wrong = next((it for it in seen if not is_allowed(self.state, it)), None)
         bad = wrong or seen[0]
         node = bad.node
@@ -497,7 +501,7 @@ class LogJudge:
         return words.allowed(bad.node) + (f"; {more}" if more else "")
 
     def why_together(self, seen: Sequence[Observed], refusal: int) -> str:
-        """Why moves can't come at once of which the rules allow each."""
+        """Why moves that the rules allow one by one cannot come at once."""
         nodes = [it.node for it in seen]
         twice = next((node for node, count in Counter(nodes).items() if count > 1), None)
         if self.rules == "hh":
@@ -507,7 +511,7 @@ class LogJudge:
         return f"the machine refuses this step: {refusal_text(refusal)}"
 
     def hint(self, bad: Observed) -> str:
-        """Whose stale copy the node may have read, if its move was allowed before that neighbour wrote."""
+        """Which stale copy the node may have read, if its move was allowed before that neighbour wrote."""
         state = self.state
         near = (other for other in state.neighbours.get(bad.node, ()) if other in self.written)
         writes = [(*write, other) for other in near for write in self.written[other] if write]
@@ -526,7 +530,6 @@ class LogJudge:
         return ""
 
     def wrote(self, seen: Observed) -> str:
-        """What a node wrote, in words."""
         pointer = "null" if not seen.new else self.shown(seen.new)
         parts = [f"pointer {pointer}"] if seen.new != seen.old else []
         parts += [f"flag {str(seen.flag).lower()}"] if seen.flag != seen.was else []
@@ -539,7 +542,7 @@ class LogJudge:
         return self.named.all[number - 1] if self.named else number
 
     def taken(self) -> bytes:
-        """The text of the transcript that was not taken yet."""
+        """The transcript's text since the last call."""
         return self.machine.taken() if self.named else b""
 
     def finish(self) -> Conformance:
@@ -568,7 +571,6 @@ class LogJudge:
 
 
 def spelled_line(line: Any) -> str:
-    """A line of a log as a message has it."""
     if not isinstance(line, bytes):
         return spelled(line)
     text = line.decode().strip()
@@ -580,7 +582,7 @@ def refusal_text(number: int) -> str:
 
 
 def is_allowed(state: State, seen: Observed) -> bool:
-    """Whether the rules seem to allow what was observed, for what is said of it."""
+    """Whether the rules seem to allow what was observed; for messages only."""
     if seen.node not in state.neighbours or seen.rule < 0:
         return False
     rule = rules.rule_at(state, seen.node)
@@ -590,7 +592,7 @@ def is_allowed(state: State, seen: Observed) -> bool:
 
 
 class Transcript:
-    """Where a transcript goes, and the names beside it: a file, or nowhere."""
+    """The transcript's destination, with the file of names: a file, or nowhere."""
 
     def __init__(self, target: Target) -> None:
         self.target = target
@@ -600,7 +602,7 @@ class Transcript:
         return self
 
     def write(self, text: bytes) -> None:
-        """Writes what comes next. A file is opened for the first of it, so that an older one stays if there is none."""
+        """Writes the next text. The first one opens the file, so an older file stays if there is none."""
         if not text or self.target is None:
             return
         if self.file is None:
@@ -616,14 +618,16 @@ class Transcript:
             self.file.close()
 
     def write_names(self, names: Sequence[Name]) -> None:
-        """Writes the names beside a file, a JSON value a line, so that line N is the name of node N."""
+        """Writes the names next to a file, a JSON value a line: line N names node N."""
         if self.file and isinstance(self.target, (str, os.PathLike)) and os.path.isfile(self.target):
             write_whole(f"{os.fspath(self.target)}.names", "".join(f"{json.dumps(name)}\n" for name in names).encode())
 
 
 def judge_blocks(judge: LogJudge, log: Log, target: Target) -> Conformance:
-    """Judges a log, and writes the transcript as it comes. Raises `BadLine`, with the transcript written up to
-    there."""
+    """Judges a log, and writes the transcript as it comes.
+
+    Raises `BadLine`, with the transcript written up to there.
+    """
     with Transcript(target) as transcript, contextlib.closing(judge):
         try:
             for block in log_lines.blocks(log):
@@ -650,12 +654,12 @@ def conform(
     program: Program = None,
     engine: Optional[str] = None,
 ) -> Conformance:
-    """Whether the rules allow all of a log: of the moves that one's own implementation of them was seen to make.
+    """Judges whether the rules allow every move in the log of your own implementation.
 
-    `log` is a `pathlib.Path`, a file that is open for bytes, text or bytes, or anything that gives its lines or objects
-    one by one, as they come. It ends at the first divergence, or with `resync` goes on with what was observed as
-    faults. `on_divergence` is called with each divergence at once. `transcript` is a path, or a file that is open for
-    bytes, to which the machine's transcript goes; beside a path come the names, in `PATH.names`.
+    `log` is a `pathlib.Path`, a file open for bytes, text or bytes, or anything that yields its lines or
+    objects one by one. Judging ends at the first divergence; `resync` goes on, with what was observed as
+    faults. `on_divergence` is called with each divergence at once. `transcript`, a path or a file open for
+    bytes, receives the machine's transcript; for a path the names go to `PATH.names`.
 
     Raises `BadLine` for a line that is no event, or an edit or a fault that the machine refuses.
     """

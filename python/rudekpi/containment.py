@@ -1,6 +1,7 @@
-"""Which nodes an edit or fault has in its reach: the table of docs/BOUNDS.md, "Where the moves are".
+"""Which nodes an edit or fault reaches: the table of docs/BOUNDS.md, "Where the moves are".
 
-Both rule sets have the same."""
+It holds for both rule sets.
+"""
 
 from __future__ import annotations
 
@@ -17,8 +18,8 @@ def unpaired(state: State, node: int) -> set[int]:
 def reach(state: State, word: str, node: int, other: int = 0) -> set[int]:
     """The nodes in the reach of an edit or fault that a network in this state accepts.
 
-    `other` is the second node of `link`, `unlink` or `point`, 0 for the null pointer, or the value of `flag`. Looks at
-    the neighbours of the nodes named and of their partners alone.
+    `other` is the second node of `link`, `unlink` or `point`, 0 for the null pointer, or the value of `flag`.
+    Reads only the neighbours of the named nodes and of their partners.
     """
     partner = state.partner(node)
     if word == "link":
@@ -34,14 +35,14 @@ def reach(state: State, word: str, node: int, other: int = 0) -> set[int]:
 
 
 def reaches(lines: Iterable[str]) -> Iterator[tuple[int, int]]:
-    """The entry of each accepted edit and fault of a transcript that `audit` accepts, in order, with how many nodes are
-    in its reach in the state before it.
+    """The entry of each accepted edit and fault of an accepted transcript, with the size of its reach.
 
-    The lines have no newline at their ends. They are followed once, and none is kept.
+    They come in order; the reach is that in the state before. The lines have no newline at their ends. They
+    are read once, and none is kept.
     """
     state = State()
     for line in lines:
-        # of all entries only an accepted edit or fault ends so
+        # only an accepted edit or fault ends so
         if line.endswith(" = ok"):
             entry, word, *numbers = line.split(" = ")[0].split(" ")
             named = (0 if number == "-" else int(number) for number in numbers)

@@ -1,4 +1,4 @@
-"""The words of an edit or a fault of which something is asked beforehand, and why it would be refused."""
+"""The words of an edit or a fault asked about beforehand, and why it would be refused."""
 
 from __future__ import annotations
 
@@ -9,15 +9,17 @@ from .numbers import MOST_EDGES, counted, number_within
 from .replies import Name
 from .state import State
 
-# the edits and faults, with how many words each is told
+# the edits and faults, with how many words each takes
 COSTED = {"link": 2, "unlink": 2, "join": 1, "leave": 1, "point": 2, "flag": 2}
 # those that name two nodes
 PAIRED = ("link", "unlink", "point")
 
 
 def numbers_of_edit(names: Names, word: str, given: Sequence[Name], asked: str = "cost") -> list[int]:
-    """The numbers of an edit's or a fault's words, 0 for the pointer that is null. Raises `ValueError` for what is
-    none, which has no such thing as is asked, and `TypeError` where it is told another number of words."""
+    """The numbers of an edit's or a fault's words, 0 for the null pointer.
+
+    Raises `ValueError` if `word` is no edit or fault, and `TypeError` if the number of words is wrong.
+    """
     if word not in COSTED:
         raise ValueError(f"{' or '.join(COSTED)} has a {asked}, and not {word!r}")
     if len(given) != COSTED[word]:
@@ -31,7 +33,7 @@ def numbers_of_edit(names: Names, word: str, given: Sequence[Name], asked: str =
 
 
 def why_refused(state: State, word: str, node: int, other: int = 0) -> str:
-    """The refusal with which a network in this state answers an edit or a fault; no text where it carries it out."""
+    """The refusal of an edit or a fault by a network in this state; empty if it is carried out."""
     near = state.neighbours
     if word == "join":
         return "already-present" if node in near else "unknown-node" if node > state.count else ""
@@ -45,7 +47,7 @@ def why_refused(state: State, word: str, node: int, other: int = 0) -> str:
 
 
 def why_no_edge(state: State, word: str, a: int, b: int) -> str:
-    """The same of a `link` or `unlink` of nodes that are present."""
+    """The same for a `link` or `unlink` of present nodes."""
     if a == b:
         return "self-loop"
     is_linked = b in state.neighbours[a]

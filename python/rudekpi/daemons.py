@@ -1,18 +1,20 @@
-"""Daemons by name: who decides, step by step, which of the enabled nodes move. Each is given to `Network.settle`.
+"""Daemons by name: each decides, step by step, which enabled nodes move. For `Network.settle`.
 
     net.settle(daemons.ByName())            # the least enabled node
     net.settle(daemons.named("greedy", 7))  # by its word, with a seed
 
-Each is a value that can be compared, pickled and used again: it begins anew in every network that it settles, so the
-same daemon makes the same run. What the literature calls them, after Dubois and Tixeuil, "A taxonomy of daemons in
+Each is a value that can be compared, pickled and used again. It starts afresh in every network, so the same
+daemon makes the same run. Names in the literature, after Dubois and Tixeuil, "A taxonomy of daemons in
 self-stabilization", 2011:
 
-- `Synchronous`: the synchronous daemon; under `manne` alone, since Hsu and Huang's rules take one node at a time;
+- `Synchronous`: the synchronous daemon; only under `manne`, since Hsu and Huang's rules take one node at a
+  time;
 - `ByName`: a central daemon with fixed priorities, which is unfair;
-- `ByAge`: a central round-robin daemon, which is fair: whoever moved longest ago, and first those who have not;
+- `ByAge`: a central round-robin daemon, which is fair: first the nodes that have not moved, then the one that
+  moved longest ago;
 - `Seeded`: a randomised daemon, central under `hh` and distributed under `manne`: the program's own, `drive`;
-- `Greedy`: a central adversary (`Greedy()`, the enabled node and target of which the move lets the charge fall least)
-  or helper (`Greedy(most=True)`), that sees the whole state.
+- `Greedy`: a central adversary that sees the whole state (`Greedy()`, the enabled node and target whose move
+  lowers the charge least), or a helper (`Greedy(most=True)`).
 
 A function from the enabled nodes to those that move is a daemon too.
 """
@@ -36,7 +38,7 @@ __all__ = ["WORDS", "ByAge", "ByName", "Greedy", "Seeded", "Synchronous", "named
 
 @dataclass(frozen=True)
 class Synchronous:
-    """All enabled nodes move at once; `begin` raises `ValueError` where the rules are `hh`."""
+    """All enabled nodes move at once; `begin` raises `ValueError` under `hh`."""
 
     def begin(self, net: Network) -> Daemon:
         if net.rules == "hh":
@@ -48,7 +50,7 @@ class Synchronous:
 
 @dataclass(frozen=True)
 class ByName:
-    """The enabled node of the least number, or of the greatest."""
+    """The enabled node with the least number, or the greatest."""
 
     greatest: bool = False
 
@@ -59,7 +61,7 @@ class ByName:
 
 @dataclass(frozen=True)
 class ByAge:
-    """The enabled node that moved longest ago; those that have not moved come first, by their numbers."""
+    """The enabled node that moved longest ago; those that have not moved come first, by number."""
 
     def begin(self, net: Network) -> Daemon:
         moved: dict[Name, int] = {}
@@ -75,8 +77,11 @@ class ByAge:
 
 @dataclass(frozen=True)
 class Seeded:
-    """The program's own daemon of chance with this seed, 0 to 2^64 - 1: one enabled node under `hh`; under `manne` each
-    with the chance of a half, and one at least. A run costs one command, not two a step."""
+    """The program's own random daemon with this seed, 0 to 2^64 - 1.
+
+    Under `hh` one enabled node moves; under `manne` each with probability one half, at least one. A run costs
+    one command, not two a step.
+    """
 
     seed: int = 0
 
@@ -92,8 +97,10 @@ class Seeded:
 
 @dataclass(frozen=True)
 class Greedy:
-    """The enabled node, and its target, of which the move lets the charge fall least; or most. Each step looks at every
-    enabled node and at the edges near it."""
+    """The enabled node and target whose move lowers the charge least, or most.
+
+    Each step looks at every enabled node and at the edges near it.
+    """
 
     most: bool = False
 
@@ -113,7 +120,7 @@ class Greedy:
 
 
 AnyDaemon = Union[Synchronous, ByName, ByAge, Seeded, Greedy]
-# each daemon's word, and what it is made of
+# each daemon's word, and how it is made
 WORDS: dict[str, Callable[[int], AnyDaemon]] = {
     "synchronous": lambda seed: Synchronous(),
     "least": lambda seed: ByName(),
@@ -126,7 +133,7 @@ WORDS: dict[str, Callable[[int], AnyDaemon]] = {
 
 
 def check_daemon(daemon: object) -> None:
-    """Raises `TypeError` for what is no daemon, such as one of the types above in the place of what it makes."""
+    """Raises `TypeError` if this is no daemon, such as a type above instead of its instance."""
     is_type = isinstance(daemon, type) and issubclass(daemon, get_args(AnyDaemon))
     if is_type or not (callable(daemon) or hasattr(daemon, "begin") or isinstance(daemon, Seeded)):
         raise TypeError(
@@ -136,7 +143,7 @@ def check_daemon(daemon: object) -> None:
 
 
 def named(word: str, seed: int = 0) -> AnyDaemon:
-    """The daemon that a word stands for, one of `WORDS`; the seed is that of `seeded`."""
+    """The daemon that a word of `WORDS` names; the seed is that of `seeded`. Else raises `ValueError`."""
     if word not in WORDS:
         raise ValueError(f"no daemon has the name {word!r}: they are {', '.join(WORDS)}")
     return WORDS[word](seed)

@@ -1,8 +1,8 @@
-"""A session of the library: commands that are carried out by calls of C, each before it returns.
+"""A session of the library: commands carried out by C calls, each before it returns.
 
-A signal's handler may run between any two instructions, and may ask the same session, whose lock its thread then holds
-already. So what a call reports stands in a `Desk` that no other call has, and what has to be asked at once after a call
-is asked with it, by one call of C in the middle of which no handler runs.
+A signal's handler may run between any two instructions, and may use the same session, whose lock its thread
+already holds. So each call reports into its own `Desk`, and what must be asked right after a call is asked in
+the same C call, which no handler interrupts.
 """
 
 from __future__ import annotations
@@ -29,12 +29,12 @@ REACH_ROOM = 64
 
 
 class Direct:
-    """A session of the library. A lock is held round each call, since other threads run meanwhile.
+    """A session of the library. A lock is held during each call, since other threads run meanwhile.
 
-    A call of C is not cut short by an interrupt. So a command is carried out as a whole or not at all.
+    An interrupt does not cut a C call short, so a command is carried out whole or not at all.
     """
 
-    # of one that is not wholly made
+    # of one that is not fully built
     owner = 0
 
     def __init__(self, library: Library, names: Names, rules: str, present: int, keeps: bool) -> None:
@@ -42,7 +42,7 @@ class Direct:
         self.lock = threading.RLock()
         self.ended: Optional[Ended] = None
         self.slot, self.empty, self.owner = Slot(), Slot(), os.getpid()
-        # of whom commands are asked: the session, until it is closed
+        # the target of all calls: the session, until it is closed
         self.at: _CArgObject = ctypes.byref(self.slot)
         self.text_kept, self.rooms = KeptText(library, self.at, keeps), Rooms()
         if library.session_new(("hh", "manne").index(rules), names.count, present, self.at):
@@ -55,12 +55,15 @@ class Direct:
 
     @property
     def is_closed(self) -> bool:
-        """Whether no more is asked."""
+        """Whether the session takes no more commands."""
         return not self.slot.full
 
     def since(self, place: int) -> tuple[bytes, int]:
-        """The lines that came from a place on, or from the last base in them where not all is kept, and the place
-        behind them. Raises `Ended` in a child of the process that made the session."""
+        """The lines from a place on, and the place after them.
+
+        If not all text is kept, they begin at the last base. Raises `Ended` in a child of the process that
+        made the session.
+        """
         self.check_owner()
         with self.lock:
             return self.text_kept.since(place)
@@ -75,10 +78,10 @@ class Direct:
             return entries_in(self.text_kept.last())
 
     def wait_for_all(self) -> None:
-        """All that was asked has been carried out."""
+        """Returns at once: every command is already carried out."""
 
     def trouble(self) -> Optional[RudekpiError]:
-        """What has ended the session, but a close."""
+        """What ended the session, other than a close."""
         return self.ended
 
     def check_owner(self) -> None:
@@ -86,7 +89,7 @@ class Direct:
             raise self.ended
 
     def raise_for(self, status: int) -> None:
-        """Raises what a status says that is neither done nor refused."""
+        """Raises what a status means that is neither done nor refused."""
         if status == NO_SESSION:
             raise self.ended or ValueError("the network is closed")
         if status == LOG_FULL:
@@ -98,10 +101,10 @@ class Direct:
         raise ValueError(f"the library takes no such numbers (status {status})")
 
     def end(self, why: Optional[Ended] = None) -> None:
-        """Ends the session. Where it was cut short it is done again."""
+        """Ends the session. If it was cut short, call it again."""
         with self.lock:
             self.ended = self.ended or why
-            # nothing is asked from here on, so that nothing is written that is not collected
+            # nothing is asked from here on, so nothing is written that is not collected
             self.at = ctypes.byref(self.empty)
             self.text_kept.collect()
             self.library.session_free(ctypes.byref(self.slot))
@@ -113,13 +116,12 @@ class Direct:
     kill = close
 
     def leave(self) -> None:
-        """In a child of this process, which has a copy of the slot: it is empty from now on, and nothing is freed."""
+        """In a child of this process: empties its copy of the slot, and frees nothing."""
         self.lock, self.slot.full = threading.RLock(), False
         self.ended = Inherited()
 
     def tell(self, line: str) -> None:
-        """Carries out a line of a script; behind one that writes several entries the status is asked, as is done with a
-        program."""
+        """Carries out a line of a script, then asks for the status after one that writes several entries."""
         for event in (line, "status") if line.startswith(("drive ", "scramble ")) else (line,):
             text = event.encode()
             with self.lock:
@@ -130,7 +132,7 @@ class Direct:
                 self.raise_for(status)
 
     def partner(self, number: int) -> Optional[int]:
-        """With whom a node is paired, 0 for nobody; None where nothing can be asked any more."""
+        """A node's partner, 0 for none; None if the session is over."""
         found = ctypes.c_uint32()
         with self.lock:
             status = self.library.partner(self.at, number, ctypes.byref(found))
@@ -142,7 +144,7 @@ class Direct:
         return found.value
 
     def cost_of(self, word: str, numbers: Sequence[int]) -> int:
-        """What an edit or a fault would cost if it came now; 0 also for one that would be refused."""
+        """The cost of an edit or a fault if it came now; 0 also if it would be refused."""
         found = ctypes.c_uint32()
         call: Callable[..., int] = getattr(self.library, f"cost_of_{word}")
         with self.lock:
@@ -152,8 +154,7 @@ class Direct:
         return found.value
 
     def reach(self, word: str, numbers: Sequence[int]) -> list[int]:
-        """The nodes that an edit or a fault would reach if it came now, ascending; none for one that would be
-        refused."""
+        """The nodes that an edit or a fault would reach if it came now, ascending; none if it is refused."""
         count, room = ctypes.c_size_t(), REACH_ROOM
         call: Callable[..., int] = getattr(self.library, f"reach_of_{word}")
         with self.lock:
@@ -167,7 +168,7 @@ class Direct:
                 room = count.value
 
     def is_at_rest(self, number: int) -> bool:
-        """Whether a node is at rest; one that is absent is."""
+        """Whether a node is at rest; an absent one is."""
         found = ctypes.c_bool()
         with self.lock:
             status = self.library.is_at_rest(self.at, number, ctypes.byref(found))
@@ -189,7 +190,7 @@ class Direct:
 
 
 def entries_in(said: bytes) -> int:
-    """The number of the last entry of a transcript, or of the base in which it ends."""
+    """The number of the last entry of a transcript, or of the base that ends it."""
     at = len(said)
     while at > 0:
         before = said.rfind(b"\n", 0, at - 1) + 1

@@ -1,4 +1,4 @@
-"""What hits a network that is silent: faults of registers, nodes that come and go, links that come and go."""
+"""Disturbances of a silent network: faults of registers, and nodes and links that come and go."""
 
 from __future__ import annotations
 
@@ -20,12 +20,14 @@ Event = Sequence[Tuple[str, Tuple[int, ...]]]
 
 @dataclass(frozen=True)
 class Disturbance:
-    """What hits a network that is silent: faults of registers (any, pointers or flags alone), nodes that join with
-    their edges and nodes that leave, links that are cut, added or rewired (an end of theirs goes elsewhere), and nodes
-    of a unit disk graph that walk so far, each in a direction by chance. Where it is nothing at all, the network
-    settles from the start, all pointers null.
+    """What hits a silent network: faults, joins, leaves, links cut, added or rewired, and walks.
 
-    All come at once; or one by one, if `every` is not 0: the daemon then makes so many moves between two of them.
+    Faults hit any registers, or only pointers or flags. Nodes join with their edges. A rewired link moves one
+    end. Each node of a unit disk graph walks the length `move` in a random direction. Without a disturbance,
+    the network settles from the start, all pointers null.
+
+    All come at once, unless `every` is not 0: then between two of them the daemon makes at least that many
+    moves, or moves until silence. Raises `ValueError` for numbers out of range.
     """
 
     faults: int = 0
@@ -71,7 +73,7 @@ class Disturbance:
         return bool(self.cut or self.add or self.rewire or self.move)
 
     def check(self, graph: Graph) -> None:
-        """Raises `ValueError` if a graph has too few nodes or edges for it, or its nodes cannot walk."""
+        """Raises `ValueError` if a graph has too few nodes or edges, or its nodes cannot walk."""
         if self.joins + self.leaves > len(graph.nodes):
             raise ValueError(f"{graph.title}: {self} are more than its {len(graph.nodes)} nodes")
         if self.cut + self.rewire > len(graph.edges):
@@ -81,7 +83,7 @@ class Disturbance:
 
 
 class Events:
-    """The edits and faults of a disturbance of a graph of which some nodes are to join, drawn by chance."""
+    """The edits and faults of a disturbance, drawn at random; the nodes `joining` join the graph."""
 
     def __init__(self, wanted: Disturbance, graph: Graph, joining: set[Name], drawn: random.Random) -> None:
         self.wanted, self.graph, self.drawn, self.names = wanted, graph, drawn, graph.nodes
@@ -92,7 +94,7 @@ class Events:
         self.topology = Topology(present, self.edges)
 
     def all(self, seed: int) -> Iterator[Event]:
-        """All of them, in order, each once it is drawn; those of one item belong together."""
+        """All of them in order, each as it is drawn; those of one item belong together."""
         topology, wanted, drawn = self.topology, self.wanted, self.drawn
         leaving = sorted(drawn.sample([*topology.near], wanted.leaves))
         yield from self.joins()
@@ -111,7 +113,7 @@ class Events:
         yield from self.faults(seed)
 
     def joins(self) -> Iterator[Event]:
-        """Nodes that come, each with its edges to those that are there; at once, all nodes come before all edges."""
+        """Nodes that join, each with its edges to present nodes; at once, all nodes come before all edges."""
         topology, later = self.topology, [*self.joining]
         for node in self.joining:
             topology.join(node)
@@ -148,7 +150,7 @@ class Events:
                 yield [("flag", (node, int(drawn.random() < 0.5)))]
 
     def send(self, batch: Batch, event: Event) -> None:
-        """Gives a batch the edits and faults of an item."""
+        """Adds the edits and faults of an item to a batch."""
         names = self.names
         for word, numbers in event:
             if word == "scramble":

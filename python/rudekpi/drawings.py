@@ -15,7 +15,7 @@ from .names import Names
 from .program import Program, found_program, page_maker
 from .state import State
 
-# how many nodes a drawing has at most; names are written up to fewer
+# the most nodes in a drawing; the most with names; the drawing's size in pixels
 MOST_DRAWN, MOST_NAMED, SIZE = 200, 40, 260
 
 
@@ -29,7 +29,7 @@ def places(nodes: list[int]) -> dict[int, tuple[float, float]]:
 
 
 def edge_line(state: State, a: int, b: int, at: dict[int, tuple[float, float]]) -> str:
-    """An edge: thick where it joins a pair, orange where one end points along it and is not answered."""
+    """An edge: thick if it joins a pair, orange if one end points along it without an answer."""
     along = (state.pointers.get(a) == b) + (state.pointers.get(b) == a)
     width, colour = ((1, "#bbb"), (1.5, "#e69f00"), (4, "#0072b2"))[along]
     (x, y), (u, v) = at[a], at[b]
@@ -37,7 +37,7 @@ def edge_line(state: State, a: int, b: int, at: dict[int, tuple[float, float]]) 
 
 
 def node_sign(state: State, node: int, names: Names, at: dict[int, tuple[float, float]]) -> str:
-    """A node: filled where it is paired, with its name where there is room."""
+    """A node: filled if it is paired, with its name if there is room."""
     (x, y), name = at[node], html.escape(str(names.name_of(node)))
     fill = "#0072b2" if state.partner(node) else "#fff"
     sign = f'<circle cx="{x:.1f}" cy="{y:.1f}" r="5" fill="{fill}" stroke="#333"><title>{name}</title></circle>'
@@ -47,7 +47,7 @@ def node_sign(state: State, node: int, names: Names, at: dict[int, tuple[float, 
 
 
 def html_of(title: str, state: State, names: Names) -> str:
-    """A line of text, and below it the network, where it is small enough."""
+    """A line of text, and below it the network if it is small enough."""
     head = f"<div>{html.escape(title)}</div>"
     nodes = sorted(state.neighbours)
     if len(nodes) > MOST_DRAWN:
@@ -61,8 +61,11 @@ def html_of(title: str, state: State, names: Names) -> str:
 
 
 def write_page(transcript: str, path: Union[str, os.PathLike[str]], program: Program) -> None:
-    """Writes a page that plays a transcript. Raises `Damaged` where `audit` refuses that, `FileNotFoundError` where
-    what makes pages is not there, and `OSError` where it can't be written, of which nothing is left then."""
+    """Writes a page that plays a transcript.
+
+    Raises `Damaged` if `audit` refuses it, `FileNotFoundError` if the page maker is missing, `Ended`, and
+    `OSError` if the page cannot be written; nothing of it is left then.
+    """
     words = [sys.executable, page_maker(), "--program", found_program(program)]
     done = subprocess.run(words, input=transcript.encode(), stdout=subprocess.PIPE, stderr=subprocess.PIPE)
     if done.returncode == 1:

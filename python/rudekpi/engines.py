@@ -1,5 +1,4 @@
-"""The machine as the judge of a log asks it: nodes by their numbers, answers as plain numbers, and the text of the
-transcript as far as it was not taken yet."""
+"""The machine as the judge of a log sees it: nodes and answers are plain numbers."""
 
 from __future__ import annotations
 
@@ -14,13 +13,13 @@ from .network import Network
 from .program import Program
 from .replies import Wish
 
-# how many rows of moves a step of one node has, and its words
+# how many rows of moves, and of words, a step of one node has
 ONE = ctypes.c_size_t(1)
 RULES = {rule: number for number, rule in enumerate(MOVES) if rule}
 
 
 class Stand(NamedTuple):
-    """Where a network stands, as a `status` has it."""
+    """The counts of a `status`."""
 
     nodes: int
     edges: int
@@ -31,7 +30,7 @@ class Stand(NamedTuple):
 
 
 class Stepped(NamedTuple):
-    """The answer to a step: the number of its refusal, or 0 and the moves: node, rule and target by their numbers."""
+    """The answer to a step: its refusal's number, or 0 and the moves as numbers."""
 
     refusal: int
     moves: Sequence[tuple[int, int, int]]
@@ -41,33 +40,32 @@ class Engine(Protocol):
     """What the judge of a log asks the machine."""
 
     def edit(self, word: str, *numbers: int) -> int:
-        """Carries out an edit or a fault; 0, or the number of the refusal."""
+        """Carries out an edit or a fault; returns 0, or the refusal's number."""
 
     def moved(self, node: int, wish: int) -> int:
-        """Lets a node move, to a target if that is not 0: the number of its rule, or less than 0 that of the
-        refusal."""
+        """Moves a node, to `wish` unless that is 0; returns its rule's number, or minus the refusal's."""
 
     def step(self, items: Sequence[tuple[int, int]]) -> Stepped:
-        """Lets nodes move at once."""
+        """Moves nodes at once."""
 
     def enabled(self) -> dict[int, str]:
         """The enabled nodes with their rules."""
 
     def status(self) -> Stand:
-        """Where the network stands."""
+        """The status of the network."""
 
     def entry(self) -> int:
         """The number of the last entry."""
 
     def taken(self) -> bytes:
-        """The text of the transcript that was not taken yet."""
+        """The transcript's text since the last call."""
 
     def close(self) -> None:
         """Ends the run."""
 
 
 class OfLibrary:
-    """A session of the library. Its calls are made without the types of `Network`, which take longer than they."""
+    """A session of the library, called without the slower types of `Network`."""
 
     def __init__(self, library: Library, rules: str, count: int, present: int, keeps: bool) -> None:
         self.library, self.session = library, Direct(library, Names(count), rules, present, True)
@@ -79,7 +77,7 @@ class OfLibrary:
             self.checked(library.transcript(self.at, ctypes.c_bool(False)))
 
     def checked(self, status: int) -> int:
-        """The number of the refusal, if the call was answered. Raises what its status says."""
+        """0, or the number of the refusal. Raises what any other status means."""
         if status == DONE:
             return 0
         if status != REFUSED:
@@ -123,7 +121,7 @@ class OfLibrary:
 
     def taken(self) -> bytes:
         if self.session.is_closed:
-            # a full log has ended it, which took the rest of the text out of it
+            # a full log has ended the session, which took the rest of its text over
             text, self.place = self.session.text_kept.since(self.place)
             return text
         wanted = self.library.session_length(self.at)
@@ -136,7 +134,7 @@ class OfLibrary:
 
 
 class OfProgram:
-    """A run of the program, which is asked one command after another."""
+    """A run of the program, asked one command after another."""
 
     def __init__(self, program: Program, rules: str, count: int, present: int) -> None:
         self.net = Network(rules, count, present=present, program=program, engine="program")
@@ -183,7 +181,7 @@ class OfProgram:
 def engine_of(
     rules: str, count: int, present: int, keeps: bool, program: Program = None, engine: Optional[str] = None
 ) -> Engine:
-    """A run of a new network; by the library its transcript is made only if it is kept."""
+    """A run of a new network; the library makes its transcript only if it is kept."""
     library = chosen(engine, program)
     if library:
         return OfLibrary(library, rules, count, present, keeps)

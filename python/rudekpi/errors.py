@@ -1,4 +1,4 @@
-"""What the client raises. Each error can be pickled, so that it leaves a process pool as it is."""
+"""The client's errors. Each can be pickled, so it leaves a process pool unchanged."""
 
 from __future__ import annotations
 
@@ -12,12 +12,14 @@ def text_of(said: bytes) -> str:
 
 
 class RudekpiError(Exception):
-    """All errors of this module but `ValueError`, `TypeError` and `OSError`, which tell of wrong arguments and a
-    missing program."""
+    """The base of this module's errors.
+
+    Wrong arguments and a missing program raise `ValueError`, `TypeError` or `OSError` instead.
+    """
 
 
 class Refused(RudekpiError):
-    """The network refused an event, and is as it was."""
+    """The network refused an event, and is unchanged."""
 
     def __init__(self, event: str, number: int, text: str, entry: int) -> None:
         super().__init__(f"{event}: refused {number} {text} (entry {entry})")
@@ -28,7 +30,7 @@ class Refused(RudekpiError):
 
 
 class Ended(RudekpiError):
-    """The program has ended: its exit status, and the last line that it wrote to standard error."""
+    """The program has ended: its exit status, and its last line on standard error."""
 
     def __init__(self, status: int, told: bytes) -> None:
         self.status, self.last_line = status, text_of(told).rstrip("\n").rpartition("\n")[2]
@@ -39,7 +41,7 @@ class Ended(RudekpiError):
 
 
 class Inherited(Ended):
-    """A child of the process that made a network has asked it."""
+    """A network was used in a child of the process that made it."""
 
     def __init__(self, status: int = 0, told: bytes = b"") -> None:
         super().__init__(0, b"the network belongs to another process, of which this one is a child")
@@ -47,8 +49,10 @@ class Inherited(Ended):
 
 
 class NoReply(RudekpiError, MemoryError):
-    """The command was carried out, and there is no memory for its reply: `entry` is the number of its last entry, which
-    the transcript has. A `MemoryError` that is none of these says that nothing was carried out."""
+    """The command was carried out, but memory for its reply ran out; `entry` is its last entry.
+
+    The transcript has that entry. Any other `MemoryError` means that nothing was carried out.
+    """
 
     def __init__(
         self, entry: int, what: str = "the command was carried out, and there is no memory for its reply:"
@@ -61,15 +65,15 @@ class NoReply(RudekpiError, MemoryError):
 
 
 class NoSuchCommand(RudekpiError):
-    """The program that plays the network has no command for what is asked; the library has."""
+    """The program that plays the network has no such command; the library has."""
 
 
 class Garbled(RudekpiError):
-    """The program wrote something that answers nothing that was asked."""
+    """The program wrote something that answers no command."""
 
 
 class Damaged(RudekpiError):
-    """`audit` refuses a transcript: the line that is wrong, and why."""
+    """`audit` refuses a transcript: the first wrong line, and why."""
 
     def __init__(self, line: int, why: str) -> None:
         super().__init__(f"line {line}: {why}")
@@ -80,7 +84,7 @@ class Damaged(RudekpiError):
 
     @classmethod
     def read(cls, verdict: str) -> Damaged:
-        """What a verdict says; raises `ValueError` where it says nothing of the kind."""
+        """The error of a verdict's text; raises `ValueError` if it is none."""
         found = VERDICT.fullmatch(verdict)
         if not found:
             raise ValueError(verdict)
@@ -99,12 +103,12 @@ class BadLine(RudekpiError, ValueError):
 
 
 class Lost(RudekpiError):
-    """Workers died twice over the same part of some work: over experiments of a sweep, or a part of a transcript."""
+    """Workers died twice over the same experiments of a sweep, or the same part of a transcript."""
 
 
 class WrongChoice(RudekpiError):
-    """A daemon chose nobody while somebody is enabled, or a node that is not enabled."""
+    """A daemon chose no node while some are enabled, or a node that is not enabled."""
 
 
 class PastBound(RudekpiError):
-    """More moves were made than the charge allows, so somebody disturbed the network while it settled."""
+    """More moves were made than the charge allows, so the network was disturbed while it settled."""

@@ -1,7 +1,7 @@
-"""Why `audit` refuses a transcript: which word is wrong, what the machine says there, and what the registers hold.
+"""Why `audit` refuses a transcript: the wrong word, the machine's reply, and the registers there.
 
-The verdict is the auditor's, and the reply the machine's, which plays the transcript up to there. The rest is said of
-the registers that are followed.
+The verdict is the auditor's, the reply that of the machine, which plays the transcript up to there; the rest
+comes from the registers followed here.
 """
 
 from __future__ import annotations
@@ -22,17 +22,20 @@ from .replays import replay
 from .state import State
 
 HEAD = b"matching2"
-# how many characters of a line are shown round what is wrong
+# how many characters of a line are shown around the fault
 WIDTH = 100
-# the nodes round which registers are shown
+# how many nodes have their registers shown
 MOST_NODES_SHOWN = 3
 WITHOUT_REPLY = re.compile(r"[0-9]+ [^=]* = ")
 
 
 @dataclass(frozen=True)
 class Explanation:
-    """Why a transcript is refused: the line and the verdict of `audit`, that line and the one before it, from which
-    character to which it is wrong and why, and what else is to be said."""
+    """Why a transcript is refused.
+
+    `line` and `verdict` are those of `audit`. `text` is that line, `before` the previous one; the characters
+    `start` to before `end` are wrong.
+    """
 
     line: int
     verdict: str
@@ -47,9 +50,9 @@ class Explanation:
         return "\n".join([f"line {self.line}: {self.verdict}", *self.frame(), *(f"  {note}" for note in self.notes)])
 
     def frame(self) -> Iterator[str]:
-        """The line with the mark below what is wrong."""
+        """The line, with a mark below what is wrong."""
         wide = len(str(self.line))
-        # of a long line a part is shown
+        # a long line is shown in part
         left = max(0, min(self.start - WIDTH // 2, len(self.text) - WIDTH))
         front, back = ".. " if left else "", " .." if len(self.text) > left + WIDTH else ""
         shown = f"{front}{self.text[left : left + WIDTH]}{back}"
@@ -61,7 +64,7 @@ class Explanation:
 
 
 class Broken:
-    """A transcript that is refused: its lines up to the wrong one, and where its state is followed from."""
+    """A refused transcript: its lines up to the wrong one, and places to follow its state from."""
 
     def __init__(self, text: bytes, line: int) -> None:
         self.line, self.start, self.last = line, 0, 0
@@ -74,15 +77,14 @@ class Broken:
 
     @property
     def before(self) -> Optional[str]:
-        """The line in front of the wrong one."""
         return text_of_line(self.text[self.last : self.start - 1][: 2 * WIDTH]) if self.start else None
 
     def base_before(self, end: int) -> int:
-        """Where the last base in front of a place begins; 0 if there is none."""
+        """The offset of the last base before a place; 0 if there is none."""
         return self.text.rfind(b"\n" + HEAD, 0, end) + 1
 
     def accepted(self, end: int) -> str:
-        """An accepted text that leads to a place: from the last base that is whole before it, or from the start."""
+        """Accepted text that leads to a place, from the last whole base or the start."""
         return self.text[self.base_before(max(0, end - 1)) : end].decode("ascii")
 
     def explained(self, damaged: Damaged, fault: Fault, notes: Iterable[str] = ()) -> Explanation:
@@ -92,7 +94,7 @@ class Broken:
 
 
 def explain(transcript: Text, *, program: Program = None, engine: Optional[str] = None) -> Optional[Explanation]:
-    """Why `audit` refuses a transcript; None if it accepts it. `str` of it is the text for a terminal."""
+    """Why `audit` refuses a transcript; None if it accepts it. Its `str` is the text for a terminal."""
     text = bytes_of(transcript)
     try:
         audit(text, program=program, engine=engine)
@@ -102,7 +104,6 @@ def explain(transcript: Text, *, program: Program = None, engine: Optional[str] 
 
 
 def explained(broken: Broken, damaged: Damaged, program: Program, engine: Optional[str]) -> Explanation:
-    """What is said of a transcript's first wrong line."""
     if damaged.why == "bad header":
         return broken.explained(damaged, of_header(broken.raw, broken.is_cut))
     if damaged.why == "bad base":
@@ -138,7 +139,7 @@ def replied(net: Network, line: str) -> str:
 
 
 def of_replies(line: str, reply: str, state: State) -> tuple[Fault, Optional[int]]:
-    """Where a line's reply differs from the machine's, and the node of which that speaks."""
+    """Where a line's reply differs from the machine's, and the node concerned."""
     event, _, told = line.partition(" ")[2].partition(" = ")
     start = len(line) - len(told)
     word = event.split(" ")[0]
@@ -164,7 +165,7 @@ def whole_reply(line: str, start: int, why: str) -> Fault:
 def of_listed(
     line: str, start: int, place: int, ours: Sequence[str], theirs: Sequence[str]
 ) -> tuple[Fault, Optional[int]]:
-    """The first enabled node or pair of two lists that differs, one of which may end there."""
+    """The first enabled node or pair that differs between two lists; one list may end there."""
     mine = ours[place] if place < len(ours) else ""
     other = theirs[place] if place < len(theirs) else ""
     found = [int(number[0]) if (number := re.match(r"\d+", text)) else None for text in (mine, other)]
@@ -176,7 +177,7 @@ def of_listed(
 
 
 def of_moves(line: str, start: int, event: str, told: str, reply: str, state: State) -> tuple[Fault, Optional[int]]:
-    """The first of a step's moves that the rules do not allow."""
+    """The first move of a step that the rules do not allow."""
     wished = dict(item.split(">") for item in event.split(" ")[1:] if ">" in item)
     chosen = sorted(int(item.split(">")[0]) for item in event.split(" ")[1:])
     for place, text in enumerate(told.split(" ")):
@@ -204,7 +205,7 @@ def of_moves(line: str, start: int, event: str, told: str, reply: str, state: St
 
 
 def notes_of(state: State, line: str, reply: str, node: Optional[int]) -> list[str]:
-    """The machine's reply, and what the nodes of which it speaks hold and may do."""
+    """The machine's reply, and what the nodes concerned hold and may do."""
     event = line.partition(" ")[2].partition(" = ")[0]
     words = Reasons(state, str)
     notes = [f"the machine's reply: {reply[:WIDTH]}{' ..' if len(reply) > WIDTH else ''}"]
@@ -223,8 +224,7 @@ def notes_of(state: State, line: str, reply: str, node: Optional[int]) -> list[s
 
 
 def of_base(broken: Broken, damaged: Damaged, program: Program, engine: Optional[str]) -> Explanation:
-    """What is said of a line of a base: of one in which a transcript begins, of its form; else of that of the state
-    that was reached."""
+    """Explains a line of a base: an opening base by itself, any other by the state reached."""
     head = head_of(broken, program, engine)
     if not head:
         return of_first_base(broken, damaged)
@@ -244,10 +244,10 @@ def of_base(broken: Broken, damaged: Damaged, program: Program, engine: Optional
 
 
 def head_of(broken: Broken, program: Program, engine: Optional[str]) -> int:
-    """Where the base begins to which the wrong line belongs."""
+    """The offset of the base that has the wrong line."""
     if broken.raw.startswith(HEAD):
         try:
-            # it is a first line, unless the base in front of it is not whole
+            # it is a first line, unless the base before it is not whole
             audit(broken.accepted(broken.start), program=program, engine=engine)
             return broken.start
         except Damaged:
@@ -256,7 +256,7 @@ def head_of(broken: Broken, program: Program, engine: Optional[str]) -> int:
 
 
 def of_first_base(broken: Broken, damaged: Damaged) -> Explanation:
-    """The base in which a transcript begins, which is judged by itself."""
+    """Explains an opening base."""
     lines = [text_of_line(line) for line in broken.text.split(b"\n")]
     fault = base_faults.of_line(broken.raw, broken.line, lines, broken.is_cut)
     notes: list[str] = []

@@ -1,4 +1,4 @@
-"""Files that are written as a whole or not at all."""
+"""Files that are written whole or not at all."""
 
 from __future__ import annotations
 
@@ -10,9 +10,10 @@ from typing import Optional, Union
 
 
 def write_whole(path: Union[str, os.PathLike[str]], data: bytes) -> None:
-    """Writes a file by way of another one beside it, so that it is there as a whole, or as it was before. What is no
-    plain file, as a device or a pipe, is written to, and so is a file in a folder that takes no other. Raises
-    `OSError`."""
+    """Writes a file through a temporary one in its folder, so it is either whole or unchanged.
+
+    A device, a pipe, or a file in a folder that takes no new files, is written to directly. Raises `OSError`.
+    """
     real = os.path.realpath(path)
     old = mode_of(real)
     if old is not None and not (stat.S_ISREG(old) and os.access(os.path.dirname(real), os.W_OK)):
@@ -33,7 +34,7 @@ def write_whole(path: Union[str, os.PathLike[str]], data: bytes) -> None:
 
 
 def mode_of(path: str) -> Optional[int]:
-    """What kind of file is at a path, and who may do what with it; None where there is none."""
+    """The mode of the file at a path; None if there is none."""
     try:
         return os.stat(path).st_mode
     except FileNotFoundError:

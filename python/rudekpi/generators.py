@@ -1,7 +1,7 @@
-"""Graphs that are made: paths, rings, stars, complete graphs, grids, and three kinds drawn by chance from a seed.
+"""Graphs: paths, rings, stars, complete graphs, grids, and three kinds of random graphs.
 
-Each function tests the limits of a network before it builds anything, and takes time in proportion to the nodes and
-edges. A seed makes the same graph on every machine.
+Each function checks the limits of a network before it builds anything, and takes time proportional to nodes
+and edges. A seed gives the same graph on every machine.
 """
 
 from __future__ import annotations
@@ -16,7 +16,7 @@ from .numbers import MOST_EDGES
 from .simple_graph import Disk, Graph, check_sizes
 
 Edge = tuple[int, int]
-# how often a regular graph of so few ends is begun anew
+# how often a regular graph is begun anew, and up to how many ends
 SMALL_TRIES, SMALL_ENDS = 10, 10_000
 
 
@@ -37,7 +37,7 @@ def path(n: int) -> Graph:
 
 
 def ring(n: int) -> Graph:
-    """Three nodes or more in a ring."""
+    """Three or more nodes in a ring."""
     if n < 3:
         raise ValueError(f"a ring has 3 nodes or more, and not {n}")
     return numbered(f"ring:{n}", n, itertools.chain(((a, a + 1) for a in range(1, n)), [(1, n)]))
@@ -49,7 +49,7 @@ def star(n: int) -> Graph:
 
 
 def complete(n: int) -> Graph:
-    """Each node linked with each other."""
+    """All nodes, linked with each other."""
     title = f"complete:{n}"
     check_sizes(title, n, n * (n - 1) // 2)
     return numbered(title, n, pairs(n))
@@ -66,8 +66,10 @@ def grid(rows: int, columns: int) -> Graph:
 
 
 def gnp(n: int, p: float, seed: int = 0) -> Graph:
-    """Each edge is there with the chance `p`, after Gilbert, 1959; made by skipping over the edges that are not
-    there, after Batagelj and Brandes, "Efficient generation of large random networks", 2005."""
+    """Each edge with probability `p`, 0 to 1, after Gilbert, 1959.
+
+    Skips absent edges, after Batagelj and Brandes, "Efficient generation of large random networks", 2005.
+    """
     title = f"gnp:{n},{shortest(p)},{seed}"
     if not 0 <= p <= 1:
         raise ValueError(f"a chance is 0 to 1, and not {p:g}")
@@ -76,12 +78,13 @@ def gnp(n: int, p: float, seed: int = 0) -> Graph:
 
 
 def drawn_pairs(n: int, p: float, drawn: random.Random) -> Iterator[Edge]:
-    """Each pair of the nodes 1 to `n` with the chance `p`, by the higher node, then by the lower one."""
+    """Each pair of the nodes 1 to `n` with probability `p`, by the higher node, then by the lower."""
     if p == 1:
         yield from pairs(n)
     if not 0 < p < 1:
         return
-    # pairs of places from 0 on, (0, 1), (0, 2), (1, 2), (0, 3) ..; the gap between two that are there is geometric
+    # pairs of indices from 0 on, (0, 1), (0, 2), (1, 2), (0, 3) ..; the gap between two present ones is
+    # geometric
     low, high, scale = -1, 1, math.log1p(-p)
     while high < n:
         gap = math.log(1.0 - drawn.random()) / scale
@@ -96,10 +99,11 @@ def drawn_pairs(n: int, p: float, drawn: random.Random) -> Iterator[Edge]:
 
 
 def regular(n: int, degree: int, seed: int = 0) -> Graph:
-    """Each node has `degree` neighbours: free ends are joined by chance, after Steger and Wormald, "Generating random
-    regular graphs quickly", 1999; if that leads nowhere, edges are switched, after McKay and Wormald, "Uniform
-    generation of random regular graphs of moderate degree", 1990. Of more than half of all neighbours the complement
-    is drawn.
+    """A graph whose nodes each have `degree` neighbours.
+
+    Free ends are joined at random, after Steger and Wormald, "Generating random regular graphs quickly",
+    1999; if that fails, edges are switched, after McKay and Wormald, "Uniform generation of random regular
+    graphs of moderate degree", 1990. For more than half of the possible neighbours the complement is drawn.
     """
     title = f"regular:{n},{degree},{seed}"
     if n < 0:
@@ -115,9 +119,9 @@ def regular(n: int, degree: int, seed: int = 0) -> Graph:
 
 
 def joined(n: int, degree: int, drawn: random.Random) -> set[Edge]:
-    """The edges of a regular graph of at most half of all neighbours.
+    """The edges of a regular graph of at most half of the possible neighbours.
 
-    A small graph is begun anew up to nine times before its edges are switched, a large one not at all.
+    A small graph is begun anew up to nine times before its edges are switched, a large one never.
     """
     for _ in range(SMALL_TRIES if n * degree <= SMALL_ENDS else 1):
         made = EndJoiner(n, degree, drawn)
@@ -133,8 +137,7 @@ def joined(n: int, degree: int, drawn: random.Random) -> set[Edge]:
 
 
 class EndJoiner:
-    """One try to join the ends of the edges of a regular graph; `ends` names the node of each end that is still
-    free."""
+    """One try to join the edge ends of a regular graph; `ends` has the node of each free end."""
 
     def __init__(self, n: int, degree: int, drawn: random.Random) -> None:
         self.ends = [node for node in range(1, n + 1) for _ in range(degree)]
@@ -145,7 +148,7 @@ class EndJoiner:
         return a != b and (min(a, b), max(a, b)) not in self.edges
 
     def join_free_ends(self) -> None:
-        """Joins two free ends at a time, until none is free or too many pairs of them could not be joined."""
+        """Joins two free ends at a time, until none is free or too many tries failed."""
         ends = self.ends
         while ends and self.misses:
             a, b = sorted(self.drawn.sample(range(len(ends)), 2))
@@ -158,7 +161,7 @@ class EndJoiner:
                 ends.pop()
 
     def switch_edges(self) -> None:
-        """Joins the ends that are left: an edge x, y gives way to a, x and b, y for two free ends a and b."""
+        """Joins the remaining ends: for free ends a and b, an edge x, y is replaced by a, x and b, y."""
         edges, misses = sorted(self.edges), 100 * len(self.ends) + 100
         self.drawn.shuffle(self.ends)
         while self.ends and edges and misses:
@@ -175,7 +178,7 @@ class EndJoiner:
 
 
 def unit_disk(n: int, radius: float, seed: int = 0) -> Graph:
-    """Points by chance in a square of side 1, linked if they are within the radius of each other."""
+    """Random points in a square of side 1, linked if they are within the radius of each other."""
     title = f"disk:{n},{shortest(radius)},{seed}"
     if not 0 <= radius < math.inf:
         raise ValueError(f"{title}: a radius is a number from 0 on; no number is below 0")
@@ -186,8 +189,10 @@ def unit_disk(n: int, radius: float, seed: int = 0) -> Graph:
 
 
 def near_pairs(at: list[tuple[float, float]], radius: float) -> Iterator[Edge]:
-    """The pairs of points, numbered from 1 on, within the radius of each other, ascending: each is compared with
-    those of the nine cells around it, whose side is more than the radius."""
+    """The pairs of points, numbered from 1, within the radius of each other, ascending.
+
+    A point is compared with the nine cells around it, whose side is more than the radius.
+    """
     most = math.isqrt(len(at))
     side = max(1, most if radius * (most + 1) < 1 else int(1 / radius) - 1)
     cells: dict[tuple[int, int], list[int]] = {}
@@ -206,5 +211,5 @@ def pairs(n: int) -> Iterator[Edge]:
 
 
 def shortest(number: float) -> str:
-    """A number in a title: no two numbers have the same text."""
+    """The text of a number in a title: different numbers have different texts."""
     return f"{number:g}" if float(f"{number:g}") == number else repr(number)

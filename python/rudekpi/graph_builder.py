@@ -1,4 +1,4 @@
-"""A graph as its file is read: what no network can have is refused where it stands."""
+"""Builds a graph while its file is read; refuses at once what no network can have."""
 
 from __future__ import annotations
 
@@ -22,19 +22,19 @@ def whole(text: str) -> Optional[int]:
 class GraphBuilder:
     """Collects the nodes and edges of a file.
 
-    `spot` names the place of a number, by default `line 7`. Each `ValueError` begins with the file and that place.
+    `spot` formats a position, by default `line 7`. Each `ValueError` begins with the file and the position.
     """
 
     def __init__(self, path: str, spot: Callable[[int], str] = "line {}".format) -> None:
         self.path, self.spot = path, spot
         self._places: dict[Name, int] = {}
-        # where each edge was named first, below 0 if from its later node
+        # where each edge was first named, below 0 if from its later node
         self._edges: dict[int, int] = {}
         self._answered: set[int] = set()
         self._weights: dict[int, float] = {}
 
     def error(self, at: Optional[int], why: str) -> ValueError:
-        """An error of the file, or of one place in it."""
+        """An error of the file, or of one position in it."""
         return ValueError(f"{self.path}: {why}" if at is None else f"{self.path}: {self.spot(at)}: {why}")
 
     @property
@@ -49,7 +49,7 @@ class GraphBuilder:
         return name in self._places
 
     def add_node(self, name: Name, at: int) -> None:
-        """A node; nothing changes if it is there. Raises `ValueError` if it is one more than a network can have."""
+        """Adds a node unless it is there. Raises `ValueError` if it is one more than a network can have."""
         if name in self._places:
             return
         if len(self._places) == MOST_NODES:
@@ -57,17 +57,17 @@ class GraphBuilder:
         self._places[name] = len(self._places)
 
     def add_nodes(self, names: Iterable[int], count: int, at: int) -> None:
-        """Nodes by their numbers; `count` tells how many, before any is made."""
+        """Adds nodes by number; `count` is how many, checked before any is added."""
         if count > MOST_NODES:
             raise self.error(at, f"{count} nodes; a network has at most {MOST_NODES} nodes")
         for name in names:
             self.add_node(name, at)
 
     def add_edge(self, a: Name, b: Name, at: int, *, both_ways: bool, weight: Optional[float] = None) -> None:
-        """An edge of two nodes that are there; with `both_ways` it may be named once from each of them, with the same
-        weight.
+        """Adds an edge of two known nodes.
 
-        Raises `ValueError` if it is a loop, is there already, or is one more than a network can have.
+        With `both_ways` it may be named once from each end, with the same weight. Raises `ValueError` if it
+        is a loop, is there already, or is one more than a network can have.
         """
         if a == b:
             raise self.error(at, f"{a!r} is linked with itself")
@@ -90,11 +90,11 @@ class GraphBuilder:
             self._answered.add(key)
 
     def ends_of_edges(self) -> list[tuple[int, int]]:
-        """The places of the nodes of each edge, the earlier node first, in the order of the file."""
+        """The indices of the nodes of each edge, the earlier node first, in the order of the file."""
         return [divmod(key, MOST_NODES + 1) for key in self._edges]
 
     def one_sided(self) -> Optional[tuple[Name, Name, int]]:
-        """An edge that was named from one node only, that node first, and where; None if there is none."""
+        """An edge named from one node only, that node first, and its position; None without one."""
         names = self.nodes
         for key, at in self._edges.items():
             if key not in self._answered:
@@ -109,7 +109,7 @@ class GraphBuilder:
         return Graph(self.path, tuple(names), tuple((names[a], names[b]) for a, b in self.ends_of_edges()))
 
     def numbered_graph(self) -> Graph:
-        """The graph with each name made a number, ascending."""
+        """The graph with each name turned into a number, ascending."""
         self.warn_of_weights()
         names = [int(name) for name in self.nodes]
         edges = (sorted((names[a], names[b])) for a, b in self.ends_of_edges())

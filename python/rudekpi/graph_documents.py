@@ -1,7 +1,7 @@
-"""Graphs in GraphML and in node-link JSON, by the standard library's parsers.
+"""Graphs in GraphML and in node-link JSON, read by the standard library's parsers.
 
-Directed graphs are refused unless the caller takes them without directions; multigraphs, hypergraphs and nested
-graphs always.
+Directed graphs are refused unless taken without directions; multigraphs, hypergraphs and nested graphs
+always.
 """
 
 from __future__ import annotations
@@ -16,7 +16,7 @@ from .replies import Name
 from .simple_graph import Graph
 
 GRAPHML = "http://graphml.graphdrawing.org/xmlns"
-# what stands within an element; of those in `SKIPPED` nothing is read
+# the elements inside each element; those in `SKIPPED` are not read
 CHILDREN = {
     "": ("graphml",),
     "graphml": ("key", "graph", "data", "desc"),
@@ -26,14 +26,14 @@ CHILDREN = {
 }
 SKIPPED = ("key", "data", "desc", "port", "locator")
 REFUSED = {"hyperedge": "a hypergraph", "graph": "a second or a nested graph"}
-# those that the parser reads by itself
+# those that the parser reads itself
 ENCODINGS = ("utf-8", "utf-16", "iso-8859-1", "us-ascii")
 MOST_XML, MOST_JSON, PIECE = 2**30, 2**28, 2**16
 DIRECTED = "a directed graph: --undirected takes its edges without directions"
 
 
 class GraphmlReader:
-    """Reads one graph; an edge may stand before its nodes."""
+    """Reads one graph; an edge may precede its nodes."""
 
     def __init__(self, path: str, undirected: bool) -> None:
         self.made, self.undirected = GraphBuilder(path), undirected
@@ -148,7 +148,7 @@ def graphml(path: str, undirected: bool = False) -> Graph:
 
 
 def once(pairs: list[tuple[str, Any]]) -> dict[str, Any]:
-    """An object of JSON. Raises `ValueError` if a key is there twice."""
+    """An object of JSON. Raises `ValueError` if it has a key twice."""
     found = dict(pairs)
     if len(found) != len(pairs):
         names = [name for name, _ in pairs]
@@ -157,14 +157,16 @@ def once(pairs: list[tuple[str, Any]]) -> dict[str, Any]:
 
 
 def json_of(path: str) -> Any:
-    """What a JSON file holds. Raises `ValueError` if it is none, has a key twice, is nested too deeply, or has more
-    than 256 MB."""
+    """The value of a JSON file.
+
+    Raises `ValueError` if it is no JSON, repeats a key, is nested too deeply, or has more than 256 MB.
+    """
     with open(path, "rb") as file:
         text = file.read(MOST_JSON + 1)
     if len(text) > MOST_JSON:
         raise ValueError(f"{path}: it has more than {MOST_JSON} bytes")
     try:
-        # a number of more than 18 digits is no name, and takes long to read
+        # a number of more than 18 digits is no name, and is slow to read
         return json.loads(
             text.decode("utf-8-sig"),
             object_pairs_hook=once,
@@ -177,7 +179,10 @@ def json_of(path: str) -> Any:
 
 
 class NodeLinkReader:
-    """Reads `nodes` with their `id`, and `links` or `edges` with `source` and `target`, as networkx and d3.js do."""
+    """Reads `nodes` with `id`, and `links` or `edges` with `source` and `target`.
+
+    This is the form of networkx and d3.js.
+    """
 
     def __init__(self, path: str, undirected: bool) -> None:
         self.made, self.undirected, self.data = (GraphBuilder(path, "edge {}".format), undirected, json_of(path))
@@ -203,7 +208,7 @@ class NodeLinkReader:
         return self.made.graph()
 
     def switch(self, key: str) -> bool:
-        """What the graph says of itself, false if it says nothing."""
+        """A switch of the graph, false if it is absent."""
         value = self.data.get(key, False)
         if not isinstance(value, bool):
             raise self.error(f"expected {key} true or false, and not {value!r}")
@@ -216,7 +221,7 @@ class NodeLinkReader:
         return found
 
     def take_nodes(self, nodes: list[dict[str, Any]]) -> None:
-        """The nodes by their ids; by their places from 0 on if none has one."""
+        """Reads the nodes by their ids; by their places from 0 on if none has one."""
         has_ids = any("id" in node for node in nodes)
         for at, node in enumerate(nodes, 1):
             name = name_of(node.get("id") if has_ids else at - 1)
@@ -234,7 +239,7 @@ class NodeLinkReader:
 
 
 def name_of(given: Any) -> Optional[Name]:
-    """A node's name: a text, a whole number, or a tuple of names for a list of them; None for anything else."""
+    """A node's name: a text, a whole number, or a tuple of names for a list; None for anything else."""
     if isinstance(given, (str, int)) and not isinstance(given, bool):
         return given
     if not isinstance(given, list):

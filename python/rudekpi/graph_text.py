@@ -1,7 +1,7 @@
 """Graphs in text files with an edge or a node a line: edge lists, DIMACS and METIS.
 
-A line that is not what the format says is refused with its number and what was expected, so that no file of another
-format is taken for another graph.
+A line that breaks the format is refused with its number and what was expected, so that another format gives
+no wrong graph.
 """
 
 from __future__ import annotations
@@ -15,7 +15,7 @@ from .simple_graph import Graph
 
 # a node of a METIS file may have 65,534 neighbours
 MOST_LINE = 1_048_576
-# what no name has: signs of other formats (CSV, JSON, XML, DOT, GML, Pajek), and quotes
+# characters that no name has: signs of other formats (CSV, JSON, XML, DOT, GML, Pajek), and quotes
 FOREIGN = re.compile(r"""[,;|<>={}\[\]()"'`]|^[*%]|:$""")
 PLAIN = re.compile(r"\w+")
 KINDS = ("edge", "edges", "col", "sp")
@@ -23,8 +23,10 @@ ADJACENCY = "an adjacency list? each third word may be a node too; if they are w
 
 
 def lines_of(path: str) -> Iterator[tuple[int, str]]:
-    """Each line with its number. Raises `ValueError` for a line of more than 1,048,576 bytes, or one that is not
-    UTF-8."""
+    """Each line with its number.
+
+    Raises `ValueError` for a line that has more than 1,048,576 bytes or is not UTF-8.
+    """
     with open(path, "rb") as file:
         for number in itertools.count(1):
             line = file.readline(MOST_LINE + 1)
@@ -42,7 +44,8 @@ def lines_of(path: str) -> Iterator[tuple[int, str]]:
 def words_of(made: GraphBuilder, at: int, line: str, separator: str = "") -> list[str]:
     """The words of a line: between blanks, or between separators with blanks around them.
 
-    Raises `ValueError` for characters that are not printed, and for a word that is empty or has a blank in it.
+    Raises `ValueError` for characters that are not printable, and for a word that is empty or contains a
+    blank.
     """
     line = line.replace("\t", " ")
     if not line.isprintable():
@@ -58,8 +61,7 @@ def words_of(made: GraphBuilder, at: int, line: str, separator: str = "") -> lis
 
 
 class EdgeListReader:
-    """Reads two names a line, or one name for a node that may have no edge; behind two names may stand one number, a
-    weight."""
+    """Reads two names a line, then perhaps a number, the weight. A single name may have no edge."""
 
     def __init__(self, path: str) -> None:
         self.made = GraphBuilder(path)
@@ -69,8 +71,8 @@ class EdgeListReader:
         self.odd: Optional[tuple[int, str]] = None
         self.first: Optional[tuple[int, list[str]]] = None
         self.edge_lines, self.node_lines = 0, 0
-        # the first words, and the weights that may be third words of an adjacency list, until no such list has these
-        # lines
+        # the first words, and the weights that might be third words of an adjacency list, until the lines
+        # rule one out
         self.sources: set[str] = set()
         self.thirds: set[str] = set()
         self.may_be_adjacency = True
@@ -92,7 +94,7 @@ class EdgeListReader:
         return self.made.numbered_graph() if is_numbered else self.made.graph()
 
     def without_comment(self, at: int, line: str) -> str:
-        """The line up to a `#`, which begins a comment at the line's start or behind a blank."""
+        """The line up to a `#`, which begins a comment at the line's start or after a blank."""
         begun = line.find("#")
         if begun > 0 and line[begun - 1] not in " \t,":
             raise self.made.error(at, "no name has a `#`, which begins a comment behind a blank")
@@ -130,15 +132,14 @@ class EdgeListReader:
         self.made.add_edge(words[0], words[1], at, both_ways=True, weight=weight)
 
     def look_for_adjacency(self, words: list[str]) -> None:
-        """An adjacency list has a node first in one line only, and behind it others."""
+        """Notes whether the lines may be an adjacency list, where a node begins only one line."""
         if self.may_be_adjacency and self.is_weighted:
             self.may_be_adjacency = words[0] not in self.sources and words[2] not in words[:2]
             self.sources.add(words[0])
             self.thirds.add(words[2])
 
     def check_heading(self, is_numbered: bool) -> None:
-        """Raises `ValueError` if the first line may be a heading: titles of columns, or the numbers of nodes and
-        edges, as METIS and others have them."""
+        """Raises `ValueError` if the first line may be a heading: titles, or numbers of nodes and edges."""
         if not self.first or len(self.first[1]) < 2:
             return
         at, words = self.first
@@ -160,17 +161,16 @@ class EdgeListReader:
 
 
 def is_number(name: str) -> bool:
-    """Whether a name is a number."""
     return whole(name) is not None
 
 
 def edge_list(path: str) -> Graph:
-    """The graph of an edge list, whose names have blanks or tabs between them; in a file `.csv`, commas."""
+    """The graph of an edge list, whose names are separated by blanks or tabs; in a `.csv` file by commas."""
     return EdgeListReader(path).read()
 
 
 class DimacsReader:
-    """Reads a line `p edge N M`, then a line `e A B` an edge; or `p sp N M` and `a A B W`, which is directed."""
+    """Reads a line `p edge N M`, then `e A B` an edge; or `p sp N M` and `a A B W`, directed."""
 
     def __init__(self, path: str, undirected: bool) -> None:
         self.made, self.undirected = GraphBuilder(path), undirected
@@ -230,7 +230,7 @@ def dimacs(path: str, undirected: bool = False) -> Graph:
 
 
 class MetisReader:
-    """Reads a line `N M`, then a line for each node with its neighbours; `%` begins a line of comment."""
+    """Reads a line `N M`, then a line for each node with its neighbours; `%` begins a comment line."""
 
     def __init__(self, path: str) -> None:
         self.made = GraphBuilder(path)
@@ -264,7 +264,7 @@ class MetisReader:
         self.made.add_nodes(range(1, self.nodes + 1), self.nodes, at)
 
     def take(self, at: int, words: list[str]) -> None:
-        """The line of the next node; blank lines may follow the last one."""
+        """Reads the line of the next node; blank lines may follow the last one."""
         if self.node == self.nodes:
             if words:
                 raise self.made.error(at, f"expected the end, behind {self.nodes} lines of nodes")
@@ -277,8 +277,7 @@ class MetisReader:
             self.made.add_edge(self.node, other, at, both_ways=True)
 
     def check_edges(self) -> None:
-        """Raises `ValueError` unless each edge is named from both of its nodes, and as many as the first line tells
-        are there."""
+        """Raises `ValueError` unless both ends name each edge, and the first line counts the edges."""
         lone = self.made.one_sided()
         if lone:
             raise self.made.error(lone[2], f"node {lone[0]} names {lone[1]}, and {lone[1]} does not name {lone[0]}")

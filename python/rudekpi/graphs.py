@@ -1,4 +1,4 @@
-"""Graphs to experiment on: made, or read from files."""
+"""Graphs to experiment on: generated, or read from files."""
 
 from __future__ import annotations
 
@@ -31,20 +31,20 @@ NUMBER = re.compile(r"-?(?:[0-9]{1,20}|[0-9]*\.[0-9]+|[0-9]+\.)(?:[eE][+-]?[0-9]
 
 
 def whole_number(text: str) -> int:
-    """The number that ASCII digits are, or a minus and digits."""
+    """The number in ASCII digits, perhaps with a minus."""
     if not re.fullmatch("-?[0-9]{1,20}", text):
         raise ValueError(text)
     return int(text)
 
 
 def decimal(text: str) -> float:
-    """The number that ASCII digits are, with a point or an exponent or without."""
+    """The number in ASCII digits, perhaps with a point or an exponent."""
     if not NUMBER.fullmatch(text):
         raise ValueError(text)
     return float(text)
 
 
-# what is made of the numbers behind a word and a colon, with commas or, of a grid, an x between them
+# the generators by word, with the form and the kinds of the numbers after the colon
 MADE: dict[str, tuple[Callable[..., Graph], str, tuple[Callable[[str], Any], ...]]] = {
     "path": (path, "N", (whole_number,)),
     "ring": (ring, "N", (whole_number,)),
@@ -56,7 +56,7 @@ MADE: dict[str, tuple[Callable[..., Graph], str, tuple[Callable[[str], Any], ...
     "disk": (unit_disk, "N,RADIUS,SEED", (whole_number, decimal, whole_number)),
 }
 
-# by the end of a file's name: who reads it, and whether that takes `undirected`
+# the readers by file extension, and whether each takes `undirected`
 READERS: dict[str, tuple[Callable[..., Graph], bool]] = {
     ".col": (dimacs, True),
     ".dimacs": (dimacs, True),
@@ -68,10 +68,10 @@ READERS: dict[str, tuple[Callable[..., Graph], bool]] = {
 
 
 def graph_of(words: str, *, undirected: bool = False) -> Graph:
-    """The graph that words of the command line name: `ring:100`, `grid:5x6`, `gnp:100,0.05,7` and so on, or a file's
-    path.
+    """The graph that a word of the command line names: `ring:100`, `gnp:100,0.05,7` or a file's path.
 
-    Raises `FileNotFoundError` if there is no such file, and `ValueError` if the words or the file make no graph.
+    Raises `FileNotFoundError` if there is no such file, and `ValueError` if the word or the file gives no
+    graph.
     """
     word, colon, rest = words.partition(":")
     if not colon or word not in MADE:
@@ -99,11 +99,14 @@ def graph_of(words: str, *, undirected: bool = False) -> Graph:
 
 
 def read(path: Union[str, "os.PathLike[str]"], *, undirected: bool = False) -> Graph:
-    """The graph in a file, by the end of its name: `.col` or `.dimacs`, `.metis` or `.graph`, `.graphml`, `.json`
-    (node-link), and any other an edge list, whose names have blanks between them, in `.csv` commas.
+    """The graph in a file, whose format is that of its extension.
 
-    A directed graph is taken without its directions if `undirected`. Raises `ValueError` if the file is not what its
-    format says, with the line and what was expected; `OSError` if it cannot be read. Warns if weights are left out.
+    `.col` or `.dimacs` is DIMACS, `.metis` or `.graph` METIS, `.graphml` GraphML, and `.json` node-link. Any
+    other is an edge list, with names separated by blanks, in `.csv` by commas. `undirected` takes a directed
+    graph without its directions.
+
+    Raises `ValueError` if the file breaks its format, with the line and what was expected; `OSError` if it
+    cannot be read. Warns if weights are left out.
     """
     end = os.path.splitext(path)[1].lower()
     reader, takes_undirected = READERS.get(end, (edge_list, False))
@@ -111,10 +114,10 @@ def read(path: Union[str, "os.PathLike[str]"], *, undirected: bool = False) -> G
 
 
 def from_networkx(graph: Any, title: Optional[str] = None) -> Graph:
-    """The graph of a simple undirected `networkx.Graph`, with its nodes in their order; its title is its name, if it
-    has one, else how many nodes and edges it has.
+    """The graph of a simple undirected `networkx.Graph`, with its nodes in their order.
 
-    Raises `TypeError` for what is no such graph, and `ValueError` for a directed graph, a multigraph or a loop.
+    Its title is `title`, else its name, else its numbers of nodes and edges. Raises `TypeError` if it is no
+    graph of networkx, and `ValueError` for a directed graph, a multigraph or a loop.
     """
     if not is_networkx(graph):
         raise TypeError(f"{graph!r} is no graph of networkx")
@@ -126,5 +129,5 @@ def from_networkx(graph: Any, title: Optional[str] = None) -> Graph:
 
 
 def is_networkx(graph: Any) -> bool:
-    """Whether this is a graph of networkx; that is not loaded for it."""
+    """Whether this is a graph of networkx; does not import networkx."""
     return all(hasattr(graph, name) for name in ("nodes", "edges", "is_directed", "is_multigraph"))

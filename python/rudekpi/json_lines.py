@@ -41,7 +41,7 @@ def base_of(part: list[str], names: Names, rules: str) -> dict[str, object]:
 
 
 def entry_of(line: str, names: Names) -> dict[str, object]:
-    """An entry: its number, the event's word and what is behind it, and what the reply says."""
+    """The object of an entry: its number, the event's word, the words after it, and the reply."""
     head, _, reply = line.partition(" = ")
     entry, word, *rest = head.split(" ")
     made: dict[str, object] = {"entry": int(entry), "event": word}
@@ -61,7 +61,7 @@ def choice_of(item: str) -> dict[str, int]:
 
 
 def told(word: str, names: Names, event: str, reply: str) -> dict[str, object]:
-    """What a reply says that is no refusal."""
+    """The contents of a reply that is no refusal."""
     if word == "show":
         return {"target": None if reply == "-" else int(reply)}
     if word == "enabled":

@@ -1,8 +1,7 @@
-"""The text of a session of the library, as far as it was taken over.
+"""The text of a library session that was already copied.
 
-A signal's handler may ask for it, or have more of it written, in the middle of each function here. So nothing is taken
-back or moved: parts of the text are added to a list by one call of C each, and a part that is forgotten becomes empty
-in its place.
+A signal's handler may ask for it, or cause more of it, in the middle of each function here. So no text is
+moved: one C call adds each part to a list, and a forgotten part becomes empty in its place.
 """
 
 from __future__ import annotations
@@ -19,46 +18,48 @@ if TYPE_CHECKING:
     from ctypes import _CArgObject
 
 BASE_START = b"matching2 "
-# calls what it is given, as one call of C
+# calls its argument, as one C call
 CALLED = operator.methodcaller("__call__")
-# a buffer with how many bytes came into it, none where they were more than it has; or the bytes
+# a buffer with how many bytes came into it, 0 if they were more than it holds; or the bytes
 Part = Union["tuple[ctypes.Array[ctypes.c_char], int]", bytes]
 
 
 class Reader:
-    """Whoever waits for a part of the text, which is not forgotten as long as this is referred to."""
+    """Waits for a part of the text; while it is referenced, no part is forgotten."""
 
     __slots__ = ("__weakref__",)
 
 
 def in_one_call(*calls: Callable[[], int]) -> list[int]:
-    """What these calls return, each a function of C, between which no handler of a signal runs."""
+    """The results of these calls, each a C function; no signal's handler runs between them."""
     return list(map(CALLED, calls))
 
 
 def last_base(text: bytes) -> int:
-    """Where the last base of a text begins; -1 where it has none."""
+    """The offset of the last base of a text; -1 if there is none."""
     at = text.rfind(b"\n" + BASE_START) + 1
     return at or (0 if text.startswith(BASE_START) else -1)
 
 
 class KeptText:
-    """The parts of a text, in their order. Where not all is kept, it begins with its last base."""
+    """The parts of a text, in order. If not all is kept, it begins with its last base."""
 
     def __init__(self, library: Library, at: _CArgObject, keeps: bool) -> None:
         self.library, self.at, self.keeps = library, at, keeps
         self.parts: list[Part] = []
-        # below it all parts are empty
+        # all parts below this index are empty
         self.low = 0
         self.readers: list[weakref.ref[Reader]] = []
         self.length: Callable[[], int] = functools.partial(library.session_length, at)
 
     def collect(self) -> None:
-        """Takes over what the session has written. Raises `MemoryError`, and goes on from there when it is called
-        again."""
+        """Copies what the session has written.
+
+        Raises `MemoryError`, and continues from there when called again.
+        """
         while wanted := self.length():
             room = (ctypes.c_char * wanted)()
-            # one call of C: what was read is in the list when the next handler runs
+            # one C call: what was read is in the list when the next handler runs
             self.parts.extend(
                 zip((room,), map(self.library.session_read, (self.at,), (room,), (ctypes.c_size_t(wanted),)))
             )
@@ -73,22 +74,24 @@ class KeptText:
         return made
 
     def since(self, place: int) -> tuple[bytes, int]:
-        """What came from a place of the list on, and the place behind it; what was forgotten is left out, with all up
-        to the last base."""
+        """The text from a place of the list on, and the place after it.
+
+        If not all is kept, text before the last base is left out.
+        """
         self.collect()
         end = len(self.parts)
         text = b"".join([self.part(at) for at in range(max(place, self.low), end)])
         return text if self.keeps else text[max(0, last_base(text)) :], end
 
     def written_by(self, call: Callable[[], int]) -> tuple[int, Callable[[], bytes]]:
-        """Makes a call that writes several lines: its status, and what takes them out of the text."""
+        """Makes a call that writes several lines: its status, and a function that returns them."""
         reader = Reader()
         self.readers.append(weakref.ref(reader))
         place, start, status, end = in_one_call(functools.partial(len, self.parts), self.length, call, self.length)
         return status, functools.partial(self.lines, reader, place, start, end)
 
     def lines(self, reader: Reader, place: int, start: int, end: int) -> bytes:
-        """A piece of the first part that came at a place of the list or behind it."""
+        """A piece of the first part at or after a place of the list."""
         self.collect()
         while start < end:
             part = self.part(place)
@@ -103,7 +106,7 @@ class KeptText:
         return next((part for part in map(self.part, reversed(range(len(self.parts)))) if part), b"")
 
     def forget(self) -> None:
-        """Forgets the parts in front of that in which the last base begins, unless somebody waits for a part."""
+        """Forgets the parts before the one with the last base, unless a reader waits for a part."""
         self.collect()
         self.readers[:] = [reader for reader in self.readers if reader() is not None]
         if self.readers:

@@ -1,4 +1,4 @@
-"""The library for C, whose engine runs in this process: where it is found, and its calls with their types."""
+"""The C library, whose engine runs in this process: its path, and its calls with their types."""
 
 from __future__ import annotations
 
@@ -16,7 +16,7 @@ from .replies import Summary
 
 DONE, BAD_LINE, LOG_FULL, NO_MEMORY, NO_SESSION, BAD_ARGUMENT, REFUSED = range(7)
 ENGINES = ("library", "program")
-# the refusals, by their numbers from 1 on
+# the refusals, numbered from 1
 REFUSALS = (
     "unknown-node",
     "self-loop",
@@ -35,7 +35,7 @@ REFUSALS = (
 MOVES = ("", "update", "marry", "seduce", "abandon")
 DAMAGES = {1: "bad header", 2: "not a transcript line", 3: "out of order", 4: "not the machine's reply", 5: "bad base"}
 
-# of rudekpi_told the numbers of 32 bits; its rows are one of 64 bits behind them
+# the 32-bit numbers of rudekpi_told; after them its rows, one 64-bit number
 TOLD_NUMBERS, TOLD_ROWS = 6, 2
 ENTRY, REFUSAL, TARGET = range(3)
 COUNTS = 6
@@ -53,7 +53,7 @@ class Verdict(ctypes.Structure):
 
 
 def summary_of(verdict: Verdict) -> Summary:
-    """What a verdict says; raises `Damaged`, or `MemoryError`."""
+    """The counts of a verdict. Raises `Damaged`, or `MemoryError`."""
     if not verdict.kind:
         return Summary(verdict.entries, verdict.epochs, verdict.moves)
     if verdict.kind not in DAMAGES:
@@ -62,16 +62,15 @@ def summary_of(verdict: Verdict) -> Summary:
 
 
 def verdict_of(found: Union[Summary, Damaged]) -> Verdict:
-    """The verdict that says so, as `summary_of` reads it. Raises `KeyError` for a damage that is none of the
-    library's."""
+    """The verdict that `summary_of` reads so. Raises `KeyError` for a damage that is not the library's."""
     if isinstance(found, Summary):
         return Verdict(0, found.entries, found.epochs, found.moves, 0)
     return Verdict({why: kind for kind, why in DAMAGES.items()}[found.why], 0, 0, 0, found.line)
 
 
-# the calls of a session and of an audit. They are called with references and numbers below 2^31, or with numbers that
-# are wrapped, for which ctypes wants no types: to convert to them would take as long as the call. While those that may
-# take long run, other threads of Python do
+# the calls of a session and of an audit, with references, numbers below 2^31, or wrapped numbers. ctypes
+# needs no types for these; converting would take as long as the call. During the calls that may take long,
+# other Python threads run
 SHORT = (
     "link",
     "unlink",
@@ -107,9 +106,10 @@ NONE = ("session_free", "audit_free")
 
 
 class Library:
-    """The calls of a shared library by the names that they have behind `rudekpi_`.
+    """The calls of a shared library, named without their prefix `rudekpi_`.
 
-    Raises `OSError` where there is no library at the path, or one that lacks a call."""
+    Raises `OSError` if there is no library at the path, or it lacks a call.
+    """
 
     def __init__(self, path: str) -> None:
         self.path = path
@@ -135,16 +135,16 @@ class Library:
         raise AttributeError(name)
 
     def audit(self, at: int, size: int) -> Summary:
-        """The verdict on so many bytes at an address; raises `Damaged`, or `MemoryError`."""
+        """The verdict on `size` bytes at an address. Raises `Damaged`, or `MemoryError`."""
         verdict = Verdict()
         self.judge(at, size, ctypes.addressof(verdict))
         return summary_of(verdict)
 
     def joined(self, whole: Summary, found: Union[Summary, Damaged], lines: int) -> Summary:
-        """The verdict on a text that is accepted and on one that it meets at a base, as one.
+        """The joint verdict on an accepted text and the text that follows it from a base on.
 
-        `lines` of the first stand before the base, which matters only for a damage. Raises `Damaged`, or
-        `OverflowError` where a sum is more than a verdict holds.
+        `lines` precede the base; only a damage needs them. Raises `Damaged`, or `OverflowError` if a sum is
+        more than a verdict holds.
         """
         verdict, second = verdict_of(whole), verdict_of(found)
         if self.audit_join(ctypes.byref(verdict), ctypes.c_uint64(lines), ctypes.byref(second)) != DONE:
@@ -152,17 +152,17 @@ class Library:
         return summary_of(verdict)
 
     def audit_bytes(self, text: bytes, start: int = 0, end: Optional[int] = None) -> Summary:
-        """The verdict on a part of bytes, which are not copied."""
+        """The verdict on a range of bytes, without a copy."""
         at: int = ctypes.cast(ctypes.c_char_p(text), ctypes.c_void_p).value  # type: ignore[assignment]
         return self.audit(at + start, (len(text) if end is None else end) - start)
 
     def audit_file(self, file: int, start: int, end: int) -> Summary:
-        """The verdict on a part of a file, by the number of an open one, which is not read as a whole."""
+        """The verdict on a range of an open file, given by number, which is not read whole."""
         end = min(end, os.fstat(file).st_size)
         if start >= end:
             return self.audit_bytes(b"")
         before = start % mmap.ALLOCATIONGRANULARITY
-        # such a mapping may be written to, which is what ctypes wants and nobody does
+        # ctypes needs a mapping that may be written to; it is not written to
         with mmap.mmap(file, end - start + before, access=mmap.ACCESS_COPY, offset=start - before) as held:
             first = ctypes.c_char.from_buffer(held)
             try:
@@ -178,8 +178,7 @@ def loaded(path: str) -> Library:
 
 
 def paths() -> list[str]:
-    """Where the library may be: that of the environment's RUDEKPI_LIBRARY, or else the one in the package, then the
-    repository's."""
+    """The paths of the library: RUDEKPI_LIBRARY's, else the package's, then the repository's."""
     given = os.environ.get("RUDEKPI_LIBRARY")
     if given:
         return [os.path.abspath(given)]
@@ -191,7 +190,7 @@ def paths() -> list[str]:
 
 
 def found_library() -> Optional[Library]:
-    """The library, or None where there is none, or none that this system loads."""
+    """The library; None if there is none, or none that this system loads."""
     for path in paths():
         if os.path.isfile(path):
             try:
@@ -202,11 +201,11 @@ def found_library() -> Optional[Library]:
 
 
 def chosen(engine: Optional[str], program: Program) -> Optional[Library]:
-    """The library, where it is the engine; None where that is a program.
+    """The library if it is the engine; None if the program is.
 
-    With no engine it is that of the environment's RUDEKPI_ENGINE, else the library where it is found and no program is
-    given. Raises `ValueError` for an engine that is none, or the library with a program, and `OSError` where the
-    library is wanted and not found.
+    By default it is RUDEKPI_ENGINE's, else the library if it is found and no program is given. Raises
+    `ValueError` for an unknown engine, or the library with a program, and `OSError` if the library is
+    required but not found.
     """
     engine = engine or (None if program else os.environ.get("RUDEKPI_ENGINE") or None)
     if engine is None:

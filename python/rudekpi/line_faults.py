@@ -1,4 +1,4 @@
-"""Which word of a line of a transcript is wrong, and why: of a header, and of an entry that is none."""
+"""Which word of a transcript's line is wrong, and why."""
 
 from __future__ import annotations
 
@@ -28,7 +28,7 @@ RULES = "hh", "manne"
 
 
 class Fault(NamedTuple):
-    """What is wrong with a line: from one character to another, and why."""
+    """What is wrong with a line: the characters from `start` to before `end`, and why."""
 
     start: int
     end: int
@@ -40,7 +40,7 @@ def whole(line: str, why: str) -> Fault:
 
 
 def at_word(line: str, place: int, why: str, start: int = 0) -> Fault:
-    """A fault at a word of a line, by its place among those from a character on, or behind the last one."""
+    """A fault at a word of a line, by index from the character `start`, or after the last word."""
     words = line[start:].split(" ")
     if place >= len(words):
         return Fault(len(line), len(line) + 1, why)
@@ -98,7 +98,7 @@ def why_no_header(line: str, word: str) -> str:
 
 
 def of_header_words(line: str, rest: list[str], is_base: bool) -> Optional[Fault]:
-    """What is wrong behind the first word of a header, or of the first line of a base."""
+    """What is wrong after the first word of a header, or of the first line of a base."""
     if "" in rest:
         return at_word(line, rest.index("") + 1, "words are separated by one space")
     if not rest or rest[0] not in RULES:
@@ -222,7 +222,7 @@ def of_counts(line: str, start: int, reply: str) -> Optional[Fault]:
     return at_word(line, len(COUNTS), "the line has a word too many", start) if len(words) > len(COUNTS) else None
 
 
-# what a word of these replies is, and its pattern
+# the words of these replies, and their patterns
 ITEMS = {
     "step": ("a move, as `1:seduce>2` or `1:update`", r"(\d+):(?:update|abandon|(?:marry|seduce)>(\d+))"),
     "enabled": ("an enabled node with its rule, as `1:seduce`", rf"(\d+):(?:{'|'.join(MOVES[1:])})"),
@@ -248,7 +248,7 @@ def of_list(line: str, start: int, reply: str, word: str) -> Optional[Fault]:
 
 
 def words_of_base(raw: bytes) -> Optional[Fault]:
-    """What is wrong with the form of a line of a base behind its first one."""
+    """What is wrong with the form of a line of a base after its first one."""
     line = text_of_line(raw)
     odd = unprinted(raw)
     if odd:

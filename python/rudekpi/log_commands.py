@@ -1,5 +1,4 @@
-"""The commands `conform`, which judges the log of one's own implementation, and `explain`, which says why a transcript
-is refused."""
+"""The commands `conform`, which judges your own log, and `explain`, for a refused transcript."""
 
 from __future__ import annotations
 
@@ -17,7 +16,7 @@ from .explanations import explain
 from .numbers import counted
 
 DONE, FAILED, BAD_WORDS, FULL, INTERRUPTED = 0, 1, 2, 4, 130
-# makes the parser of a command: its name, what runs it, and what it is for
+# makes the parser of a command: its name, what runs it, and its help
 Command = Callable[[str, Callable[[argparse.Namespace], int], str], argparse.ArgumentParser]
 
 
@@ -28,14 +27,13 @@ def say(text: str) -> None:
 
 
 def divergence_text(found: Divergence) -> str:
-    """A divergence, for a terminal."""
     lines = [f"line {found.line}: {found.wrote}, and the rules do not allow it", f"    {found.event}", f"  {found.why}"]
     lines += [f"  {found.hint}"] if found.hint else []
     return "\n".join([*lines, *(f"    {held}" for held in found.around)])
 
 
 def verdict_text(found: Conformance) -> str:
-    """A verdict, for a terminal: what was judged, and where the network stands."""
+    """A verdict, for a terminal: what was judged, and the network's status."""
     moves = ", ".join(f"{count} {rule}" for rule, count in found.moves.items())
     verdict = "accepted" if found else f"not accepted, {counted(found.divergences, 'divergence')}"
     events = (
@@ -59,7 +57,7 @@ def is_same_file(one: str, other: str) -> bool:
 
 
 def run_conform(given: argparse.Namespace) -> int:
-    """Judges a log; prints each divergence as it comes, and the verdict."""
+    """Judges a log; prints each divergence as it comes, then the verdict."""
     if given.output == "-":
         raise ValueError("a transcript goes to a file, since the verdict goes to standard output")
     if given.output is not None and is_same_file(given.output, given.log):
@@ -88,12 +86,11 @@ def run_conform(given: argparse.Namespace) -> int:
 
 
 def read(path: str) -> bytes:
-    """What a file has, or standard input."""
     return sys.stdin.buffer.read() if path == "-" else pathlib.Path(path).read_bytes()
 
 
 def run_explain(given: argparse.Namespace) -> int:
-    """Why a transcript is refused, or what it has."""
+    """Prints why a transcript is refused, or its counts."""
     transcript = read(given.transcript)
     found = explain(transcript, program=given.program)
     if found is None:
@@ -108,15 +105,12 @@ def run_explain(given: argparse.Namespace) -> int:
 
 
 def add_commands(command: Command) -> None:
-    """Adds both to the commands of the client."""
-    conform = command(
-        "conform", run_conform, "whether the rules allow the moves in the log of one's own implementation"
-    )
+    conform = command("conform", run_conform, "judges whether the rules allow the moves in the log of your own nodes")
     conform.add_argument("log", nargs="?", default="-", help="a file of JSON Lines (standard input)")
-    conform.add_argument("--rules", choices=("hh", "manne"), required=True, help="the rules that it implements")
-    conform.add_argument("--resync", action="store_true", help="goes on after a divergence, which is taken for a fault")
-    conform.add_argument("--output", help="a file for the transcript; the names go to another one, FILE.names")
+    conform.add_argument("--rules", choices=("hh", "manne"), required=True, help="the rules that your nodes implement")
+    conform.add_argument("--resync", action="store_true", help="goes on after a divergence, taking it for a fault")
+    conform.add_argument("--output", help="a file for the transcript; the names go to FILE.names")
     conform.add_argument("--program", help="the program that plays")
-    why = command("explain", run_explain, "why audit refuses a transcript, and what the machine says there")
+    why = command("explain", run_explain, "explains why audit refuses a transcript")
     why.add_argument("transcript", nargs="?", default="-", help="a file (standard input)")
     why.add_argument("--program", help="the program that plays")

@@ -1,4 +1,4 @@
-"""The log of one's own implementation: JSON Lines, an object an event, read line by line as they come."""
+"""The log of your own implementation: JSON Lines, an object an event, read line by line as they come."""
 
 from __future__ import annotations
 
@@ -11,24 +11,24 @@ from typing import Any, BinaryIO, Iterable, Iterator, List, NoReturn, Tuple, Uni
 
 from .errors import BadLine
 
-# a log: the path of a file, a file that is open for bytes, its text, or its lines or objects one by one
+# a log: the path of a file, a file open for bytes, its text, or its lines or objects one by one
 Log = Union["os.PathLike[str]", BinaryIO, str, bytes, Iterable[Any]]
-# lines or objects with their numbers, that came at once
+# lines or objects that came at once, with their numbers
 Block = List[Tuple[int, Any]]
 # how many bytes are read at once, and how many a line may have
 PIECE, LONGEST = 1 << 16, 1 << 24
 UTF_16 = (b"\xff\xfe", b"\xfe\xff")
-# a line that names one register of a node, or an edge, in the spelling of most writers; strings without escapes
+# a line with one register or an edge, in the spelling of most writers; strings without escapes
 NAME = rb'"[^"\\\x00-\x1f]*"|[0-9]+'
 TIME = rb'"time": ?-?(?:0|[1-9][0-9]*)(?:\.[0-9]+)?(?:[eE][-+]?[0-9]+)?'
 START, END = rb"\{(?:" + TIME + rb", ?)?", rb"\}\r?"
 VALUE = rb'(?:"pointer": ?(' + NAME + rb'|null)|"flag": ?(true|false))'
 REGISTER = re.compile(START + rb'"(move|fault)": ?(' + NAME + rb"), ?" + VALUE + END)
 EDGE = re.compile(START + rb'"(link|unlink)": ?\[(' + NAME + rb"), ?(" + NAME + rb")\]" + END)
-# how many characters of a line or a name stand in a message
+# how many characters of a line or a name a message shows
 SHOWN = 200
 EVENTS = ("link", "unlink", "join", "leave", "move", "moves", "fault")
-# the keys of each event beside its own; any line may have a time, which is the writer's
+# the keys of each event besides its own; any line may have a time, which is the writer's
 KEYS = {"move": ("pointer", "flag"), "fault": ("pointer", "flag")}
 FREE = "time"
 
@@ -46,14 +46,14 @@ def spelled(given: object) -> str:
 
 
 def shown(name: object) -> str:
-    """A name as messages have it: as it is if it can be printed in a row of words, else as a log spells it."""
+    """A name as messages show it: plain if it fits among words, else as a log spells it."""
     text = str(name)
     is_plain = text.isprintable() and bool(text) and not any(sign in text for sign in ' ",:;')
     return text if is_plain and len(text) <= SHOWN else spelled(name)
 
 
 def unique(pairs: list[tuple[str, Any]]) -> dict[str, Any]:
-    """The object of some pairs. Raises `ValueError` if a key is there twice."""
+    """The object of some pairs. Raises `ValueError` if it has a key twice."""
     made = dict(pairs)
     if len(made) != len(pairs):
         keys = [key for key, _ in pairs]
@@ -70,7 +70,7 @@ STRICT = json.JSONDecoder(object_pairs_hook=unique, parse_constant=refuse_consta
 
 
 def why_no_json(line: bytes, error: Exception, is_cut: bool) -> str:
-    """Why a line is no JSON, in words for whoever wrote it."""
+    """Why a line is no JSON, in words for its writer."""
     if isinstance(error, UnicodeDecodeError):
         if line.startswith(UTF_16):
             return "the log is UTF-16: write it as UTF-8"
@@ -99,21 +99,21 @@ def object_of(number: int, line: bytes, is_last: bool = False) -> Any:
         made, end = PLAIN.raw_decode(text)
         if end != len(text):
             raise json.JSONDecodeError("a second value", text, end)
-        # a key that is there twice leaves fewer keys than colons
+        # a repeated key leaves fewer keys than colons
         return made if keys_of(made) == text.count(":") else STRICT.decode(text)
     except (ValueError, RecursionError) as error:
         raise BadLine(number, why_no_json(line, error, is_last)) from None
 
 
 def pieces(file: BinaryIO) -> Iterator[bytes]:
-    """What a file has, each piece as soon as some of it is there."""
+    """The bytes of a file, each piece as soon as it is there."""
     read = getattr(file, "read1", file.read)
     while piece := read(PIECE):
         yield piece
 
 
 def blocks_of_pieces(parts: Iterable[bytes]) -> Iterator[Block]:
-    """The lines that end in each piece, with their numbers; those that are blank are left out. Raises `BadLine`."""
+    """The lines that end in each piece, with their numbers, without blank ones. Raises `BadLine`."""
     held: list[bytes] = []
     number = held_size = 0
     for piece in parts:
@@ -138,8 +138,10 @@ def file_blocks(path: os.PathLike[str]) -> Iterator[Block]:
 
 
 def blocks(log: Log) -> Iterator[Block]:
-    """The lines of a log, or their values, with their numbers, in blocks as they come. Raises `BadLine` and
-    `OSError`."""
+    """The numbered lines of a log, or their values, in blocks as they come.
+
+    Raises `BadLine` and `OSError`.
+    """
     if isinstance(log, os.PathLike):
         return file_blocks(log)
     if isinstance(log, str):
@@ -154,14 +156,14 @@ def blocks(log: Log) -> Iterator[Block]:
 
 
 def value_of(number: int, line: Any) -> Any:
-    """The value of a line, or what is one already. Raises `BadLine`."""
+    """The value of a line, which may be one already. Raises `BadLine`."""
     if isinstance(line, str):
         line = line.encode("utf-8", "surrogatepass")
     return object_of(number, line) if isinstance(line, bytes) else line
 
 
 def kind_of(number: int, event: Any) -> str:
-    """The word of an event, whose keys are all known. Raises `BadLine`."""
+    """The word of an event, after checking its keys. Raises `BadLine`."""
     if not isinstance(event, dict):
         raise BadLine(number, f'an event is an object, as {{"move": "a", "pointer": "b"}}, and not {spelled(event)}')
     found: list[str] = [key for key in event if key in EVENTS]

@@ -1,4 +1,4 @@
-"""The names of a network's nodes, and the numbers that a transcript has for them."""
+"""The names of a network's nodes, and their numbers in the transcript."""
 
 from __future__ import annotations
 
@@ -14,11 +14,10 @@ NUMBER = re.compile(r"(?<=[ >])[0-9]+")
 
 
 def own_names(nodes: Iterable[Name]) -> list[Name]:
-    """The caller's names, of which each is there once, and none is None. Those of an array of numpy are Python's own
-    numbers and texts.
+    """The caller's names, each once, none of them None; a numpy array gives Python's own values.
 
-    Raises `TypeError` for what is no list, or has an item that is no name, and `ValueError` for one that is there
-    twice.
+    Raises `TypeError` if it is no iterable or an item is not hashable, and `ValueError` if it is a text, or
+    an item is None or is there twice.
     """
     what = "nodes are a number or a list of names, of which none is None"
     if not isinstance(nodes, Iterable):
@@ -44,12 +43,12 @@ def is_hashable(name: Name) -> bool:
 
 
 def is_number(nodes: object) -> bool:
-    """Whether this is a whole number, also one of numpy; an array of numpy, which says that it is one, is none."""
+    """Whether this is a whole number, also of numpy; a numpy array claims to be one, and is not."""
     return hasattr(nodes, "__index__") and not getattr(nodes, "shape", ())
 
 
 class Names:
-    """The numbers 1 to a count as names, or the caller's own names with the numbers 1, 2, .. in their order."""
+    """The numbers 1 to a count as names, or the caller's own names, numbered 1, 2, .. in order."""
 
     def __init__(self, nodes: Union[int, Iterable[Name]]) -> None:
         self.own: Optional[list[Name]] = None if is_number(nodes) else own_names(cast("Iterable[Name]", nodes))
@@ -90,5 +89,5 @@ class Names:
         return NUMBER.sub(lambda found: repr(self.name_of(int(found[0]))), event, count=most)
 
     def named(self, given: Optional[int]) -> Optional[Name]:
-        """A node's name out of its number, None out of None."""
+        """The name of a number; None for None."""
         return None if given is None else self.name_of(given)

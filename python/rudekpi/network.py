@@ -1,4 +1,4 @@
-"""A network that is played by a run of the program."""
+"""A network that the library or the program plays."""
 
 from __future__ import annotations
 
@@ -39,22 +39,20 @@ from .state import Follower, Seen, State
 
 
 class Network:
-    """A network that is played by the library in this process, or by a run of the program, one command a call.
+    """A network that the library plays in this process, or a run of the program, one command a call.
 
-    `nodes` is how many there are, with the names 1 to that, or their names, which get the numbers 1, 2, .. in that
-    order; the transcript has the numbers. Of a `Graph`, or one of networkx, it has the edges too. Under `manne` the
-    numbers matter: a node proposes to the greater ones. The first `present` of them are there at the start, all where
-    nothing is said; others may `join`. With `keep=False` the transcript is kept from the last checkpoint on, and not
-    longer.
+    `nodes` is their number, 0 to 65,535, or a list of names, which get the numbers 1, 2, .. of the transcript
+    in order. A `Graph`, or a graph of networkx, gives the edges too. Under `manne` the numbers matter: a node
+    proposes only to neighbours with greater ones. The first `present` nodes, by default all, are there at the
+    start; others may `join`. With `keep=False` the transcript is kept only from the last checkpoint on.
 
-    The `engine` is "library" or "program": where nothing is said that of the environment's RUDEKPI_ENGINE, else the
-    library where it is found and no program is named. Answers and transcripts are the same. The library is that of
-    RUDEKPI_LIBRARY, else the one in this package, else `release/librudekpi.so` of the repository. If memory runs
-    out in it, it raises `MemoryError` and nothing was carried out; `NoReply`, which is one too, says that only the
-    reply is lost.
+    The `engine` is "library" or "program"; by default RUDEKPI_ENGINE's, else the library if it is found and
+    no program is named. Replies and transcripts are the same. For the paths of both see the package.
 
-    An interrupt (Ctrl-C) at any moment leaves it usable. The command that was cut short is carried out or was never
-    asked: `status`, `edges` and the transcript tell. A network that nobody refers to any more ends its program.
+    If memory runs out, the library raises `MemoryError` and nothing was carried out; `NoReply`, also a
+    `MemoryError`, means that only the reply is lost. An interrupt (Ctrl-C) at any moment leaves the network
+    usable. The interrupted command is carried out or was never asked: `status`, `edges` and the transcript
+    show which. A network that is not referenced ends its program.
     """
 
     def __init__(
@@ -87,7 +85,6 @@ class Network:
                     batch.link(a, b)
 
     def _run(self, start: int, keep: bool) -> Session:
-        """A run of the program."""
         rules, count = self.rules, self._names.count
         first = [] if start == count else [str(start)]
         header = " ".join(["matching", rules, str(count), *first]).encode()
@@ -121,18 +118,20 @@ class Network:
         return self._look(lambda state: drawings.html_of(repr(self), state, self._names))
 
     def close(self) -> None:
-        """Ends the run, once all is carried out. Raises `Ended` where the program did not end well. The transcript
-        stays."""
+        """Ends the run, once all commands are carried out; the transcript stays.
+
+        Raises `Ended` if the program ended badly.
+        """
         self._session.close()
 
     @property
     def nodes(self) -> list[Name]:
-        """All names, in the order of their numbers, whether their nodes are present or not."""
+        """All names, in the order of their numbers, whether present or not."""
         return self._names.all()
 
     @property
     def present(self) -> list[Name]:
-        """The names of the nodes that are present, in the order of their numbers."""
+        """The names of the present nodes, in the order of their numbers."""
         return [self.name_of(number) for number in self._look(lambda state: sorted(state.neighbours))]
 
     @property
@@ -141,20 +140,22 @@ class Network:
         return [(self.name_of(a), self.name_of(b)) for a, b in self._look(State.edges)]
 
     def neighbours(self, node: Name) -> list[Name]:
-        """The neighbours of a node that is present, in the order of their numbers. Raises `ValueError` for any other
-        node."""
+        """The neighbours of a present node, in the order of their numbers.
+
+        Raises `ValueError` for any other node.
+        """
         near = self._look_at(node, lambda state, number: sorted(state.neighbours[number]))
         return [self.name_of(number) for number in near]
 
     def registers(self, node: Name) -> Registers:
-        """What a node that is present holds. Raises `ValueError` for any other node."""
+        """The registers of a present node. Raises `ValueError` for any other node."""
         pointer, flag = self._look_at(node, lambda state, number: (state.pointers.get(number), number in state.flags))
         return Registers(self._names.named(pointer), flag)
 
     def partner(self, node: Name) -> Optional[Name]:
-        """With whom a node that is present is paired, or None. Raises `ValueError` for any other node.
+        """The partner of a present node, or None. Raises `ValueError` for any other node.
 
-        By the library the answer is its proved one; by a program, and once the network is closed, it is that of the
+        The library gives its proved answer. With the program, and after `close`, the answer comes from the
         transcript.
         """
         found = self._session.partner(self.number_of(node))
@@ -164,21 +165,23 @@ class Network:
         return None if found == 0 else self._names.named(followed)
 
     def number_of(self, name: Name) -> int:
-        """The number that the transcript has for a name. A number that is no node's is one that the network refuses."""
+        """The number of a name in the transcript.
+
+        A number from 1 to 65,535 is its own; the network refuses those of no node. Raises `ValueError` for
+        another number or an unknown name, and `TypeError` for what can be no name.
+        """
         return self._names.number_of(name)
 
     def name_of(self, number: int) -> Name:
-        """The name of the node that has a number in the transcript."""
+        """The name of the node with this number in the transcript."""
         return self._names.name_of(number)
 
     def follower(self) -> Follower:
-        """The state of this network by its nodes' numbers, whenever that is asked for: for daemons that look at more
-        than who is enabled."""
+        """The network's state by node number, whenever asked for; for daemons that look at all of it."""
         return Follower(self._session)
 
     def batch(self, raises: bool = True) -> Batch:
-        """Commands that do not wait for one another: `with net.batch() as batch:`, then `batch.link(1, 2)` and so
-        on."""
+        """Commands that do not wait for each other: `with net.batch() as batch:`, then `batch.link(1, 2)`."""
         return self._session.batch(raises)
 
     def link(self, a: Name, b: Name) -> Accepted:
@@ -194,19 +197,22 @@ class Network:
         return self._single.point(node, target).result()
 
     def flag(self, node: Name, value: bool) -> Accepted:
-        """A fault: the node's married flag is written (`manne` only)."""
+        """A fault: writes the node's married flag (`manne` only)."""
         return self._single.flag(node, value).result()
 
     def join(self, node: Name) -> Accepted:
-        """A name becomes present, without an edge, null and unflagged."""
+        """An absent node becomes present, without edges, its pointer null and its flag false."""
         return self._single.join(node).result()
 
     def leave(self, node: Name) -> Accepted:
-        """A node goes, with its edges and the pointers at it; its name may join again."""
+        """A node leaves, with its edges and the pointers at it; its name may join again."""
         return self._single.leave(node).result()
 
     def step(self, choice: Choice) -> Moves:
-        """These nodes move at once, each by its rule: names, and `Wish(node, target)` where a target is wished."""
+        """These nodes move at once, each by its rule.
+
+        An item is a name, or `Wish(node, target)` to choose the target.
+        """
         return self._single.step(choice).result()
 
     def show(self, node: Name) -> Shown:
@@ -214,7 +220,7 @@ class Network:
         return self._single.show(node).result()
 
     def enabled(self) -> Enabled:
-        """Who may move, and by which rule."""
+        """The enabled nodes, each with its rule."""
         return self._single.enabled().result()
 
     def matching(self) -> Matching:
@@ -222,70 +228,74 @@ class Network:
         return self._single.matching().result()
 
     def status(self) -> Status:
-        """Numbers of nodes, edges, pairs and enabled nodes, the charge, and the moves since the last disturbance."""
+        """Counts of nodes, edges, pairs and enabled nodes; the charge; moves since the last disturbance."""
         return self._single.status().result()
 
     def drive(self, seed: int, turns: int) -> Turns[Moves]:
-        """Up to so many steps of the program's seeded daemon, until nobody is enabled; and the status then, an entry
-        too."""
+        """At most `turns` steps of the program's seeded daemon, until silence; then the status.
+
+        `seed` is 0 to 2^64 - 1, `turns` 0 to 1,000,000. The status is an entry too.
+        """
         return self._single.drive(seed, turns).result()
 
     def scramble(self, seed: int, faults: int) -> Turns[Fault]:
-        """So many faults of registers, drawn from a seed; and the status then, an entry too."""
+        """This many faults of registers, drawn from a seed; then the status, an entry too.
+
+        `seed` is 0 to 2^64 - 1, `faults` 0 to 1,000,000.
+        """
         return self._single.scramble(seed, faults).result()
 
     def checkpoint(self) -> Base:
-        """Where the network stands, as a base whose lines stand in the transcript then; they are no entry."""
+        """The current state as a base, whose lines are added to the transcript; they are no entry."""
         return self._single.checkpoint().result()
 
     def cost_of(self, word: str, *given: Name) -> int:
-        """What an edit or a fault would cost if it came now, in moves: `net.cost_of("unlink", "ann", "bob")`, and so
-        for `link`, `join`, `leave`, `point` and `flag`. The charge grows by no more than this. Nothing is done, and no
-        entry added.
+        """The cost in moves of an edit or a fault if it came now: `net.cost_of("unlink", "ann", "bob")`.
 
-        Raises `ValueError` for an event that would be refused, as to unlink what is not linked, and `NoSuchCommand` by
-        a program, which has no command for it.
+        The words are `link`, `unlink`, `join`, `leave`, `point` and `flag`. The charge would grow by at most
+        this much. Nothing is done, and no entry is added. Raises `ValueError` for an event that would be
+        refused, such as the unlinking of unlinked nodes, `TypeError` for a wrong number of words, and
+        `NoSuchCommand` with a program.
         """
         numbers = numbers_of_edit(self._names, word, given)
         cost = self._session.cost_of(word, numbers)
         if not cost:
-            # there are edits and faults that cost nothing, and the library says the same of what would be refused
+            # some edits and faults cost nothing, and the library returns 0 for refused ones too
             why = self._look(lambda state: why_refused(state, word, *numbers))
             if why:
                 raise ValueError(f"{' '.join([word, *map(repr, given)])} would be refused ({why}), so it has no cost")
         return cost
 
     def reach(self, word: str, *given: Name) -> set[Name]:
-        """The nodes that an edit or a fault would reach if it came now: `net.reach("unlink", "ann", "bob")`, and so
-        for `link`, `join`, `leave`, `point` and `flag`. Each other node that is at rest stays at rest.
+        """The nodes that an edit or a fault would reach if it came now: `net.reach("unlink", "ann", "bob")`.
 
-        Empty for an event that would be refused. No entry is added. Raises `ValueError` for another word or a name that
-        no node has, and `NoSuchCommand` by a program.
+        The words are those of `cost_of`. Every other node at rest stays at rest. Empty for an event that
+        would be refused. No entry is added. Raises `ValueError` for another word or an unknown name,
+        `TypeError` for a wrong number of words, and `NoSuchCommand` with a program.
         """
         numbers = numbers_of_edit(self._names, word, given, "reach")
         return set(map(self.name_of, self._session.reach(word, numbers)))
 
     def is_at_rest(self, node: Name) -> bool:
-        """Whether a node does not move before an edit or a fault reaches it, whatever the daemon chooses.
+        """Whether a node stays still until an edit or a fault reaches it, whatever the daemon chooses.
 
-        A name that is absent is at rest. No entry is added. Raises `ValueError` for a name that no node has, and
-        `NoSuchCommand` by a program.
+        An absent node is at rest. No entry is added. Raises `ValueError` for an unknown name, and
+        `NoSuchCommand` with a program.
         """
         return self._session.is_at_rest(self.number_of(node))
 
     def restless(self) -> list[Name]:
-        """The nodes that are not at rest, in the order of their numbers: only these may move before the next
-        disturbance.
+        """The nodes not at rest, in order of number; only these may move before the next disturbance.
 
-        Raises `NoSuchCommand` by a program.
+        Raises `NoSuchCommand` with a program.
         """
         return [node for node in self.present if not self.is_at_rest(node)]
 
     def moves_left(self) -> int:
-        """How many moves can still come before the next edit or fault: at most this many, whatever the daemon chooses.
+        """The most moves before the next edit or fault, whatever the daemon chooses.
 
-        It is the charge; under `hh` it is also at most n²/2 + n - 2 among n nodes, the half rounded down. The library
-        adds no entry. A program is asked for its `status`, which is one.
+        It is the charge, and under `hh` at most n²/2 + n - 2 for n nodes, the half rounded down. The library
+        adds no entry; a program is asked for its `status`, which is one.
         """
         found = self._session.moves_left()
         if found is not None:
@@ -294,14 +304,15 @@ class Network:
         return moves_left(self.rules, status.charge, status.nodes)
 
     def settle(self, daemon: Union[Daemon, AnyDaemon, str]) -> Settled:
-        """Lets a daemon choose who moves until nobody is enabled.
+        """Lets a daemon choose the movers until the network is silent; returns steps, moves and first charge.
 
-        The daemon gets the enabled nodes, a mapping from name to rule, and gives back those that move, with a `Wish`
-        where it has one; those of `rudekpi.daemons` are given as they are, or by their words, as "seeded". Raises
-        `TypeError` where it is no daemon, `WrongChoice` where it chooses nobody or a node that is not enabled,
-        `Refused` where the network takes the choice otherwise amiss (two nodes under `hh`), and `PastBound` where there
-        are more moves than the charge. The transcript has the `status` asked at first, and an `enabled` in front of
-        each step and at the end.
+        The daemon maps the enabled nodes, a mapping from name to rule, to those that move, perhaps as a
+        `Wish`. Those of `rudekpi.daemons` are given as values, or by word, such as "seeded". The transcript
+        gets a `status` first, and an `enabled` before each step and at the end.
+
+        Raises `TypeError` if it is no daemon, and `WrongChoice` if it chooses no node or a node that is not
+        enabled. Raises `Refused` if the network refuses the choice otherwise (two nodes under `hh`), and
+        `PastBound` if there are more moves than the charge.
         """
         if isinstance(daemon, str):
             daemon = named(daemon)
@@ -323,7 +334,7 @@ class Network:
             steps += 1
 
     def transcript(self) -> str:
-        """What the program wrote, to the byte, once all commands are carried out, or it has ended; whole lines alone.
+        """The program's output to the byte, in whole lines, once all commands are carried out.
 
         With `keep=False` it begins at the last checkpoint.
         """
@@ -331,23 +342,27 @@ class Network:
         return self._session.text()
 
     def audit(self) -> Summary:
-        """What `audit` says of the transcript."""
+        """The verdict of `audit` on the transcript."""
         return audits.audit(self.transcript(), program=self._program, engine=self.engine)
 
     def picture(self, entry: Optional[int] = None) -> str:
-        """The network behind an entry, 0 to 16,777,216, or behind all, for Graphviz. Raises `ValueError` where there is
-        no such entry."""
+        """The network after an entry, 0 to 16,777,216, by default the last, as text for Graphviz.
+
+        Raises `ValueError` if there is no such entry.
+        """
         return audits.picture(self.transcript(), entry, program=self._program)
 
     def play(self, path: Union[str, os.PathLike[str]]) -> None:
-        """Writes a page that plays the transcript in a browser. Raises `OSError` where it can't be written; a file of
-        that name is then as it was before, or not there."""
+        """Writes a page that plays the transcript in a browser.
+
+        Raises `OSError` if it cannot be written; a file of that name is then unchanged, or absent.
+        """
         drawings.write_page(self.transcript(), path, self._program)
 
     def to_networkx(self) -> Any:
-        """The nodes that are present and their edges as a `networkx.Graph`, by the caller's names. Wants networkx.
+        """The present nodes and their edges as a `networkx.Graph`, by the caller's names. Needs networkx.
 
-        Nodes have the attributes `pointer` and `flag`, and edges `pair`, whether their ends are paired.
+        Nodes have the attributes `pointer` and `flag`; edges have `pair`, whether their ends are paired.
         """
         import networkx
 
@@ -356,7 +371,7 @@ class Network:
         return graph
 
     def _add_to(self, graph: Any, state: State) -> None:
-        """Adds the nodes that are present and their edges to a `networkx.Graph`."""
+        """Adds the present nodes and their edges to a `networkx.Graph`."""
         name_of = self.name_of
         for node in sorted(state.neighbours):
             graph.add_node(name_of(node), pointer=self._names.named(state.pointers.get(node)), flag=node in state.flags)
@@ -373,7 +388,10 @@ class Network:
         keep: bool = True,
         engine: Optional[str] = None,
     ) -> Network:
-        """A network with the nodes and edges of a simple undirected `networkx.Graph`, all pointers null."""
+        """A network with the nodes and edges of a simple undirected `networkx.Graph`, all pointers null.
+
+        Raises `ValueError` for a directed graph, a multigraph or a loop.
+        """
         if graph.is_directed() or graph.is_multigraph():
             raise ValueError("a simple undirected graph is wanted: see to_undirected and networkx.Graph")
         if any(a == b for a, b in graph.edges):
@@ -385,11 +403,11 @@ class Network:
         return net
 
     def _look(self, see: Callable[[State], Seen]) -> Seen:
-        """What a function sees in where the network stands once all commands are carried out."""
+        """The result of a function on the state after all commands are carried out."""
         return self._follower.look(see)
 
     def _look_at(self, node: Name, see: Callable[[State, int], Seen]) -> Seen:
-        """What a function sees at a node that is present."""
+        """The result of a function on the state at a present node."""
         number = self.number_of(node)
 
         def look(state: State) -> Seen:
@@ -400,7 +418,6 @@ class Network:
         return self._look(look)
 
     def _played(self, events: Iterable[str]) -> str:
-        """The transcript once these events are carried out."""
         for event in events:
             self._session.tell(event)
         return self.transcript()

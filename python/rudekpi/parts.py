@@ -1,4 +1,4 @@
-"""Transcripts that are audited in parts, side by side."""
+"""Transcripts that are audited in parts, in parallel."""
 
 from __future__ import annotations
 
@@ -22,20 +22,22 @@ HEAD_START = b"\nmatching2 "
 # the first lines of a base, and more bytes than they may have
 HEAD = re.compile(rb"matching2 [^\n]*\nbase [0-9]{1,10} spent=[0-9]{1,10} nodes=([0-9]{1,10}) edges=([0-9]{1,10})\n")
 HEAD_SIZE = 256
-# how many bytes are looked at at once
+# how many bytes are read at once
 PIECE = 1 << 18
-# a part has no more of what is left than one of so many parts for each thread, so that the last ones are small and all
+# a part is about what is left divided by this many parts a thread, so that the last ones are small and all
 # end together
 PARTS_LEFT = 2
-# where a part begins, and where it ends
+# the start of a part, and its end
 Part = Tuple[int, int]
-# the audit of a part, or None where it is lost
+# the audit of a part, or None if it is lost
 Verdict = Optional["Future[Summary]"]
 
 
 class LostPart(Lost):
-    """Workers died twice over a part of a transcript, the bytes from `start` to before `end`, which begin with a line's
-    number `line`. All in front of it is accepted."""
+    """Workers died twice over a part of a transcript: the bytes `start` to before `end`.
+
+    They begin with line number `line`. Everything before is accepted.
+    """
 
     def __init__(self, start: int, end: int, line: int) -> None:
         super().__init__(
@@ -55,11 +57,11 @@ class Held:
         self.size = len(text) if file is None else os.fstat(file).st_size
 
     def read(self, start: int, count: int) -> bytes:
-        """So many bytes from a place on, or fewer, where it has an end or the system gives no more."""
+        """At most `count` bytes from a place on; fewer at the end, or if the system gives fewer."""
         return self.text[start : start + count] if self.file is None else os.pread(self.file, count, start)
 
     def part(self, start: int, end: int, executor: Executor) -> Union[bytes, Slice]:
-        """What a worker gets: no copy where it is a thread, or may open the file itself."""
+        """A part for a worker: without a copy if it is a thread, or may open the file."""
         if self.file is None:
             return Slice(self.text, start, end) if isinstance(executor, ThreadPoolExecutor) else self.text[start:end]
         if isinstance(executor, ThreadPoolExecutor):
@@ -69,7 +71,7 @@ class Held:
         return b"".join(self.read(at, min(PIECE, end - at)) for at in range(start, end, PIECE))
 
     def lines_before(self, end: int) -> int:
-        """How many lines end in front of a place."""
+        """How many lines end before a place."""
         return sum(self.read(at, min(PIECE, end - at)).count(b"\n") for at in range(0, end, PIECE))
 
 
@@ -82,20 +84,20 @@ def audit_parts(
     shared: bool = False,
     engine: Optional[str] = None,
 ) -> Summary:
-    """The verdict of `audit` on a transcript that has bases, reached in parts of about `size` bytes or more.
+    """The verdict of `audit` on a transcript with bases, judged in parts of at least about `size` bytes.
 
-    Each part ends with the base with which the next begins. So a part's audit says that its entries lead from the one
-    base to the other, and that all parts are accepted says of the whole what `audit` says. Where one is refused, the
-    first damage of the whole is that of the first such part, and `Damaged` has its line in the whole. A transcript with
-    no base inside is one part.
+    Each part ends with the base that begins the next. So if all parts are accepted, `audit` accepts the
+    whole. If a part is refused, the first damage is that of the first such part; `Damaged` has its line in
+    the whole. Without a base inside there is one part.
 
-    The executor is any of `concurrent.futures` or a cluster's, whose workers have this package and the program; by
-    default a thread for each processor of this machine, each of which waits for an audit. A `pathlib.Path` names a
-    file, which is not read as a whole: its bytes go from the file to the program, where workers are threads or
-    processes of this machine, or where it is `shared`: all workers find it by this path. It is not to change meanwhile.
-    A part of which a cluster loses the verdict, as where its worker dies, is judged once more; where that is lost too,
-    and all in front is accepted, `LostPart` is raised. A pool of processes breaks where one of them dies: that is the
-    caller's, is not replaced, and raises its `BrokenExecutor`.
+    The executor is any of `concurrent.futures`, or a cluster's, whose workers have this package and the
+    program; by default a thread for each processor of this machine. A `pathlib.Path` names a file, which is
+    not read whole and must not change meanwhile. Workers open it if they are threads or processes of this
+    machine, or if it is `shared`: all find it by this path.
+
+    If a cluster loses a part's verdict, the part is judged once more. If that is lost too, and everything
+    before is accepted, `LostPart` is raised. A process pool of the caller breaks if one of its processes
+    dies: it is not replaced, and raises its `BrokenExecutor`.
     """
     if not isinstance(transcript, os.PathLike):
         return audit_held(Held(bytes_of(transcript)), executor, size, program, engine)
@@ -119,7 +121,7 @@ def audit_held(held: Held, executor: Optional[Executor], size: int, program: Pro
 def verdict_of(
     held: Held, parts: Iterator[Part], executor: Executor, program: Program, engine: Optional[str]
 ) -> Summary:
-    """What the parts' verdicts say of the whole, joined in their order."""
+    """The verdict on the whole: the parts' verdicts, joined in order."""
     judge = functools.partial(audit, program=program, engine=engine)
     handing: Handing[tuple[int, Part]] = Handing(
         enumerate(parts), lambda task: (judge, held.part(*task[1], executor)), executor
@@ -138,11 +140,10 @@ def verdict_of(
 
 
 def joined(whole: Optional[Summary], found: Union[Summary, Damaged], lines: int) -> Summary:
-    """The verdict on the parts so far, if there are some, and on the next, as one; raises `Damaged`. `lines` of the
-    whole stand before the next, which matters only for a damage.
+    """The joint verdict on the parts so far, if any, and the next part. Raises `Damaged`.
 
-    The library joins them wherever there is one, whatever has judged the parts: its call is proved. Else the same sums
-    are made here.
+    `lines` is how many lines precede the next part; only a damage needs it. If the library is found, its
+    proved call joins them, whichever engine judged; else the same sums are made here.
     """
     library = found_library()
     if whole and library:
@@ -156,7 +157,7 @@ def joined(whole: Optional[Summary], found: Union[Summary, Damaged], lines: int)
 
 
 def in_order(done: Iterator[tuple[tuple[int, Part], Verdict]]) -> Iterator[tuple[Part, Verdict]]:
-    """Parts with verdicts that come with the numbers 0, 1, 2, .. in any order, in that of their numbers."""
+    """Numbered parts with verdicts in any order, sorted by number 0, 1, 2, .."""
     held: dict[int, tuple[Part, Verdict]] = {}
     turn = 0
     for (number, part), verdict in done:
@@ -167,10 +168,9 @@ def in_order(done: Iterator[tuple[tuple[int, Part], Verdict]]) -> Iterator[tuple
 
 
 def parts_of(held: Held, size: int, parts_left: int = 0) -> Iterator[Part]:
-    """Where parts begin and end: from a base, or the beginning, to the end of a later base, or of all.
+    """Where parts begin and end: from the start or a base to the end of a later base or of all.
 
-    Each has the size or more, and where it is said into about how many parts all that is left shall be divided, as much
-    as that.
+    Each has at least the size, and with `parts_left` at least what is left divided by that.
     """
     start = 0
     while True:
@@ -184,8 +184,10 @@ def parts_of(held: Held, size: int, parts_left: int = 0) -> Iterator[Part]:
 
 
 def base_behind(held: Held, place: int) -> Optional[tuple[int, int]]:
-    """Where the first base behind a place begins and ends. One that does not tell its end is none, and the part that it
-    stands in goes on behind it, and is refused there."""
+    """The start and end of the first base after a place.
+
+    A base without a clear end is skipped: the part that contains it is refused there.
+    """
     while place < held.size:
         piece = held.read(place, PIECE)
         found = piece.find(HEAD_START)
@@ -197,14 +199,13 @@ def base_behind(held: Held, place: int) -> Optional[tuple[int, int]]:
         elif len(piece) < len(HEAD_START):
             return None
         else:
-            # its beginning may stand at the end of this piece
+            # a base may begin at the end of this piece
             place += len(piece) - len(HEAD_START) + 1
     return None
 
 
 def end_of_base(held: Held, start: int) -> Optional[int]:
-    """The place behind a base's last line, or None where its second line tells no numbers that a base has, or there are
-    fewer lines."""
+    """The place after a base's last line; None if its second line is wrong, or lines are missing."""
     found = HEAD.match(held.read(start, HEAD_SIZE))
     if not found or int(found[1]) > MOST_NODES or int(found[2]) > MOST_EDGES:
         return None

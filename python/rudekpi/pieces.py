@@ -18,21 +18,20 @@ from .replies import Summary
 
 # a kind that no verdict has
 NO_VERDICT = 2**32 - 1
-# that of an audit that is over, or to which memory was refused
+# the kind of an audit that is over, or that ran out of memory
 UNJUDGED = 6
 
 
 class Audit:
-    """Judges a transcript that comes in pieces, cut anywhere, and keeps no more of it than a line or a base that is not
-    whole yet.
+    """Judges a transcript that comes in pieces, cut anywhere.
 
         with Audit() as audit:
             for piece in pieces:
                 audit.feed(piece)
             print(audit.finish())
 
-    It is by an engine as that of a `Network`: the library, or a run of the program behind a pipe. Where an interrupt
-    cuts a `feed` short it is not known whether the piece was taken.
+    It keeps only an unfinished line or base. The engine is chosen as for a `Network`; the program runs with a
+    pipe. If an interrupt cuts a `feed` short, it is unknown whether the piece was taken.
     """
 
     def __init__(self, *, program: Program = None, engine: Optional[str] = None) -> None:
@@ -52,31 +51,35 @@ class Audit:
         raise TypeError("an audit belongs to one process and is not copied")
 
     def feed(self, piece: Text) -> None:
-        """Feeds it what comes next. Raises `Damaged` where what came is no transcript, whatever comes behind, and so do
-        later calls; the program may be seen to say so at a later call, at `finish` at the latest. Raises `MemoryError`,
-        or by a program `Ended`, where there is no memory, which ends it."""
+        """Feeds the next piece.
+
+        Raises `Damaged` if what came is no transcript, whatever follows, and so do later calls; the program
+        may report it only at a later call, at the latest at `finish`. If memory runs out, raises
+        `MemoryError`, or with a program `Ended`; that ends the audit.
+        """
         self._judge.feed(bytes_of(piece))
 
     def finish(self) -> Summary:
-        """What the transcript has that it was fed; else raises as `feed` does. It may be asked again, and nothing more
-        can be fed."""
+        """The counts of the transcript that was fed; raises as `feed` does.
+
+        It may be called again, but nothing more can be fed.
+        """
         return self._judge.finish()
 
     def close(self) -> None:
-        """Ends it, without a verdict where none was asked for."""
+        """Ends the audit, without a verdict unless one was asked for."""
         self._judge.close()
 
 
 class DirectAudit:
-    """An audit by the library. The verdict is written where it stays, so that an interrupt behind the call loses
-    nothing."""
+    """An audit by the library. Its verdict is written in place: an interrupt after the call loses nothing."""
 
-    # of one that is not wholly made
+    # of one that is not fully built
     owner = 0
 
     def __init__(self, library: Library) -> None:
         self.library, self.slot, self.lock = library, Slot(), threading.RLock()
-        # one for each time it was asked for, of which one at the most is that of all that it was fed
+        # one for each request; at most one of them covers all that was fed
         self.verdicts: list[Verdict] = []
         self.at, self.owner = ctypes.byref(self.slot), os.getpid()
         if library.audit_new(self.at):
@@ -111,14 +114,16 @@ class DirectAudit:
 
 
 class AuditRun:
-    """A run of the program's `audit`, which is fed through a pipe. A handler of a signal that asks it in the middle of
-    a call of it gets an error: the pieces would come in another order."""
+    """A run of the program's `audit`, fed through a pipe.
 
-    # of one that is not wholly made
+    A signal's handler that uses it during a call gets an error, since the order of pieces would change.
+    """
+
+    # of one that is not fully built
     owner = 0
 
     def __init__(self, words: Sequence[str]) -> None:
-        # how it has ended, and what it wrote, once a verdict was asked for
+        # the status and the output, once a verdict was asked for
         self.ended: Optional[tuple[int, bytes, bytes]] = None
         self.is_busy = self.is_closed = False
         self.said: list[bytes] = []
@@ -139,7 +144,7 @@ class AuditRun:
 
     @contextlib.contextmanager
     def alone(self) -> Iterator[None]:
-        """Raises `ValueError` where another call is under way."""
+        """Raises `ValueError` if another call is under way."""
         if self.is_busy:
             raise ValueError("the audit is in the middle of another call")
         try:
@@ -158,7 +163,7 @@ class AuditRun:
             raise ValueError("the audit is over")
 
     def send(self, left: memoryview) -> bool:
-        """Whether the program took all bytes; it takes no more once it has found a damage."""
+        """Whether the program took all bytes; after a damage it takes no more."""
         ready = select.poll()
         ready.register(self.run.to.fileno(), select.POLLOUT)
         try:
@@ -179,13 +184,13 @@ class AuditRun:
         return summary_read(said_by(*self.ended))
 
     def end(self) -> tuple[int, bytes, bytes]:
-        """How the program ends behind the end of what it is fed. Where it was cut short it is done again."""
+        """Closes the input and returns how the program ended. If it was cut short, call it again."""
         self.run.to.close()
         ready = select.poll()
         ready.register(self.run.of.fileno(), select.POLLIN)
         while not self.said or self.said[-1]:
             ready.poll()
-            # one call of C, which has kept what was read when the next handler runs
+            # one C call: what was read is kept when the next handler runs
             self.said.extend(itertools.filterfalse(IS_NONE, map(self.run.of.read, (READ,))))
         return self.run.status(), b"".join(self.said), self.run.told()
 

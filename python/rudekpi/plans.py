@@ -1,4 +1,4 @@
-"""Experiments that are files: plans of sweeps, in JSON or TOML, and rows that are made again."""
+"""Experiments as files: plans of sweeps, in JSON or TOML, and rows that are played again."""
 
 from __future__ import annotations
 
@@ -17,7 +17,7 @@ from .simple_graph import Graph
 from .sweeps import Experiment, Played, Row, read_csv
 
 KEYS = ("graphs", "undirected", "rules", "daemons", "seeds", "first_seed", "disturbances")
-# how a disturbance is written in a row: each part, and what it is made of
+# the parts of a disturbance in a row, and how each is read
 PARTS: tuple[tuple[str, Callable[[re.Match[str]], dict[str, Any]]], ...] = (
     (r"([0-9]+) faults?(?: of (pointer|flag)s)?", lambda it: {"faults": int(it[1]), "registers": it[2] or "any"}),
     (r"([0-9]+) joins?", lambda it: {"joins": int(it[1])}),
@@ -42,9 +42,10 @@ class Plan:
 
 
 def read_plan(path: str) -> Plan:
-    """The plan in a file: TOML if its name ends so, else JSON.
+    """The plan in a file: TOML if its name ends in `.toml`, else JSON.
 
-    Raises `ValueError` with the path if it is no plan, or TOML before Python 3.11, and `OSError` if it can't be read.
+    Raises `ValueError` with the path if it is no plan, or is TOML before Python 3.11, and `OSError` if it
+    can't be read.
     """
     with open(path, "rb") as file:
         data = file.read()
@@ -63,7 +64,7 @@ def toml_of(data: bytes) -> Any:
 
 
 def plan_of(given: Any) -> Plan:
-    """The plan that an object says. Raises `ValueError` for a key or a value that is none."""
+    """The plan of an object. Raises `ValueError` for an unknown key or a wrong value."""
     if not isinstance(given, dict):
         raise ValueError("a plan is an object with the keys " + ", ".join(KEYS))
     odd = next((key for key in given if key not in KEYS), None)
@@ -123,7 +124,7 @@ def disturbance_of(given: Any) -> Disturbance:
 
 
 def disturbance_in(text: str) -> Disturbance:
-    """The disturbance that a row names. Raises `ValueError` for what is none."""
+    """The disturbance that a row names. Raises `ValueError` if it is none."""
     if text == "start":
         return Disturbance()
     words: dict[str, Any] = {}
@@ -136,9 +137,9 @@ def disturbance_in(text: str) -> Disturbance:
 
 
 def experiment_of(row: Row, undirected: bool = False, program: Program = None) -> Experiment:
-    """The experiment of a row: its graph is made or read again by its title.
+    """The experiment of a row, whose graph is made or read again by its title.
 
-    Raises `ValueError` if the daemon is a function of the caller's own, or there is no such graph.
+    Raises `ValueError` if the daemon is the caller's own function, or there is no such graph.
     """
     if row.daemon not in daemons.WORDS:
         raise ValueError(f"the daemon {row.daemon!r} is none that has a word: they are {', '.join(daemons.WORDS)}")
@@ -147,7 +148,10 @@ def experiment_of(row: Row, undirected: bool = False, program: Program = None) -
 
 
 def play_again(row: Row, undirected: bool = False, program: Program = None) -> Played:
-    """The run of a row, played again. Raises `RudekpiError` if another row comes of it, as from a file that changed."""
+    """The run of a row, played again.
+
+    Raises `RudekpiError` if it gives another row, for example because a file changed.
+    """
     experiment = experiment_of(row, undirected, program)
     played = experiment.played()
     made = experiment.measured(played, 0.0)
@@ -159,7 +163,7 @@ def play_again(row: Row, undirected: bool = False, program: Program = None) -> P
 
 
 def row_in(file: TextIO, number: int) -> Row:
-    """A row of a file that a sweep wrote, the first of which is row 1. Raises `ValueError` if there is none."""
+    """A row of a file that a sweep wrote, from 1 on. Raises `ValueError` if there is none."""
     rows = read_csv(file)
     if not 1 <= number <= len(rows):
         raise ValueError(f"there is no row {number}: {getattr(file, 'name', 'the file')} has rows 1 to {len(rows)}")

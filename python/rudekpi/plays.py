@@ -1,4 +1,4 @@
-"""Experiments while they are played: a network that mends while a daemon moves, at once or between disturbances."""
+"""Plays experiments: a daemon moves in a network, after all disturbances or between them."""
 
 from __future__ import annotations
 
@@ -11,7 +11,7 @@ from .network import Network
 
 
 class Player:
-    """A daemon that moves in a network, a few moves at a time; the steps and moves that it has made."""
+    """A daemon that moves in a network, a few moves at a time; counts its steps and moves."""
 
     def __init__(self, net: Network, daemon: Union[AnyDaemon, Daemon]) -> None:
         self.net, self.steps, self.moves = net, 0, 0
@@ -20,13 +20,13 @@ class Player:
             self.choose = daemon.begin(net) if hasattr(daemon, "begin") else cast(Daemon, daemon)
 
     def play(self, least: int) -> None:
-        """Steps until so many moves are made, or nobody is enabled."""
+        """Steps until at least this many moves are made, or the network is silent."""
         wanted = self.moves + least
         while self.moves < wanted and self.step():
             pass
 
     def step(self) -> int:
-        """How many nodes moved in the next step: 0 if nobody is enabled."""
+        """How many nodes moved in the next step: 0 if none is enabled."""
         if self.is_seeded:
             moves = sum(map(len, self.net.drive(self.seed, 1)))
             self.seed = (self.seed + 1) % 2**64
@@ -37,20 +37,20 @@ class Player:
         return moves
 
     def settle(self) -> None:
-        """Steps until nobody is enabled."""
+        """Steps until the network is silent."""
         settled = self.net.settle(Seeded(self.seed) if self.is_seeded else self.choose)
         self.steps, self.moves = self.steps + settled.steps, self.moves + settled.moves
 
 
 def disturb_at_once(net: Network, events: Events, seed: int) -> None:
-    """All edits and faults, none of which waits for another."""
+    """All edits and faults at once, without waiting."""
     with net.batch() as batch:
         for event in events.all(seed):
             events.send(batch, event)
 
 
 def disturb_one_by_one(net: Network, events: Events, seed: int, player: Player) -> None:
-    """The edits and faults, between which a daemon moves while the network mends."""
+    """The edits and faults one by one; the daemon moves after each."""
     for event in events.all(seed):
         with net.batch() as batch:
             events.send(batch, event)

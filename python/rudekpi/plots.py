@@ -1,4 +1,4 @@
-"""Pictures of experiments. They need matplotlib, and say so where it is missing."""
+"""Pictures of experiments. They need matplotlib, and raise `ImportError` if it is missing."""
 
 from __future__ import annotations
 
@@ -13,7 +13,7 @@ from .state import State
 from .sweeps import Row, natural
 
 Path = Union[str, "os.PathLike[str]"]
-# a graph or a daemon, and what it is played with
+# a graph and a disturbance, or a daemon and rules
 Pair = tuple[str, str]
 COLOURS = ("#0072b2", "#e69f00", "#009e73", "#cc79a7", "#56b4e9", "#d55e00", "#000000")
 OF_RULES = {"hh": COLOURS[0], "manne": COLOURS[5]}
@@ -22,7 +22,7 @@ MOST_PANELS, ACROSS = 60, 4
 TITLE = "moves until silence"
 # the height of the legend, in inches
 LEGEND = 0.6
-# bounds that are more than so many times the moves are written at the top and not drawn, so that the moves can be seen
+# bounds above this multiple of the moves are written at the top, not drawn, so that the moves can be seen
 MOST_ABOVE = 4
 
 
@@ -36,10 +36,10 @@ def figure_of(width: float, height: float) -> Any:
 
 
 def check(path: Path, panels: int = 1) -> None:
-    """That a picture can be made there, before long work for it begins.
+    """Checks that a picture can be made, before long work for it begins.
 
-    Raises `ImportError` if matplotlib is missing, `ValueError` for an end of a name that it does not know or more
-    panels than a picture has, and `FileNotFoundError` if there is no such folder.
+    Raises `ImportError` if matplotlib is missing, `ValueError` for an unknown file extension or too many
+    panels, and `FileNotFoundError` if there is no such folder.
     """
     known = figure_of(1, 1).canvas.get_supported_filetypes()
     end = os.path.splitext(path)[1][1:].lower()
@@ -59,7 +59,7 @@ def check_panels(count: int) -> None:
 
 
 def panels_of(rows: Sequence[Row]) -> dict[Pair, dict[Pair, list[Row]]]:
-    """The rows of each graph and disturbance, and in these of each daemon and rules, in their natural order.
+    """The rows by graph and disturbance, then by daemon and rules, in natural order.
 
     Raises `ValueError` if there are no rows.
     """
@@ -72,7 +72,7 @@ def panels_of(rows: Sequence[Row]) -> dict[Pair, dict[Pair, list[Row]]]:
 
 
 def groups_of(panels: dict[Pair, dict[Pair, list[Row]]]) -> list[Pair]:
-    """The daemons and rules of all panels, in their natural order."""
+    """The daemons and rules of all panels, in natural order."""
     return list(in_order({key: None for panel in panels.values() for key in panel}))
 
 
@@ -81,17 +81,16 @@ def in_order(found: dict[Pair, Any]) -> dict[Pair, Any]:
 
 
 def of_rows(rows: Sequence[Row], path: Path) -> None:
-    """Writes a picture of the moves of each run, in a panel for each graph and disturbance, beside the bound there.
+    """Writes a picture of each run's moves, with a panel and its bounds for each graph and disturbance.
 
-    In a panel each daemon and rules is a place of the axis; runs with as many moves stand side by side, and a line is
-    their median. The axis reaches as far as the moves, and the bounds if they are near. Raises `ValueError` if there
-    are no rows, or more than 60 panels.
+    In a panel each daemon and rules has a place on the axis; equal runs are side by side, and a line is the
+    median. The axis reaches as far as the moves, and the bounds if near. Raises `ValueError` if there are no
+    rows, or more than 60 panels.
     """
     panels_figure(rows).savefig(path, metadata=date_of(path))
 
 
 def panels_figure(rows: Sequence[Row]) -> Any:
-    """The figure of `of_rows`."""
     panels = panels_of(rows)
     check_panels(len(panels))
     groups = groups_of(panels)
@@ -114,7 +113,7 @@ def panels_figure(rows: Sequence[Row]) -> Any:
 
 
 def columns_of(panels: Sequence[Pair]) -> int:
-    """How many panels stand side by side: those of the disturbances if there are several, a line for each graph."""
+    """How many panels are in a row: one a disturbance if there are several, a row for each graph."""
     graphs, disturbances = {graph for graph, _ in panels}, {disturbance for _, disturbance in panels}
     is_table = len(panels) == len(graphs) * len(disturbances) and len(disturbances) > 1
     if is_table and len(disturbances) <= ACROSS:
@@ -123,10 +122,10 @@ def columns_of(panels: Sequence[Pair]) -> int:
 
 
 def tops_of(panels: dict[Pair, dict[Pair, list[Row]]]) -> tuple[dict[Pair, float], bool]:
-    """How far the axis of each panel reaches, and whether bounds are drawn: in all panels if they are near the moves
-    in all.
+    """How far each panel's axis reaches, and whether bounds are drawn.
 
-    Panels of one disturbance have the same axis if their moves differ by no more than twice.
+    They are if they are near the moves in all panels. Panels of one disturbance share an axis if their moves
+    differ at most by a factor of two.
     """
     of_panel = {key: [row for group in panel.values() for row in group] for key, panel in panels.items()}
     most = {key: max([1, *(row.moves for row in rows)]) for key, rows in of_panel.items()}
@@ -141,7 +140,7 @@ def tops_of(panels: dict[Pair, dict[Pair, list[Row]]]) -> tuple[dict[Pair, float
 
 
 def draw_panel(axes: Any, panel: dict[Pair, list[Row]], groups: Sequence[Pair], top: float, draws_bounds: bool) -> None:
-    """The runs of one network, a place for each of the groups; the axis reaches to the top."""
+    """The runs of one network, a place for each group; the axis reaches to `top`."""
     axes.set_ylim(-0.04 * top, top * (1.08 if draws_bounds else 1.25))
     axes.set_xlim(-0.6, len(groups) - 0.4)
     for place, key in enumerate(groups):
@@ -166,7 +165,7 @@ def draw_runs(axes: Any, place: float, group: Sequence[Row], width: float) -> No
 
 
 def asides(numbers: Sequence[int], width: float) -> list[float]:
-    """How far aside each dot stands, so that equal numbers can be counted; the most frequent ones fill the width."""
+    """How far aside each dot is, so that equal numbers can be counted."""
     counts, seen = Counter(numbers), Counter[int]()
     step = min(width / 12, width / max(counts.values()))
     found = []
@@ -177,7 +176,7 @@ def asides(numbers: Sequence[int], width: float) -> list[float]:
 
 
 def draw_bounds(axes: Any, place: float, bounds: Sequence[int], width: float) -> None:
-    """The bounds of the runs at one place: a line there, or two with a band between them if they differ."""
+    """The bounds at one place: a line, or two with a band between them if they differ."""
     low, high = min(bounds), max(bounds)
     ends = [place - width / 2, place + width / 2]
     for bound in {low, high}:
@@ -187,7 +186,7 @@ def draw_bounds(axes: Any, place: float, bounds: Sequence[int], width: float) ->
 
 
 def tell_bounds(axes: Any, place: float, bounds: Sequence[int], _: float) -> None:
-    """The bounds of the runs at one place as numbers at the top, above which they are."""
+    """The bounds at one place, as numbers at the top, since they are above it."""
     low, high = min(bounds), max(bounds)
     text = f"bound\n\u2191 {low}" if low == high else f"bound\n\u2191 {low} to\n{high}"
     axes.annotate(
@@ -196,16 +195,15 @@ def tell_bounds(axes: Any, place: float, bounds: Sequence[int], _: float) -> Non
 
 
 def over_graphs(rows: Sequence[Row], path: Path) -> None:
-    """Writes a picture of the moves of each run over graphs as they grow.
+    """Writes a picture of the moves of each run over graphs of growing size.
 
-    Each graph with its disturbance is a place of the axis, and its bounds are drawn there alone. The axis of the
-    moves is logarithmic, and linear below 1 if a run has no moves. Raises `ValueError` if there are no rows.
+    Each graph with its disturbance is a place of the axis, with its own bounds. The axis of the moves is
+    logarithmic; linear below 1 if a run has no moves. Raises `ValueError` if there are no rows.
     """
     growth_figure(rows).savefig(path, metadata=date_of(path))
 
 
 def growth_figure(rows: Sequence[Row]) -> Any:
-    """The figure of `over_graphs`."""
     found = panels_of(rows)
     panels = dict(sorted(found.items(), key=lambda item: max(row.n for rows in item[1].values() for row in rows)))
     groups = groups_of(panels)
@@ -229,7 +227,7 @@ def growth_figure(rows: Sequence[Row]) -> Any:
 
 
 def draw_group(axes: Any, place: float, group: Sequence[Row], width: float) -> None:
-    """The runs of one daemon and rules on one graph, with their bounds and the daemon's name at the foot."""
+    """The runs of one daemon and rules on one graph, with their bounds and the daemon's name below."""
     draw_runs(axes, place, group, width * 0.8)
     draw_bounds(axes, place, [row.bound for row in group], width)
     axes.annotate(
@@ -238,7 +236,7 @@ def draw_group(axes: Any, place: float, group: Sequence[Row], width: float) -> N
 
 
 def below_legend(figure: Any, rules: Iterable[str]) -> Any:
-    """What is left of a figure below a line that says what its colours and lines are."""
+    """The part of a figure below the legend of its colours and lines."""
     from matplotlib.lines import Line2D
 
     marks = [
@@ -254,12 +252,12 @@ def below_legend(figure: Any, rules: Iterable[str]) -> Any:
 
 
 def plain(text: str) -> str:
-    """A text in which matplotlib sees no formula."""
+    """A text without formulas for matplotlib."""
     return text.replace("$", r"\$")
 
 
 def titles_of(graphs: Iterable[str]) -> dict[str, str]:
-    """A short title for each graph, the end alone of a long one, as of a path; in lines if two ends are the same."""
+    """A short title for each graph, the end of a long one; in lines if two ends are the same."""
     cut = {title: title if len(title) <= 32 else f"..{title[-30:]}" for title in graphs}
     if len(set(cut.values())) < len(cut):
         cut = {title: "\n".join(textwrap.wrap(title, 32)) for title in cut}
@@ -267,8 +265,7 @@ def titles_of(graphs: Iterable[str]) -> dict[str, str]:
 
 
 def charges_of(transcript: str) -> list[tuple[int, int, bool]]:
-    """Of each state of a run that was disturbed or stepped to: the moves so far, the charge, and whether it was
-    disturbed."""
+    """For each state after a disturbance or a step: the moves so far, the charge, and whether disturbed."""
     state, moves, found = State(), 0, []
     for part in parts_of(transcript):
         state.follow(part)

@@ -1,7 +1,7 @@
-"""Programs that are started in such a way that an interrupt at any moment loses no process and no end of a pipe.
+"""Starts programs so that an interrupt at any moment loses no process and no pipe.
 
-What `subprocess.Popen` has started is lost where an exception out of a signal's handler comes before it has kept the
-process's number. Here each thing that has to be given back is put into a list by the same call of C that makes it.
+`subprocess.Popen` loses a process if a signal's handler raises before its number is stored. Here the C call
+that makes a resource also puts it into a list.
 """
 
 from __future__ import annotations
@@ -19,19 +19,19 @@ from typing import IO, Iterator, Sequence, Union
 
 # signals that Python ignores, and a program should not
 IGNORED = [getattr(signal, name) for name in ("SIGPIPE", "SIGXFSZ") if hasattr(signal, name)]
-# how much is read at once, which is what a pipe holds
+# how much is read at once: what a pipe holds
 READ = 1 << 16
-# whether a read of a pipe that does not wait has found nothing
+# whether a read without waiting found nothing
 IS_NONE = functools.partial(operator.is_, None)
-# how many seconds a program may take to end behind the end of its text
+# how many seconds a program may take to end after the end of its text
 LAST_SECONDS = 10
-# how many bytes of what it tells are read
+# how many bytes of standard error are read
 LONGEST_TOLD = 1 << 16
 
 
 @contextlib.contextmanager
 def no_low_numbers() -> Iterator[None]:
-    """No file that is opened meanwhile has the number of a standard stream, also where this process has closed some."""
+    """Meanwhile no opened file gets the number of a standard stream, even a closed one."""
     held: list[int] = []
     try:
         while not held or held[-1] < 3:
@@ -43,18 +43,20 @@ def no_low_numbers() -> Iterator[None]:
 
 
 class Run:
-    """A run of a program behind two pipes, which can be told to stop at any moment. What it writes to standard error
-    goes to a file."""
+    """A run of a program with two pipes, which can be stopped at any moment.
+
+    Its standard error goes to a file.
+    """
 
     def __init__(self) -> None:
-        # the ends of the pipes: two for the program's standard input, and two for its output
+        # the pipes' ends: two for the program's standard input, two for its output
         self.ends: list[io.FileIO] = []
         self.files: list[Union[io.FileIO, IO[bytes]]] = []
         self.numbers: list[int] = []
         self.statuses: list[tuple[int, int]] = []
 
     def start(self, words: Sequence[str]) -> None:
-        """Starts the program in a session of its own. Raises `OSError` where there is none."""
+        """Starts the program in its own session. Raises `OSError` if there is none."""
         with no_low_numbers():
             made = itertools.chain.from_iterable(itertools.starmap(os.pipe, ((), ())))
             self.ends.extend(map(io.FileIO, made, ("rb", "wb", "rb", "wb")))
@@ -69,8 +71,7 @@ class Run:
             os.set_blocking(end.fileno(), False)
 
     def add_file(self) -> None:
-        """Makes a file without a name. The one of `tempfile` is closed twice where an interrupt cuts its making
-        short."""
+        """Makes a nameless file; that of `tempfile` is closed twice if an interrupt cuts its making short."""
         if hasattr(os, "memfd_create"):
             self.files.extend(map(io.FileIO, map(os.memfd_create, ("told",)), ("rb+",)))
         else:
@@ -78,16 +79,15 @@ class Run:
 
     @property
     def to(self) -> io.FileIO:
-        """Where the program's input is written; it does not wait."""
+        """The end that writes the program's input, without waiting."""
         return self.ends[1]
 
     @property
     def of(self) -> io.FileIO:
-        """Where the program's output is read; it does not wait."""
+        """The end that reads the program's output, without waiting."""
         return self.ends[2]
 
     def close(self) -> None:
-        """Lets go of the pipes."""
         for end in self.ends:
             with contextlib.suppress(OSError):
                 end.close()
@@ -96,7 +96,7 @@ class Run:
         return bool(self.statuses) and self.statuses[-1][0] != 0
 
     def status(self) -> int:
-        """The program's exit status, waited for; a program that takes too long is killed. 0 where none was started."""
+        """Waits for the program's exit status, and kills it after too long; 0 if none was started."""
         last, pause = time.monotonic() + LAST_SECONDS, 0.0001
         while self.numbers and not self.has_status():
             if time.monotonic() > last:
@@ -105,7 +105,7 @@ class Run:
                 self.statuses.extend(map(os.waitpid, (self.numbers[0],), (os.WNOHANG,)))
             except ChildProcessError:
                 if not self.has_status():
-                    return 0  # this process has its children waited for by the system
+                    return 0  # this process lets the system reap its children
             if not self.has_status():
                 time.sleep(pause)
                 pause = min(2 * pause, 0.02)
@@ -118,14 +118,14 @@ class Run:
                 os.killpg(self.numbers[0], signal.SIGKILL)
 
     def told(self) -> bytes:
-        """The end of what the program has written to standard error."""
+        """The end of the program's standard error."""
         for file in self.files:
             size = os.fstat(file.fileno()).st_size
             return os.pread(file.fileno(), LONGEST_TOLD, max(0, size - LONGEST_TOLD))
         return b""
 
     def release(self) -> None:
-        """Lets go of the pipes and the file."""
+        """Closes the pipes and the file."""
         self.close()
         for file in self.files:
             file.close()

@@ -1,4 +1,4 @@
-"""Where the program is found."""
+"""Finds the program."""
 
 from __future__ import annotations
 
@@ -15,7 +15,7 @@ PACKAGE = os.path.dirname(os.path.realpath(__file__))
 
 @functools.lru_cache(maxsize=None)
 def repository_program() -> str:
-    """The program of this repository, which is built first where it has to be, with its lines on standard error."""
+    """The program of this repository, built first if needed, which prints on standard error."""
     path = os.path.join(os.path.dirname(os.path.dirname(PACKAGE)), "console")
     if not os.path.isfile(path):
         raise FileNotFoundError(f"no program at {path}: name one by program= or RUDEKPI_CONSOLE")
@@ -26,10 +26,9 @@ def repository_program() -> str:
 
 
 def found_program(program: Program = None) -> str:
-    """The program that is called: the one that is named, else RUDEKPI_CONSOLE's, the one in the package, the
-    repository's.
+    """The path of the program: the given one, RUDEKPI_CONSOLE's, the package's, or the repository's.
 
-    Raises `FileNotFoundError` where there is none of these, and `Ended` where the repository's can't be built.
+    Raises `FileNotFoundError` if there is none of these, and `Ended` if the repository's can't be built.
     """
     given = program or os.environ.get("RUDEKPI_CONSOLE")
     if given:
@@ -39,7 +38,10 @@ def found_program(program: Program = None) -> str:
 
 
 def page_maker() -> str:
-    """The script that makes pages of transcripts: the package's, else the repository's."""
+    """The script that makes pages of transcripts: the package's, else the repository's.
+
+    Raises `FileNotFoundError` if there is neither.
+    """
     tops = [os.path.join(PACKAGE, "page"), os.path.dirname(os.path.dirname(PACKAGE))]
     paths = [os.path.join(top, "scripts", "play") for top in tops]
     for path in paths:

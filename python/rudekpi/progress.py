@@ -1,4 +1,4 @@
-"""How far long work has come, on standard error at a terminal."""
+"""The progress of long work, on standard error at a terminal."""
 
 from __future__ import annotations
 
@@ -10,8 +10,7 @@ Item = TypeVar("Item")
 
 
 def shown(items: Iterable[Item], total: int) -> Iterator[Item]:
-    """The same items; at a terminal it is told how many are done, how fast, and how much time is left: by tqdm, where
-    it is there."""
+    """The same items; a terminal shows how many are done, the speed and the time left, by tqdm if present."""
     if not sys.stderr.isatty():
         yield from items
         return

@@ -1,4 +1,4 @@
-"""The texts of replies, read into their types. What is no such reply raises `ValueError` or `LookupError`."""
+"""Reads the texts of replies into their types; others raise `ValueError` or `LookupError`."""
 
 from __future__ import annotations
 
@@ -17,7 +17,7 @@ STATUS = re.compile(r"nodes=([0-9]+) edges=([0-9]+) pairs=([0-9]+) enabled=([0-9
 PLACE = re.compile(r"node ([0-9]+) ([0-9]+|-) ([01])")
 EDGE = re.compile(r"edge ([0-9]+) ([0-9]+)")
 
-# reads a reply, out of the network's names, the entry's number, its event and its reply
+# reads a reply, given the network's names, the entry's number, its event and its reply
 Reader = Callable[["Names", int, str, str], Reply]
 
 
@@ -80,12 +80,12 @@ def read_fault(names: Names, entry: int, event: str, text: str) -> Fault:
 
 
 def numbers_of(found: re.Match[str]) -> tuple[Any, ...]:
-    """The numbers that a pattern found; None where a `-` stands."""
+    """The numbers that a pattern found; None for a `-`."""
     return tuple(None if text == "-" else int(text) for text in found.groups())
 
 
 def numbers_of_line(pattern: re.Pattern[str], line: str) -> tuple[Any, ...]:
-    """The numbers in a line that has to be of this pattern."""
+    """The numbers in a line, which must match this pattern."""
     found = pattern.fullmatch(line)
     if not found:
         raise ValueError
@@ -97,7 +97,7 @@ def rises(items: list[Any]) -> bool:
 
 
 def numbers_of_base(lines: list[str]) -> tuple[int, list[Any], list[Any]]:
-    """What is spent at a base, the numbers of its nodes with pointers and flags, and of its edges."""
+    """What is spent at a base; the numbers of its nodes, pointers and flags; and those of its edges."""
     _, spent, count, _ = numbers_of_line(BASE, lines[1])
     places = [numbers_of_line(PLACE, line) for line in lines[2 : 2 + count]]
     edges = [numbers_of_line(EDGE, line) for line in lines[2 + count :]]

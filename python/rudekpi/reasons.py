@@ -1,4 +1,4 @@
-"""Why a node may move, or may not, in words: what messages say beside a verdict. Nothing here gives one."""
+"""Why a node may move, or may not, in words: for messages with a verdict. None is made here."""
 
 from __future__ import annotations
 
@@ -7,12 +7,12 @@ from typing import Callable, Optional, Sequence
 from . import rules
 from .state import State
 
-# the most names of a list that stand in a message
+# the most names of a list in a message
 LISTED = 12
 
 
 class Reasons:
-    """What is said of nodes in a state, by names that a function makes of their numbers."""
+    """Messages about nodes in a state; a function turns numbers into names."""
 
     def __init__(self, state: State, name: Callable[[int], str]) -> None:
         self.state, self.name = state, name
@@ -32,14 +32,14 @@ class Reasons:
         return "true" if node in self.state.flags else "false"
 
     def registers(self, node: int) -> str:
-        """What a node holds."""
+        """The registers of a node."""
         if node not in self.state.neighbours:
             return f"{self.name(node)} is not present"
         held = f"{self.name(node)} points at {self.pointer(node)}"
         return f"{held}, flag {self.flag(node)}" if self.has_flags else held
 
     def around(self, node: int) -> list[str]:
-        """What a node and its neighbours hold, a line each."""
+        """The registers of a node and its neighbours, a line each."""
         near = sorted(self.state.neighbours.get(node, ()))
         lines = [self.registers(other) for other in (node, *near[:LISTED])]
         if len(near) > LISTED:
@@ -47,7 +47,7 @@ class Reasons:
         return lines
 
     def standing(self, node: int) -> str:
-        """How a node stands to the one at which it points, or to those that point at it."""
+        """A node's relation to its target, or to the nodes that point at it."""
         state, name = self.state, self.name(node)
         other = state.pointers.get(node)
         if other is not None:
@@ -77,14 +77,14 @@ class Reasons:
         return f"{self.standing(node)}: {name} may only {rule} {one}{self.names(targets)}"
 
     def why_hopeless(self, node: int) -> str:
-        """Under `manne`: why who does not point back will not."""
+        """Under `manne`: why a node that does not point back will not."""
         if not self.has_flags:
             return ""
         other = self.state.pointers[node]
         return ", flagged" if other in self.state.flags else f", not above {self.name(node)}"
 
     def why_silent(self, node: int) -> str:
-        """Why no rule is enabled at a node that is present."""
+        """Why no rule is enabled at a present node."""
         state, name = self.state, self.name(node)
         other = state.pointers.get(node)
         if other is not None and state.pointers.get(other) == node:
@@ -96,7 +96,7 @@ class Reasons:
         return f"{name} has no neighbour that points at null, so it may not move"
 
     def why_not_at(self, node: int, target: int) -> Optional[str]:
-        """Why a node that may marry or seduce may not choose this target; None if that is no matter of the target."""
+        """Why a node that may marry or seduce may not choose this target; None if the target is no reason."""
         state, name, other = self.state, self.name(node), self.name(target)
         rule = rules.rule_at(state, node) if node in state.neighbours else None
         if target not in state.neighbours:
@@ -116,7 +116,7 @@ class Reasons:
         return self.why_not_seduced(node, target)
 
     def why_not_seduced(self, node: int, target: int) -> Optional[str]:
-        """The same under `manne`, of a neighbour that points nowhere."""
+        """The same under `manne`, for a neighbour that points nowhere."""
         if target < node:
             return f"{self.name(target)} stands below {self.name(node)} (they are nodes {target} and {node})"
         if target in self.state.flags:

@@ -1,4 +1,4 @@
-"""Networks that go on where a transcript ends."""
+"""Networks that go on from the end of a transcript."""
 
 from __future__ import annotations
 
@@ -21,11 +21,12 @@ def replay(
     program: Program = None,
     engine: Optional[str] = None,
 ) -> Network:
-    """A network that stands where a transcript ends, so that it can go on; raises `Damaged` where `audit` refuses it.
+    """A network in the state at the end of a transcript, so that it can go on.
 
-    Its own transcript is the one that was given. Where that took other targets than the least, its steps have them as
-    wishes. Where that begins with a base, at which no run can begin, edits and faults lead there: so the numbers are
-    other ones, and what was spent before is not counted. `names` are the caller's, in the order of the numbers.
+    Raises `Damaged` if `audit` refuses the transcript. The network's own transcript is the given one; steps
+    with other targets than the least have them as wishes. No run begins with a base: if the given one does,
+    edits and faults lead to its state, the numbers differ, and earlier moves are not counted. `names` are the
+    caller's, in the order of the numbers; raises `ValueError` if their number differs.
     """
     audit(transcript, program=program, engine=engine)
     transcript = transcript if isinstance(transcript, str) else bytes(transcript).decode()
@@ -60,9 +61,9 @@ def parts_of(transcript: str) -> Iterator[list[str]]:
 
 
 def edits_to(base: list[str]) -> tuple[int, list[str]]:
-    """How many nodes are present at the start of a run that leads to a base, and the edits and faults of that run."""
+    """A run that leads to a base: how many nodes are present at first, and its edits and faults."""
     _, places, edges = numbers_of_base(base)
-    # numbers rise, so those that are as great as their places are the first
+    # numbers rise, so those equal to their places come first
     present = sum(number == place for place, (number, _, _) in enumerate(places, 1))
     joins = [f"join {number}" for number, _, _ in places[present:]]
     links = [f"link {a} {b}" for a, b in edges]
@@ -72,7 +73,7 @@ def edits_to(base: list[str]) -> tuple[int, list[str]]:
 
 
 def wished(event: str, reply: str) -> str:
-    """A step that was carried out, with its targets as wishes; any other event as it is."""
+    """A step that was carried out, with its targets as wishes; any other event unchanged."""
     if not event.startswith("step ") or reply.startswith("refused "):
         return event
     targets = {found[1]: found[4] for found in map(MOVE.fullmatch, reply.split(" ")) if found and found[4]}

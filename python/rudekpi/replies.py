@@ -1,4 +1,4 @@
-"""What the program answers, in types of their own."""
+"""The types of the program's replies."""
 
 from __future__ import annotations
 
@@ -19,8 +19,8 @@ from typing import (
     overload,
 )
 
-# A node's name: a number from 1 in a network of so many nodes, else what the caller named it; anything hashable but
-# None. No type is told, so that a caller's names are of his own types where they come back.
+# A node's name: a number from 1 if the network was given a count, else the caller's name, anything hashable
+# but None. It has no type, so that a caller's names keep their own types.
 Name = Any
 Reply = TypeVar("Reply")
 Reply_co = TypeVar("Reply_co", covariant=True)
@@ -32,7 +32,7 @@ class Answer(Protocol[Reply_co]):
     """The answer to a command of a batch, which may still be under way."""
 
     def result(self) -> Reply_co:
-        """The reply, waited for; raises `Refused` where the event was refused."""
+        """Waits for the reply and returns it; raises `Refused` if the event was refused."""
 
 
 class Fixed(Dict[Key, Value]):
@@ -50,7 +50,7 @@ class Fixed(Dict[Key, Value]):
 
 @dataclass(frozen=True)
 class Wish:
-    """An item of a choice: this node shall move, and to that target."""
+    """An item of a choice: this node moves, and to that target."""
 
     node: Name
     target: Name
@@ -109,7 +109,7 @@ class Shown:
 
 @dataclass(frozen=True, eq=False)
 class Enabled(abc.Mapping[Name, str]):
-    """The enabled nodes, ascending by their numbers: a mapping from each to its rule."""
+    """The enabled nodes, ascending by number: a mapping from each to its rule."""
 
     entry: int
     rules: Mapping[Name, str]
@@ -126,14 +126,13 @@ class Enabled(abc.Mapping[Name, str]):
 
 @dataclass(frozen=True, eq=False)
 class Matching(abc.Set["tuple[Name, Name]"]):
-    """The pairs of nodes that point at each other: a set of tuples, each with the node of the lower number first."""
+    """The pairs of nodes that point at each other: a set of tuples, the lower number first."""
 
     entry: int
     pairs: tuple[tuple[Name, Name], ...]
     partners: Mapping[Name, Name] = field(repr=False)
 
     def partner(self, node: Name) -> Optional[Name]:
-        """With whom a node is paired, or None."""
         return self.partners.get(node)
 
     def __contains__(self, pair: object) -> bool:
@@ -157,7 +156,7 @@ class Matching(abc.Set["tuple[Name, Name]"]):
 
 @dataclass(frozen=True)
 class Status:
-    """Where the network stands. No more moves than `charge` can come before the next disturbance."""
+    """The network's status. At most `charge` moves can come before the next disturbance."""
 
     entry: int
     nodes: int
@@ -170,7 +169,7 @@ class Status:
 
 @dataclass(frozen=True)
 class Fault:
-    """A fault of a register: `pointer` holds a neighbour or None now, `flag` True or False."""
+    """A fault of a register: the new `pointer`, a neighbour or None, or the new `flag`, True or False."""
 
     entry: int
     node: Name
@@ -180,15 +179,14 @@ class Fault:
 
 @dataclass(frozen=True)
 class Turns(_Items[Reply]):
-    """What the turns of `drive` (steps: `Moves`) or `scramble` (`Fault`) did, in a sequence, and the status behind
-    them."""
+    """The turns of `drive` (`Moves`) or `scramble` (`Fault`) as a sequence, and the status after them."""
 
     status: Status
 
 
 @dataclass(frozen=True)
 class Registers:
-    """What a node holds: its pointer, at a neighbour or None, and its flag."""
+    """The registers of a node: its pointer, at a neighbour or None, and its flag."""
 
     pointer: Optional[Name]
     flag: bool
@@ -196,9 +194,11 @@ class Registers:
 
 @dataclass(frozen=True)
 class Base:
-    """Where the network stands behind so many entries: the moves since the last disturbance, the nodes that are
-    present, ascending by their numbers, and the edges. It is no entry: the next entry has the number behind this
-    one."""
+    """The network's state after `number` entries.
+
+    `spent` is the moves since the last disturbance, `nodes` the present nodes, ascending by number, `edges`
+    the edges. A base is no entry: the next entry has `number` + 1.
+    """
 
     number: int
     spent: int
@@ -208,8 +208,7 @@ class Base:
 
 @dataclass(frozen=True)
 class Settled:
-    """How a daemon settled a network: its steps, their moves, and the charge at the beginning, which bounds the
-    moves."""
+    """How a daemon settled a network: its steps and moves, and the first charge, which bounds the moves."""
 
     steps: int
     moves: int
@@ -218,7 +217,7 @@ class Settled:
 
 @dataclass(frozen=True)
 class Summary:
-    """What an accepted transcript has."""
+    """The counts of an accepted transcript."""
 
     entries: int
     epochs: int
@@ -227,15 +226,18 @@ class Summary:
 
 @dataclass(frozen=True)
 class Epoch:
-    """The part of a run after an accepted disturbance: the entry of that, its moves, and their bound. The entry is 0 if
-    it is the start, and None if the transcript begins with a base, which does not tell it.
+    """The part of a run after an accepted disturbance, with its moves and their bound.
 
-    The bound is 2m + n (`hh`) or 2m + 3n (`manne`) with m edges and n nodes; under `hh` it is also at most n²/2 + n -
-    2, the half rounded down, unless the entry is None. The cost is that of the disturbance, a sum of degrees; None in
-    the first epoch, which no disturbance of the transcript began.
+    `start` is the disturbance's entry; 0 for the start of the run, and None if the transcript begins with a
+    base, which does not name it.
 
-    The reach is how many nodes the disturbance had in its reach, in the state right before it; None in the first epoch.
-    If the network was silent then, no other nodes move in this epoch."""
+    `bound` is 2m + n (`hh`) or 2m + 3n (`manne`) for m edges and n nodes; under `hh` also at most n²/2 + n -
+    2, the half rounded down, unless `start` is None. `cost` is the disturbance's, a sum of degrees; None in
+    the first epoch, which no disturbance began.
+
+    `reach` is how many nodes the disturbance reached, in the state right before it; None in the first epoch.
+    If the network was silent then, no other nodes move in this epoch.
+    """
 
     start: Optional[int]
     moves: int

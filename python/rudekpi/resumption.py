@@ -1,4 +1,4 @@
-"""Sweeps that go on: the rows that are in a file already."""
+"""Sweeps that go on: the rows that a file already has."""
 
 from __future__ import annotations
 
@@ -10,9 +10,9 @@ from .sweeps import Row, read_csv
 
 
 def rows_there(path: Optional[str]) -> list[Row]:
-    """The rows that a sweep that was ended left in a file; none if there is no such file.
+    """The rows that an interrupted sweep left in a file; none if there is no such file.
 
-    A last line that is not whole is cut off. Raises `ValueError` if it is no file of rows, and `OSError`.
+    An unfinished last line is cut off. Raises `ValueError` if it is no file of rows, and `OSError`.
     """
     if path is None or path == "-":
         raise ValueError("--resume needs a file of rows: --csv FILE")

@@ -1,7 +1,8 @@
-"""Rounds, steps and moves of a run, counted along its entries, with who is enabled after each.
+"""Rounds, steps and moves of a run, counted along its entries, with the enabled nodes after each.
 
-A round is the shortest part of a run in which each node that was enabled at its start moved or stopped being enabled:
-Dolev, "Self-Stabilization", 2000. Rounds are measured here and not proved; the machine's own replies are compared.
+A round is the shortest part of a run in which each node that was enabled at its start moved or stopped being
+enabled: Dolev, "Self-Stabilization", 2000. Rounds are measured here, not proved; the machine's own replies
+are compared.
 """
 
 from __future__ import annotations
@@ -19,14 +20,14 @@ RULES = ("update", "marry", "seduce", "abandon")
 class Watch:
     """A network that is followed through the entries of an accepted transcript, from a state on.
 
-    A round begins with its first step. An edit or a fault in the middle of one may end it, and whom it enables is
-    waited for from the next round on. A step looks again at the nodes that move and at their neighbours.
+    A round begins with its first step. An edit or a fault may end it; nodes that it enables count from the
+    next round on. A step checks again the nodes that move and their neighbours.
     """
 
     def __init__(self, state: State) -> None:
         self.state = state
         self.enabled = set(rules.enabled(state))
-        # whom the round under way still waits for: nobody between two rounds
+        # the nodes that the current round still waits for: none between two rounds
         self.awaited: set[int] = set()
         self.rounds = self.steps = 0
         self.moves = dict.fromkeys(RULES, 0)
@@ -41,7 +42,7 @@ class Watch:
         return self.state.partner(node) is not None
 
     def follow(self, line: str) -> None:
-        """Follows the line of an entry. Raises `Garbled` if the machine said that other nodes are enabled."""
+        """Follows the line of an entry. Raises `Garbled` if the machine listed other enabled nodes."""
         event, _, reply = line.partition(" = ")
         _, word, *rest = event.split(" ")
         if word == "step" and not reply.startswith("refused "):
@@ -56,7 +57,7 @@ class Watch:
                 )
 
     def step(self, moves: Iterable[str]) -> None:
-        """Follows the moves of a step, as its reply has them."""
+        """Follows the moves of a step, as its reply lists them."""
         if not self.awaited:
             self.awaited = set(self.enabled)
         state, moved = self.state, []
@@ -74,14 +75,13 @@ class Watch:
         self.moved.update(moved)
         self.awaited.difference_update(moved)
         self.look_again(self.near(moved))
-        # also where all that were awaited moved, and nobody else is looked at
+        # also if all awaited nodes moved, and no other node is checked
         self.rounds += not self.awaited
 
     def edit(self, word: str, numbers: Sequence[int]) -> None:
-        """Follows an accepted edit or fault."""
         state, was_in_round = self.state, bool(self.awaited)
         seen = self.seen_by(word, numbers)
-        # an edit or a fault changes pairs of its first node alone
+        # an edit or a fault changes pairs of its first node only
         self.pairs -= self.is_paired(numbers[0])
         getattr(state, word)(*numbers)
         self.pairs += self.is_paired(numbers[0])
@@ -89,7 +89,7 @@ class Watch:
         self.rounds += was_in_round and not self.awaited
 
     def seen_by(self, word: str, numbers: Sequence[int]) -> set[int]:
-        """The nodes at which an edit or fault that comes now may change the rule that is enabled."""
+        """The nodes whose enabled rule an edit or fault that comes now may change."""
         node = numbers[0]
         if word in ("link", "join"):
             return set(numbers)
@@ -99,7 +99,6 @@ class Watch:
         return {node, *near} | self.near(other for other in near if pointers.get(other) == node)
 
     def near(self, nodes: Iterable[int]) -> set[int]:
-        """Some nodes and their neighbours."""
         found: set[int] = set()
         for node in nodes:
             found.add(node)
@@ -107,7 +106,7 @@ class Watch:
         return found
 
     def look_again(self, nodes: Iterable[int]) -> None:
-        """Finds anew which of some nodes are enabled."""
+        """Checks again which of some nodes are enabled."""
         state = self.state
         for node in nodes:
             if node in state.neighbours and rules.rule_at(state, node):

@@ -1,9 +1,8 @@
-"""The rules and the charge of both rule sets, on a state that is followed: what daemons and searches ask for before a
-move.
+"""The rules and charge of both rule sets on a followed state, for daemons and searches.
 
-Nothing here judges a run: what it foretells, the program plays and `audit` accepts. Sources: Hsu and Huang, "A
-self-stabilizing algorithm for maximal matching", 1992; Manne, Mjelde, Pilard and Tixeuil, "A new self-stabilizing
-maximal matching algorithm", 2009.
+Nothing here judges a run: the program plays what it predicts, and `audit` accepts it. Sources: Hsu and Huang,
+"A self-stabilizing algorithm for maximal matching", 1992; Manne, Mjelde, Pilard and Tixeuil, "A new
+self-stabilizing maximal matching algorithm", 2009.
 """
 
 from __future__ import annotations
@@ -12,29 +11,33 @@ from typing import Iterable, Optional
 
 from .state import State
 
-# the charge is at most twice the edges, and this weight for each node that is present
+# the charge is at most twice the edges, plus this weight for each present node
 WEIGHTS = {"hh": 1, "manne": 3}
 
 
 def bound(rules: str, edges: int, nodes: int) -> int:
-    """The greatest charge, 2m + n or 2m + 3n: a bound on the moves between two disturbances by edges and nodes."""
+    """The greatest charge, 2m + n or 2m + 3n: a bound on the moves between two disturbances."""
     return 2 * edges + WEIGHTS[rules] * nodes
 
 
 def dense_bound(nodes: int) -> int:
-    """The most moves between two disturbances under `hh` among so many nodes, whatever the edges: n²/2 + n - 2, the
-    half rounded down; 0 for one node or none."""
+    """The most moves between two disturbances under `hh`, whatever the edges.
+
+    It is n²/2 + n - 2, the half rounded down; 0 for one node or none.
+    """
     return max(0, nodes * nodes // 2 + nodes - 2)
 
 
 def moves_left(rules: str, charge: int, nodes: int) -> int:
-    """The most moves that can come before the next disturbance, from a state with this charge and so many nodes: the
-    charge, or under `hh` the bound by nodes alone if that is less."""
+    """The most moves before the next disturbance, from a state with this charge and number of nodes.
+
+    It is the charge, under `hh` at most the bound by nodes alone.
+    """
     return min(charge, dense_bound(nodes)) if rules == "hh" else charge
 
 
 def most_moves(rules: str, edges: int, nodes: int) -> int:
-    """The most moves between two disturbances among so many edges and nodes, from any state."""
+    """The most moves between two disturbances, from any state with these numbers of edges and nodes."""
     return moves_left(rules, bound(rules, edges, nodes), nodes)
 
 
@@ -49,7 +52,7 @@ def is_wooed(state: State, node: int) -> bool:
 
 
 def may_court(state: State, node: int) -> list[int]:
-    """The neighbours at which a node may begin to point, ascending; under `manne` the greatest alone."""
+    """The neighbours that a node may begin to point at, ascending; under `manne` only the greatest."""
     null = [other for other in state.neighbours[node] if other not in state.pointers]
     if state.rules == "hh":
         return sorted(null)
@@ -57,7 +60,7 @@ def may_court(state: State, node: int) -> list[int]:
 
 
 def rule_at(state: State, node: int) -> Optional[str]:
-    """The rule that is enabled at a node that is present, or None."""
+    """The enabled rule of a present node, or None."""
     other = state.pointers.get(node)
     if state.rules == "manne" and (node in state.flags) != (state.partner(node) is not None):
         return "update"
@@ -72,7 +75,7 @@ def rule_at(state: State, node: int) -> Optional[str]:
 
 
 def targets(state: State, node: int, rule: str) -> list[int]:
-    """The targets that a rule allows a node, ascending; none where the rule takes none."""
+    """The targets that a rule allows a node, ascending; none if the rule takes none."""
     if rule == "marry":
         return suitors(state, node)
     return may_court(state, node) if rule == "seduce" else []
@@ -85,7 +88,7 @@ def enabled(state: State) -> dict[int, str]:
 
 
 def is_open(state: State, a: int, b: int) -> bool:
-    """Whether the edge of a lower and a higher node is open, so that it counts twice in the charge."""
+    """Whether the edge of a lower and a higher node is open, so it counts twice in the charge."""
     if state.partner(a) or state.partner(b):
         return False
     pointers = state.pointers
@@ -97,7 +100,7 @@ def is_open(state: State, a: int, b: int) -> bool:
 
 
 def share(state: State, node: int) -> int:
-    """What a node adds to the charge beside its edges."""
+    """A node's part of the charge, without its edges."""
     married = state.partner(node) is not None
     unanswered = int(node in state.pointers and not married)
     if state.rules == "hh":
@@ -107,17 +110,17 @@ def share(state: State, node: int) -> int:
 
 
 def charge(state: State, nodes: Optional[Iterable[int]] = None) -> int:
-    """The most moves that can come from here; or what these nodes and the edges at them have of it."""
+    """The most moves that can come from this state; or the share of these nodes and their edges in it."""
     nodes = set(state.neighbours if nodes is None else nodes)
     edges = {(min(node, other), max(node, other)) for node in nodes for other in state.neighbours[node]}
     return 2 * sum(is_open(state, a, b) for a, b in edges) + sum(share(state, node) for node in nodes)
 
 
 def fall(state: State, node: int, rule: str, target: Optional[int]) -> int:
-    """By how much the charge falls where a node alone moves so."""
+    """By how much the charge falls if a node alone makes this move."""
     before, flags = state.pointers.get(node), node in state.flags
     touched = {node} | {other for other in (before, target, state.pointers.get(node)) if other}
-    # whether an edge is open depends on what its ends are, and by Hsu and Huang's rules on who points at them
+    # whether an edge is open depends on its ends, and under Hsu and Huang's rules on the pointers at them
     charged = charge(state, touched)
     state.move(node, rule, target)
     left = charge(state, touched)

@@ -1,8 +1,8 @@
-"""The longest schedules there are: the most moves that a daemon can draw out of a network, from any state.
+"""The longest schedules: the most moves that a daemon can make a network do, from any state.
 
-In a small network every state and every choice is looked at, targets among them: since each move lowers the charge,
-no state comes twice, and the longest schedule from a state is that from the best of the next ones. In a larger one it
-is the best that a search has found, and so is told.
+In a small network every state, choice and target is examined. Since each move lowers the charge, no state
+comes twice, so the longest schedule continues with that of the best next state. In a larger network the
+result is the best that a search found, and is marked so.
 """
 
 from __future__ import annotations
@@ -22,7 +22,7 @@ from .program import Program
 from .replies import Name, Wish
 from .state import State
 
-# how many states a network has at most in which all are looked at
+# the most states of a network that is searched completely
 MOST_STATES = 400_000
 # how many seconds the first try of a search may take, whatever time it is given
 FIRST_TRY = 60
@@ -30,8 +30,10 @@ FIRST_TRY = 60
 
 @dataclass(frozen=True)
 class Longest:
-    """A schedule: the registers at its start, and who moves in each step. `is_proved` if all states and choices were
-    looked at, so that there is no longer one; else it is the best that was found."""
+    """A schedule: the registers at its start, and the nodes that move in each step.
+
+    `is_proved` if all states and choices were examined, so that none is longer; else it is the best found.
+    """
 
     graph: Graph
     rules: str
@@ -44,7 +46,7 @@ class Longest:
     steps: tuple[tuple[Wish, ...], ...]
 
     def script(self) -> str:
-        """The schedule as a script: the edges, the faults that lead to its start, its steps and two questions."""
+        """The schedule as a script: the edges, the faults before its start, its steps and two questions."""
         number = {node: place for place, node in enumerate(self.graph.nodes, 1)}
         lines = [f"link {number[a]} {number[b]}" for a, b in self.graph.edges]
         lines += [f"point {number[a]} {number[b]}" for a, b in self.pointers] + [
@@ -60,8 +62,10 @@ class Longest:
         )
 
     def play(self, *, program: Program = None) -> str:
-        """The transcript of the script, which `audit` accepts and whose last epoch has the moves; raises what went
-        wrong."""
+        """The transcript of the script, which `audit` accepts, and whose last epoch has the moves.
+
+        Raises `AssertionError` if the number of moves differs, and what playing raises.
+        """
         with Network(self.rules, len(self.graph.nodes), program=program) as net:
             transcript = net._played(self.script().splitlines())
         played = judged_epochs(transcript, program=program)[-1].moves
@@ -71,8 +75,11 @@ class Longest:
 
 
 class Search:
-    """All states of a small network by numbers: a digit for each node, its pointer's place among its neighbours and,
-    under `manne`, its flag. A move changes the digit of its node alone, so the moves of a step add up."""
+    """All states of a small network as numbers, with a digit for each node.
+
+    The digit has its pointer's index among its neighbours and, under `manne`, its flag. A move changes only
+    its node's digit, so the moves of a step add up.
+    """
 
     def __init__(self, graph: Graph, rules: str) -> None:
         number = {node: place for place, node in enumerate(graph.nodes, 1)}
@@ -86,7 +93,7 @@ class Search:
         self.weights: dict[int, int] = {}
         self.size = 1
         for node, places in self.pointers.items():
-            # too many states to look at all have no need of weights, which would take memory
+            # a network with too many states needs no weights, which would take memory
             if self.size <= MOST_STATES:
                 self.weights[node] = self.size
             self.size *= len(places) * self.flags
@@ -96,15 +103,14 @@ class Search:
         return (self.pointers[node].index(pointer) * self.flags + flag) * self.weights[node]
 
     def set_to(self, code: int) -> None:
-        """Makes the state that of a number."""
+        """Sets the state to that of a number."""
         for node, places in self.pointers.items():
             code, digit = divmod(code, len(places) * self.flags)
             self.state.point(node, places[digit // self.flags])
             self.state.flag(node, digit % self.flags)
 
     def moves_at(self, code: int) -> list[list[tuple[int, int, str, int]]]:
-        """For each enabled node its moves: what the number of the state changes by, the node, its rule and its target
-        or 0."""
+        """The moves of each enabled node: change of the state's number, node, rule, and target or 0."""
         self.set_to(code)
         state, found = self.state, []
         for node, rule in rule_sets.enabled(state).items():
@@ -117,8 +123,10 @@ class Search:
         return found
 
     def steps_at(self, code: int) -> Iterator[tuple[tuple[int, int, str, int], ...]]:
-        """The steps that a daemon may take: one move under `hh`; under `manne` those of any of the enabled nodes, one
-        at least."""
+        """The steps that a daemon may take.
+
+        That is one move under `hh`; under `manne` the moves of any non-empty set of enabled nodes.
+        """
         moves = self.moves_at(code)
         if self.rules == "hh":
             return ((move,) for of_node in moves for move in of_node)
@@ -127,7 +135,7 @@ class Search:
         return (step for chosen in sets for step in itertools.product(*chosen))
 
     def nexts_of(self, code: int) -> list[tuple[int, int]]:
-        """The states that one step leads to, each with the step's moves."""
+        """The states after one step, each with the step's number of moves."""
         moves = self.moves_at(code)
         if self.rules == "hh":
             return [(code + move[0], 1) for of_node in moves for move in of_node]
@@ -137,7 +145,7 @@ class Search:
         return sums[1:]
 
     def run(self) -> tuple[int, int]:
-        """Looks at all states; the most moves, and the number of a state from which there are so many."""
+        """Examines all states; returns the most moves, and the number of a state that allows them."""
         unknown = 255
         best = self.best = bytearray([unknown]) * self.size
         for start in range(self.size):
@@ -154,7 +162,6 @@ class Search:
         return most, best.index(most)
 
     def schedule(self, code: int) -> Iterator[tuple[tuple[int, int, str, int], ...]]:
-        """The steps of a longest schedule from a state."""
         while self.best[code]:
             step = max(
                 self.steps_at(code),
@@ -165,8 +172,11 @@ class Search:
 
 
 def longest(graph: Graph, rules: str, *, seconds: float = 10.0, seed: int = 0) -> Longest:
-    """The longest schedule of a network under `hh` or `manne`: of all, where it has at most 400,000 states, which
-    takes some 50 microseconds a state; else the best that a search with this seed finds in so many seconds."""
+    """The longest schedule of a network under `hh` or `manne`. Raises `ValueError` for other rules.
+
+    With at most 400,000 states it is the longest of all, in some 50 microseconds a state; else the best that
+    a search with this seed finds in `seconds`.
+    """
     if rules not in rule_sets.WEIGHTS:
         raise ValueError(f"rules are 'hh' or 'manne', and not {rules!r}")
     search = Search(graph, rules)
@@ -194,8 +204,10 @@ def told(
 
 
 def best_found(search: Search, seconds: float, drawn: random.Random) -> Longest:
-    """The best of greedy schedules from states by chance, until the time is over; the first is whole, or of a
-    minute."""
+    """The best of greedy schedules from random states, until the time is over.
+
+    The first is whole, or is cut after a minute.
+    """
     begun, tried = time.monotonic(), 0
     last = begun + seconds
     best: list[tuple[int, str, int]] = []
@@ -211,8 +223,10 @@ def best_found(search: Search, seconds: float, drawn: random.Random) -> Longest:
 
 
 def greedy_from(search: Search, code: int, drawn: random.Random, last: float = math.inf) -> list[tuple[int, str, int]]:
-    """The moves from a state of which each lets the charge fall least, by chance if several do; until the network is
-    silent, or the clock shows `last`."""
+    """Moves from a state, each lowering the charge least, ties broken at random.
+
+    They end when the network is silent, or the clock shows `last`.
+    """
     search.set_to(code)
     state = search.state
     steps: list[tuple[int, str, int]] = []
@@ -234,7 +248,7 @@ def greedy_from(search: Search, code: int, drawn: random.Random, last: float = m
 
 
 def options_at(state: State, node: int) -> list[tuple[int, tuple[int, str, int]]]:
-    """The moves that are enabled at a node, each behind what it lets the charge fall by."""
+    """The enabled moves of a node, each after the fall of the charge that it causes."""
     rule = rule_sets.rule_at(state, node)
     if not rule:
         return []
@@ -243,7 +257,7 @@ def options_at(state: State, node: int) -> list[tuple[int, tuple[int, str, int]]
 
 
 def ball(state: State, node: int, radius: int) -> set[int]:
-    """The nodes at most so many edges away."""
+    """The nodes within `radius` edges of a node."""
     reached = newest = {node}
     for _ in range(radius):
         newest = {near for it in newest for near in state.neighbours[it]} - reached
@@ -252,7 +266,7 @@ def ball(state: State, node: int, radius: int) -> set[int]:
 
 
 def connected_graphs(n: int) -> Iterator[Graph]:
-    """Each connected graph of so many nodes once, up to the names of its nodes."""
+    """Each connected graph of n nodes once, up to the names of its nodes."""
     pairs = list(itertools.combinations(range(1, n + 1), 2))
     place = {pair: at for at, pair in enumerate(pairs)}
     numberings = itertools.permutations(range(1, n + 1))
@@ -282,8 +296,7 @@ def is_connected(n: int, edges: Sequence[tuple[int, int]]) -> bool:
 
 
 def renamed(graph: Graph) -> Iterator[Graph]:
-    """A graph of the nodes 1 to n with its nodes' numbers in every order that makes another graph: under `manne` they
-    matter."""
+    """A graph of the nodes 1 to n under every numbering that gives another graph, as matters for `manne`."""
     seen = set()
     for new in itertools.permutations(graph.nodes):
         edges = tuple(sorted((min(new[a - 1], new[b - 1]), max(new[a - 1], new[b - 1])) for a, b in graph.edges))

@@ -1,4 +1,4 @@
-"""Why a line of a script is no command, in words for whoever wrote it."""
+"""Why a line of a script is no command, in words for its writer."""
 
 from __future__ import annotations
 
@@ -10,7 +10,7 @@ from .numbers import MOST_NODES, MOST_SEED, MOST_TURNS
 
 LONGEST_LINE = 1_048_576
 NUMERAL = re.compile(r"0|[1-9][0-9]*")
-# what words behind a command have to be
+# the kinds of words after a command
 NODE, NULLABLE, BIT, SEED, TURNS, ITEM = (
     "a node",
     "a node or -",
@@ -58,7 +58,7 @@ MEANT = {
 
 
 def why_no_command(line: bytes) -> Optional[str]:
-    """Why a line, without its line feed, is no command; None where it is one, or empty, so that it is skipped."""
+    """Why a line, without its line feed, is no command; None if it is one, or is empty and skipped."""
     for look in (why_not_plain, why_not_spaced):
         why = look(line)
         if why:
@@ -79,7 +79,7 @@ def why_no_command(line: bytes) -> Optional[str]:
 
 
 def why_not_plain(line: bytes) -> Optional[str]:
-    """What bytes a line has that no command has."""
+    """Why bytes of a line are in no command."""
     if len(line) > LONGEST_LINE:
         return f"the line has {len(line)} bytes, and {LONGEST_LINE} are the most"
     if line.startswith(b"\xef\xbb\xbf"):
@@ -103,7 +103,7 @@ def why_not_spaced(line: bytes) -> Optional[str]:
 
 
 def why_unknown(word: str) -> str:
-    """What may have been meant by a word that is no command."""
+    """The command that an unknown word may mean."""
     if word.lower() in COMMANDS:
         return f"commands are written in small letters: `{word.lower()}`"
     near = difflib.get_close_matches(word.lower(), COMMANDS, 1)
@@ -119,7 +119,7 @@ def why_unknown(word: str) -> str:
 
 
 def why_no_word(text: str, kind: str) -> Optional[str]:
-    """Why a word is not of the kind that stands in its place."""
+    """Why a word is not of the kind that its place needs."""
     if kind == NULLABLE:
         return None if text == "-" else why_no_word(text, NODE)
     if kind == ITEM:
@@ -142,6 +142,6 @@ def why_no_word(text: str, kind: str) -> Optional[str]:
 
 
 def faults_of(script: bytes) -> Iterator[tuple[int, str]]:
-    """The lines of a script that are no commands, each with its number and why."""
+    """The lines of a script that are no commands, each with its number and the reason."""
     lines = script.split(b"\n")
     return ((number, why) for number, line in enumerate(lines, 1) if (why := why_no_command(line)))

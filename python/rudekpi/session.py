@@ -1,4 +1,4 @@
-"""A run of the program: what is asked of it, and what it answers."""
+"""A run of the program: its commands and its answers."""
 
 from __future__ import annotations
 
@@ -14,28 +14,28 @@ from .talk import Load, Talk
 
 # how many bytes are asked before the program has to take some of them
 UNSENT = 1 << 16
-# of how many parts of what came it is looked which of them were read, where it is not known
+# beyond this many parts, those that were read are looked for
 MOST_CAME = 8
 
 
 class Session:
-    """The talk with a run. Commands are asked by one call of C, so that none is asked by halves.
+    """The talk with a run. Each command is asked by one C call, so none is half asked.
 
-    It never waits for one pipe while the other could go on, so no reply is too large. When nobody refers to it any
-    more, the program is ended. A handler of a signal may ask in the middle of each function here, and is answered when
-    that goes on: what a function has made of an older `Answers` or `Load` is then let go of, since a later one stands
-    behind that already.
+    It never waits for one pipe while the other could go on, so no reply is too large. The program is ended
+    when the session is not referenced. A signal's handler may ask in the middle of each function here, and is
+    answered first. What the function made of an older `Answers` or `Load` is then dropped, since a later one
+    already follows.
     """
 
     def __init__(self, words: Sequence[str], setting: Setting) -> None:
         self.names = setting.names
-        # the commands that wait, by their numbers, and what draws those
+        # the commands that wait, by number, and the source of numbers
         self.asked: dict[int, Pending[object]] = {}
         self.numbers = itertools.count()
         self.reached = Answers(setting, self.asked)
-        # below which number no command waits
+        # no command below this number waits
         self.low = 0
-        # whether no more is asked, and whether it was raised that the run has ended
+        # whether no more is asked, and whether the end of the run was raised
         self.is_closed = self.is_told = False
         # about how many bytes are asked beyond those under way
         self.unloaded_bytes = 0
@@ -45,7 +45,7 @@ class Session:
 
     @property
     def answers(self) -> Answers:
-        """How far the answers were read."""
+        """The latest state of reading the answers."""
         answers = self.reached
         while answers.later:
             answers = answers.later[0]
@@ -58,14 +58,16 @@ class Session:
         return max(0, self.answers.entries)
 
     def trouble(self) -> Optional[RudekpiError]:
-        """What has ended the run, but a close."""
+        """What ended the run, other than a close."""
         ended = self.talk.ended
         return self.answers.wrong or (ended if not self.is_closed or isinstance(ended, Inherited) else None)
 
     def since(self, place: int) -> tuple[bytes, int]:
-        """The lines that came from a place on, or all that are kept, where that begins behind it, and the place behind
-        them, once all commands are carried out. Raises `Garbled` where the program answered amiss, and `Ended` in a
-        child of the process that started it."""
+        """The lines from a place on, or all kept ones if they begin later, and the place after them.
+
+        Waits until all commands are carried out. Raises `Garbled` if the program gave a wrong answer, and
+        `Ended` in a child of its process.
+        """
         self.wait_for_all()
         if self.answers.wrong:
             raise self.answers.wrong
@@ -95,7 +97,7 @@ class Session:
         raise self._untold("does not tell who is at rest")
 
     def _untold(self, what: str) -> RudekpiError:
-        """What is raised for a question that only the library answers."""
+        """The error for a question that only the library answers."""
         if isinstance(self.talk.ended, Inherited):
             return self.talk.ended
         return NoSuchCommand(f"the program {what}: play the network by engine='library'")
@@ -105,30 +107,28 @@ class Session:
         return None
 
     def tell(self, line: str) -> None:
-        """Carries out a line of a script; behind one that writes several entries the status is asked, which ends
-        them."""
+        """Carries out a line of a script, then asks for the status after one that writes several entries."""
         is_ended_by_status = line.startswith(("drive ", "scramble "))
         self.ask(AskedTurns(self, line, read_accepted) if is_ended_by_status else Asked(self, line, read_accepted))
 
     def ask(self, pending: Pending[object]) -> None:
-        """Takes a command to be written; waits only where much is unsent."""
+        """Takes a command to be written; waits only if much is unsent."""
         if self.is_closed:
             raise ValueError("the network is closed")
         if self.answers.wrong or self.talk.ended:
             self.raise_what_is_wrong()
-        # one call of C; it draws a second number, before it sees that there is no second command
+        # one C call; it draws a second number before it sees that there is no second command
         self.asked.update(zip(self.numbers, (pending,)))
         self.unloaded_bytes += len(pending._event)
         if self.unloaded_bytes > UNSENT:
-            # one that takes no more is read until its text ends
+            # a program that takes no more is read until its text ends
             while (self.talk.has_unsent() or self.talk.is_deaf) and not self.talk.ended:
                 self.go_on()
             if self.load():
                 self.talk.write()
 
     def load(self) -> bool:
-        """Where all is sent: makes what is asked and not yet under way the bytes that are written; whether there was
-        any."""
+        """If all is sent, loads the commands not yet under way; returns whether there were any."""
         last, new = self.talk.load, []
         end = last.end
         while pending := self.asked.get(end):
@@ -141,8 +141,7 @@ class Session:
         return True
 
     def go_on(self) -> None:
-        """Reads on in what came; where there is nothing, writes what the program takes at once; where it takes nothing,
-        waits a while until it does, or has written something."""
+        """Reads on in what came; else writes what the program takes at once; else waits a while."""
         answers, talk = self.answers, self.talk
         part = talk.came.get(answers.parts)
         if part is None:
@@ -157,7 +156,7 @@ class Session:
             talk.end()
 
     def let_go(self) -> None:
-        """Lets go of what was read and answered."""
+        """Drops what was read and answered."""
         answers = self.answers
         came = self.talk.came
         came.pop(answers.parts - 1, None)
@@ -172,7 +171,7 @@ class Session:
             self.talk.kill()
 
     def exchange(self) -> None:
-        """Goes on, where nothing is wrong."""
+        """Goes on unless something is wrong."""
         self.raise_what_is_wrong()
         self.go_on()
 
@@ -181,7 +180,7 @@ class Session:
             self.exchange()
 
     def wait_for_all(self) -> None:
-        """Waits for what is asked, until all of it is answered or the run has ended."""
+        """Waits until everything asked is answered, or the run has ended."""
         while self.answers.front in self.asked and not self.answers.wrong and not self.talk.ended:
             self.go_on()
 
@@ -192,11 +191,11 @@ class Session:
             raise wrong
 
     def text(self) -> str:
-        """What the program has written, as far as it was read; whole lines alone."""
+        """The program's output so far, in whole lines."""
         return text_of(self.lines_since(0)[0])
 
     def close(self) -> None:
-        """Ends the run, once all is carried out. Where it was cut short it is done again."""
+        """Ends the run, once all is carried out. If it was cut short, call it again."""
         if isinstance(self.talk.ended, Inherited) or (self.is_closed and self.talk.ended):
             return
         self.is_closed = True
@@ -210,12 +209,11 @@ class Session:
             raise self.talk.ended
 
     def kill(self) -> None:
-        """Ends the run at once."""
         self.is_closed = True
         self.talk.kill()
 
     def reply(self, pending: Pending[Reply]) -> Reply:
-        """The reply to a command; raises a refusal, and what is no reply."""
+        """The reply to a command. Raises its refusal, `NoReply`, or an error if it is no reply."""
         if pending._text.startswith(b"refused "):
             raise refusal(self.names, pending._event, pending._text, pending._entry)
         try:

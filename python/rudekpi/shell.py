@@ -1,4 +1,4 @@
-"""A session at a terminal that forgives typing errors: a line that is no command is told why, and not sent."""
+"""A session at a terminal that explains typing errors: a line that is no command is not sent."""
 
 from __future__ import annotations
 
@@ -25,13 +25,13 @@ OWN = {
 
 
 class Shell:
-    """A network that is talked to line by line."""
+    """A network that is used line by line."""
 
     def __init__(self, net: Network) -> None:
         self.net, self.shown = net, 0
 
     def answer(self, line: str) -> str:
-        """What a line is answered; raises `EOFError` where it ends the session."""
+        """The answer to a line. Raises `EOFError` if it ends the session."""
         word, _, rest = line.partition(" ")
         if word in ("quit", "exit"):
             raise EOFError
@@ -46,7 +46,7 @@ class Shell:
         return self.new_lines()
 
     def new_lines(self) -> str:
-        """What the transcript has beyond what was shown."""
+        """The part of the transcript not yet shown."""
         said = self.net.transcript()
         new, self.shown = said[self.shown :], len(said)
         return new
@@ -76,7 +76,7 @@ class Shell:
 
 
 def prepare() -> None:
-    """Gives a terminal history and completion, where the library for it is there."""
+    """Gives a terminal history and completion, if readline is present."""
     try:
         import readline
     except ImportError:
@@ -101,7 +101,7 @@ def leave() -> None:
 
 
 def talk(net: Network) -> int:
-    """Reads lines until their end, or `quit`; returns the exit status."""
+    """Reads lines until they end, or `quit`; returns the exit status."""
     is_terminal = sys.stdin.isatty()
     if is_terminal:
         prepare()
@@ -109,7 +109,7 @@ def talk(net: Network) -> int:
     print(shell.new_lines(), end="")
     while True:
         try:
-            # where this can't be read, the session is at its end
+            # if this can't be read, the session ends
             line = input("> " if is_terminal else "").strip("\r")
         except EOFError:
             break

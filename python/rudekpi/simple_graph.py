@@ -10,7 +10,7 @@ from .replies import Name
 
 
 def check_sizes(title: str, nodes: int, edges: int) -> None:
-    """Raises `ValueError` if a network cannot have that many nodes and edges; called before anything is built."""
+    """Raises `ValueError` if no network has that many nodes and edges; called before anything is built."""
     if min(nodes, edges) < 0:
         raise ValueError(f"{title}: no number is below 0")
     if nodes > MOST_NODES:
@@ -21,7 +21,7 @@ def check_sizes(title: str, nodes: int, edges: int) -> None:
 
 @dataclass(frozen=True)
 class Disk:
-    """Where the nodes of a unit disk graph are, in their order, and within which distance they are linked."""
+    """The points of a unit disk graph's nodes, in order, and the distance up to which they are linked."""
 
     radius: float
     points: tuple[tuple[float, float], ...]
@@ -29,9 +29,9 @@ class Disk:
 
 @dataclass(frozen=True)
 class Graph:
-    """A simple undirected graph with a title; the order of the nodes is that of their numbers in a network.
+    """A simple undirected graph with a title; the order of its nodes gives their numbers in a network.
 
-    Raises `ValueError` if a node or an edge is there twice, an edge is a loop or names a node that is not there, or
+    Raises `ValueError` if a node or an edge is there twice, an edge is a loop or names an unknown node, or
     there are more than 65,535 nodes or 1,048,576 edges.
     """
 
@@ -58,5 +58,5 @@ class Graph:
 
 
 def edge_key(a: int, b: int) -> int:
-    """One number for an edge, by the places of its two nodes in either order."""
+    """One number for an edge, from the indices of its two nodes in either order."""
     return min(a, b) * (MOST_NODES + 1) + max(a, b)

@@ -1,4 +1,4 @@
-"""Where a network stands, followed through the lines of a transcript; nodes go by their numbers."""
+"""The state of a network, followed through the lines of a transcript; nodes are numbers."""
 
 from __future__ import annotations
 
@@ -17,7 +17,7 @@ ENTRY = re.compile(r"[0-9]+ ((\w+)(?: [^=]*)?) = (.*)")
 
 
 class State:
-    """The nodes that are present with their neighbours, pointers and flags. A pointer that is null has no item."""
+    """The present nodes with their neighbours, pointers and flags. A null pointer has no item."""
 
     def __init__(self, rules: str = "manne", count: int = 0, present: Iterable[int] = ()) -> None:
         self.rules, self.count = rules, count
@@ -27,7 +27,7 @@ class State:
         self.entry = 0
 
     def follow(self, lines: Iterable[str]) -> None:
-        """Goes through lines of a transcript that `audit` accepts; at a base, the state is what that says."""
+        """Follows lines of a transcript that `audit` accepts; a base replaces the state."""
         for line in lines:
             if line[:1].isdigit():
                 self.entry += 1
@@ -53,7 +53,7 @@ class State:
         self.move(int(found[1]), found[2] or found[3], int(found[4]) if found[4] else None)
 
     def follow_head(self, words: list[str]) -> None:
-        """A line of a header or a base."""
+        """Follows a line of a header or a base."""
         if words[0] == "matching":
             self.__init__(words[1], int(words[2]), range(1, int(words[-1]) + 1))  # type: ignore[misc]
         elif words[0] == "matching2":
@@ -68,9 +68,9 @@ class State:
             self.link(int(words[1]), int(words[2]))
 
     def move(self, node: int, rule: str, target: Optional[int]) -> None:
-        """A move of a step; that of another node in the same step does not change what it does."""
+        """A move of a step; other nodes' moves in the same step do not change its effect."""
         if rule == "update":
-            # it is enabled where the flag is wrong
+            # update is enabled if the flag is wrong
             self.flags ^= {node}
         else:
             self.point(node, target or 0)
@@ -111,33 +111,35 @@ class State:
         return sorted((node, other) for node, near in self.neighbours.items() for other in near if node < other)
 
     def partner(self, node: int) -> Optional[int]:
-        """With whom a node is paired, or None."""
         other = self.pointers.get(node)
         return other if other is not None and self.pointers.get(other) == node else None
 
 
 class Follower:
-    """The state of a session's network, which goes on with what the session has kept since it was last asked for."""
+    """The state of a session's network, continued from the last time it was asked for."""
 
     def __init__(self, session: Union[Direct, Session]) -> None:
         self.session = session
-        # the state at a place of what is kept, unless somebody has it now: a handler of a signal that asks meanwhile
-        # begins anew
+        # the state at a place of the kept text, unless it is in use: a signal's handler that asks meanwhile
+        # starts afresh
         self.followed: list[tuple[int, State]] = []
 
     def state(self) -> State:
-        """Where the network stands once all commands are carried out. Raises `Garbled` where the program answered
-        amiss, and `Ended` in a child of the process that made the network."""
+        """The network's state once all commands are carried out.
+
+        Raises `Garbled` if the program gave a wrong answer, and `Ended` in a child of the process that made
+        the network.
+        """
         return self.look(lambda state: state)
 
     def look(self, see: Callable[[State], Seen]) -> Seen:
-        """What a function sees in the state, which does not change while it looks."""
+        """The result of a function on the state, which does not change meanwhile."""
         try:
             place, state = self.followed.pop()
         except IndexError:
             place, state = 0, State()
         text, end = self.session.since(place)
-        # one that is cut short by an interrupt begins again at the start
+        # if an interrupt cuts this short, it begins again at the start
         state.follow(text.decode().splitlines())
         seen = see(state)
         self.followed[:] = [(end, state)]

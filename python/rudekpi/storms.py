@@ -1,4 +1,4 @@
-"""Scripts that are played at once, by threads of the program."""
+"""Scripts that the program's threads play at once."""
 
 from __future__ import annotations
 
@@ -27,13 +27,15 @@ def storm(
     turns: int = 1000,
     program: Program = None,
 ) -> str:
-    """Plays up to 64 scripts at once on one network of the nodes 1 to a number, and answers the transcript of its one
-    log.
+    """Plays 1 to 64 scripts at once on one network of the nodes 1 to `nodes`; returns its transcript.
 
-    A script is a text, a list of lines, or a `pathlib.Path`. Up to 64 `workers` judge a large step; beside the scripts,
-    0 to 64 workers `roam`: in each of so many turns, up to 1,000,000, one lets an enabled node move. How the scripts
-    interleave is not fixed. Raises `ValueError` for numbers out of their range, and `Ended` where the program does not
-    end well: by a line that is no command (status 2), a file that can't be read (3), want of memory or a full log (4).
+    A script is a text, a list of lines, or a `pathlib.Path`. 1 to 64 `workers` judge a large step. With the
+    scripts, 0 to 64 more workers `roam`: in each of `turns` turns, at most 1,000,000, one lets an enabled
+    node move. How the scripts interleave is not fixed.
+
+    Raises `TypeError` for a single text, `ValueError` for numbers out of range, and `Ended` if the program
+    fails: on a line that is no command (status 2), a file that can't be read (3), lack of memory or a full
+    log (4).
     """
     if rules not in ("hh", "manne"):
         raise ValueError(f"rules are 'hh' or 'manne', and not {rules!r}")
@@ -68,7 +70,7 @@ def storm(
 
 
 def path_of(script: Script, path: str) -> str:
-    """The path of a script, which is written to a path where it is none."""
+    """The path of a script; one that is not a file is written to `path` first."""
     if isinstance(script, os.PathLike):
         return os.path.abspath(script)
     lines = script.splitlines() if isinstance(script, str) else script

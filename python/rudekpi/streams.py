@@ -1,5 +1,4 @@
-"""The standard streams of the command line: what can't be read or written is told by name, also where a stream is
-closed."""
+"""The standard streams of the command line: open or closed, they name what fails."""
 
 from __future__ import annotations
 
@@ -14,7 +13,7 @@ if TYPE_CHECKING:
 
 
 class Input(io.FileIO):
-    """A standard input that says what it is where a read fails."""
+    """A standard input that names itself if a read fails."""
 
     def readinto(self, room: WriteableBuffer) -> Optional[int]:
         try:
@@ -30,7 +29,7 @@ class Input(io.FileIO):
 
 
 class Output(io.FileIO):
-    """A file, or a standard output, that says which it is where a write fails."""
+    """A file, or a standard output, that names itself if a write fails."""
 
     def __init__(self, file: Union[str, int], name: Optional[str] = None, appends: bool = False) -> None:
         super().__init__(file, "a" if appends else "w", closefd=isinstance(file, str))
@@ -46,23 +45,24 @@ class Output(io.FileIO):
 
 
 def output_file(path: str, appends: bool = False) -> TextIO:
-    """A file that is written, or goes on, which says its path where a write fails. Raises `OSError`."""
+    """A file opened to write or append, which names its path if a write fails. Raises `OSError`."""
     return io.TextIOWrapper(io.BufferedWriter(Output(path, path, appends)), newline="")
 
 
 def fill_closed() -> None:
-    """Gives the numbers of closed standard streams to the device of nothing, so that no file gets them; opened in such
-    a way that to read or to write fails as it does at a closed stream, and that what is told to standard error goes
-    nowhere."""
+    """Opens the null device under the numbers of closed standard streams, so that no file gets them.
+
+    A read or write then fails as at a closed stream, and standard error goes nowhere.
+    """
     for number, way in ((0, os.O_WRONLY), (1, os.O_RDONLY), (2, os.O_WRONLY)):
         try:
             os.fstat(number)
         except OSError:
-            os.open(os.devnull, way)  # the least number that is free
+            os.open(os.devnull, way)  # the least free number
 
 
 def prepare() -> None:
-    """Puts streams that tell by name what fails into the place of Python's own."""
+    """Replaces Python's standard streams by ones that name what fails."""
     fill_closed()
     if sys.stderr is None:
         sys.stderr = open(2, "w", closefd=False)
@@ -73,7 +73,7 @@ def prepare() -> None:
 
 
 def let_go() -> None:
-    """What could not be written is written nowhere, also at the end of this process."""
+    """Discards output that could not be written, also at the end of this process."""
     with contextlib.suppress(OSError):
         os.dup2(os.open(os.devnull, os.O_WRONLY), 1)
         sys.stdout.flush()

@@ -1,5 +1,7 @@
-"""Experiments by the thousand: networks that are disturbed and settle, over graphs, rules, daemons, seeds and
-disturbances."""
+"""Experiments by the thousand: networks that are disturbed and settle.
+
+They run over graphs, rules, daemons, seeds and disturbances.
+"""
 
 from __future__ import annotations
 
@@ -41,7 +43,7 @@ TASK_SECONDS = 1.0
 
 
 class LostExperiments(Lost):
-    """Workers died twice over these experiments, all others of a sweep are done."""
+    """Workers died twice over these experiments; all others of the sweep are done."""
 
     def __init__(self, experiments: list[Experiment]) -> None:
         super().__init__(
@@ -56,13 +58,14 @@ class LostExperiments(Lost):
 
 @dataclass(frozen=True)
 class Row:
-    """What an experiment showed: the steps and moves, rounds, the moves of each rule, the charge at the beginning, the
-    bound, and the pairs at the end.
+    """The results of an experiment: its sizes, counts, bounds and time.
 
-    The bound is that of the last `Epoch`: 2m + n (`hh`) or 2m + 3n (`manne`), and under `hh` at most n²/2 + n - 2. If
-    disturbances come one by one the charge is that before them and the sum of their costs, and the bound that of a
-    `Burst`. The moves are at most the charge and at most the bound. The rounds are measured, and no bound on them is
-    proved: see `rudekpi.rounds`. `seconds` is the time that it all took."""
+    `charge` is that at the beginning; `pairs` counts those at the end. `bound` is that of the last `Epoch`:
+    2m + n (`hh`) or 2m + 3n (`manne`), and under `hh` at most n²/2 + n - 2. If disturbances come one by one,
+    the charge also has the sum of their costs, and the bound is that of a `Burst`. The moves exceed neither
+    charge nor bound. The rounds are measured; no bound on them is proved: see `rudekpi.rounds`. `seconds` is
+    the time for all of it.
+    """
 
     graph: str
     rules: str
@@ -85,14 +88,12 @@ class Row:
 
     @property
     def key(self) -> tuple[object, ...]:
-        """What the experiment was."""
         return self.graph, self.rules, self.daemon, self.seed, self.disturbance
 
 
 @dataclass(frozen=True)
 class Played:
-    """A run: its transcript, and the statuses before and after the part in which the daemon moved, with how far it
-    went."""
+    """A run: its transcript, the status before and after the daemon's part, and its steps and moves."""
 
     transcript: str
     before: Status
@@ -103,7 +104,10 @@ class Played:
 
 @dataclass(frozen=True)
 class Experiment:
-    """One network to be disturbed and settled; the daemon is a word of `daemons.WORDS`, a daemon, or a function."""
+    """One network to be disturbed and settled.
+
+    The daemon is a word of `daemons.WORDS`, a daemon, or a function.
+    """
 
     graph: Graph
     rules: str
@@ -131,7 +135,6 @@ class Experiment:
 
     @property
     def key(self) -> tuple[object, ...]:
-        """That of its row."""
         return self.graph.title, self.rules, self.daemon_word(), self.seed, str(self.disturbance)
 
     def daemon_word(self) -> str:
@@ -140,12 +143,11 @@ class Experiment:
         )
 
     def run(self) -> Row:
-        """Plays it, and makes its row of the transcript, which the program judges."""
+        """Plays the experiment, and makes its row from the transcript, which the program judges."""
         began = time.perf_counter()
         return self.measured(self.played(), began)
 
     def played(self) -> Played:
-        """Plays it."""
         drawn, wanted = random.Random(self.seed), self.disturbance
         nodes = list(self.graph.nodes)
         drawn.shuffle(nodes)
@@ -166,8 +168,10 @@ class Experiment:
         return Played(net.transcript(), before, after, player.steps, player.moves)
 
     def measured(self, played: Played, began: float) -> Row:
-        """The row of a run that is judged now. What its daemon did is all that the transcript has, or this raises
-        `RudekpiError`."""
+        """The row of a run, which is judged here.
+
+        Raises `RudekpiError` if the transcript has other moves than its daemon made.
+        """
         before, after = played.before, played.after
         epochs = judged_epochs(played.transcript, program=self.program)
         watch = watch_after(played.transcript, before.entry)
@@ -205,7 +209,6 @@ class Experiment:
         )
 
     def begin(self, net: Network, joining: set[Name]) -> None:
-        """Links all that is there at the start."""
         with net.batch() as batch:
             for node in self.graph.nodes:
                 if node in joining:
@@ -216,7 +219,6 @@ class Experiment:
 
 
 def run_all(experiments: Sequence[Experiment]) -> list[Row]:
-    """A task."""
     return [experiment.run() for experiment in experiments]
 
 
@@ -228,11 +230,11 @@ def experiments_of(
     disturbances: Iterable[Union[int, Disturbance]],
     program: Program = None,
 ) -> list[Experiment]:
-    """All experiments of a sweep. Under `hh`, which has no flags and takes one node at a time, those of flags and of
-    the synchronous daemon are left out.
+    """All experiments of a sweep.
 
-    Raises `ValueError` for words and numbers that none takes, two graphs with one title, and more than 1,000,000
-    experiments, which are counted before any is made.
+    Under `hh`, without flags and with one mover, experiments on flags or with the synchronous daemon are left
+    out. Raises `ValueError` for wrong words or numbers, two graphs with one title, and more than 1,000,000
+    experiments, counted before any is made.
     """
     of = [it if isinstance(it, Disturbance) else Disturbance(it) for it in disturbances]
     lists = [first_of(it) for it in (graphs, rules, daemons, seeds, of)]
@@ -253,14 +255,14 @@ def experiments_of(
 
 
 def first_of(given: Iterable[Any]) -> Sequence[Any]:
-    """As many of these as a sweep may have experiments, and one more, however many there are."""
+    """As many of these as a sweep may have experiments, and one more."""
     if isinstance(given, range):
         return given[: MOST_EXPERIMENTS + 1]
     return list(itertools.islice(given, MOST_EXPERIMENTS + 1))
 
 
 def check_titles(graphs: Sequence[Any]) -> None:
-    """Raises `ValueError` if two graphs that differ have one title, since rows and plots know them by it."""
+    """Raises `ValueError` if two different graphs share a title, by which rows and plots know them."""
     known: dict[str, Graph] = {}
     for graph in graphs:
         if isinstance(graph, Graph) and known.setdefault(graph.title, graph) != graph:
@@ -283,18 +285,18 @@ def sweep(
     processes: Optional[int] = None,
     there: Iterable[Row] = (),
 ) -> Iterator[Row]:
-    """A row for each graph, rules, daemon, seed and disturbance, in the order in which they are done.
+    """A row for each graph, rules, daemon, seed and disturbance, in the order of completion.
 
-    A graph may be one of networkx.
-    A disturbance is a `Disturbance`, or a number of faults. The executor is any of `concurrent.futures`, or a cluster's
-    (`distributed.Client().get_executor()`, `mpi4py.futures`), whose workers have this package and the program; by
-    default processes of this machine, one a processor or as many as are said. Experiments are handed out in tasks of
-    about a second. A task whose worker dies is tried once more; where that dies too, the rest is done and
-    `LostExperiments` is raised at the end. A pool of processes of the caller's own breaks where one of them dies: it is
-    not replaced, and raises its `BrokenExecutor`. An error of an experiment is raised as it is. Where the caller stops,
-    nothing more is handed out, and processes that were begun here are ended.
+    A graph may be one of networkx. A disturbance is a `Disturbance`, or a number of faults. The executor is
+    any of `concurrent.futures`, or a cluster's (`distributed.Client().get_executor()`, `mpi4py.futures`),
+    whose workers have this package and the program; by default `processes` processes of this machine, or one
+    a processor. Experiments whose rows are in `there` are not played. Raises `ValueError` for wrong
+    arguments.
 
-    Experiments whose rows are `there` already are not played.
+    A task takes about a second. If its worker dies, it is tried once more; if that dies too, the rest is done
+    and `LostExperiments` is raised at the end. The caller's own process pool breaks if one of its processes
+    dies: it is not replaced, and raises its `BrokenExecutor`. An error of an experiment is raised unchanged.
+    If the caller stops, no more tasks are handed out, and processes started here are ended.
     """
     if processes is not None and processes < 1:
         raise ValueError(f"there is one process or more, and not {processes}")
@@ -308,8 +310,7 @@ def sweep(
 
 
 class Tasks:
-    """Experiments in tasks of about a second, as far as the rows so far tell how long one takes, and of no more for a
-    worker than for each."""
+    """Tasks of about a second, as the rows so far show, each at most one worker's share of what is left."""
 
     def __init__(self, todo: Iterable[Experiment], workers: int) -> None:
         self.todo, self.workers = deque(todo), workers
@@ -329,12 +330,11 @@ class Tasks:
         return max(1, int(TASK_SECONDS * self.count / self.seconds)) if self.seconds else 1
 
     def add(self, rows: list[Row]) -> None:
-        """Learns from a task that is done."""
         self.count, self.seconds = self.count + len(rows), self.seconds + sum(row.seconds for row in rows)
 
 
 def rows_of(todo: list[Experiment], given: Union[Executor, int]) -> Iterator[Row]:
-    """The rows of experiments, as they are done by an executor or by so many processes."""
+    """The rows of experiments, as an executor or this many processes finish them."""
     tasks, lost = Tasks(todo, count_of(given)), []
     handing: Handing[list[Experiment]] = Handing(tasks, lambda task: (run_all, task), given)
     with contextlib.closing(handing.done()) as done:
@@ -350,7 +350,7 @@ def rows_of(todo: list[Experiment], given: Union[Executor, int]) -> Iterator[Row
 
 
 def natural(word: str) -> list[tuple[int, str]]:
-    """What a word is sorted by, so that 5 stands in front of 10."""
+    """The key by which a word is sorted, so that 5 comes before 10."""
     parts = re.split("([0-9]+)", word)
     return [(int(part), "") if place % 2 else (0, part) for place, part in enumerate(parts)]
 
@@ -359,8 +359,10 @@ COLUMNS = tuple(it.name for it in fields(Row))
 
 
 def write_csv(rows: Iterable[Row], file: TextIO, has_head: bool = False) -> Iterator[Row]:
-    """The same rows, each written to a CSV file as it comes, so that those so far are there whatever happens. The head
-    is written too, unless the file has it."""
+    """The same rows, each written to a CSV file as it comes, so that an interrupt loses none.
+
+    The head is written too, unless the file has it.
+    """
     writer = csv.writer(file)
     if not has_head:
         writer.writerow(COLUMNS)
@@ -371,7 +373,7 @@ def write_csv(rows: Iterable[Row], file: TextIO, has_head: bool = False) -> Iter
 
 
 def read_csv(file: TextIO) -> list[Row]:
-    """The rows of a file that `write_csv` wrote. Raises `ValueError` where it is none."""
+    """The rows of a file that `write_csv` wrote. Raises `ValueError` if it is none."""
     kinds: dict[str, Callable[[str], Any]] = {"float": float, "int": int, "str": str}
     lines = csv.DictReader(file)
     if tuple(lines.fieldnames or ()) != COLUMNS:
@@ -380,7 +382,7 @@ def read_csv(file: TextIO) -> list[Row]:
 
 
 def frame_of(rows: Iterable[Row]) -> Any:
-    """The rows as a `pandas.DataFrame`. Wants pandas."""
+    """The rows as a `pandas.DataFrame`. Needs pandas, else raises `ImportError`."""
     try:
         import pandas
     except ImportError:

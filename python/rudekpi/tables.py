@@ -1,4 +1,4 @@
-"""The table of `compare`: the moves of each graph, daemon and disturbance under both rule sets, beside the bound."""
+"""The table of `compare`: moves under both rule sets, with the bound."""
 
 from __future__ import annotations
 
@@ -18,11 +18,10 @@ RESAMPLES, SEED = 2000, 0
 
 
 def interval(numbers: Sequence[float]) -> tuple[float, float]:
-    """The 95 % bootstrap interval of the median of some numbers, one at least: between which most medians of 2,000
-    resamples lie. The seed is the same each time.
+    """The 95 % bootstrap interval of the median of at least one number.
 
-    After Efron, "Bootstrap methods", 1979. No resample is made: its median is that of draws of which the place is
-    drawn, as an order statistic of uniform numbers.
+    It contains 95 % of the medians of 2,000 resamples; the seed is fixed. After Efron, "Bootstrap methods",
+    1979. No resample is made: its median is drawn as an order statistic of uniform numbers.
     """
     known, drawn = sorted(numbers), random.Random(SEED)
     medians = sorted(resampled_median(known, drawn) for _ in range(RESAMPLES))
@@ -30,9 +29,9 @@ def interval(numbers: Sequence[float]) -> tuple[float, float]:
 
 
 def resampled_median(known: Sequence[float], drawn: random.Random) -> float:
-    """The median of as many draws, with replacement, from numbers that are sorted."""
+    """The median of as many draws, with replacement, from sorted numbers."""
     count, low = len(known), (len(known) + 1) // 2
-    # where the draw stands that is the low one of both in the middle, and if there are two, the next one
+    # the place of the lower middle draw; then, if two are in the middle, that of the next
     place = drawn.betavariate(low, count - low + 1)
     middle = known[min(count - 1, int(place * count))]
     if count % 2:
@@ -42,7 +41,7 @@ def resampled_median(known: Sequence[float], drawn: random.Random) -> float:
 
 
 def groups_of(rows: Sequence[Row]) -> list[tuple[tuple[str, ...], list[Row]]]:
-    """The rows of each graph, disturbance, daemon and rules, in their natural order."""
+    """The rows of each graph, disturbance, daemon and rules, in natural order."""
     groups: dict[tuple[str, ...], list[Row]] = {}
     for row in rows:
         groups.setdefault((row.graph, row.disturbance, row.daemon, row.rules), []).append(row)
@@ -50,7 +49,6 @@ def groups_of(rows: Sequence[Row]) -> list[tuple[tuple[str, ...], list[Row]]]:
 
 
 def figures_of(group: Sequence[Row]) -> list[str]:
-    """The figures of the rows of a group."""
     moves = sorted(row.moves for row in group)
     low, high = interval(moves)
     figures = [
@@ -83,7 +81,7 @@ def table_of(rows: Sequence[Row], is_markdown: bool = False) -> list[str]:
 
 
 def markdown_of(lines: Sequence[Sequence[str]]) -> list[str]:
-    """The same as a table of Markdown, whose figures stand at the right."""
+    """The same in Markdown, figures aligned right."""
     rule = ["---" if at < WORDS else "---:" for at in range(len(HEAD))]
     escaped = [[text.replace("\\", "\\\\").replace("|", "\\|") for text in line] for line in lines]
     return [f"| {' | '.join(line)} |" for line in (escaped[0], rule, *escaped[1:])]

@@ -1,12 +1,10 @@
-"""A program's pipes, in such a way that an interrupt at any moment loses none of their bytes, and that a signal's
-handler may talk, too.
+"""A program's pipes: an interrupt loses none of their bytes, and a signal's handler may use them.
 
-An exception out of a signal's handler, as `KeyboardInterrupt`, may come behind any instruction: also between the return
-of a `write` and the store of what it returned. And a handler may itself ask the program something, in the middle of any
-function here: it has been answered when that function goes on. So each call that moves bytes, or takes an exit status,
-is made by one call of C, which finds out how far all has come, moves the bytes, and has noted so when the next handler
-runs. A lock or a thread would cost each answer more than the answer itself, and to block signals would not help where
-another thread takes them.
+A signal's handler may raise, as `KeyboardInterrupt`, after any instruction: also between the return of a
+`write` and the store of its result. It may itself ask the program something in the middle of any function
+here, and is answered first. So each transfer of bytes, or of an exit status, is one C call, which finds the
+position, moves the bytes, and records that before the next handler runs. A lock or a thread would cost more
+than the answer itself. Blocking signals would not help if another thread takes them.
 """
 
 from __future__ import annotations
@@ -21,23 +19,21 @@ from typing import Callable, Optional, Sequence
 from .errors import Ended, Inherited
 from .processes import IS_NONE, READ, Run
 
-# for how many milliseconds the pipes are waited for at the most before it is seen whether a handler has read what was
-# waited for
+# the longest wait for the pipes, in milliseconds, before checking whether a handler has read meanwhile
 LONGEST_PAUSE = 64
 TOTAL: Callable[[list[int]], int] = sum
 TALKS: weakref.WeakSet[Talk] = weakref.WeakSet()
 
 
 class Load:
-    """The bytes of some commands, up to the one of a number, how many of them the program took at each write, and the
-    load behind it."""
+    """The bytes of the commands below the number `end`, how many each write took, and the next load."""
 
     __slots__ = ("data", "taken", "end", "later")
 
     def __init__(self, data: bytes, end: int) -> None:
         self.data, self.end = memoryview(data), end
         self.taken: list[int] = []
-        # at most one, of which a second does not take the place
+        # at most one, which a second does not replace
         self.later: dict[int, Load] = {}
 
     def is_unsent(self) -> bool:
@@ -45,10 +41,12 @@ class Load:
 
 
 class Talk:
-    """A program that runs in a session of its own, so that Ctrl-C at a terminal does not reach it, with the bytes under
-    way to it and from it. It is ended where nobody refers to it any more, and with this process."""
+    """A program in its own session, which Ctrl-C at a terminal does not reach, with the bytes under way.
 
-    # of one that is not wholly made
+    It is ended when no longer referenced, and with this process.
+    """
+
+    # of one that is not fully built
     ended: Optional[Ended] = None
     owner = 0
 
@@ -56,7 +54,7 @@ class Talk:
         self.is_deaf = False
         self.pause = 1
         self.reached = Load(b"", 0)
-        # what the program wrote, by numbers from 0 on, as far as it was not read on
+        # the program's output not yet read on, by numbers from 0 on
         self.came: dict[int, bytes] = {}
         self.numbers = itertools.count()
         self.run, self.owner = Run(), os.getpid()
@@ -77,7 +75,6 @@ class Talk:
 
     @property
     def load(self) -> Load:
-        """The last load."""
         load = self.reached
         while load.later:
             load = load.later[0]
@@ -89,14 +86,14 @@ class Talk:
         return self.load.is_unsent() and not self.is_deaf
 
     def write(self) -> bool:
-        """Whether the program took some of what is unsent."""
+        """Whether the program took some of the unsent bytes."""
         load = self.load
         before, taken = len(load.taken), load.taken
         left = map(load.data.__getitem__, map(slice, map(TOTAL, (taken,)), (None,)))
         try:
             taken.extend(filter(None, map(self.run.to.write, left)))
         except BrokenPipeError:
-            # it reads no more: that it has ended is seen where its text ends
+            # it reads no more; its end shows at the end of its text
             self.is_deaf = True
         except ValueError:
             # a handler has ended it
@@ -105,8 +102,7 @@ class Talk:
         return len(taken) > before
 
     def wait(self) -> bool:
-        """Waits for a while until the program has written something, or takes bytes where there are some; whether it
-        has written."""
+        """Waits a while for output, or until unsent bytes are taken; returns whether there is output."""
         ready = select.poll()
         try:
             of = self.run.of.fileno()
@@ -119,7 +115,7 @@ class Talk:
                 raise
             return False
         found = ready.poll(self.pause)
-        # as long as was waited already, so that a call in the middle of which a handler has read all goes on soon
+        # as long as was waited already, so that a call goes on soon after a handler has read everything
         self.pause = 1 if found else min(2 * self.pause, LONGEST_PAUSE)
         return any(end == of for end, _ in found)
 
@@ -134,12 +130,14 @@ class Talk:
                 raise
 
     def close_input(self) -> None:
-        """Tells the program that its script is at its end."""
+        """Ends the program's script."""
         self.run.to.close()
 
     def end(self) -> None:
-        """Waits for the program, whose text is at its end, and keeps its status and last line. Where it was cut short
-        it is done again."""
+        """Waits for the program, after its text ended, and keeps its status and last line.
+
+        If it was cut short, call it again.
+        """
         try:
             if not self.ended:
                 self.run.close()
@@ -151,14 +149,14 @@ class Talk:
         self.run.release()
 
     def kill(self) -> None:
-        """Ends the program at once. Does nothing where it has ended, or in a process that did not start it."""
+        """Ends the program at once; does nothing if it has ended, or in a process that did not start it."""
         if self.owner == os.getpid():
             if not self.ended:
                 self.run.kill()
             self.end()
 
     def leave(self) -> None:
-        """In a child of this process: lets go of the pipes, so that the program still sees where they end."""
+        """In a child of this process: closes the pipes, so that the program still sees them end."""
         self.ended = Inherited()
         self.run.release()
 

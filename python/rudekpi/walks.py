@@ -1,4 +1,4 @@
-"""Topologies that change by chance: links that are cut, added and rewired, and nodes at places that walk."""
+"""Topologies that change at random: links cut, added and rewired, and nodes that walk."""
 
 from __future__ import annotations
 
@@ -10,12 +10,12 @@ from .generators import near_pairs
 from .simple_graph import Disk
 
 Edge = tuple[int, int]
-# how often two nodes are drawn before those that may be linked are listed
+# how often two nodes are drawn before the linkable ones are listed
 TRIES = 100
 
 
 class Topology:
-    """Nodes by their numbers and their links, from which one is drawn in constant time."""
+    """Nodes by number and their links; a link is drawn in constant time."""
 
     def __init__(self, present: Iterable[int], edges: Iterable[Edge]) -> None:
         self.near: dict[int, set[int]] = {node: set() for node in present}
@@ -36,7 +36,7 @@ class Topology:
         edge = (min(a, b), max(a, b))
         self.near[a].remove(b)
         self.near[b].remove(a)
-        # the last one goes to its place
+        # the last one takes its place
         place, last = self.places.pop(edge), self.edges.pop()
         if last != edge:
             self.edges[place], self.places[last] = last, place
@@ -50,7 +50,7 @@ class Topology:
         del self.near[node]
 
     def cut(self, drawn: random.Random) -> Edge:
-        """Cuts a link by chance. Raises `ValueError` if there is none."""
+        """Cuts a random link. Raises `ValueError` if there is none."""
         if not self.edges:
             raise ValueError("no link is left that could be cut or rewired")
         edge = drawn.choice(self.edges)
@@ -58,7 +58,7 @@ class Topology:
         return edge
 
     def add(self, drawn: random.Random) -> Edge:
-        """Links two nodes by chance that are not linked. Raises `ValueError` if all are."""
+        """Links two random nodes that are not linked. Raises `ValueError` if all are."""
         nodes = sorted(self.near)
         for _ in range(TRIES if len(nodes) > 1 else 0):
             a, b = drawn.sample(nodes, 2)
@@ -72,7 +72,7 @@ class Topology:
         return self.link_anew(a, a, drawn)
 
     def link_anew(self, a: int, but: int, drawn: random.Random) -> Edge:
-        """Links a node with one by chance that is no neighbour, and not `but`. Raises `ValueError` if there is none."""
+        """Links a node with a random one, no neighbour and not `but`. Raises `ValueError` without one."""
         others = [node for node in sorted(self.near) if node not in (a, but) and node not in self.near[a]]
         if not others:
             raise ValueError("a node is linked with all others, and no link of its can go elsewhere")
@@ -81,21 +81,21 @@ class Topology:
         return a, b
 
     def rewire(self, drawn: random.Random) -> tuple[Edge, Edge]:
-        """Cuts a link by chance, and links one of its ends elsewhere: both edges."""
+        """Cuts a random link, and links one of its ends elsewhere; returns both edges."""
         cut = self.cut(drawn)
         a, b = cut if drawn.random() < 0.5 else cut[::-1]
         return cut, self.link_anew(a, b, drawn)
 
 
 class Walk:
-    """Nodes in a square of side 1, linked within a radius, that walk; they turn back at the sides."""
+    """Walking nodes in a square of side 1, linked within a radius; they turn back at the sides."""
 
     def __init__(self, disk: Disk, topology: Topology, drawn: random.Random) -> None:
         self.radius, self.topology, self.drawn = disk.radius, topology, drawn
         self.at = dict(enumerate(disk.points, 1))
 
     def steps(self, length: float, is_one_by_one: bool) -> Iterator[list[tuple[str, Edge]]]:
-        """A step of so much of each node that is present: the links that go and come, for all or node by node."""
+        """One step of this length for each present node: the links that change, for all or node by node."""
         for node in sorted(self.topology.near):
             x, y = self.at[node]
             turn = 2 * math.pi * self.drawn.random()
@@ -108,19 +108,17 @@ class Walk:
             yield self.changes()
 
     def changes_at(self, node: int) -> list[tuple[str, Edge]]:
-        """The links of a node that go and come."""
         here, others = self.at[node], sorted(self.topology.near)
         near = {it for it in others if it != node and math.dist(here, self.at[it]) <= self.radius}
         return self.changed({edge_of(node, it) for it in self.topology.near[node]}, {edge_of(node, it) for it in near})
 
     def changes(self) -> list[tuple[str, Edge]]:
-        """All links that go and come."""
         nodes = sorted(self.topology.near)
         pairs = near_pairs([self.at[node] for node in nodes], self.radius)
         return self.changed({*self.topology.edges}, {(nodes[a - 1], nodes[b - 1]) for a, b in pairs})
 
     def changed(self, old: set[Edge], new: set[Edge]) -> list[tuple[str, Edge]]:
-        """What makes new links of old ones, done in the topology."""
+        """The edits that turn old links into new ones, done in the topology."""
         gone, come = sorted(old - new), sorted(new - old)
         for edge in gone:
             self.topology.unlink(*edge)
@@ -134,6 +132,6 @@ def edge_of(a: int, b: int) -> Edge:
 
 
 def folded(place: float) -> float:
-    """Where who walks along a line ends between the walls at 0 and 1."""
+    """The end of a walk along a line, folded back at the walls 0 and 1."""
     place %= 2
     return place if place <= 1 else 2 - place

@@ -1,4 +1,4 @@
-"""Work in tasks that are handed out to the workers of an executor, of which some may die."""
+"""Work in tasks for an executor's workers, which may die."""
 
 from __future__ import annotations
 
@@ -23,13 +23,13 @@ from concurrent.futures import (
 from typing import Any, Callable, Generator, Generic, Iterator, Optional, Tuple, TypeVar, Union
 
 Task = TypeVar("Task")
-# a function that a worker calls, and with which words
+# a function for a worker to call, and its arguments
 Call = Tuple[Any, ...]
-# how many tasks a worker has under way, and how many workers an executor is taken to have that does not tell
+# how many tasks a worker has under way, and how many workers an executor without a count is taken to have
 UNDER_WAY = 2
 MOST_UNKNOWN = 64
-# in how many milliseconds it is seen at the latest that a thread has ended, and how much is taken at once of what it
-# sends
+# the longest wait, in milliseconds, to see that a thread has ended; how many bytes are taken at once of what
+# it sends
 PAUSE = 10
 PIECE = 1 << 16
 
@@ -40,34 +40,40 @@ def ignore_interrupts() -> None:
 
 
 def count_of(given: Union[Executor, int]) -> int:
-    """How many workers there are, as far as an executor tells."""
+    """How many workers there are, as far as the executor has a count."""
     return given if isinstance(given, int) else getattr(given, "_max_workers", MOST_UNKNOWN)
 
 
 def end_at_once(pool: Any) -> None:
-    """Ends a pool of processes in the middle of its work, of which nothing is wanted any more. From Python 3.14 on they
-    may end a moment later."""
+    """Ends a pool of processes in the middle of its work, whose results are not needed.
+
+    From Python 3.14 on they may end a moment later.
+    """
     if hasattr(pool, "kill_workers"):
         pool.kill_workers()
     else:
-        # a Python before 3.14; where its processes are not found, what they have begun is waited for
+        # before Python 3.14; if the processes are not found, their current work is waited for
         for worker in list((getattr(pool, "_processes", None) or {}).values()):
             worker.kill()
     end_broken(pool)
 
 
 def end_broken(pool: Any) -> None:
-    """Ends a pool of processes whose workers are dead or dying. Its thread is waited for, so that no later fork meets
-    it."""
+    """Ends a pool of processes whose workers are dead or dying.
+
+    Waits for its thread, so that no later fork meets it.
+    """
     if sys.version_info < (3, 11, 5):
         take_what_is_sent(pool)
     pool.shutdown(wait=True, cancel_futures=True)
 
 
 def take_what_is_sent(pool: Any) -> None:
-    """Takes what a pool of processes is sending to workers that are dead or dying, until its thread has ended. This is
-    for a Python before 3.11.5 alone, where that thread, and with it `shutdown`, waits for ever until a worker takes it:
-    a fault of the standard library, https://github.com/python/cpython/issues/94777."""
+    """Takes what a process pool sends to dead or dying workers, until its thread has ended.
+
+    Before Python 3.11.5 that thread, and with it `shutdown`, waits forever for a worker to take it: a fault
+    of the standard library, https://github.com/python/cpython/issues/94777.
+    """
     thread = pool._executor_manager_thread
     if not (thread and thread.is_alive()):
         return
@@ -78,7 +84,7 @@ def take_what_is_sent(pool: Any) -> None:
             ready = select.poll()
             ready.register(end, select.POLLIN)
             while thread.is_alive():
-                # a worker that is dying may have taken it
+                # a dying worker may have taken it
                 with contextlib.suppress(BlockingIOError):
                     if ready.poll(PAUSE) and not os.read(end, PIECE):
                         break
@@ -87,20 +93,22 @@ def take_what_is_sent(pool: Any) -> None:
 
 
 def called(token: str, call: Callable[..., Any], *words: Any) -> Any:
-    """In a worker: a task. The token is another one at each try, since distributed gives what is called with the same
-    words twice one answer, be it that the worker died."""
+    """In a worker: runs a task.
+
+    The token differs at each try, since distributed gives equal calls one answer, even if that is a worker's
+    death.
+    """
     return call(*words)
 
 
 def is_death(error: BaseException) -> bool:
-    """Whether an error tells that a worker died, here or on a cluster."""
+    """Whether an error means that a worker died, here or on a cluster."""
     if isinstance(error, (BrokenExecutor, CancelledError)) or type(error).__name__ in (
         "KilledWorker",
         "CommClosedError",
     ):
         return True
-    # where a worker dies while its result is handed over, distributed takes the result for an error, and fails in that
-    # itself
+    # if a worker dies while it hands over its result, distributed takes the result for an error, and fails
     frames = [frame for frame, _ in traceback.walk_tb(error.__traceback__)]
     return (
         bool(frames)
@@ -110,7 +118,6 @@ def is_death(error: BaseException) -> bool:
 
 
 def has_died(future: Future[Any]) -> bool:
-    """Whether the worker died of which this is the result."""
     try:
         error = future.exception()
     except CancelledError:
@@ -119,26 +126,26 @@ def has_died(future: Future[Any]) -> bool:
 
 
 class Handing(Generic[Task]):
-    """The handing out of tasks, of each of which a function tells what a worker calls: one of an executor, or of so
-    many processes, where it is a number.
+    """Hands out tasks to the workers of an executor, or of `given` processes if that is a number.
 
-    A task whose worker dies, or of which a cluster loses the result, is tried once more, with nothing else under way,
-    so that it is known which task is at fault where a worker dies again. In the place of processes that were begun here
-    come others. An executor that is given and broken is not replaced: it raises what it raises, a `BrokenExecutor`."""
+    `call_of` gives the call for each task. If a task's worker dies, or a cluster loses its result, it is
+    tried once more with nothing else under way, so that a second death shows the task at fault. Dead
+    processes started here are replaced. A given executor that breaks is not replaced: it raises its own
+    error, a `BrokenExecutor`.
+    """
 
     def __init__(self, tasks: Iterator[Task], call_of: Callable[[Task], Call], given: Union[Executor, int]) -> None:
         self.tasks, self.call_of, self.given, self.count = tasks, call_of, given, count_of(given)
         self.executor = self.new_pool() if isinstance(given, int) else given
         self.again: deque[Task] = deque()
-        # of each task under way whether it is its second try
+        # for each task under way, whether it is its second try
         self.under_way: dict[Future[Any], tuple[Task, bool]] = {}
 
     def new_pool(self) -> Executor:
         return ProcessPoolExecutor(self.count, initializer=ignore_interrupts)
 
     def done(self) -> Generator[tuple[Task, Optional[Future[Any]]], None, None]:
-        """Each task once its result, or its error, is there, in the order in which they are; with None where workers
-        died over it twice."""
+        """Each task once its result or error is there, as they come; None if workers died over it twice."""
         is_over = has_lost = False
         try:
             while self.hand_out():
@@ -157,7 +164,7 @@ class Handing(Generic[Task]):
             self.stop(is_over and not has_lost)
 
     def hand_out(self) -> bool:
-        """Keeps as many tasks under way as are wanted; whether there is any."""
+        """Keeps as many tasks under way as needed; returns whether there is any."""
         if not self.again:
             for task in itertools.islice(self.tasks, max(0, UNDER_WAY * self.count - len(self.under_way))):
                 self.submit(task, False)
@@ -178,8 +185,10 @@ class Handing(Generic[Task]):
         self.under_way[future] = (task, is_second)
 
     def stop(self, is_whole: bool) -> None:
-        """Takes back what is under way. Processes that were begun here are ended: at once, unless all is done and none
-        of them has died."""
+        """Cancels what is under way.
+
+        Processes started here are ended, at once unless all is done and none has died.
+        """
         if self.executor is self.given:
             for future in self.under_way:
                 future.cancel()

@@ -1,12 +1,12 @@
 #!/usr/bin/env python3
-"""Damages graph files by chance, and compares what is read of them with an independent reading.
+"""Damages graph files at random, and compares what is read with an independent reading.
 
 usage: python/tests/graph_fuzz.py [--count N] [--seed S] [FORMAT ..]
 
-Of each format N files are read (10,000 by default). A file passes if it is refused by a `ValueError` that begins with
-its path, or is read as the graph that networkx reads; DIMACS and METIS, which networkx has no readers for, are compared
-with a reading that looks for the edges alone. Each line tells a format, how many files were refused and how many read,
-and the seconds. The exit status is 1 if a file did not pass; it is printed then. Needs networkx.
+N files of each format are read (10,000 by default). A file passes if a `ValueError` that begins with its path
+refuses it, or if it is read as the graph that networkx reads. networkx has no readers for DIMACS and METIS;
+these are compared with a reading that looks only for edges. Each line names a format, the number of files
+refused and read, and the seconds. A file that fails is printed, and the exit status is 1. Needs networkx.
 """
 
 from __future__ import annotations
@@ -45,7 +45,7 @@ GRAPHML = """<?xml version='1.0' encoding='utf-8'?>
   </graph>
 </graphml>
 """
-# whole files of each format, by the end of their names
+# whole files of each format, by file extension
 SAMPLES: dict[str, list[str]] = {
     ".txt": [
         "# a ring and a tail\n" + "".join(f"{a} {b}\n" for a, b in EDGES) + "7\n",
@@ -86,7 +86,7 @@ SPLIT = re.compile(r"(\s+|[,<>\"=:{}\[\]])")
 
 @dataclasses.dataclass
 class Reading:
-    """A graph as an independent reader has it; nodes by their texts."""
+    """A graph as an independent reader has it; nodes are texts."""
 
     nodes: set[str]
     edges: set[frozenset[str]]
@@ -95,7 +95,7 @@ class Reading:
 
 
 def mutated(drawn: random.Random, text: str) -> bytes:
-    """A text with one to four damages, at last perhaps a byte."""
+    """A text with one to four damages, perhaps also one to a byte."""
     for _ in range(drawn.choice((1, 1, 1, 2, 4))):
         text = drawn.choice((of_words, of_words, of_lines, of_characters))(drawn, text)
     made = bytearray(text.encode())
@@ -105,7 +105,7 @@ def mutated(drawn: random.Random, text: str) -> bytes:
 
 
 def of_words(drawn: random.Random, text: str) -> str:
-    """A word is replaced, taken out, or said twice."""
+    """Replaces, removes or doubles a word."""
     words = SPLIT.split(text)
     place = drawn.randrange(len(words))
     words[place] = drawn.choice((drawn.choice(WORDS), "", words[place] * 2, drawn.choice(words)))
@@ -113,7 +113,7 @@ def of_words(drawn: random.Random, text: str) -> str:
 
 
 def of_lines(drawn: random.Random, text: str) -> str:
-    """A line is taken out, said twice, moved, cut off with all behind it, or comes from another format."""
+    """Removes, doubles or moves a line, cuts the text off there, or puts in a line of another format."""
     lines = text.splitlines(keepends=True) or [""]
     place, other = drawn.randrange(len(lines)), drawn.randrange(len(lines))
     way = drawn.randrange(5)
@@ -131,7 +131,7 @@ def of_lines(drawn: random.Random, text: str) -> str:
 
 
 def of_characters(drawn: random.Random, text: str) -> str:
-    """A character is taken out, put in, or replaced."""
+    """Removes, inserts or replaces a character."""
     place = drawn.randrange(len(text) + 1)
     new = drawn.choice(
         (chr(drawn.randrange(32, 127)), drawn.choice("0123456789"), drawn.choice("\n\t ,.#-\u00b2\u00a0"))
@@ -140,10 +140,10 @@ def of_characters(drawn: random.Random, text: str) -> str:
 
 
 def of_graph(graph: Any) -> Reading:
-    """What networkx has read."""
+    """The graph that networkx read."""
     ends = [edge[:2] for edge in graph.edges]
     edges = {frozenset(map(str, edge)) for edge in ends}
-    # of a directed one an edge may be there once in each direction
+    # in a directed graph an edge may be there once in each direction
     is_multiple = graph.is_multigraph() and len(set(ends) if graph.is_directed() else edges) < len(ends)
     return Reading(set(map(str, graph.nodes)), edges, graph.is_directed(), is_multiple)
 
@@ -154,7 +154,7 @@ def of_edge_list(text: str, delimiter: Optional[str] = None) -> Reading:
     lines = [line.partition("#")[0].strip() for line in text.removeprefix("\ufeff").split("\n")]
     lines = [re.sub(r"\s*,\s*", ",", line) for line in lines if line]
     found = of_graph(networkx.parse_edgelist(lines, delimiter=delimiter, data=(("weight", float),)))
-    # which it leaves out
+    # which networkx leaves out
     found.nodes |= {line for line in lines if len(line.split(delimiter)) == 1}
     return found
 
@@ -176,7 +176,7 @@ def of_metis(text: str) -> Reading:
 
 
 def of_graphml(text: bytes) -> Reading:
-    """By networkx; by the elements alone if that has no reading, as of data with an unknown key."""
+    """The reading of networkx; if it fails, as for data with an unknown key, that of the elements alone."""
     import networkx
 
     elements = list(ElementTree.parse(io.BytesIO(text)).iter())
@@ -217,7 +217,7 @@ READINGS: dict[str, Callable[[bytes], Reading]] = {
 
 
 def fault_of(path: pathlib.Path, text: bytes, undirected: bool) -> tuple[str, str]:
-    """Whether a file was `refused` or `read`, and what is wrong with that; nothing if all is right."""
+    """Whether a file was `refused` or `read`, and what is wrong with that, if anything."""
     path.write_bytes(text)
     with warnings.catch_warnings():
         warnings.simplefilter("ignore")
@@ -240,7 +240,7 @@ def fault_of(path: pathlib.Path, text: bytes, undirected: bool) -> tuple[str, st
 
 
 def fuzz(end: str, count: int, seed: int, folder: str) -> tuple[collections.Counter[str], list[str]]:
-    """How many files of a format were refused and how many read, and what is wrong, each with its file."""
+    """How many files of a format were refused and read, and what is wrong, each with its file."""
     drawn, counts, wrong = random.Random(f"{end} {seed}"), collections.Counter[str](), []
     for number in range(count):
         text = mutated(drawn, drawn.choice(SAMPLES[end]))

@@ -1,12 +1,12 @@
 #!/usr/bin/env python3
-"""Damages logs by chance, and compares what `conform` says of them with the auditor's verdict on the moves they claim.
+"""Damages logs at random, and compares `conform`'s verdict with the auditor's on the claimed moves.
 
 usage: python/tests/log_fuzz.py [--count N] [--seed S] [--engine library|program]
 
-N logs are judged (10,000 by default). A log passes if `conform` says of it what a second reading says: that makes a
-transcript of all that the log claims, each move by the one rule that writes so, and has it audited. So both must find
-the same first line, and both that it is no event, or that the rules do not allow it. Any other error does not pass. The
-exit status is 1 if a log did not pass; it is printed then.
+N logs are judged (10,000 by default). A second reading makes a transcript of all that a log claims, with each
+move by the one rule that writes so, and has it audited. A log passes if both find the same first line, and
+agree that it is no event or that the rules do not allow it. Any other error fails. A log that fails is
+printed, and the exit status is 1.
 """
 
 from __future__ import annotations
@@ -29,12 +29,12 @@ from rudekpi import BadLine, Damaged, Divergence, audit, conform  # noqa: E402
 EXAMPLES = pathlib.Path(__file__).resolve().parents[2] / "examples"
 KEYS = ["nodes", "capacity", "link", "unlink", "join", "leave", "move", "moves", "fault", "pointer", "flag", "time"]
 MOVE = re.compile(r"([0-9]+):(update|abandon|marry|seduce)(?:>([0-9]+))?")
-# a verdict, and the line of which it speaks, 0 for all
+# a verdict, and the line concerned, 0 for all
 Verdict = tuple[str, int]
 
 
 def log_of(transcript: str, names: Any = "abcdefghijklmnopqrstuvwxyz") -> list[str]:
-    """The log of what a transcript has, in which nodes 1, 2, .. have these names."""
+    """The log of a transcript whose nodes 1, 2, .. have these names."""
     header, *lines = transcript.splitlines()
     words = header.split(" ")
     count, present = int(words[2]), int(words[-1])
@@ -68,7 +68,7 @@ def log_of(transcript: str, names: Any = "abcdefghijklmnopqrstuvwxyz") -> list[s
 
 
 def samples() -> list[tuple[str, list[str]]]:
-    """Whole logs with their rules, of the examples that few nodes play."""
+    """Whole logs with their rules, from the examples with few nodes."""
     found = []
     for path in sorted(EXAMPLES.glob("*.transcript")):
         text = path.read_text()
@@ -195,7 +195,7 @@ class Claims:
 
 
 def second_verdict(log: bytes, rules: str, engine: str) -> Verdict:
-    """What the auditor says of all that a log claims."""
+    """The auditor's verdict on all that a log claims."""
     claims: Optional[Claims] = None
     last: Verdict = ("accepted", 0)
     number = 0
@@ -223,7 +223,6 @@ def second_verdict(log: bytes, rules: str, engine: str) -> Verdict:
 
 
 def first_verdict(log: bytes, rules: str, engine: str) -> Verdict:
-    """What `conform` says of a log."""
     try:
         found = conform(log, rules, engine=engine)
     except BadLine as bad:
@@ -232,7 +231,7 @@ def first_verdict(log: bytes, rules: str, engine: str) -> Verdict:
 
 
 def fault_of_resync(log: bytes, rules: str, engine: str, first: Verdict) -> list[str]:
-    """What is wrong with a log that is judged beyond its divergences: its transcript has to be accepted."""
+    """What is wrong with a log judged past its divergences, whose transcript must be accepted."""
     transcript, told = io.BytesIO(), list[Divergence]()
     try:
         conform(log, rules, engine=engine, resync=True, transcript=transcript, on_divergence=told.append)
@@ -255,7 +254,7 @@ def damaged_value(value: Any, chance: random.Random) -> Any:
 
 
 def damaged_line(line: str, lines: list[str], chance: random.Random) -> str:
-    """A line with one thing in it changed."""
+    """A line with one change."""
     event = json.loads(line)
     key = chance.choice([*event])
     act = chance.randrange(6)
@@ -276,7 +275,7 @@ def damaged_line(line: str, lines: list[str], chance: random.Random) -> str:
 
 
 def damaged_log(lines: list[str], chance: random.Random) -> bytes:
-    """A log with one or two things in it changed."""
+    """A log with one or two changes."""
     lines = lines[:]
     for _ in range(chance.randrange(1, 3)):
         at, act = chance.randrange(len(lines)), chance.randrange(8)
@@ -307,7 +306,7 @@ def damaged_log(lines: list[str], chance: random.Random) -> bytes:
 
 
 def fuzz(count: int, seed: int, engine: str = "library") -> tuple[collections.Counter[str], Iterator[str]]:
-    """How many logs had which verdict, and what did not pass."""
+    """How many logs had which verdict, and which failed."""
     chance, known = random.Random(seed), samples()
     counts: collections.Counter[str] = collections.Counter()
     wrong: list[str] = []

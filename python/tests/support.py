@@ -1,4 +1,4 @@
-"""What the tests of the client share: a limit of time, programs of their own, and commands and replies as texts."""
+"""Shared by the client's tests: time limits, the tests' own programs, commands and replies as texts."""
 
 from __future__ import annotations
 
@@ -31,7 +31,7 @@ TOP = os.path.dirname(os.path.dirname(os.path.dirname(os.path.abspath(__file__))
 class Timed(unittest.TestCase):
     """A test that fails if it takes longer than its seconds, so that a deadlock is a failure.
 
-    It goes by an engine: tests/client makes of each class one by each of its engines.
+    tests/client makes one class of each for each of its engines.
     """
 
     seconds = 60
@@ -48,7 +48,7 @@ class Timed(unittest.TestCase):
 
         before = signal.signal(signal.SIGALRM, stop)
         self.addCleanup(signal.signal, signal.SIGALRM, before)
-        # and again each second, since a subtest that is stopped is followed by others
+        # and again each second, since other subtests follow one that is stopped
         signal.setitimer(signal.ITIMER_REAL, self.seconds, 1)
         self.addCleanup(signal.setitimer, signal.ITIMER_REAL, 0)
 
@@ -58,7 +58,7 @@ class Timed(unittest.TestCase):
         return made.name
 
     def program(self, text: str, name: str = "program") -> str:
-        """A program of the test's own: a shell script, or one in Python where it begins so."""
+        """A program of the test's own: a shell script, or a Python one if it begins with `import`."""
         path = os.path.join(self.folder(), name)
         first = f"#!{sys.executable}\n" if text.startswith("import ") else "#!/bin/sh\n"
         with open(path, "w") as file:
@@ -67,9 +67,9 @@ class Timed(unittest.TestCase):
         return path
 
     def expect_end_by_interrupt(self, script: str, marks: str, count: int) -> str:
-        """Runs a script in Python until it has made `count` files whose names fit `marks`, then ends it by Ctrl-C.
+        """Runs a Python script until it has made `count` files that match `marks`, then ends it by Ctrl-C.
 
-        All its processes get that, as from a terminal, and end. Returns what it told on standard error.
+        All its processes get that, as from a terminal, and end. Returns its standard error.
         """
         folder = self.folder()
         with open(os.path.join(folder, "script.py"), "w") as file:
@@ -86,20 +86,20 @@ class Timed(unittest.TestCase):
         if run.poll() is None:
             os.killpg(run.pid, signal.SIGINT)
         said = run.communicate()[1].decode()
-        # what multiprocessing itself has begun ends a moment behind its process; else this test ends by its time
+        # what multiprocessing started ends a moment after its process; else this test fails by its time limit
         while is_group(run.pid):
             time.sleep(0.01)
         return said
 
 
 def children() -> list[int]:
-    """The processes that this thread has started, ended ones that nobody has waited for among them."""
+    """The processes that this thread started, with ended ones that were not waited for."""
     with open(f"/proc/self/task/{threading.get_native_id()}/children") as file:
         return [int(word) for word in file.read().split()]
 
 
 def is_group(group: int) -> bool:
-    """Whether there is a process of this group."""
+    """Whether a process of this group exists."""
     try:
         os.killpg(group, 0)
     except ProcessLookupError:
@@ -115,7 +115,7 @@ def end_group(group: int) -> None:
 class Losing(concurrent.futures.Executor):
     """Does each task at once, and loses the results whose numbers, from 1, are in `lost`.
 
-    Distributed loses one like that if a worker dies while it hands a result over.
+    Distributed loses one so if a worker dies while it hands a result over.
     """
 
     def __init__(self, lost: Container[int] = (1,)) -> None:
@@ -151,7 +151,7 @@ def session_of(net: Network) -> Session:
 
 
 def has_ended(net: Network) -> bool:
-    """Whether the run behind a network has ended well, and holds nothing any more."""
+    """Whether a network's run has ended well and released everything."""
     session = net._session
     if isinstance(session, Direct):
         return not session.slot.full
@@ -159,7 +159,7 @@ def has_ended(net: Network) -> bool:
 
 
 def play(player: Union[Network, Batch], line: str, name: Callable[[str], Name] = int) -> Any:
-    """Gives a network, or a batch, the command of a script's line, with a function from a number's text to a name."""
+    """Gives a network or a batch the command of a script's line; `name` turns a number's text into a name."""
     word, *rest = line.split(" ")
     if word in ("link", "unlink"):
         return getattr(player, word)(name(rest[0]), name(rest[1]))
@@ -184,7 +184,7 @@ def play(player: Union[Network, Batch], line: str, name: Callable[[str], Name] =
 
 
 def told(call: Callable[[], Reply]) -> Union[Reply, Refused]:
-    """What a call answers, or the refusal that it raises."""
+    """The reply of a call, or the refusal that it raises."""
     try:
         return call()
     except Refused as refused:
@@ -192,7 +192,7 @@ def told(call: Callable[[], Reply]) -> Union[Reply, Refused]:
 
 
 def spelled(reply: object, number: Callable[[Name], str] = str) -> str:
-    """The text of a reply in a transcript, of a base its lines; `number` makes of a name its number's text."""
+    """A reply's text in a transcript, a base's lines; `number` turns a name into its number's text."""
     if isinstance(reply, Accepted):
         return "ok"
     if isinstance(reply, Refused):

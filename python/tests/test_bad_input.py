@@ -1,5 +1,7 @@
-"""What is given amiss is told in words of what is expected, and nothing is lost by it: names, choices, daemons,
-entries, transcripts, files that can't be written; and networks that a child of their process asks."""
+"""Wrong names, choices, daemons, entries, transcripts and files are explained, and lose nothing.
+
+Also networks that are used in a child of their process.
+"""
 
 from __future__ import annotations
 
@@ -25,13 +27,13 @@ TEXT = "matching hh 2\n1 link 1 2 = ok\n2 enabled = 1:seduce 2:seduce\n3 step 1 
 
 
 def fed(judge: Audit, text: memoryview) -> Summary:
-    """The verdict on a text that is fed as one piece."""
+    """The verdict on a text fed as one piece."""
     judge.feed(text)
     return judge.finish()
 
 
 class Cut(BaseException):
-    """What the interrupts of these tests raise."""
+    """The exception of these tests' interrupts."""
 
 
 class Given(Timed):
@@ -155,7 +157,7 @@ class Given(Timed):
 
 
 class Children(Timed):
-    """A child of the process that made a network asks it."""
+    """A child of the process that made a network uses it."""
 
     engines = ("program", "library")
 
@@ -226,7 +228,7 @@ class Children(Timed):
 
 
 class ShortOfMemory(Timed):
-    """A reply for which there is no memory, by either engine."""
+    """A reply for which memory runs out, by either engine."""
 
     engines = ("program", "library")
 
@@ -249,13 +251,13 @@ class ShortOfMemory(Timed):
 
 
 class Creation(Timed):
-    """What is left where the creation of a network is cut short."""
+    """What is left if the creation of a network is cut short."""
 
     engines = ("program", "library")
     seconds = 120
 
     def cut_at_random_times(self, make: Callable[[], Any], times: int = 200) -> None:
-        """Makes something so many times, while another thread sends this one signals whose handler raises."""
+        """Makes something `times` times, while a thread sends signals whose handler raises."""
         main, drawn, cut = threading.get_ident(), random.Random(9), 0
         is_armed, is_sent = [False], threading.Event()
 
@@ -275,7 +277,7 @@ class Creation(Timed):
                 is_sent.wait()
 
         self.addCleanup(signal.signal, signal.SIGUSR1, signal.signal(signal.SIGUSR1, handler))
-        # what is cut in a finalizer is told there, and not raised
+        # an interrupt in a finalizer is reported there, and not raised
         self.addCleanup(setattr, sys, "unraisablehook", sys.unraisablehook)
         sys.unraisablehook = lambda told: self.assertIs(told.exc_type, Cut)
         sender = threading.Thread(target=send, daemon=True)

@@ -1,4 +1,4 @@
-"""How many moves can still come, and the bounds of epochs. The numbers are worked out by hand from the two bounds."""
+"""How many moves can still come, and the bounds of epochs; numbers worked out by hand."""
 
 from __future__ import annotations
 
@@ -10,7 +10,7 @@ from support import Timed
 
 
 def linked(rules: str, graph: graphs.Graph, pointers: Iterable[tuple[int, int]] = ()) -> Network:
-    """A network of a graph, with pointers as faults have written them."""
+    """A network of a graph, with pointers as written by faults."""
     net = Network(rules, graph.nodes)
     for a, b in graph.edges:
         net.link(a, b)
@@ -21,12 +21,12 @@ def linked(rules: str, graph: graphs.Graph, pointers: Iterable[tuple[int, int]] 
 
 class MovesLeft(Timed):
     def test_what_the_nodes_allow_is_less(self) -> None:
-        # fifteen edges, none of them open for good: 2 * 15 and 6 pointers that are not answered
+        # fifteen edges, all open: 2 * 15 and 6 pointers without an answer
         cycle = [(node, node % 6 + 1) for node in range(1, 7)]
         with linked("hh", graphs.complete(6), cycle) as net:
             self.assertEqual((net.status().charge, net.moves_left()), (36, 36 // 2 + 6 - 2))
             net.step([1])
-            # one move later the nodes allow as many as before: what is spent is not taken from it
+            # a move later the bound by nodes is the same: it does not subtract what is spent
             self.assertEqual(net.moves_left(), 22)
 
     def test_the_charge_is_less(self) -> None:

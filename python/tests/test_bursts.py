@@ -1,4 +1,4 @@
-"""Bursts, and the rounds, steps and moves in them: worked by hand; in random runs beside the machine's own replies."""
+"""Bursts with their rounds, steps and moves: by hand, and in random runs against the machine."""
 
 from __future__ import annotations
 
@@ -16,7 +16,8 @@ from rudekpi.rounds import Watch
 from rudekpi.state import State
 from support import TOP, Timed
 
-# 1-2 is linked and settles; 2-3 and 3-4 come at once; 2 is turned away; 1-2 is cut, and the network stays silent
+# 1-2 is linked and settles; 2-3 and 3-4 come at once; 2 is turned away; 1-2 is cut, and the network stays
+# silent
 ROW = """\
 matching hh 4
 1 link 1 2 = ok
@@ -31,7 +32,8 @@ matching hh 4
 10 step 2 = 2:marry>1
 11 unlink 1 2 = ok
 """
-# under manne all that are enabled move at once: 1 seduces 2 and 2 seduces 3; 1 abandons; 3 marries; both flags are set
+# under manne all enabled nodes move at once: 1 seduces 2 and 2 seduces 3; 1 abandons; 3 marries; both flags
+# are set
 AT_ONCE = """\
 matching manne 3
 1 link 1 2 = ok
@@ -52,7 +54,7 @@ def rudekpi(*words: str, given: str = "") -> subprocess.CompletedProcess[str]:
 
 
 def watched(lines: list[str]) -> Watch:
-    """A network that was followed through these lines; the first one is the header."""
+    """A network that was followed through these lines, the first of which is the header."""
     state = State()
     state.follow(lines[:1])
     watch = Watch(state)
@@ -62,27 +64,28 @@ def watched(lines: list[str]) -> Watch:
 
 
 class Rounds(Timed):
-    # the client alone counts
+    # only the client counts
     engines = ("program",)
 
     def test_by_hand(self) -> None:
         # 1 and 2 are enabled at first: the first round waits for both, as 2 is enabled until it marries
         lines = ROW.splitlines()
         self.assertEqual([watched(lines[: at + 1]).rounds for at in range(4)], [0, 0, 0, 1])
-        # 2 abandons, which ends the round, since 1 is enabled no more; the next one waits for 2 alone
+        # 2 abandons, which ends the round, since 1 is disabled by it; the next one waits for 2 alone
         self.assertEqual([watched(lines[: at + 1]).rounds - 2 for at in (8, 9, 10)], [0, 1, 2])
         watch = watched(lines)
         self.assertEqual((watch.steps, watch.pairs, watch.enabled), (6, 1, set()))
         self.assertEqual(watch.moves, {"update": 0, "marry": 3, "seduce": 2, "abandon": 1})
 
     def test_by_hand_with_several_movers(self) -> None:
-        # 1 and 2 move; 3 alone was enabled then; 2 and 3 update; 1 sees 2's flag and abandons: four rounds
+        # 1 and 2 move; only 3 was enabled then; 2 and 3 update; 1 sees 2's flag and abandons: four rounds
         lines = AT_ONCE.splitlines()
         self.assertEqual([watched(lines[: at + 1]).rounds for at in range(2, 8)], [0, 1, 2, 3, 4, 4])
         self.assertEqual(watched(lines).moves, {"update": 2, "marry": 1, "seduce": 2, "abandon": 1})
 
     def test_an_edit_ends_a_round(self) -> None:
-        # 1-2 and 3-4 are linked, all are enabled, and 1 moves; 2, 3 and 4 are awaited, until their edges are cut
+        # 1-2 and 3-4 are linked, all are enabled, and 1 moves; 2, 3 and 4 are awaited, until their edges are
+        # cut
         lines = "matching hh 4|1 link 1 2 = ok|2 link 3 4 = ok|3 step 1 = 1:seduce>2|4 unlink 1 2 = ok".split("|")
         watch = watched(lines)
         self.assertEqual((watch.rounds, watch.awaited, watch.enabled), (0, {3, 4}, {3, 4}))
@@ -112,7 +115,7 @@ class Rounds(Timed):
                     self.assertLessEqual(burst.steps, burst.moves)
 
     def act(self, net: Network, chance: random.Random) -> None:
-        """An edit, a fault or a few steps, by chance; it may be refused."""
+        """A random edit or fault, or a few steps; it may be refused."""
         a, b = chance.randint(1, 7), chance.randint(1, 7)
         with net.batch(raises=False) as batch:
             what = chance.randrange(9)
@@ -128,7 +131,7 @@ class Rounds(Timed):
                 batch.drive(chance.randrange(99), what - 3)
 
     def expect_enabled(self, transcript: str) -> None:
-        """Who is followed as enabled is whom the machine lists, at each `enabled` of a transcript, and so are pairs."""
+        """The followed enabled nodes and pairs are the machine's, at each `enabled` of a transcript."""
         lines, seen = transcript.splitlines(), 0
         state = State()
         state.follow(lines[:1])
@@ -164,18 +167,18 @@ class Bursts(Timed):
         self.assertEqual([it.moved for it in found], [(1, 2), (3, 4), (2,), ()])
 
     def test_by_hand_under_manne(self) -> None:
-        # two links cost 2 each, and the pair that is gained 2 more
+        # two links cost 2 each, and the new pair 2 more
         [burst] = bursts(AT_ONCE)
         self.assertEqual((burst.start, burst.end, burst.cost, burst.bound, burst.moves), (1, 6, 4, 6, 6))
         self.assertEqual((burst.steps, burst.rounds, burst.pairs_after, burst.moved), (4, 4, 1, (1, 2, 3)))
-        # who leaves a pair costs 2*(other edges of the partner) + 2, and one more in the bound
+        # leaving a pair costs 2*(other edges of the partner) + 2, and one more in the bound
         left = AT_ONCE + "8 leave 3 = ok\n9 leave 1 = ok\n"
         last = bursts(left)[-1]
         self.assertEqual((dict(last.disturbances), last.cost, last.bound, last.end), ({"leave": 2}, 4, 6, None))
 
     def test_those_that_come_at_once_are_one(self) -> None:
         begun = "matching hh 3 1\n"
-        # two nodes join: nobody is enabled, and what comes next ends the burst, as an entry or not
+        # two nodes join: no node is enabled, and what comes next ends the burst, as an entry or not
         at_once = "1 join 2 = ok\n2 join 3 = ok\n"
         rest = "3 status = nodes=3 edges=0 pairs=0 enabled=0 charge=0 spent=0\n4 link 1 2 = ok\n"
         for text, ends in (

@@ -1,4 +1,4 @@
-"""The cases of tests/*.cases through the client: each answer, read into its type and spelled again, is theirs."""
+"""The cases of tests/*.cases through the client: each reply, read and spelled again, is theirs."""
 
 from __future__ import annotations
 
@@ -31,7 +31,7 @@ def case_files() -> types.ModuleType:
 
 
 def cases_of(name: str, word: str) -> list[Case]:
-    """The cases of a file that give the program this word, of which the whole output is said."""
+    """The cases of a file for this command of the program whose whole output is given."""
     found = case_files().read_cases(pathlib.Path(TOP, "tests", name))
     found = [case for case in found if not case.table and case.words[0] == word.encode()]
     return [case for case in found if not case.broken and case.out.is_exact()]
@@ -42,7 +42,7 @@ def text_of(blocks: Iterable[tuple[int, bytes]]) -> str:
 
 
 def entries_of(transcript: str) -> list[tuple[str, str]]:
-    """The events and replies below the header of a transcript; a base's lines are the reply to `checkpoint`."""
+    """The events and replies below a transcript's header; a base's lines are the reply to `checkpoint`."""
     entries: list[tuple[str, str]] = []
     for line in transcript.splitlines()[1:]:
         if line.startswith("base "):
@@ -76,7 +76,7 @@ class Rows(Timed):
     def expect(
         self, lines: Sequence[str], replies: Iterable[object], wanted: str, number: Callable[[Name], str] = str
     ) -> None:
-        """The replies to a script's lines are those that the wanted transcript has."""
+        """Expects the replies to a script's lines to be those of the transcript."""
         left = entries_of(wanted)
         for line, reply in zip(lines, replies):
             if isinstance(reply, Turns):
@@ -134,8 +134,10 @@ class Rows(Timed):
 
 
 def by_nodes(text: str, table: str) -> str:
-    """The program's table of epochs as the client tells it: under `hh` no bound is above n²/2 + n - 2, but where a base
-    cuts the epoch."""
+    """The program's table of epochs as the client lists it.
+
+    Under `hh` no bound is above n²/2 + n - 2, except that of an epoch that a base cuts.
+    """
     head, *rows = table.splitlines()
     if not table.startswith("start,") or text.split(" ")[1] != "hh":
         return table
@@ -149,7 +151,7 @@ def by_nodes(text: str, table: str) -> str:
 
 
 class Judged(Timed):
-    """Transcripts, right and damaged."""
+    """Transcripts, correct and damaged."""
 
     def test_verdicts(self) -> None:
         kinds = set()
@@ -174,7 +176,7 @@ class Judged(Timed):
             with self.subTest(case.name):
                 try:
                     found = epochs(text)
-                    # the program tells all but the last, the reach
+                    # the program lists all but the last column, the reach
                     told = [dataclasses.astuple(row)[:-1] for row in found]
                     rows = [["-" if it is None else str(it) for it in row] for row in told]
                     said = "start,moves,edges,nodes,bound,cost\n" + "".join(",".join(row) + "\n" for row in rows)

@@ -1,5 +1,4 @@
-"""Checkpoints through the client: bases by the caller's names, alone and in batches, in pieces, garbled, and in
-transcripts that go on."""
+"""Checkpoints through the client: bases by name, in batches, in pieces, garbled, and continued."""
 
 from __future__ import annotations
 
@@ -18,7 +17,7 @@ HEADER = "matching hh 2\n"
 BEFORE = "1 link 1 2 = ok\n2 step 1 = 1:seduce>2\n"
 AT_BASE = "matching2 hh 2\nbase 2 spent=1 nodes=2 edges=1\nnode 1 2 0\nnode 2 - 0\nedge 1 2\n3 step 2 = 2:marry>1\n"
 PAIR = HEADER + BEFORE + AT_BASE
-# node 2 took the greater of the two targets that it may take
+# node 2 took the greater of its two possible targets
 OTHER_TARGET = """matching hh 3
 1 link 1 2 = ok
 2 link 2 3 = ok
@@ -36,7 +35,7 @@ NOWHERE = Registers(None, False)
 
 
 def stirred(net: Network, seed: int) -> None:
-    """Edits, faults, moves and checkpoints by chance."""
+    """Random edits, faults, moves and checkpoints."""
     drawn = random.Random(seed)
     nodes = net.nodes
     with net.batch(raises=False) as batch:
@@ -157,7 +156,7 @@ class Pieces(Timed):
     """Programs of the test's own."""
 
     def writes(self, *texts: str) -> str:
-        """A program that writes its header, and one of these texts a line that it reads, byte by byte."""
+        """A program that writes its header, and then one of these texts for each line read, byte by byte."""
         return self.program(
             f"""import sys
 def put(text):

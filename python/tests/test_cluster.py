@@ -1,5 +1,7 @@
-"""Sweeps and audits on a cluster: a scheduler of Dask and two workers as processes of this machine, one of them killed
-in the middle. Skipped where distributed is not there."""
+"""Sweeps and audits on a cluster: a Dask scheduler and two workers on this machine, one killed.
+
+Skipped if distributed is missing.
+"""
 
 from __future__ import annotations
 
@@ -19,8 +21,8 @@ from rudekpi.parts import audit_parts
 from rudekpi.sweeps import Row, sweep
 from support import TOP, Timed
 
-# so that nobody waits for a dead worker as long as for one far away; set before distributed reads it, here and in
-# the processes
+# so that a dead worker is not waited for as long as a distant one; set before distributed reads it, here and
+# in the processes
 os.environ["DASK_DISTRIBUTED__COMM__TIMEOUTS__CONNECT"] = "5s"
 HAS_DISTRIBUTED = importlib.util.find_spec("distributed") is not None
 
@@ -46,7 +48,7 @@ class Cluster(Timed):
         super().setUp()
         import distributed
 
-        # that a worker is gone is what these tests are about
+        # these tests are about lost workers
         logging.getLogger("distributed").setLevel(logging.CRITICAL)
         logging.getLogger("distributed.client").setLevel(logging.CRITICAL)
         self.file = os.path.join(self.folder(), "scheduler.json")
@@ -105,7 +107,7 @@ class Cluster(Timed):
         self.assertEqual(audit_parts(text, executor, size=500), audit(text))
 
     def test_a_file_that_has_changed_is_judged_again(self) -> None:
-        # distributed gives what is called with the same words the answer that it has, while somebody holds that
+        # distributed answers equal calls with the answer it has, while it is referenced
         path, executor = pathlib.Path(self.folder(), "transcript"), self.client.get_executor()
         path.write_text("matching hh 2\n1 link 1 2 = no\n")
         try:

@@ -1,4 +1,4 @@
-"""The command line of the package: its own commands, the program's, which it hands on; why lines are no commands."""
+"""The package's command line: its own commands, the program's, and why lines are no commands."""
 
 from __future__ import annotations
 
@@ -42,7 +42,7 @@ def rudekpi(*words: str, given: str = "") -> subprocess.CompletedProcess[str]:
 
 
 def said(*words: str, given: str = "") -> str:
-    """What the command line writes to standard output, where it ends well."""
+    """The standard output of the command line; raises if it fails."""
     done = rudekpi(*words, given=given)
     if done.returncode:
         raise AssertionError(f"{words}: {done.returncode}: {done.stderr}")
@@ -50,7 +50,7 @@ def said(*words: str, given: str = "") -> str:
 
 
 def rudekpi_version() -> str:
-    """The version of the release, which the program itself tells."""
+    """The version of the release, as the program prints it."""
     told = subprocess.run([os.environ["RUDEKPI_CONSOLE"], "--version"], capture_output=True, text=True, check=True)
     return told.stdout.split()[1]
 
@@ -97,7 +97,7 @@ class HandedOn(Timed):
         self.assertEqual((done.returncode, done.stdout), (2, ""))
         self.assertIn("sweep, compare, worst, check, shell, json, conform, explain, bursts, again", done.stderr)
         without = environment(RUDEKPI_CONSOLE="/no/such/program")
-        # the library wants none for a session
+        # the library needs none for a session
         for words in (["run", "--rules", "hh"], ["sweep", "--graph", "ring:5"], ["shell", "--nodes", "2"])[
             : 3 if self.engine == "program" else 2
         ]:
@@ -110,10 +110,10 @@ class HandedOn(Timed):
 
 
 class Streams(Timed):
-    """Standard streams and files that can't be read or written: one line on standard error names what fails."""
+    """Streams and files that can't be read or written: one line on standard error names what fails."""
 
     def told(self, words: str, status: int = 3) -> str:
-        """What is told where the shell gives these streams, nothing else, and with this status."""
+        """The standard error, given the shell's streams; expects no other output, and this status."""
         path = os.path.join(self.folder(), "script")
         pathlib.Path(path).write_text(PAIR)
         line = f"{sys.executable} -m rudekpi {words}".replace("SCRIPT", path)
@@ -482,7 +482,8 @@ class Lines(Timed):
             wanted = time.monotonic() + 20
             while not shown.endswith(b"> ") and time.monotonic() < wanted and select.select([end], [], [], 20)[0]:
                 shown += os.read(end, 4096)
-            # readline waits for keys only a moment after its prompt is shown; a signal in between tells it nothing
+            # readline waits for keys only a moment after its prompt is shown; a signal before that has no
+            # effect
             time.sleep(0.3)
             os.write(end, typed)
             shown += b"|"

@@ -1,5 +1,4 @@
-"""The judge of logs of one's own implementation: verdicts worked by hand, what is said of divergences and of bad lines,
-streams, damaged logs, and the example whose nodes make mistakes.
+"""The judge of logs: verdicts by hand, divergences, bad lines, streams, damaged logs, and own_nodes.
 
 `python/tests/log_fuzz.py --count 10000` damages logs at length.
 """
@@ -185,7 +184,7 @@ class Verdicts(Timed):
         log = [*PATH, '{"move": "b", "pointer": "a"}', '{"move": "a", "pointer": "b"}', '{"move": "c", "pointer": "b"}']
         found = self.first("hh", log)
         self.assertIn("with what b held before line 5 it was allowed: c may have read a stale copy of b", found.hint)
-        # b let go of c when its link was cut, and d takes it that b still points there
+        # the cut cleared c's pointer, but d acts as if c still pointed at b
         cut = [*PATH, '{"fault": "c", "pointer": "b"}', '{"unlink": ["b", "c"]}', '{"move": "d", "pointer": null}']
         self.assertEqual(self.first("hh", cut).hint, "")
         cut[5:5] = ['{"fault": "d", "pointer": "c"}']
@@ -203,7 +202,7 @@ class Verdicts(Timed):
         found = conform([*log, HH[5]], "hh", resync=True, on_divergence=told.append, transcript=transcript)
         self.assertEqual([it.line for it in told], [6, 7])
         self.assertEqual((found.divergences, found.first, found.stopped), (2, told[0], ""))
-        # a points at b, so that b marries it; what it seduces is c
+        # a points at b, so that b marries it
         self.assertEqual(conform([*log, '{"move": "b", "pointer": "a"}'], "hh", resync=True).divergences, 2)
         self.assertEqual(found.events, 7)
         audit(transcript.getvalue())
@@ -227,7 +226,7 @@ class Verdicts(Timed):
         self.assertEqual(pickle.loads(pickle.dumps(bad)).args, bad.args)
 
     def test_a_full_log(self) -> None:
-        """The log is full at once: the calls of this library, or the program, say so behind the first edit."""
+        """The log is full at once: this library's calls, or the program, report it after the first edit."""
         transcript = io.BytesIO()
         if self.engine == "library":
             library = found_library()
@@ -265,7 +264,7 @@ class Verdicts(Timed):
 
 
 class BadLines(Timed):
-    # what is wrong with a line behind those of a path, and what is said
+    # what is wrong with a line after those of a path, and the message
     lines = (
         ('{"move": "a"', "this is no JSON: expecting ',' delimiter"),
         ("[1]", "an event is an object"),
@@ -487,7 +486,7 @@ class OwnNodes(Timed):
     engine_of_example = "library" if found_library() else "program"
 
     def verdict(self, *words: str) -> tuple[Conformance, str]:
-        """What is said of the example's log, and what it prints itself."""
+        """The verdict on the example's log, and its own output."""
         path = pathlib.Path(self.folder(), "log")
         example = [sys.executable, os.path.join(TOP, "examples", "own_nodes.py"), "--log", str(path), *words]
         done = subprocess.run(example, capture_output=True, text=True)

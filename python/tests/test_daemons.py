@@ -1,4 +1,4 @@
-"""Daemons by name, and the rules that they look ahead by: what these foretell is what the program does."""
+"""Daemons by name, and the rules that they look ahead by: the program does what these predict."""
 
 from __future__ import annotations
 
@@ -15,7 +15,7 @@ from support import Timed
 
 
 def stirred(rule_set: str, graph: Graph, seed: int) -> Network:
-    """A network of a graph, with registers by chance."""
+    """A network of a graph, with random registers."""
     net = Network(rule_set, graph.nodes)
     with net.batch() as batch:
         for a, b in graph.edges:
@@ -65,7 +65,7 @@ class Daemons(Timed):
                 audit(said[0])
 
     def steps_of(self, daemon: AnyDaemon, rule_set: str, graph: Graph) -> list[tuple[list[int], list[int]]]:
-        """The nodes that were enabled and those that moved, of each step."""
+        """The nodes that were enabled and those that moved, for each step."""
         with stirred(rule_set, graph, 3) as net:
             net.settle(daemon)
             lines = [
@@ -127,7 +127,7 @@ class Daemons(Timed):
                     wanted: list[int] = []
                     charges = [net.status().charge]
                     net.settle(looked)
-                    # played again, the charges tell how far each move let it fall
+                    # played again, the charges show how far each move lowered it
                     with stirred(rule_set, graphs.gnp(8, 0.5, 2), 4) as again:
                         for line in net.transcript().splitlines():
                             if " step " in line:

@@ -1,5 +1,7 @@
-"""The reach of the edit or fault that began each epoch: by hand from the table of docs/BOUNDS.md, and in random runs
-beside what tests/lib finds from the entries alone."""
+"""The reach of each epoch's edit or fault: by hand from docs/BOUNDS.md, and in random runs.
+
+There it is compared with what tests/lib finds from the entries alone.
+"""
 
 from __future__ import annotations
 
@@ -14,7 +16,7 @@ from lib.random_scripts import script
 from rudekpi import Epoch, Garbled, Network, epochs
 from support import Timed, play
 
-# 1 and 2 are a pair; 3 points at 1 and 7 at 5, who do not answer; 8 is absent, and no flag is set
+# 1 and 2 are a pair; 3 points at 1 and 7 at 5, without an answer; 8 is absent, and no flag is set
 BEGUN = """base 40 spent=0 nodes=7 edges=6
 node 1 2 0
 node 2 1 0
@@ -50,7 +52,7 @@ ROWS = {
     "join 8": 0,
 }
 FLAG_ROWS = {"flag 1 0": 1, "flag 1 1": 0, "flag 4 0": 0, "flag 4 1": 1}
-# a run with what is in reach behind each line, if that begins an epoch
+# a run with the size of the reach after each line that begins an epoch
 RUN: tuple[tuple[str, Optional[int]], ...] = (
     ("link 1 2", 2),
     ("link 1 2", None),
@@ -58,7 +60,7 @@ RUN: tuple[tuple[str, Optional[int]], ...] = (
     ("step 1", None),
     ("link 2 3", 2),
     ("step 2", None),
-    # 1 and 2 are a pair now
+    # 1 and 2 are a pair
     ("link 1 3", 0),
     ("link 3 4", 2),
     ("checkpoint", None),
@@ -77,7 +79,7 @@ def reached(transcript: str) -> list[Optional[int]]:
 
 
 def known(rules: str, nodes: int, present: int, transcript: str) -> list[tuple[int, str, int]]:
-    """The entry of each accepted edit and fault, its word and the size of its reach, as tests/lib finds them."""
+    """The entry, word and size of reach of each accepted edit and fault, as tests/lib finds them."""
     net, found = cost_tables.Network(nodes, set(range(1, present + 1))), []
     for line in transcript.splitlines():
         event, _, reply = line.partition(" = ")

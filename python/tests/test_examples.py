@@ -1,4 +1,4 @@
-"""The examples in Python: what they print is judged by what it says, with networks that the tests build."""
+"""The Python examples: their output is judged by its claims, with networks that the tests build."""
 
 from __future__ import annotations
 
@@ -13,7 +13,6 @@ from support import TOP, Timed
 
 
 def printed(name: str, seed: str = "1") -> list[str]:
-    """The lines that an example prints."""
     words = [sys.executable, os.path.join(TOP, "examples", name)]
     done = subprocess.run(words, env=dict(os.environ, PYTHONHASHSEED=seed), cwd="/", capture_output=True, text=True)
     if done.returncode or done.stderr:
@@ -27,14 +26,14 @@ def link_of(text: str) -> frozenset[str]:
 
 class Examples(Timed):
     def expect_maximal(self, pairs: Collection[frozenset[str]], links: AbstractSet[frozenset[str]], at: str) -> None:
-        """Pairs are links of which no two share a host, and each link shares one with a pair."""
+        """Expects links as pairs, no two with a common host; each link shares a host with a pair."""
         self.assertLessEqual(set(pairs), links, at)
         hosts = [host for pair in pairs for host in pair]
         self.assertEqual(len(hosts), len(set(hosts)), at)
         self.assertEqual([set(link) for link in links if not link & set(hosts)], [], at)
 
     def expect_bounded(self, text: str, links: AbstractSet[frozenset[str]], nodes: int) -> int:
-        """The moves are within the charge, and that within 2m + 3n."""
+        """Expects the moves to be within the charge, and that within 2m + 3n."""
         found = re.search(r"(\d+) moves of (\d+) at most", text)
         assert found is not None, text
         moves, charge = map(int, found.groups())
@@ -69,7 +68,7 @@ class Examples(Timed):
         self.assertEqual((waiting, served, went), (set(), came - went, 1))
         self.assertEqual(came, 35, "two links come before each of two rounds")
         self.assertEqual(lines[-1], f"all served after {rounds} rounds")
-        # in each round that a link waits, one next to it is served, of which there are 5 at an end at most
+        # in each round that a link waits, one next to it is served; at most 5 such links are at each end
         self.assertLessEqual(rounds, last_change + 2 * 5 + 1)
 
     def test_each_host_has_a_partner_or_no_free_neighbour(self) -> None:
@@ -107,7 +106,8 @@ class Examples(Timed):
         paths = dict(os.environ, PYTHONPATH=os.path.join(TOP, "python"))
         done = subprocess.run(words, env=paths, cwd="/", capture_output=True, text=True)
         self.assertEqual((done.returncode, done.stderr, done.stdout), (0, "", said))
-        # by hand: 1 and 2 seduce, 3 marries 2, 2 and 3 update, and 1 abandons; 2 links and 3 nodes are a charge of 7
+        # by hand: 1 and 2 seduce, 3 marries 2, 2 and 3 update, and 1 abandons; 2 links and 3 nodes are a
+        # charge of 7
         self.assertEqual(said.splitlines()[0], "6 moves of 7 at most: ('bob', 'cleo')")
 
 

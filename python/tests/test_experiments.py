@@ -1,5 +1,4 @@
-"""What docs/EXPERIMENTS.md shows: its commands, its code and its table, and the scripts that make its picture and its
-table, on small sizes."""
+"""docs/EXPERIMENTS.md: its commands, code, table and the scripts of its picture, on small sizes."""
 
 from __future__ import annotations
 

@@ -1,4 +1,4 @@
-"""Graphs that are read from files: each format as it is written, and what is refused of it."""
+"""Graphs read from files: each format as it is written, and what is refused."""
 
 from __future__ import annotations
 
@@ -39,7 +39,7 @@ class Read(Timed):
         return graph.nodes, graph.edges
 
     def expect_refused(self, name: str, text: Union[str, bytes], why: str, **how: bool) -> None:
-        """A file is refused with its path and, behind it, just this."""
+        """A file is refused with its path, followed by exactly this text."""
         path = self.path(name, text)
         with self.subTest(name=name, text=text[:60]):
             with self.assertRaises(ValueError) as caught:
@@ -55,7 +55,7 @@ class Read(Timed):
         self.assertEqual(self.read("a", ""), ((), ()))
         self.assertEqual(self.read("a", "7\n8\n"), ((7, 8), ()))
         self.assertEqual(self.read("a", b"\xef\xbb\xbf1 2\n"), ((1, 2), ((1, 2),)))
-        # no digits of ASCII, and so names; and no canonical number
+        # no ASCII digits, so names; and no canonical number
         self.assertEqual(self.read("a", "\u00b2 1\n"), (("\u00b2", "1"), (("\u00b2", "1"),)))
         self.assertEqual(self.read("a", "01 1\n"), (("01", "1"), (("01", "1"),)))
         self.assertEqual(self.read("a.csv", "1,2\n2 , 3\n"), ((1, 2, 3), ((1, 2), (2, 3))))
@@ -122,7 +122,7 @@ class Read(Timed):
         self.assertEqual(
             self.read("a.col", "c a comment\np edge 4 3\ne 1 2\ne 4 2\ne 2 1\n"), ((1, 2, 3, 4), ((1, 2), (2, 4)))
         )
-        # as many lines as are told, or as many edges
+        # the first line's number of lines, or of edges
         self.assertEqual(self.read("a.col", "p col 2 1\nn 1 3\ne 1 2\ne 2 1\n"), ((1, 2), ((1, 2),)))
         paths = "p sp 3 3\na 1 2 7\na 2 1 7\na 2 3 1\n"
         self.assertEqual(self.read("a.dimacs", paths, undirected=True), ((1, 2, 3), ((1, 2), (2, 3))))

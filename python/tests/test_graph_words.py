@@ -1,4 +1,4 @@
-"""Graphs on the command line: what is told, and with which status."""
+"""Graphs on the command line: messages and exit statuses."""
 
 from __future__ import annotations
 

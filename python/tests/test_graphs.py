@@ -1,4 +1,4 @@
-"""Graphs that are made."""
+"""Generated graphs."""
 
 from __future__ import annotations
 
@@ -27,7 +27,7 @@ def degrees(graph: Graph) -> list[int]:
 
 
 def is_ring(graph: Graph) -> bool:
-    """Whether a graph with two neighbours at each node is one ring."""
+    """Whether a graph whose nodes have two neighbours each is one ring."""
     reached = {graph.nodes[0]}
     for _ in graph.nodes:
         reached |= {node for edge in graph.edges if reached & set(edge) for node in edge}
@@ -160,7 +160,7 @@ class Made(Timed):
 
     def test_large_graphs(self) -> None:
         for words, least, most in [
-            # 21,474 edges in the mean, and a standard deviation of 147
+            # mean 21,474 edges, standard deviation 147
             ("gnp:65535,0.00001,1", 20_700, 22_300),
             ("gnp:65535,1e-300", 0, 0),
             ("disk:65535,0", 0, 0),

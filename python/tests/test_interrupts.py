@@ -1,5 +1,7 @@
-"""Interrupts at any moment: each instruction of the client in turn, thousands of signals at random times, and Ctrl-C
-at a terminal; networks that nobody closes; children of this process."""
+"""Interrupts at each instruction of the client, at random times, and by Ctrl-C at a terminal.
+
+Also networks that are never closed, and children of this process.
+"""
 
 from __future__ import annotations
 
@@ -25,11 +27,11 @@ PACKAGE = os.path.dirname(rudekpi.__file__)
 
 
 class Cut(BaseException):
-    """What the interrupts of these tests raise."""
+    """The exception of these tests' interrupts."""
 
 
 class At:
-    """Raises `Cut` in front of the instruction of the package that has a number, counted from the entry of a `with`."""
+    """Raises `Cut` before the package's instruction of this number, counted from the entry of a `with`."""
 
     def __init__(self, number: int) -> None:
         self.left = number
@@ -65,9 +67,9 @@ class EachInstruction(Timed):
         step: int = 1,
         made: Callable[[], Network] = lambda: Network("manne", 4),
     ) -> int:
-        """Cuts a call short in front of each `step`th instruction until it ends, and looks at what is left.
+        """Cuts a call short before each `step`th instruction until it ends, and checks what is left.
 
-        Returns the number of the instruction at which nothing was cut.
+        Returns the number of the instruction at which the call was not cut.
         """
         for number in range(0, 1_000_000, step):
             net = made()
@@ -94,7 +96,7 @@ class EachInstruction(Timed):
             made=lambda: net,
         )
         if not cuts and sys.version_info >= (3, 12):
-            # its `sys.settrace` tells of no instruction of a frame that has no loop
+            # this Python's `sys.settrace` reports no instruction of a frame without a loop
             self.skipTest("this Python traces no instructions here")
         shown = net.transcript().count("show 2 = -\n")
         net.close()
@@ -145,7 +147,7 @@ class EachInstruction(Timed):
 
     def test_of_the_making_of_one(self) -> None:
         before = set(children())
-        # what is cut in a finalizer is told there, and not raised
+        # an interrupt in a finalizer is reported there, and not raised
         self.addCleanup(setattr, sys, "unraisablehook", sys.unraisablehook)
         sys.unraisablehook = lambda told: self.assertIs(told.exc_type, Cut)
         for number in range(0, 100_000, 41):
@@ -162,7 +164,7 @@ class RandomTimes(Timed):
     seconds = 120
 
     def cut_at_random(self, times: int, play: Callable[[], object]) -> int:
-        """Has another thread send this one `times` signals while it plays; returns how many came while it did."""
+        """Plays while a thread sends `times` signals; returns how many came meanwhile."""
         main, drawn = threading.get_ident(), random.Random(7)
         is_armed, is_done, came, handled = [False], [False], [0], [0]
 
@@ -180,7 +182,7 @@ class RandomTimes(Timed):
                     time.sleep(0.00002)
                 is_done[0] = number == times - 1
                 signal.pthread_kill(main, signal.SIGUSR1)
-                # two that wait to be handled would be one
+                # two pending signals would be handled as one
                 while handled[0] <= number:
                     time.sleep(0.00002)
 
@@ -189,7 +191,7 @@ class RandomTimes(Timed):
         sender = threading.Thread(target=send, daemon=True)
         sender.start()
         while not is_done[0]:
-            # the handler disarms itself, so that none comes where it is not caught
+            # the handler disarms itself, so that no signal comes outside this block
             try:
                 is_armed[0] = True
                 play()

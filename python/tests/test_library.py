@@ -1,5 +1,4 @@
-"""The library as an engine: where it is found, that it says what the program says, threads, interrupts between them,
-children of this process, and networks that nobody closes."""
+"""The library as an engine: its path, the program's replies, threads, interrupts, children, leaks."""
 
 from __future__ import annotations
 
@@ -26,12 +25,10 @@ from support import TOP, Timed, play, told
 
 
 class Cut(BaseException):
-    """What the interrupts of these tests raise."""
+    """The exception of these tests' interrupts."""
 
 
 class Chosen(Timed):
-    """Which engine plays."""
-
     def test_by_the_argument_and_the_environment(self) -> None:
         for engine in ("program", "library"):
             if engine == "library" and not library.found_library():
@@ -75,13 +72,10 @@ class Chosen(Timed):
 
 
 class Same(Timed):
-    """Both engines say the same."""
-
     engines = ("library",)
     seconds = 120
 
     def lines(self, drawn: random.Random, nodes: int) -> list[str]:
-        """The lines of a random script."""
         node: Callable[[], int] = lambda: drawn.randint(1, nodes + 1)
         kinds: list[Callable[[], str]] = [
             lambda: f"link {node()} {node()}",
@@ -115,7 +109,7 @@ class Same(Timed):
 
             lines, found = self.lines(drawn, nodes), []
             if names != nodes:
-                # a name that is none is told by the client itself
+                # the client itself refuses an invalid name
                 lines = [
                     line
                     for line in lines
@@ -191,12 +185,12 @@ class Same(Timed):
 
 
 class CostsTold(Timed):
-    """What edits and faults would cost; the numbers are those of the table in docs/BOUNDS.md, reckoned by hand."""
+    """The costs of edits and faults, from the table in docs/BOUNDS.md, worked out by hand."""
 
     engines = ("library",)
-    # ann and bob are a pair with two other edges each; cleo points at ann, who does not answer; gus is not there
+    # ann and bob are a pair with two other edges each; cleo points at ann, who does not answer; gus is absent
     names = ("ann", "bob", "cleo", "dan", "eve", "fay", "gus")
-    # a call, and what it costs under `hh` and `manne`, or why it is refused
+    # a call, and its cost under `hh` and `manne`, or why it is refused
     rows: tuple[tuple[tuple[Any, ...], Union[int, str], Union[int, str]], ...] = (
         (("link", "cleo", "dan"), 2, 2),
         (("unlink", "ann", "bob"), 8, 12),
@@ -289,7 +283,7 @@ class CostsTold(Timed):
 
 
 class Partners(Timed):
-    """With whom a node is paired is, by the library, what the library says: the client makes it of no transcript."""
+    """With the library a node's partner is its answer: the client does not derive it from a transcript."""
 
     def test_the_proved_answer_counts(self) -> None:
         with Network("hh", ["ann", "bob", "cleo", "dan"], present=3) as net:
@@ -301,7 +295,7 @@ class Partners(Timed):
             self.assertEqual([net.partner(it) for it in ("ann", "bob", "cleo")], ["bob", "ann", None])
             self.assertRaisesRegex(ValueError, "node 'dan' is not present", net.partner, "dan")
             self.assertRaisesRegex(ValueError, "no node has the name 'zoe'", net.partner, "zoe")
-            # a state that is wrong is not believed where the library says nobody
+            # a wrong state is not believed if the library answers that there is none
             with mock.patch.object(State, "partner", lambda *_: 2):
                 self.assertEqual(net.partner("cleo"), None if net.engine == "library" else "bob")
         self.assertEqual(
@@ -310,7 +304,7 @@ class Partners(Timed):
 
 
 class Pieces(Timed):
-    """Audits that are fed a transcript as it comes. What they say is what `audit` says of the whole."""
+    """Audits fed a transcript as it comes; their verdict is that of `audit` on the whole."""
 
     text = "matching hh 2\n1 link 1 2 = ok\n2 enabled = 1:seduce 2:seduce\n3 step 1 = 1:seduce>2\n"
 
@@ -367,7 +361,7 @@ class Pieces(Timed):
         before = resource.getrusage(resource.RUSAGE_SELF).ru_maxrss
         for _ in range(60 if Audit().engine == "library" else 3):
             judge = Audit()
-            # a line that does not end is held whole: a megabyte
+            # an unfinished line is held whole: a megabyte
             judge.feed(b"matching hh 2\n" + b"1" * (1 << 20))
             ended = weakref.ref(judge._judge)
             del judge
@@ -379,7 +373,7 @@ class Threads(Timed):
     engines = ("library",)
 
     def in_threads(self, call: Callable[[int], object], count: int = 4) -> None:
-        """Lets threads call, each with its number, and raises what one raises."""
+        """Runs a call in several threads, each with its number; raises what one of them raises."""
         raised: list[BaseException] = []
 
         def called(number: int) -> None:
@@ -469,7 +463,7 @@ class Threads(Timed):
         self.assertEqual((cut, net.audit().entries), (300, net.transcript().count(" = ")))
 
 
-# plays a network of many nodes, whose replies are large, in less and less memory; prints how often each came
+# plays a network of many nodes, whose replies are large, in less and less memory; counts the outcomes
 SHORT_OF_MEMORY = """
 import resource, rudekpi
 from collections import Counter
@@ -540,7 +534,7 @@ class Memory(Timed):
             del net
             gc.collect() if _ % 2 else None
             self.assertIsNone(session())
-        # a network of so many names takes some 3 MB
+        # a network of this many names takes some 3 MB
         self.assertLess(resource.getrusage(resource.RUSAGE_SELF).ru_maxrss - before, 100_000)
 
     def test_a_session_of_weeks(self) -> None:

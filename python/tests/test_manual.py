@@ -1,4 +1,4 @@
-"""The manual of the client, and what completes its words in shells, have the words that the client itself has."""
+"""The client's manual, and the completions of shells, have the client's own words."""
 
 from __future__ import annotations
 

@@ -1,4 +1,4 @@
-"""Networks through the client: names, wrong arguments, refusals, batches, daemons, and transcripts that go on."""
+"""Networks through the client: names, arguments, refusals, batches, daemons, and replays."""
 
 from __future__ import annotations
 
@@ -31,7 +31,7 @@ from support import Timed, has_ended
 JUDGES: tuple[Callable[..., object], ...] = (audit, epochs, replay)
 
 PAIR = "matching hh 2\n1 link 1 2 = ok\n2 step 1 = 1:seduce>2\n3 step 2 = 2:marry>1\n4 matching = 1-2\n"
-# node 2 took the greater of the two targets that it may take
+# node 2 took the greater of its two possible targets
 OTHER_TARGET = "matching hh 3\n1 link 1 2 = ok\n2 link 2 3 = ok\n3 step 2 = 2:seduce>3\n4 step 3 = 3:marry>2\n"
 
 

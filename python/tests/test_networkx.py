@@ -1,4 +1,4 @@
-"""Networks from and to networkx, and their matchings judged by it. Skipped where it is not there."""
+"""Networks from and to networkx, which judges their matchings. Skipped if networkx is missing."""
 
 from __future__ import annotations
 
@@ -17,17 +17,17 @@ except ImportError:
 
 
 def one(drawn: random.Random) -> Daemon:
-    """A daemon of chance that lets one node move."""
+    """A random daemon that moves one node."""
     return lambda enabled: [drawn.choice(list(enabled))]
 
 
 def some(drawn: random.Random) -> Daemon:
-    """A daemon of chance that lets any nodes move, and one at least."""
+    """A random daemon that moves any nodes, at least one."""
     return lambda enabled: [node for node in enabled if drawn.random() < 0.5] or [drawn.choice(list(enabled))]
 
 
 def bare(graph: Any) -> Any:
-    """The nodes and edges of a graph, without what they carry."""
+    """The nodes and edges of a graph, without their attributes."""
     return networkx.from_dict_of_lists(networkx.to_dict_of_lists(graph))
 
 

@@ -1,4 +1,4 @@
-"""Transcripts that are audited in parts: the verdicts are those of the whole, of right and of damaged ones."""
+"""Audits in parts: the verdicts are those of the whole, for correct and damaged transcripts."""
 
 from __future__ import annotations
 
@@ -21,7 +21,7 @@ from support import Losing, Timed
 
 
 def transcript(seed: int, turns: int = 12, nodes: int = 12) -> str:
-    """A run with a base behind each of some turns."""
+    """A run with a base after some of its turns."""
     drawn = random.Random(seed)
     with Network(drawn.choice(["hh", "manne"]), nodes, present=nodes - 2) as net:
         with net.batch(raises=False) as batch:
@@ -67,7 +67,7 @@ class Parts(Timed):
         self.assertEqual(len(bases), 12)
         path = pathlib.Path(self.folder(), "transcript")
         path.write_bytes(text)
-        # pieces in which no base has room, and in which several have
+        # pieces too small for a base, and pieces with several
         for size in (11, 12, 13, 50, 1000, len(text)):
             with unittest.mock.patch.object(parts, "PIECE", size), open(path, "rb") as file:
                 for held in (Held(text), Held(b"", file.fileno(), str(path))):
@@ -149,8 +149,7 @@ class Parts(Timed):
 
 
 class Joining(Timed):
-    """What verdicts on parts say of the whole: by the library's call if there is one, and by the same sums if there is
-    none."""
+    """The joint verdict of parts: by the library's call, or by the same sums if there is no library."""
 
     def tried(self) -> None:
         fine = Summary(7, 3, 40)
@@ -222,7 +221,7 @@ class Deaths(Timed):
     def test_a_verdict_that_is_lost_twice(self) -> None:
         for count, at in ((3, 0), (3, 1), (64, 40)):
             text, found = self.in_parts(count)
-            # at first all of them are handed out, in their order
+            # at first all of them are handed out, in order
             with self.subTest(count=count, at=at), self.assertRaises(LostPart) as caught:
                 audit_parts(text, Losing((at + 1, count + 1)), size=1)
             lost, line = caught.exception, text[: found[at][0]].count(b"\n") + 1
@@ -233,7 +232,7 @@ class Deaths(Timed):
 
     def test_the_first_that_is_wrong_is_told(self) -> None:
         text, found = self.in_parts(64)
-        # another last figure in the last line of a part, in front of the next one's base
+        # another last figure in the last line of a part, before the next one's base
         damaged = {at: text[: found[at + 1][0] - 2] + b"?" + text[found[at + 1][0] - 1 :] for at in (10, 30)}
         twice = (20 + 1, 64 + 1)
         self.assertEqual(verdict(audit_parts, damaged[10], Losing(twice), size=1), verdict(audit, damaged[10]))

@@ -42,7 +42,7 @@ def rudekpi(*words: str, folder: Optional[str] = None) -> subprocess.CompletedPr
 
 
 class Plans(Timed):
-    # neither engine is asked
+    # no engine is used
     engines = ("program",)
 
     def test_by_hand(self) -> None:

@@ -1,4 +1,4 @@
-"""What plots of sweeps show: each run where it belongs, and each bound where it holds."""
+"""The plots of sweeps: each run is in its place, and each bound is with the runs that it holds for."""
 
 from __future__ import annotations
 
@@ -32,12 +32,11 @@ def row(
 
 
 def named(figure: Any) -> dict[str, Any]:
-    """The panels of a figure by their titles."""
     return {axes.get_title(): axes for axes in figure.get_axes() if axes.get_title()}
 
 
 def runs_of(axes: Any) -> list[tuple[float, ...]]:
-    """Each run that is drawn, as its place on the axis and its moves."""
+    """Each drawn run, as its place on the axis and its moves."""
     return [tuple(map(float, point)) for dots in axes.collections[:] if is_dots(dots) for point in dots.get_offsets()]
 
 
@@ -46,7 +45,7 @@ def is_dots(drawn: object) -> bool:
 
 
 def bounds_of(axes: Any) -> list[tuple[float, ...]]:
-    """Each line of a bound: from where to where, and how high."""
+    """Each line of a bound: its ends and its height."""
     lines = [line for line in axes.get_lines() if line.get_color() == plots.BOUND]
     return sorted((*map(float, line.get_xdata()), float(line.get_ydata()[0])) for line in lines)
 
@@ -63,7 +62,7 @@ class Panels(Timed):
         words = itertools.product(("ring:9", "gnp:9,0.5,1"), ("5 faults", "10 faults"), ("hh", "manne"))
         rows = [row(graph, rules, hit=hit) for graph, hit, rules in words]
         figure = plots.panels_figure(rows)
-        # graphs of one size are not one, 5 stands in front of 10, and each graph has a line of its own
+        # graphs of equal size differ, 5 comes before 10, and each graph has its own line
         self.assertEqual(
             list(named(figure)),
             ["gnp:9,0.5,1\n5 faults", "gnp:9,0.5,1\n10 faults", "ring:9\n5 faults", "ring:9\n10 faults"],

@@ -1,5 +1,4 @@
-"""The talk with the program: replies of any size, commands by the ten thousands, programs that end early or answer
-amiss, and which program it is."""
+"""The talk with the program: large replies, many commands, early ends, wrong answers, and its path."""
 
 from __future__ import annotations
 
@@ -22,7 +21,7 @@ JUDGES: tuple[Callable[..., object], ...] = (audit, epochs)
 HEADER = "echo 'matching hh 3'\n"
 # answers the first line, and ends at the second
 STOPS = HEADER + "read -r line; echo \"1 $line = ok\"; read -r line; echo one >&2; echo '! out of memory' >&2; exit 4\n"
-# answers each `matching` by a line of 600,000 bytes, and anything else by `ok`
+# answers each `matching` with a line of 600,000 bytes, and anything else with `ok`
 LARGE = """import sys
 print("matching hh 3", flush=True)
 for number, line in enumerate(sys.stdin, 1):
@@ -184,7 +183,7 @@ for program in programs:
 
 
 class Answers(Timed):
-    """Programs that answer amiss."""
+    """Programs that give wrong answers."""
 
     engines = ("program",)
     seconds = 60
@@ -230,7 +229,7 @@ class Answers(Timed):
 
 
 class Found(Timed):
-    """Which program is called."""
+    """Which program is used."""
 
     engines = ("program",)
 
@@ -254,7 +253,7 @@ class Found(Timed):
                 self.assertIn(program, str(caught.exception))
 
     def of_a_repository(self, console: Optional[str]) -> subprocess.CompletedProcess[str]:
-        """What a program says that uses the client in a repository with this console, and its standard error."""
+        """The output and standard error of a client in a repository with this console."""
         folder = self.folder()
         shutil.copytree(os.path.dirname(rudekpi.__file__), os.path.join(folder, "python", "rudekpi"))
         if console:

@@ -1,4 +1,4 @@
-"""Who is at rest, and whom edits and faults would reach: compared with what edges and registers alone say."""
+"""Nodes at rest, and the reach of edits and faults, compared with edges and registers alone."""
 
 from __future__ import annotations
 
@@ -16,7 +16,7 @@ def lone(net: Network, node: Name) -> set[Name]:
 
 
 def rests(net: Network, node: Name) -> bool:
-    """Whether a node that is present is at rest, by the definition of docs/BOUNDS.md."""
+    """Whether a present node is at rest, by the definition of docs/BOUNDS.md."""
     held, partner = net.registers(node), net.partner(node)
     if net.rules == "manne" and held.flag != (partner is not None):
         return False
@@ -24,7 +24,7 @@ def rests(net: Network, node: Name) -> bool:
 
 
 def of_point(net: Network, node: Name, target: Optional[Name]) -> set[Name]:
-    """Whom a pointer that is written reaches."""
+    """The reach of a written pointer."""
     partner, pointer = net.partner(node), net.registers(node).pointer
     if partner is None:
         return set() if target in (None, pointer) else {node}
@@ -32,7 +32,7 @@ def of_point(net: Network, node: Name, target: Optional[Name]) -> set[Name]:
 
 
 def wanted(net: Network, word: str, node: Name, other: Optional[Name] = None) -> set[Name]:
-    """Whom an edit or a fault of nodes that are present reaches, by the table of docs/BOUNDS.md."""
+    """The reach of an edit or a fault of present nodes, by the table of docs/BOUNDS.md."""
     near, partner = net.neighbours(node), net.partner(node)
     if word == "link" and other is not None:
         return {node, other} if other not in (node, *near) and not partner and not net.partner(other) else set()
@@ -49,7 +49,7 @@ class ReachTold(Timed):
     """Worked rows, found by hand, in the network of tests/c/reach.c."""
 
     engines: tuple[str, ...] = ("library",)
-    # ann and bob are a pair; cleo points at ann and gus at eve, who do not answer; hal is not there
+    # ann and bob are a pair; cleo points at ann and gus at eve, without an answer; hal is absent
     names = ("ann", "bob", "cleo", "dan", "eve", "fay", "gus", "hal")
     rows: tuple[tuple[tuple[Any, ...], str], ...] = (
         (("link", "cleo", "dan"), "cleo dan"),
@@ -140,12 +140,12 @@ class ReachTold(Timed):
 
 
 class ReachDrawn(Timed):
-    """Random networks, in which it is compared with what is found here, and movers with who was restless or reached."""
+    """Random networks: the reach is that found here, and only restless or reached nodes move."""
 
     engines: tuple[str, ...] = ("library",)
 
     def disturb(self, net: Network, chance: random.Random) -> set[Name]:
-        """Makes an edit or a fault, after its reach is compared. Returns who was restless or in reach."""
+        """Makes an edit or a fault, after comparing its reach. Returns the nodes restless or in reach."""
         word, node, other = chance.choice(["link", "link", "unlink", "point", "flag"]), *chance.sample(net.present, 2)
         rest = {
             "flag": chance.random() < 0.5,

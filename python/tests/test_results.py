@@ -1,5 +1,4 @@
-"""What a network answers beside its commands: results that leave a process, questions that cost no entry, drawings,
-pages, what is kept, and storms."""
+"""A network's other results: pickled replies, questions without an entry, drawings, pages, and storms."""
 
 from __future__ import annotations
 
@@ -35,7 +34,7 @@ PAIR = "matching hh 2\n1 link 1 2 = ok\n2 step 1 = 1:seduce>2\n3 step 2 = 2:marr
 
 
 def every_result() -> list[object]:
-    """A result of every kind, errors among them."""
+    """A result of every kind, with errors."""
     with Network("manne", ["ann", ("bob", 2), 3.5]) as net:
         made = [
             net.link("ann", ("bob", 2)),

@@ -1,5 +1,8 @@
-"""Handlers of signals that ask the network in the middle of a call: each answer, the handler's and the call's, is what
-the transcript says, and the transcript is whole. RUDEKPI_SIGNALS is how many signals of each kind come."""
+"""Signal handlers that ask the network in the middle of a call.
+
+Each answer, the handler's and the call's, is that of the transcript, which is whole. RUDEKPI_SIGNALS is how
+many signals of each kind come.
+"""
 
 from __future__ import annotations
 
@@ -21,7 +24,7 @@ from support import Timed, play, spelled, told
 PACKAGE = os.path.dirname(rudekpi.__file__)
 SIGNALS = int(os.environ.get("RUDEKPI_SIGNALS", "60"))
 NODES = 12
-# what is asked, each a line of a script; the network is so small that each of them is refused now and then
+# the questions, each a line of a script; the network is so small that each is sometimes refused
 LINES = (
     "show 9",
     "enabled",
@@ -42,7 +45,7 @@ BASE_HEAD = re.compile(r"base [0-9]+ spent=.*")
 
 
 class Recorded:
-    """A network of which each answer is noted with its entry."""
+    """A network that records each answer with its entry."""
 
     def __init__(self, net: Network) -> None:
         self.net = net
@@ -61,7 +64,7 @@ class Recorded:
 
 
 class AskAt:
-    """Asks in front of the instruction of the package that has a number, counted from the entry of a `with`."""
+    """Asks before the package's instruction of this number, counted from the entry of a `with`."""
 
     def __init__(self, number: int, ask: Callable[[], object]) -> None:
         self.left, self.ask = number, ask
@@ -86,7 +89,7 @@ class AskAt:
 
 
 class Asking(Timed):
-    """What these tests share."""
+    """Shared by these tests."""
 
     engines = ("program", "library")
     seconds = 600
@@ -100,7 +103,7 @@ class Asking(Timed):
         return net
 
     def expect_all_told(self, recorded: Recorded, first: int) -> None:
-        """Each entry from a number on was told once, as it stands in the transcript, which is that of a run."""
+        """Expects each entry from `first` on to be reported once, as the transcript has it."""
         said = recorded.net.transcript()
         self.assertEqual(audit(said, engine="program").entries, said.count(" = "))
         lines = [line.partition(" = ") for line in said.splitlines() if " = " in line]
@@ -109,7 +112,7 @@ class Asking(Timed):
         self.assertEqual([entry for entry, _ in asked], list(range(first, len(replies) + 1)))
         for entry, text in asked:
             event, reply = replies[entry]
-            # of a fault its event is told
+            # for a fault the event is recorded
             wanted = event if text.startswith(("point ", "flag ")) else reply
             if text != wanted:
                 raise AssertionError(f"entry {entry}: told {text!r}, and written is {event!r}: {reply!r}")
@@ -120,7 +123,7 @@ class Asking(Timed):
 
 
 class EachInstruction(Asking):
-    """In front of each instruction of a call in turn the network is asked."""
+    """Asks the network before each instruction of a call in turn."""
 
     def ask_everywhere(self, outer: str, inner: str, step: int, **words: Any) -> None:
         with self.network(**words) as net:
@@ -178,10 +181,10 @@ class EachInstruction(Asking):
 
 
 class Handlers(Asking):
-    """The thread that plays is sent signals at random times; their handler asks."""
+    """The playing thread gets signals at random times; their handler asks."""
 
     def signalled(self, count: int, handler: Callable[[], None], play_on: Callable[[], None]) -> None:
-        """Plays on until the handler was called so many times, by signals that another thread sends."""
+        """Plays on until the handler was called `count` times, by signals from another thread."""
         main, drawn = threading.get_ident(), random.Random(count)
         handled, failed = [0], []
 
@@ -332,7 +335,7 @@ class Handlers(Asking):
                     said.append(str(error))
 
             self.signalled(1, net.close, play_on)
-            # the signal may have come behind the last of its calls
+            # the signal may have come after the last of its calls
             play_on()
             self.assertEqual(set(said), {"the network is closed"})
             self.assertEqual(net.audit().entries, net.transcript().count(" = "))

@@ -1,4 +1,4 @@
-"""Sweeps: rows that transcripts stand behind, in any executor; workers that die, interrupts, tables."""
+"""Sweeps: rows that follow from transcripts, in any executor; dying workers, interrupts, tables."""
 
 from __future__ import annotations
 
@@ -41,7 +41,7 @@ def wrong(enabled: Enabled) -> list[Name]:
 
 
 def dies_once(enabled: Enabled) -> list[Name]:
-    """Kills its process the first time that it is asked, as the file that it leaves tells."""
+    """Kills its process the first time that it is asked, marked by a file that it leaves."""
     try:
         os.close(os.open(os.environ["RUDEKPI_TEST_DEATH"], os.O_CREAT | os.O_EXCL))
     except FileExistsError:
@@ -87,7 +87,7 @@ class Rows(Timed):
                 self.assertEqual(row.update + row.marry + row.seduce + row.abandon, row.moves)
                 self.assertTrue(min(1, row.steps) <= row.rounds <= row.steps)
                 if row.daemon == "synchronous":
-                    # all that are enabled move
+                    # all enabled nodes move
                     self.assertEqual(row.rounds, row.steps)
                 gone = 3 if "leaves" in row.disturbance else 0
                 self.assertEqual(row.n, (12 if row.graph == "ring:12" else 9) - gone)
@@ -130,7 +130,7 @@ class Rows(Timed):
             self.assertEqual(row.bound, audits.epochs(net.transcript())[-1].bound)
 
     def test_rounds_and_rules_by_hand(self) -> None:
-        # 1 seduces 2, 2 marries; 2 updates no flag under hh; the path's third node points at nobody
+        # 1 seduces 2, 2 marries; 2 updates no flag under hh; the path's third node points nowhere
         [row] = sweep([graphs.path(3)], ["hh"], ["least"])
         self.assertEqual((row.steps, row.moves, row.rounds, row.pairs), (2, 2, 1, 1))
         self.assertEqual((row.update, row.marry, row.seduce, row.abandon), (0, 1, 1, 0))
@@ -285,7 +285,7 @@ class Workers(Timed):
     def test_an_interrupt_ends_experiments_that_take_long(self) -> None:
         for processes, count in ((None, min(os.cpu_count() or 1, 9)), (2, 2)):
             with self.subTest(processes=processes):
-                # where all of them play, none is still beginning, which Ctrl-C would end with words of its own
+                # if all of them play, none is still starting, and Ctrl-C would end that with another message
                 said = self.expect_end_by_interrupt(ENDLESS.replace("PROCESSES", str(processes)), "plays-*", count)
                 self.assertEqual((said.splitlines()[-1], said.count("Traceback")), ("KeyboardInterrupt", 1), said)
 
@@ -300,7 +300,8 @@ class Workers(Timed):
         self.expect_no_process()
 
     def expect_no_process(self) -> None:
-        # from Python 3.14 on nobody waits for what is killed; where it does not end, this test ends by its time
+        # from Python 3.14 on killed processes are not waited for; if they do not end, this test fails by its
+        # time limit
         while multiprocessing.active_children():
             time.sleep(0.01)
 

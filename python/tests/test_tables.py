@@ -16,21 +16,21 @@ def row(graph: str, moves: int) -> Row:
 
 
 class Tables(Timed):
-    # neither engine is asked
+    # no engine is used
     engines = ("program",)
 
     def test_intervals(self) -> None:
         self.assertEqual(interval([7]), (7, 7))
         self.assertEqual(interval([4, 4, 4, 4]), (4, 4))
-        # of two draws from 0 and 10 the mean is 0 in a quarter of all, and 10 in another
+        # the mean of two draws from 0 and 10 is 0 in a quarter of all, and 10 in another
         self.assertEqual(interval([10, 0]), (0, 10))
-        # of 101 numbers the ends stand 0.98 times the root of 101 beside the middle, which is 51
+        # the ends for 101 numbers are 0.98 times the root of 101 from the middle, which is 51
         low, high = interval(range(1, 102))
         self.assertTrue(40 <= low <= 43 and 59 <= high <= 62, (low, high))
         self.assertEqual(interval([3, 1, 2, 9]), interval([9, 3, 2, 1]), "the same each time")
 
     def test_medians_of_resamples(self) -> None:
-        # of three draws from 0, 0, 9 the median is 9 if two of them are: 3*(1/9)*(2/3) + 1/27 = 7/27
+        # the median of three draws from 0, 0, 9 is 9 if two of them are: 3*(1/9)*(2/3) + 1/27 = 7/27
         for known, what, share in (([0, 0, 9], 9, 7 / 27), ([0, 8], 4, 1 / 2), ([0, 8], 0, 1 / 4)):
             drawn = random.Random(5)
             found = statistics.mean(resampled_median(known, drawn) == what for _ in range(20_000))

@@ -1,4 +1,4 @@
-"""Tasks that are handed out: workers that die, a stop in the middle, and pools of the caller's own."""
+"""Tasks that are handed out: workers that die, a stop in the middle, and the caller's own pools."""
 
 from __future__ import annotations
 
@@ -18,7 +18,7 @@ from rudekpi import workers
 from rudekpi.workers import Handing
 from support import Timed
 
-# more than a pipe holds: what is sent of it to a worker that dies stays there
+# more than a pipe holds: what is sent of it to a dying worker stays there
 MUCH = bytes(1 << 20)
 
 
@@ -27,7 +27,7 @@ def given_back(number: int, much: bytes) -> int:
 
 
 def dies_once(number: int, much: bytes, mark: str) -> Optional[int]:
-    """Kills its process where it makes the file."""
+    """Kills its process if it makes the file."""
     try:
         os.close(os.open(mark, os.O_CREAT | os.O_EXCL))
     except FileExistsError:
@@ -46,7 +46,7 @@ def never_ends(number: int, much: bytes) -> None:
 
 
 def ended(handing: Handing[int]) -> tuple[dict[int, Any], list[int]]:
-    """The tasks of which there is a result, with it, and those that are lost."""
+    """The tasks with their results, and the lost tasks."""
     results: dict[int, Any] = {}
     lost: list[int] = []
     for task, future in handing.done():
@@ -58,7 +58,7 @@ def ended(handing: Handing[int]) -> tuple[dict[int, Any], list[int]]:
 
 
 class OnlyPublic:
-    """A pool of a later Python, of which nothing but what is public is known."""
+    """A pool of a later Python, with only its public part known."""
 
     def __init__(self) -> None:
         self.asked: list[object] = []
@@ -73,7 +73,7 @@ class KillsWorkers(OnlyPublic):
 
 
 class Pools(Timed):
-    """Processes that are begun for the tasks."""
+    """Processes that are started for the tasks."""
 
     seconds = 120
     engines = ("program",)
@@ -83,7 +83,8 @@ class Pools(Timed):
         self.threads = threading.active_count()
 
     def expect_nothing_left(self) -> None:
-        # from Python 3.14 on nobody waits for what is killed; where it does not end, this test ends by its time
+        # from Python 3.14 on killed processes are not waited for; if they do not end, this test fails by its
+        # time limit
         while multiprocessing.active_children() or threading.active_count() > self.threads:
             time.sleep(0.01)
 
@@ -128,7 +129,7 @@ class Pools(Timed):
 
 
 class Given(Timed):
-    """Executors of the caller's own."""
+    """The caller's own executors."""
 
     engines = ("program",)
 

@@ -1,11 +1,11 @@
 #!/usr/bin/env python3
-"""Damages transcripts by chance, and compares what `explain` says of them with the verdict of `audit`.
+"""Damages transcripts at random, and compares `explain` with the verdict of `audit`.
 
 usage: python/tests/transcript_fuzz.py [--count N] [--seed S] [--engine library|program]
 
-N transcripts are explained (10,000 by default). One passes if `explain` finds nothing in what `audit` accepts, and else
-names its line and verdict, marks a place in that line, and prints in ASCII. The exit status is 1 if one did not pass;
-it is printed then.
+N transcripts are explained (10,000 by default). One passes if `explain` returns None for what `audit`
+accepts, and otherwise names the same line and verdict, marks a place in that line, and prints in ASCII. One
+that fails is printed, and the exit status is 1.
 """
 
 from __future__ import annotations
@@ -29,7 +29,7 @@ REPLIES = ["ok", "refused 11 not-enabled", "refused 12 bad-target", "refused 3 a
 
 
 def samples() -> list[str]:
-    """Examples of few nodes, and runs with bases, also such that begin with one."""
+    """Examples of few nodes, and runs with bases, some of which begin with one."""
     found = [path.read_text() for path in sorted(EXAMPLES.glob("*.transcript"))]
     for rules in ("hh", "manne"):
         with Network(rules, 6, present=5) as net:
@@ -53,7 +53,7 @@ def samples() -> list[str]:
 
 
 def damaged_words(line: str, lines: list[str], chance: random.Random) -> str:
-    """A line with one word changed, taken out, or put in."""
+    """A line with one word changed, removed or inserted."""
     words = line.split(" ")
     at, other = chance.randrange(len(words)), chance.choice(chance.choice(lines).split(" "))
     act = chance.randrange(6)
@@ -91,7 +91,7 @@ def damaged_reply(line: str, lines: list[str], chance: random.Random) -> str:
 
 
 def damaged(text: str, chance: random.Random) -> bytes:
-    """A transcript with one or two things in it changed."""
+    """A transcript with one or two changes."""
     lines = text.split("\n")
     for _ in range(chance.randrange(1, 3)):
         at, act = chance.randrange(len(lines)), chance.randrange(10)
@@ -116,7 +116,7 @@ def damaged(text: str, chance: random.Random) -> bytes:
 
 
 def fault_of(text: bytes, engine: str) -> tuple[str, str]:
-    """The verdict on a transcript, and what is wrong with how it is explained, if anything."""
+    """The verdict on a transcript, and what is wrong with its explanation, if anything."""
     verdict: Optional[Damaged] = None
     try:
         audit(text, engine=engine)
@@ -137,7 +137,7 @@ def fault_of(text: bytes, engine: str) -> tuple[str, str]:
 
 
 def fuzz(count: int, seed: int, engine: str = "library") -> tuple[collections.Counter[str], list[str]]:
-    """How many transcripts had which verdict, and what did not pass."""
+    """How many transcripts had which verdict, and which failed."""
     chance, known = random.Random(seed), samples()
     counts: collections.Counter[str] = collections.Counter()
     wrong = []
