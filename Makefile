@@ -1,4 +1,5 @@
-# Installs what release/ has: nothing is built. `make install PREFIX=/usr/local`, and `make uninstall` with the same words.
+# Installs the files of release/ and builds nothing. `make install PREFIX=/usr/local`, and `make uninstall`
+# with the same words.
 PREFIX ?= /usr/local
 DESTDIR ?=
 

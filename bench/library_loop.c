@@ -1,4 +1,5 @@
-/* How long an entry `show 1` takes in C: bench/library compiles it and runs it. Writes a line a way: its name, and nanoseconds an entry.
+/* Times an entry `show 1` in C: bench/library compiles it and runs it. Prints a line for each way: its
+ * name, and nanoseconds an entry.
  * usage: library_loop ENTRIES */
 #define _POSIX_C_SOURCE 199309L
 #include <stdio.h>
@@ -18,7 +19,7 @@ static void begin(void) {
     if (rudekpi_session_new(RUDEKPI_HSU_HUANG, 2, 2, &slot) != RUDEKPI_DONE) exit(1);
 }
 
-/* A line a call, whose text is read at once. */
+/* A line a call, and its text is read at once. */
 static void by_lines(long entries) {
     uint8_t text[64];
     uint64_t number;
@@ -28,7 +29,7 @@ static void by_lines(long entries) {
     }
 }
 
-/* A number a call; the text stays where it is, or is not kept. */
+/* A number a call; the text stays unread, or is not kept. */
 static void by_numbers(long entries) {
     struct rudekpi_told told;
     for (long at = 0; at < entries; at++)

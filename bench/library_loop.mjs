@@ -1,15 +1,15 @@
-// Measures what an entry takes by the module for JavaScript: node bench/library_loop.mjs MODULE ENTRIES. A line each of
-// a way and its nanoseconds, as bench/library reads them.
+// Times an entry by the module for JavaScript: node bench/library_loop.mjs MODULE ENTRIES. Prints a line for
+// each way with its nanoseconds, as bench/library reads them.
 import {pathToFileURL} from "node:url";
 
 const [path, entries] = process.argv.slice(2);
 const { Network } = await import(pathToFileURL(path));
 
-// so many parts of the calls are timed, the first ones while the code is still compiled
+// how many parts of the calls are timed; the code is still compiled during the first ones
 const PARTS = 20;
 
 /**
- * The nanoseconds of each of so many calls, in the fastest part of them.
+ * The nanoseconds of a call, in the fastest part of all calls.
  * @param {number} calls
  * @param {() => void} call
  */

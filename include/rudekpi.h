@@ -34,7 +34,8 @@ enum {
     RUDEKPI_NO_SESSION = 4,   /* the slot holds no session, or no audit */
     RUDEKPI_BAD_ARGUMENT = 5, /* an argument is out of range; nothing changed */
     RUDEKPI_REFUSED = 6,      /* the machine refused the event, and an entry says so; the network is unchanged */
-    RUDEKPI_DAMAGED = 7       /* the bytes that an audit was fed are no transcript, whatever comes next */
+    RUDEKPI_DAMAGED = 7,      /* the bytes that an audit was fed are no transcript, whatever comes next */
+    RUDEKPI_NOT_SILENT = 8    /* a rule is enabled, and the call needs a silent network; nothing changed */
 };
 
 /* The rule sets: Hsu and Huang (1992), one enabled node moves at a time; Manne, Mjelde, Pilard and Tixeuil
@@ -209,6 +210,20 @@ uint32_t rudekpi_cost_of_leave(struct rudekpi_slot *slot, uint32_t node, uint32_
 uint32_t rudekpi_cost_of_point(struct rudekpi_slot *slot, uint32_t node, uint32_t target, uint32_t *cost);
 uint32_t rudekpi_cost_of_flag(struct rudekpi_slot *slot, uint32_t node, bool value, uint32_t *cost);
 
+/* Writes the cost of an edit or a fault in a silent network, in moves: at most this many follow it before the
+ * next edit or fault, whatever the daemon chooses. Under RUDEKPI_HSU_HUANG it is at most the cost above, as it
+ * counts unmarried neighbours alone. Under RUDEKPI_MANNE it may exceed that by 2 for a pair that may come, and
+ * by 1 for a node that leaves. 0 if the machine would refuse it. Looks at the neighbours of at most two nodes.
+ * Changes nothing, adds no entry.
+ * DONE; NOT_SILENT if a rule is enabled; NO_SESSION; BAD_ARGUMENT for a name that is 0 or above 65,535; only a
+ * target may be 0, for null. `cost` is written in each case, 0 if the status is not DONE. */
+uint32_t rudekpi_silent_cost_of_link(struct rudekpi_slot *slot, uint32_t a, uint32_t b, uint32_t *cost);
+uint32_t rudekpi_silent_cost_of_unlink(struct rudekpi_slot *slot, uint32_t a, uint32_t b, uint32_t *cost);
+uint32_t rudekpi_silent_cost_of_join(struct rudekpi_slot *slot, uint32_t node, uint32_t *cost);
+uint32_t rudekpi_silent_cost_of_leave(struct rudekpi_slot *slot, uint32_t node, uint32_t *cost);
+uint32_t rudekpi_silent_cost_of_point(struct rudekpi_slot *slot, uint32_t node, uint32_t target, uint32_t *cost);
+uint32_t rudekpi_silent_cost_of_flag(struct rudekpi_slot *slot, uint32_t node, bool value, uint32_t *cost);
+
 /* Writes whether a node is at rest: its flag is right if the rules use flags, and it is paired, or points
  * nowhere while all its neighbours are paired. Whatever the daemon chooses, such a node does not move until
  * an edit or a fault reaches it. An absent node is at rest. Looks at its neighbours only if it points
@@ -295,7 +310,8 @@ void rudekpi_audit_free(struct rudekpi_audit_slot *slot);
 /* Returns the text of a status, in ASCII; "unknown" for an unknown number. */
 static inline const char *rudekpi_status_text(uint32_t status) {
     static const char *const texts[] = {"done",       "not a command", "the log is full", "memory was refused",
-                                        "no session", "bad argument",  "refused",         "no transcript"};
+                                        "no session", "bad argument",  "refused",         "no transcript",
+                                        "not silent"};
     return status < sizeof texts / sizeof *texts ? texts[status] : "unknown";
 }
 

@@ -1,8 +1,9 @@
-/* The heap of the library for processors other than x86-64: what the engine's code calls to take and give back memory,
- * over the C library's malloc. It is tested and not proved. The kit's own stands in its place on x86-64.
+/* The heap of the library for processors other than x86-64: the engine's code calls it to take and give
+ * back memory. It uses the C library's malloc; it is tested and not proved. On x86-64 the kit's own heap
+ * takes its place.
  *
- * A call returns whether it was done, and where; a refused one returns an address that is never read. Sizes may be 0,
- * and no alignment is above that of malloc. */
+ * A call returns whether it succeeded, and the address; the address of a refused call is never read. Sizes
+ * may be 0. No alignment exceeds that of malloc. */
 typedef unsigned long u64;
 
 struct tried {

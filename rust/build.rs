@@ -1,4 +1,5 @@
-//! Finds the library for C: in the folder that `RUDEKPI_LIB_DIR` names, or in `release/` beside this package.
+//! Finds the library for C: in the folder that `RUDEKPI_LIB_DIR` names, or in `release/` next to this
+//! package.
 
 use std::path::PathBuf;
 use std::{env, process};
@@ -18,7 +19,7 @@ fn main() {
     println!("cargo:rustc-link-lib=static=rudekpi");
 }
 
-/// The library's folder for the processor that is compiled for.
+/// The library's folder for the target's processor.
 fn folder() -> PathBuf {
     if let Some(named) = env::var_os("RUDEKPI_LIB_DIR") {
         return PathBuf::from(named);

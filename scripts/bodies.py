@@ -1,5 +1,5 @@
-"""Where the functions of a crate stand in its files, by the layout of rt fmt, and the crate without the bodies of
-most."""
+"""Finds the functions of a crate in its files, by the layout of rt fmt, and makes the crate without the
+bodies of most."""
 
 from __future__ import annotations
 
@@ -15,16 +15,14 @@ LEFT_OUT = "unreachable!()"
 
 
 class Function:
-    """A function with a body: its path below the crate as the prover names it, its file, its line there, the lines
-    of its body from `first` to before `end`, and the cycle of calls that it says it is in, with the module before
-    it."""
+    """A function with a body: its path below the crate as the prover names it, its file, its line there, the
+    lines of its body from `first` to before `end`, and its declared cycle of calls, after its module."""
 
     def __init__(self, path: str, file: str, line: int, first: int, end: int, cycle: Optional[str]) -> None:
         self.path, self.file, self.line, self.first, self.end, self.cycle = path, file, line, first, end, cycle
 
 
 def sources_of(folder: str) -> dict[str, str]:
-    """The texts of a crate's sources, by their path below its folder."""
     texts = {}
     for at, _, names in os.walk(f"{folder}/src"):
         for name in sorted(names):
@@ -35,7 +33,7 @@ def sources_of(folder: str) -> dict[str, str]:
 
 
 def module_of(file: str) -> str:
-    """The module that a file below src/ is, '' for the crate's root."""
+    """The module of a file below src/, '' for the crate's root."""
     module = file.removeprefix("src/").removesuffix(".rt").replace("/", "::")
     return "" if module in ("lib", "main") else module
 
@@ -49,7 +47,6 @@ def words_in(text: str) -> list[str]:
 
 
 def without_parameters(head: str) -> str:
-    """What stands behind `impl` and its parameters."""
     text, depth = head.removeprefix("impl"), 0
     for at, sign in enumerate(text):
         depth += (sign == "<") - (sign == ">")
@@ -59,8 +56,8 @@ def without_parameters(head: str) -> str:
 
 
 def holder_of(head: str, module: str, modules: Mapping[str, str]) -> str:
-    """The path of what an `impl` or a trait holds: a type's own functions stand where the type does, those of a
-    trait for a type in the module of the `impl`, under both names."""
+    """The path of the members of an `impl` or a trait: a type's own functions have the type's path, those of
+    a trait for a type the module of the `impl`, under both names."""
     if not head.startswith("impl"):
         return joined(module, re.findall(r"trait (\w+)", head)[0])
     what = re.split(r" where\b| \{$", without_parameters(head))[0]
@@ -77,8 +74,8 @@ def holder_of(head: str, module: str, modules: Mapping[str, str]) -> str:
 
 
 def body_of(lines: list[str], at: int, indent: str) -> Optional[tuple[int, int]]:
-    """The lines of the body of the function whose head begins in a line, or None where it has none, or one of one
-    line."""
+    """The lines of the body of the function whose head begins in a line, or None without a body, or for one
+    of one line."""
     for first in range(at, len(lines)):
         line = lines[first]
         ends_its_head = first == at or line.startswith(f"{indent})")
@@ -113,15 +110,15 @@ def functions_of_file(text: str, file: str, modules: Mapping[str, str]) -> list[
 
 
 def functions_of(texts: Mapping[str, str]) -> list[Function]:
-    """The functions with a body in the sources of a crate, but those of modules of tests."""
+    """Except those of modules of tests."""
     modules = {name: module_of(file) for file, text in texts.items() for name in TYPE.findall(text)}
     return [it for file, text in texts.items() for it in functions_of_file(text, file, modules)]
 
 
 def without_bodies(texts: Mapping[str, str], kept: Collection[str]) -> tuple[dict[str, str], list[str]]:
-    """The texts with a body that nothing can reach in place of each function's that is neither kept nor in a cycle
-    of calls with one that is; and the paths of the functions, and of the cycles, that lost theirs. What a caller
-    rests on stands above the body."""
+    """The texts with `unreachable!()` as the body of each function, except those kept and those in a cycle of
+    calls with a kept one; and the paths of the changed functions, and of their cycles. Callers rely only
+    on the lines above the body."""
     functions = functions_of(texts)
     cycles = {it.cycle for it in functions if it.path in kept and it.cycle}
     left_out = [it for it in functions if it.path not in kept and it.cycle not in cycles]

@@ -6,12 +6,12 @@ import os
 import time
 from typing import Any, Sequence
 
-# What a crate takes that has no line in the file, for each of its lines of code, in seconds.
+# The seconds for each line of code of a crate that has no line in the file.
 A_LINE = 0.3
 
 
 def measured_seconds() -> dict[str, float]:
-    """What each crate took, on one processor of a machine of 2026."""
+    """The seconds of each crate, on one processor of a machine of 2026."""
     found = {}
     with open(f"{os.path.dirname(os.path.abspath(__file__))}/build_seconds") as file:
         for line in file:
@@ -22,8 +22,8 @@ def measured_seconds() -> dict[str, float]:
 
 
 class Clock:
-    """A clock for the build of some crates: it guesses by the seconds that each took when it was measured, and by how
-    much slower, or faster, those crates were that have been built now."""
+    """A clock for the build of some crates: it estimates by the measured seconds of each, and by how much
+    slower or faster the crates built so far were."""
 
     def __init__(self, crates: Sequence[Any], processors: int) -> None:
         measured = measured_seconds()
@@ -34,7 +34,7 @@ class Clock:
         self.took, self.guessed = 0.0, 0.0
 
     def begins(self, crate: Any) -> str:
-        """Notes that a crate begins, and gives the line that says so."""
+        """Notes that a crate begins, and returns the line that reports it."""
         self.begun[crate] = time.monotonic()
         so_far, rest = (self.begun[crate] - self.started) / 60, self.rest() / 60
         place = f"[{len(self.begun)}/{len(self.crates)}] {crate.name}"
@@ -46,18 +46,17 @@ class Clock:
         self.guessed += self.seconds[crate]
 
     def pace(self) -> float:
-        """How many seconds here make one as it was measured; at the start one."""
+        """How many seconds here make one measured second; 1 at the start."""
         return (self.took + 60) / (self.guessed + 60)
 
     def left(self, crate: Any) -> float:
-        """What is left of a crate, in seconds as they were measured."""
         if crate in self.done:
             return 0.0
         passed = time.monotonic() - self.begun[crate] if crate in self.begun else 0.0
         return max(0.0, self.seconds[crate] - passed / self.pace())
 
     def chains(self) -> dict[Any, float]:
-        """Of each crate what is left of it and of the longest chain of crates that wait for it."""
+        """For each crate the rest of it and of the longest chain of crates that wait for it."""
         found: dict[Any, float] = {}
         for crate in reversed(self.crates):
             above = [found[it] for it in found if crate in it.deps]
@@ -65,7 +64,7 @@ class Clock:
         return found
 
     def rest(self) -> float:
-        """Seconds until all is built: of the longest chain, or of all that is left where that takes longer."""
+        """Seconds until all is built: those of the longest chain, or of all the rest if that takes longer."""
         shared = sum(map(self.left, self.crates)) / self.processors
         return self.pace() * max(shared, *self.chains().values())
 

@@ -1,6 +1,6 @@
-"""The files beside a library for C: its headers, and what pkg-config and CMake read.
+"""The files that come with a library for C: its headers, and those that pkg-config and CMake read.
 
-As a script it prints the rudekpi.pc of a library that is installed below the prefix that is named."""
+As a script it prints the rudekpi.pc of a library that is installed below the given prefix."""
 
 from __future__ import annotations
 
@@ -22,7 +22,8 @@ def version() -> str:
 
 
 def shared_name() -> str:
-    """The name of the shared library, and its soname: libraries of one major version may replace one another."""
+    """The name of the shared library, and its soname: libraries of one major version may replace each
+    other."""
     return f"librudekpi.so.{version().split('.')[0]}"
 
 
@@ -43,7 +44,8 @@ def text(prefix: str = "${pcfiledir}", include: str = "", libraries: str = "") -
 
 
 def for_cmake() -> str:
-    """The lines of rudekpi-config.cmake, which finds the files beside it or in the folders of an installation."""
+    """The lines of rudekpi-config.cmake, which finds the files in its own folder or in those of an
+    installation."""
     return f"""# find_package(rudekpi) defines rudekpi::rudekpi, the shared library, and rudekpi::static, the archive.
 get_filename_component(_rudekpi_root "${{CMAKE_CURRENT_LIST_DIR}}/../../.." ABSOLUTE)
 find_path(_rudekpi_include rudekpi.h NO_DEFAULT_PATH NO_CACHE
@@ -94,13 +96,12 @@ FILES = "librudekpi.a", shared_name(), "rudekpi.h", "rudekpi.hpp", *TEXTS
 
 
 def link(folder: pathlib.Path) -> None:
-    """Puts the shared library there as librudekpi.so, too, where compilers look for it. A link would not do: `rt ci`
-    takes no links."""
+    """Puts the shared library there as librudekpi.so too, for compilers. A link would not do: `rt ci` takes
+    no links."""
     shutil.copyfile(folder / shared_name(), folder / "librudekpi.so")
 
 
 def put_beside(folder: pathlib.Path) -> None:
-    """Puts all files but the libraries into a folder."""
     for header in HEADERS:
         shutil.copyfile(header, folder / header.name)
     for name, lines in TEXTS.items():

@@ -15,19 +15,18 @@ SOURCES = VIEWER / "src"
 RELEASED = TOP / "release" / "playground.html"
 IMPORT = re.compile(r'^import (\{[^}]*\}) from "(\.{1,2}/[\w/.]+)\.mjs";$', re.MULTILINE)
 EXPORT = re.compile(r"^export ((?:const|class|async function|function) (\w+))", re.MULTILINE)
-# what a browser without WebAssembly plays: examples/check has it judged, and tests/pages compares the verdict
+# played by a browser without WebAssembly; examples/check has it judged, and tests/pages compares the verdict
 RECORDED = TOP / "examples" / "breaks_and_mends.transcript"
 RECORDED_VERDICT = "accepted: 382 entries, 341 epochs, 719 moves"
 ENGINE = re.compile(r'<script type="application/json" id="engine">"([A-Za-z0-9+/=]+)"</script>')
 
 
 def named(path: pathlib.Path) -> str:
-    """The name of a module by its file."""
     return path.resolve().relative_to(SOURCES).as_posix()
 
 
 def module_order(path: pathlib.Path, seen: set[str]) -> list[tuple[pathlib.Path, str]]:
-    """The module and all that it stands on, each behind those that it imports."""
+    """The module and all its imports, each after those that it imports itself."""
     if named(path) in seen:
         return []
     seen.add(named(path))
@@ -37,13 +36,13 @@ def module_order(path: pathlib.Path, seen: set[str]) -> list[tuple[pathlib.Path,
 
 
 def renamed_imports(path: pathlib.Path, text: str) -> str:
-    """A module's text, which takes what it imports from the joined modules."""
+    """A module's text, which takes its imports from the joined modules."""
     return IMPORT.sub(lambda found: f'const {found[1]} = modules["{named(path.parent / found[2])}"];', text)
 
 
 def joined_script(top: str, begin: str = "") -> str:
-    """The modules on which the module `top` stands, in one, each in a function of its own, so that their names do not
-    meet; after them `begin`, and then `top`."""
+    """The module `top` and its dependencies in one, each in a function of its own, so that their names do not
+    clash; after the dependencies comes `begin`, and then `top`."""
     parts = ["\nconst modules = {};\n"]
     *below, (last, text) = module_order(SOURCES / top, set())
     for path, module in below:
@@ -59,12 +58,12 @@ def embedded(value: object) -> str:
 
 
 def allowed(text: str) -> str:
-    """A text by its digest, as a page's policy names what may run or give style."""
+    """The digest of a text, by which a page's policy names allowed scripts and styles."""
     return f"'sha256-{base64.b64encode(hashlib.sha256(text.encode()).digest()).decode()}'"
 
 
 def page_of(transcript: Optional[str], judge: Optional[Mapping[str, object]], engine: Optional[str]) -> str:
-    """The page that plays a transcript, whose judge said something of it, or with None and None the playground;
+    """The page that plays a transcript, with its judge and the verdict, or with None and None the playground;
     `engine` is the module as text, or None."""
     template = (VIEWER / "page.html").read_text(encoding="utf-8")
     style = "\n" + "".join((VIEWER / name).read_text(encoding="utf-8") for name in ["page.css", "playground.css"])
@@ -83,14 +82,14 @@ def page_of(transcript: Optional[str], judge: Optional[Mapping[str, object]], en
         "judge": embedded(judge),
         "engine": embedded(engine),
         "recorded": embedded(recorded),
-        # the playground lies in the repository; where a page of a transcript will lie, nobody knows
+        # the playground lies in the repository; the place of a transcript's page is unknown
         "project": ' href="../README.md"' if transcript is None else "",
     }
     return re.sub(r"\{\{(\w+)\}\}", lambda place: parts[place.group(1)], template)
 
 
 def engine_of_release() -> Optional[str]:
-    """The engine of the playground that lies in release/, as text; None where there is none."""
+    """The engine of the playground in release/, as text; None if there is none."""
     try:
         found = ENGINE.search(RELEASED.read_text(encoding="utf-8"))
     except OSError:

@@ -1,11 +1,12 @@
-"""The engine as a WebAssembly module: the LLVM module of the proved code, compiled and lowered to a 32-bit memory.
+"""The engine as a WebAssembly module: the LLVM module of the proved code, compiled and lowered to a 32-bit
+memory.
 
-The kit compiles no heap for that target, so this way is the repository's own: what comes out is tested, and not
-proved. The kit's build calls a compiler of its toolchain folder; given a folder whose compiler keeps what it is
-given, it leaves the LLVM module of the functions that it has just proved. That is turned to the other target and
-linked with viewer/wasm/heap.c, which gives the wide module: its memory has 64-bit places, as the layouts of the LLVM
-module have. Debian's binaryen lowers it, so that browsers without such a memory run it: each place is cut to 32 bits
-where memory is read or written, and all calls keep their types.
+The kit compiles no heap for that target, so this way is the repository's own: its result is tested, and
+not proved. The kit's build calls a compiler of its toolchain folder. Given a folder whose compiler keeps
+its input, it leaves the LLVM module of the functions that it has just proved. That is converted to the
+other target and linked with viewer/wasm/heap.c into the wide module: its memory has 64-bit addresses, like
+the layouts of the LLVM module. Debian's binaryen lowers it, so that browsers without such a memory run it:
+each address is cut to 32 bits when memory is read or written, and all calls keep their types.
 """
 
 from __future__ import annotations
@@ -26,7 +27,7 @@ HEAP = TOP / "viewer" / "wasm" / "heap.c"
 HEADER = TOP / "include" / "rudekpi.h"
 TARGET = "wasm64-unknown-unknown"
 LAYOUT = "e-m:e-p:64:64-p10:8:8-p20:8:8-i64:64-i128:128-n32:64-S128-ni:1:10:20"
-# the processor's own, which the other target does not know
+# attributes of the processor that the other target does not know
 PROCESSOR = re.compile(r' "(?:probe-stack|stack-probe-size|target-cpu|target-features|tune-cpu)"(?:="[^"]*")?')
 CODE = [f"--target={TARGET}", "-mcpu=lime1", "-O3", "-no-canonical-prefixes", "--no-default-config"]
 WIDE = ["-mllvm", "-expand-div-rem-bits=64", "-mllvm", "-expand-fp-convert-bits=64", "-mllvm", "-trap-unreachable"]
@@ -44,7 +45,7 @@ LINK = [
 CALL = re.compile(r"^(?:uint32_t|size_t|void) (rudekpi_\w+)\(", re.MULTILINE)
 OF_THE_HEAP = ["rudekpi_room", "rudekpi_give_back"]
 LOWERER, PACKAGE = "wasm-opt", "binaryen"
-# what the browsers of five years have; a module that needs more is refused
+# the features of browsers of the last five years; a module that needs more is refused
 FEATURES = ["memory64", "bulk-memory", "mutable-globals", "sign-ext", "nontrapping-float-to-int"]
 # keeps the LLVM module that it compiles
 COMPILER = """#!/bin/sh
@@ -62,7 +63,7 @@ def run(*words: object, **how: Any) -> subprocess.CompletedProcess[bytes]:
 
 
 def keeping_toolchain(kit: str, folder: pathlib.Path, kept: pathlib.Path) -> pathlib.Path:
-    """The kit's toolchain folder, whose compiler keeps what it compiles."""
+    """The kit's toolchain folder, with a compiler that keeps its input."""
     theirs = pathlib.Path(kit, "toolchain")
     (folder / "bin").mkdir(parents=True)
     (folder / "lib").symlink_to(theirs / "lib")
@@ -76,8 +77,8 @@ def keeping_toolchain(kit: str, folder: pathlib.Path, kept: pathlib.Path) -> pat
 
 
 def is_wanting() -> bool:
-    """Whether the library for C or its LLVM module is not there, or was built before a source that it may stand on
-    was changed."""
+    """Whether the library for C or its LLVM module is missing, or was built before a change of a possible
+    source."""
     if not BUILT.exists() or not KEPT.exists():
         return True
     parts = [path for part in ("src", "specs", "proofs") for path in TOP.glob(f"crates/*/{part}")]
@@ -88,8 +89,8 @@ def is_wanting() -> bool:
 
 
 def build(rtlib: types.ModuleType) -> None:
-    """Proves and builds the library for C on the libraries below it as they lie there, and keeps its LLVM module,
-    where one of the two is wanting."""
+    """Proves and builds the library for C on the libraries below it as they are, and keeps its LLVM module,
+    if either is missing."""
     if not is_wanting():
         return
     crate = next(it for it in rtlib.crates_below(str(TOP)) if it.name == CRATE.name)
@@ -103,14 +104,12 @@ def build(rtlib: types.ModuleType) -> None:
 
 
 def turned(text: str, target: str = TARGET, layout: str = LAYOUT) -> str:
-    """An LLVM module as text, for another target."""
     text = re.sub(r'^target datalayout = ".*"$', f'target datalayout = "{layout}"', text, flags=re.MULTILINE)
     text = re.sub(r'^target triple = ".*"$', f'target triple = "{target}"', text, flags=re.MULTILINE)
     return re.sub(r"^attributes #\d+ = \{.*$", lambda line: PROCESSOR.sub("", line[0]), text, flags=re.MULTILINE)
 
 
 def text_of(rtlib: types.ModuleType) -> str:
-    """The LLVM module that was kept, as text."""
     clang = pathlib.Path(rtlib.KIT, "toolchain", "bin", "clang")
     words = ["-S", "-emit-llvm", "-Xclang", "-disable-llvm-passes", "-o", "engine.ll"]
     with tempfile.TemporaryDirectory() as made:
@@ -120,12 +119,12 @@ def text_of(rtlib: types.ModuleType) -> str:
 
 
 def exports() -> list[str]:
-    """The names that the module exports: those of the header, and what hands over memory."""
+    """The names that the module exports: those of the header, and those that hand over memory."""
     return [*CALL.findall(HEADER.read_text(encoding="utf-8")), *OF_THE_HEAP]
 
 
 def wide_module(rtlib: types.ModuleType) -> bytes:
-    """The bytes of the WebAssembly module with a 64-bit memory, made of the LLVM module that was kept."""
+    """The bytes of the WebAssembly module with a 64-bit memory, made of the kept LLVM module."""
     tools = pathlib.Path(rtlib.KIT, "toolchain", "bin")
     with tempfile.TemporaryDirectory() as made:
         shutil.copyfile(HEAP, f"{made}/heap.c")
@@ -138,14 +137,13 @@ def wide_module(rtlib: types.ModuleType) -> bytes:
 
 
 def lowerer() -> Optional[str]:
-    """What the tool that lowers a module says of its version; None if it is missing."""
+    """The version of the tool that lowers a module; None if it is missing."""
     if shutil.which(LOWERER) is None:
         return None
     return run(LOWERER, "--version", stdout=subprocess.PIPE).stdout.decode().strip()
 
 
 def lowered(wide: bytes) -> bytes:
-    """The module with a 32-bit memory."""
     with tempfile.TemporaryDirectory() as made:
         pathlib.Path(made, "wide.wasm").write_bytes(wide)
         words = [f"--enable-{feature}" for feature in FEATURES]

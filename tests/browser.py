@@ -1,5 +1,5 @@
-"""A headless browser that is driven through a pair of pipes (the DevTools protocol), with the standard library
-alone."""
+"""A headless browser driven through a pair of pipes (the DevTools protocol), with the standard library alone.
+"""
 from __future__ import annotations
 
 import json
@@ -43,7 +43,7 @@ WORDS = [
 
 
 class BrowserFault(Exception):
-    """The browser ended, kept silent, or said that a call is wrong."""
+    """The browser ended, stayed silent, or rejected a call."""
 
 
 class PageFault(Exception):
@@ -51,13 +51,12 @@ class PageFault(Exception):
 
 
 def browser_path() -> str | None:
-    """Where a browser is, or None."""
     found = (shutil.which(name) for name in NAMES)
     return next((path for path in found if path), None)
 
 
 class Browser:
-    """One browser with one page. What goes wrong in the page, and what it fetches, is kept in `complaints` and
+    """One browser with one page. Errors of the page and its fetches are kept in `complaints` and
     `fetched`."""
 
     def __init__(self, path: str, wait: float = 60, width: int = 1280, height: int = 900) -> None:
@@ -117,7 +116,6 @@ class Browser:
         return json.loads(text)
 
     def note(self, event: dict[str, Any]) -> None:
-        """Keeps what an event tells."""
         method, told = event["method"], event.get("params", {})
         if method == "Runtime.exceptionThrown":
             details = told["exceptionDetails"]
@@ -148,7 +146,6 @@ class Browser:
                 self.note(said)
 
     def open(self, path: str) -> None:
-        """Opens a file or an address, and forgets what was complained of before."""
         self.complaints, self.fetched, self.seen = [], [], []
         self.call("Page.navigate", url=path if "://" in path else f"file://{path}")
         until = time.monotonic() + self.wait
@@ -158,7 +155,7 @@ class Browser:
                 self.note(said)
 
     def before_pages(self, source: str) -> str:
-        """Has a script run in each page that is opened from now on, before its own; returns what `forget` takes."""
+        """Runs a script first in each later page. Returns the argument for `forget`."""
         made = self.call("Page.addScriptToEvaluateOnNewDocument", source=source)
         return str(made["identifier"])
 
@@ -166,11 +163,9 @@ class Browser:
         self.call("Page.removeScriptToEvaluateOnNewDocument", identifier=script)
 
     def ask(self, probe: str, *words: Any) -> Any:
-        """What a probe of page_probes.js returns."""
         return self.value(f"probes.{probe}({', '.join(json.dumps(word) for word in words)})")
 
     def reload(self) -> None:
-        """Loads the page again, as its reader does."""
         self.seen = []
         self.call("Page.reload")
         until = time.monotonic() + self.wait
@@ -180,7 +175,6 @@ class Browser:
                 self.note(said)
 
     def value(self, expression: str) -> Any:
-        """What an expression is in the page."""
         made = self.call("Runtime.evaluate", expression=expression, returnByValue=True, awaitPromise=True)
         if "exceptionDetails" in made:
             details = made["exceptionDetails"]
@@ -188,7 +182,6 @@ class Browser:
         return made["result"].get("value")
 
     def key(self, key: str, code: str, number: int, text: str = "") -> None:
-        """Presses and releases a key."""
         words = {"key": key, "code": code, "windowsVirtualKeyCode": number}
         self.call("Input.dispatchKeyEvent", type="keyDown" if text else "rawKeyDown", text=text, **words)
         self.call("Input.dispatchKeyEvent", type="keyUp", **words)
@@ -199,12 +192,11 @@ class Browser:
         self.call("Input.dispatchMouseEvent", type="mouseReleased", **words)
 
     def press(self, name: str) -> None:
-        """Presses and releases a key by its name, as `browser.KEYS` or a character has it."""
+        """By its name, as `browser.KEYS` or a character has it."""
         code, number, text = KEYS.get(name, ("", ord(name[0].upper()), name))
         self.key(name, code or f"Key{name.upper()}", number, text)
 
     def drag(self, start: tuple[float, float], end: tuple[float, float]) -> None:
-        """Drags the mouse from one place to another."""
         (x1, y1), (x2, y2) = start, end
         held = {"button": "left", "buttons": 1}
         self.move(x1, y1)
@@ -214,20 +206,18 @@ class Browser:
         self.call("Input.dispatchMouseEvent", type="mouseReleased", x=x2, y=y2, button="left", clickCount=1)
 
     def move(self, x: float, y: float) -> None:
-        """Moves the mouse, no button held."""
         self.call("Input.dispatchMouseEvent", type="mouseMoved", x=x, y=y)
 
     def touch(self, kind: str, *places: Sequence[float]) -> None:
-        """What fingers do: `Start`, `Move` or `End`, with the places of all that touch then."""
+        """`Start`, `Move` or `End`, with the places of all touching fingers."""
         points = [{"x": x, "y": y, "id": number} for number, (x, y) in enumerate(places)]
         self.call("Input.dispatchTouchEvent", type=f"touch{kind}", touchPoints=points)
 
     def fingers(self, wanted: bool) -> None:
-        """Whether the window is one that is touched."""
+        """Sets whether the window is a touch screen."""
         self.call("Emulation.setTouchEmulationEnabled", enabled=wanted, maxTouchPoints=2)
 
     def save_into(self, folder: str) -> None:
-        """What pages save from now on goes into a folder."""
         self.call("Browser.setDownloadBehavior", behavior="allow", downloadPath=folder)
 
     def window(self, width: int, height: int, dark: bool = False) -> None:

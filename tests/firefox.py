@@ -44,13 +44,12 @@ SIGNS = ("JavaScript error: file:", "JavaScript error: http:")
 
 
 def firefox_path() -> str | None:
-    """Where a Firefox is, or None."""
     found = (shutil.which(name) for name in NAMES)
     return next((path for path in found if path), None)
 
 
 class Firefox:
-    """One Firefox with one window. Raises `BrowserFault` if it ends, keeps silent or refuses a call."""
+    """One Firefox with one window. Raises `BrowserFault` if it ends, stays silent or refuses a call."""
 
     def __init__(self, path: str, wait: float = 60, width: int = 1280, height: int = 900) -> None:
         self.wait, self.number, self.left = wait, 0, b""
@@ -79,7 +78,6 @@ class Firefox:
         self.call("WebDriver:SetWindowRect", width=width, height=height)
 
     def port(self) -> int:
-        """The port that Firefox writes into its profile once it listens."""
         until = time.monotonic() + self.wait
         path = f"{self.home}/MarionetteActivePort"
         while time.monotonic() < until and self.run.poll() is None:
@@ -126,7 +124,6 @@ class Firefox:
 
     @property
     def complaints(self) -> list[str]:
-        """The errors of pages so far."""
         with open(f"{self.home}/said", encoding="utf-8", errors="replace") as file:
             return [line.rstrip("\n") for line in file if line.startswith(SIGNS)]
 
@@ -137,7 +134,6 @@ class Firefox:
         self.call("WebDriver:Refresh")
 
     def ask(self, probe: str, *words: Any) -> Any:
-        """What a probe of page_probes.js returns."""
         script = f"{self.probes}\nreturn probes.{probe}(...arguments);"
         return self.call("WebDriver:ExecuteScript", script=script, args=list(words))["value"]
 
@@ -158,7 +154,6 @@ class Firefox:
         self.pointer(first, {"type": "pointerDown", "button": 0}, *others, {"type": "pointerUp", "button": 0})
 
     def press(self, name: str) -> None:
-        """Presses and releases a key by its name."""
         value = KEYS.get(name, name)
         actions = [{"type": kind, "value": value} for kind in ("keyDown", "keyUp")]
         self.call("WebDriver:PerformActions", actions=[{"type": "key", "id": "keys", "actions": actions}])

@@ -1,6 +1,6 @@
 """Random acts on the playground: clicks, drags, keys, fields, texts, reloads and addresses, by a seed.
 
-After every hundred the program must accept the transcript on the page, and nothing may stand in the console.
+After every hundred the program must accept the transcript on the page, and the console must have no error.
 """
 
 from __future__ import annotations
@@ -67,17 +67,15 @@ ADDRESSES = [
 
 
 class Counts(Protocol):
-    """What counts checks, and the program that judges."""
+    """Counts checks, and names the program that judges."""
 
     program: str
 
     def expect(self, name: str, came: object, wanted: object) -> object:
-        """Counts a check, and prints what came if that is not what is wanted."""
+        """Counts a check, and prints the value if it is not the expected one."""
 
 
 class Acts:
-    """Acts that a seed draws, on the page of one browser."""
-
     def __init__(self, browser: AnyBrowser, program: str, page: str, seed: int) -> None:
         self.browser, self.program, self.page, self.draw = browser, program, page, random.Random(seed)
         self.done: list[str] = []
@@ -192,7 +190,6 @@ class Acts:
         return "reload"
 
     def verdict(self) -> str:
-        """What the program says of the transcript that the page writes."""
         if self.browser.ask("count", "body.lab") == 0:
             self.browser.ask("press", "#to-lab")
             self.settle(lambda: bool(self.browser.ask("count", "body.lab") == 1))
@@ -204,7 +201,7 @@ class Acts:
 
 
 def use(pages: Counts, browser: AnyBrowser, name: str, page: str, seed: int, count: int) -> None:
-    """So many acts; the first hundred that end badly are told with the acts that led there."""
+    """Makes acts; of the hundreds that end badly the first is printed with the acts before it."""
     acts = Acts(browser, pages.program, page, seed)
     acts.begin()
     for number in range(1, count + 1):

@@ -1,4 +1,5 @@
-"""What the pages say of the repository, beside examples and links: their form, what PROMISES.md names, definitions."""
+"""Compares the pages with the repository, apart from examples and links: their form, what PROMISES.md names,
+definitions."""
 
 from __future__ import annotations
 
@@ -25,14 +26,14 @@ Told = tuple[bool, str]
 
 
 def rows(page: pathlib.Path) -> Iterator[tuple[int, list[str]]]:
-    """The rows of a page's tables, each with its line's number and its cells; not the lines between head and body."""
+    """Each row with its line's number and its cells; not the line between head and body."""
     for number, line in enumerate(page.read_text().splitlines(), 1):
         if line.startswith("| ") and line.endswith(" |"):
             yield number, [cell.strip() for cell in line[1:-1].replace("\\|", "\0").split("|")]
 
 
 def forms(top: pathlib.Path, pages: Iterable[pathlib.Path]) -> Iterator[Told]:
-    """What is said of the form of each page: no wide cell, no long line outside code and tables, no long page."""
+    """Checks the form of each page: no wide cell, no long line outside code and tables, no long page."""
     for page in pages:
         wide = [number for number, cells in rows(page) if any(len(cell) > CELL for cell in cells)]
         yield not wide, f"{page.name}: a cell of more than {CELL} characters in line {wide[:3]}"
@@ -48,7 +49,8 @@ def forms(top: pathlib.Path, pages: Iterable[pathlib.Path]) -> Iterator[Told]:
 
 
 def contracts(top: pathlib.Path) -> tuple[dict[str, set[str]], set[str], set[str]]:
-    """The clauses of each function by its name (an empty one is `=`), the laws of traits, and the names of types."""
+    """The clauses of each function by its name (an empty one is `=`), the laws of traits, and the names of
+    types."""
     clauses: dict[str, set[str]] = {}
     ghosts: set[str] = set()
     types: set[str] = set()
@@ -56,7 +58,7 @@ def contracts(top: pathlib.Path) -> tuple[dict[str, set[str]], set[str], set[str
         text = path.read_text()
         found = [*FUNCTION.finditer(text)]
         for here, after in zip(found, [*found[1:], None]):
-            # a contract ends where the next function begins; what stands between has no `ensures`
+            # a contract ends where the next function begins; nothing between has an `ensures`
             part = text[here.end() : after.start() if after else len(text)]
             clauses.setdefault(here[1], set()).update(name or "=" for name in CLAUSE.findall(part))
         ghosts.update(GHOST.findall(text))
@@ -65,7 +67,7 @@ def contracts(top: pathlib.Path) -> tuple[dict[str, set[str]], set[str], set[str
 
 
 def calls(top: pathlib.Path) -> Iterator[Told]:
-    """What is said of the calls of PROMISES.md: each is there, and each clause is one of a call before it."""
+    """Checks the calls of PROMISES.md: each exists, and each clause is one of a call before it."""
     clauses, ghosts, types = contracts(top)
     page = top / "docs/PROMISES.md"
     for number, cells in rows(page):
@@ -82,13 +84,13 @@ def calls(top: pathlib.Path) -> Iterator[Told]:
 
 
 def spread(name: str) -> list[str]:
-    """The names that one with braces stands for: `a/{b,c}` for a/b and a/c."""
+    """The names that one with braces means: `a/{b,c}` for a/b and a/c."""
     found = re.fullmatch(r"(.*)\{(.*)\}(.*)", name)
     return [found[1] + part + found[3] for part in found[2].split(",")] if found else [name]
 
 
 def definitions(top: pathlib.Path) -> Iterator[Told]:
-    """What is said of the files of definitions that PROMISES.md, DEFINITIONS.md and WORDS.md name: each is there."""
+    """Checks that each file of definitions that PROMISES.md, DEFINITIONS.md and WORDS.md name exists."""
     for page, column in ((top / "docs/PROMISES.md", 1), (top / "docs/DEFINITIONS.md", 2), (top / "docs/WORDS.md", 2)):
         for number, cells in rows(page):
             if len(cells) <= column or (column == 1 and len(cells) != 4) or cells[column] in ("defined in", "file"):
@@ -103,7 +105,6 @@ def definitions(top: pathlib.Path) -> Iterator[Told]:
 
 
 def anchors(top: pathlib.Path, pages: Iterable[pathlib.Path]) -> Iterator[Told]:
-    """What is said of links to a heading: the page is there, and has it."""
     for page in pages:
         for target, anchor in re.findall(r"\]\(([^)#:]*)#([^)]+)\)", page.read_text()):
             there = page.parent / target if target else page
@@ -113,14 +114,13 @@ def anchors(top: pathlib.Path, pages: Iterable[pathlib.Path]) -> Iterator[Told]:
 
 
 def constants(top: pathlib.Path) -> dict[str, int]:
-    """The numbers that the crates' sources give a name to."""
     named = re.compile(r"^pub const (MAX_\w+): \w+ = ([\d_]+);", re.M)
     texts = (path.read_text() for path in top.glob("crates/*/src/*.rt"))
     return {name: int(number) for text in texts for name, number in named.findall(text)}
 
 
 def lines_in(top: pathlib.Path, folder: str) -> int:
-    """How many lines stand in one kind of folder of all crates but those of tests."""
+    """All crates but those of tests."""
     paths = [path for path in top.glob(f"crates/*/{folder}/**/*") if path.suffix in (".rt", ".antt")]
     return sum(
         len(path.read_bytes().splitlines()) for path in paths if not path.relative_to(top).parts[1].endswith("_tests")
@@ -128,7 +128,7 @@ def lines_in(top: pathlib.Path, folder: str) -> int:
 
 
 def figures(top: pathlib.Path) -> Iterator[Told]:
-    """What is said of names and figures: the kit, the crates, the limits, the refusals, and the numbers of lines."""
+    """Checks names and figures: the kit, the crates, the limits, the refusals, and the numbers of lines."""
     readme, use, tree, costs = (
         (top / name).read_text() for name in ("README.md", "docs/USE.md", "docs/ARCHITECTURE.md", "docs/COSTS.md")
     )
@@ -160,7 +160,7 @@ def figures(top: pathlib.Path) -> Iterator[Told]:
 
 
 def help_lines(top: pathlib.Path) -> Iterator[Told]:
-    """What is said of the help's texts: no line is wider than 80 columns, with clap's own words around them."""
+    """Checks the help's texts: no line is wider than 80 columns, with clap's own words around them."""
     text = (top / "crates/command_words/src/help.rt").read_text()
     around = {"RULES": 29, "WORKERS": 13, "ROAM": 13, "TURNS": 16}
     for name, value in re.findall(r'const (\w+): &str =\s+"((?:[^"\\]|\\.)*)";', text):
@@ -175,9 +175,9 @@ def help_lines(top: pathlib.Path) -> Iterator[Told]:
 
 
 def quotes(top: pathlib.Path) -> Iterator[Told]:
-    """What is said of the mistake that README.md and PROMISES.md quote.
+    """Checks the mistake that README.md and PROMISES.md quote.
 
-    Its lines stand in the file that is linked, its clause in the source.
+    Its lines must be in the linked file, its clause in the source.
     """
     sources = [path.read_text() for path in top.glob("crates/locked_net/src/*.rt")]
     for page in (top / "README.md", top / "docs/PROMISES.md"):
@@ -196,7 +196,7 @@ def quotes(top: pathlib.Path) -> Iterator[Told]:
 
 
 def points(top: pathlib.Path) -> Iterator[Told]:
-    """What is said of DECISIONS.md: no point has more than three lines."""
+    """Checks that no point of DECISIONS.md has more than three lines."""
     text = (top / "docs/DECISIONS.md").read_text()
     for point in re.findall(r"^- .*(?:\n  .*)*", text, re.M):
         yield point.count("\n") < 3, f"DECISIONS.md: more than three lines: {point[:60]}"

@@ -1,5 +1,5 @@
-"""The playground and the module for JavaScript in the engines of all browsers: Chromium's, Firefox's and WebKit's,
-which is Safari's, in a window and as wide as a phone."""
+"""Tests the playground and the module for JavaScript in the engines of all browsers: Chromium's, Firefox's
+and WebKit's, which is Safari's, in a window and at a phone's width."""
 
 from __future__ import annotations
 
@@ -23,7 +23,7 @@ AnyBrowser = Union[Browser, Firefox, WebKit]
 
 MODULE = os.path.join(os.path.dirname(PLAYGROUND), "rudekpi.mjs")
 MENDED = re.compile(r"is cut\. Mended in \d+ moves?; at most \d+ could have come\.$")
-# the commands that the module is given, and the lines of a script that do the same
+# the commands for the module, and the equivalent lines of a script
 COMMANDS = """\
 import {Network, audit, Damaged} from "./rudekpi.mjs";
 const net = new Network("manne", ["ann", "bob", "cleo", "dan"]);
@@ -68,8 +68,6 @@ HTML = """\
 
 
 class Quiet(http.server.SimpleHTTPRequestHandler):
-    """Serves files, and prints nothing."""
-
     extensions_map = {**http.server.SimpleHTTPRequestHandler.extensions_map, ".mjs": "text/javascript"}
 
     def log_message(self, format: str, *words: object) -> None:
@@ -78,7 +76,6 @@ class Quiet(http.server.SimpleHTTPRequestHandler):
 
 @contextlib.contextmanager
 def served(folder: str) -> Iterator[str]:
-    """Where a folder's files can be fetched from this machine."""
     with http.server.ThreadingHTTPServer(("127.0.0.1", 0), functools.partial(Quiet, directory=folder)) as server:
         thread = threading.Thread(target=server.serve_forever, daemon=True)
         thread.start()
@@ -90,7 +87,8 @@ def served(folder: str) -> Iterator[str]:
 
 
 def plays(pages: Pages, browser: AnyBrowser, name: str, width: Optional[int]) -> None:
-    """The page opens and settles, a link is cut and it mends: no error, no request, nothing wider than the window."""
+    """The page opens and settles, a link is cut and the network recovers: no error, no request, nothing wider
+    than the window."""
     browser.open(PLAYGROUND)
     pages.expect(f"{name}: it opens", waited(browser, 1, "count", ".graph"), 1)
     pages.expect(f"{name}: it settles", waited(browser, True, "isStable", seconds=30), True)
@@ -111,7 +109,6 @@ def plays(pages: Pages, browser: AnyBrowser, name: str, width: Optional[int]) ->
 
 
 def imports(pages: Pages, browser: AnyBrowser, name: str, address: str) -> None:
-    """A page imports the module, whose network writes what the program writes."""
     before = len(browser.complaints)
     browser.open(f"{address}/index.html")
     pages.expect(f"{name}: the module runs", waited(browser, "yes", "told", "done"), "yes")
@@ -141,7 +138,7 @@ def visit(pages: Pages, name: str, begin: Callable[[], AnyBrowser], address: str
 
 
 def use(pages: Pages) -> None:
-    """All engines that are here."""
+    """All engines that are installed."""
     folder = os.path.join(pages.folder, "module")
     os.makedirs(folder, exist_ok=True)
     for file, text in (("index.html", HTML), ("commands.mjs", COMMANDS)):

@@ -1,6 +1,7 @@
-"""What the playground shows of the theorems: whom a hand would reach, who may still move, and the bar of the moves.
+"""Tests what the playground shows of the theorems: reach, nodes that may still move, and the bar of the
+moves.
 
-What is wanted is worked out here from the pairs and edges that are drawn, by the table of docs/BOUNDS.md.
+The expected values are computed here from the drawn pairs and edges, by the table of docs/BOUNDS.md.
 """
 
 from __future__ import annotations
@@ -17,8 +18,6 @@ GRAPH = "graph-hh"
 
 
 class Drawn:
-    """The pairs and neighbours of a network as they are drawn."""
-
     def __init__(self, seen: Any) -> None:
         self.partner: dict[int, int] = {}
         self.beside: dict[int, set[int]] = {name: set() for name, *_ in seen["nodes"]}
@@ -30,16 +29,15 @@ class Drawn:
                 self.partner |= {low: high, high: low}
 
     def single(self, *nodes: int) -> set[int]:
-        """The neighbours of some nodes that are in no pair."""
         return {other for one in nodes for other in self.beside[one] if other not in self.partner}
 
     def parting(self, node: int) -> list[int]:
-        """Whom it reaches if a node leaves its partner, or the link of the two is cut."""
+        """The nodes reached if a node leaves its partner, or the link of the two is cut."""
         pair = (node, self.partner[node])
         return sorted({*pair, *self.single(*pair)})
 
     def restless(self) -> list[int]:
-        """Who is not at rest, under hh: in no pair, and it points somewhere or has a neighbour in no pair."""
+        """The nodes not at rest under hh: unpaired, and pointing somewhere or with an unpaired neighbour."""
         return sorted(
             name for name in self.beside if name not in self.partner and (name in self.points or self.single(name))
         )
@@ -65,15 +63,14 @@ def mouse(browser: Browser, what: str, at: Sequence[float]) -> None:
 
 
 def movers(text: str) -> set[int]:
-    """Who moves in a transcript after the last edit or fault."""
     tail = text[text.rindex(" = ok\n") :]
     replies = [line.split(" = ")[1] for line in tail.splitlines() if " step " in line]
     return {int(name) for reply in replies for name in re.findall(r"(\d+):", reply)}
 
 
 def cuts(pages: Any, browser: Browser) -> None:
-    """Over the link of a pair both ends and their neighbours in no pair have a halo; if it is cut they are those who
-    may still move, and nobody else ever does, whatever the schedule. Over any other link nobody has one."""
+    """Over the link of a pair both ends and their unpaired neighbours have a halo. If it is cut, only they
+    may still move, whatever the schedule. Over any other link no node has one."""
     fresh(browser, "disk", 15)
     seen = drawn(browser)
     pages.expect("a settled network: nobody may still move", browser.ask("ringed", "rest", GRAPH), [])
@@ -116,8 +113,8 @@ def cuts(pages: Any, browser: Browser) -> None:
 
 
 def tools(pages: Any, browser: Browser) -> None:
-    """Over a node the halo is that of what its tool does: it leaves, its pointer is written, its flag flipped; and so
-    it is over the buttons of its card, and while a line is drawn from it."""
+    """Over a node the halo is that of its tool's act: the node leaves, its pointer is written, its flag
+    flipped. So it is over the buttons of its card, and while a line is drawn from it."""
     fresh(browser, "path", 7, "manne")
     which = "graph-manne"
     seen = drawn(browser, which)
@@ -177,13 +174,14 @@ def keys(pages: Any, browser: Browser) -> None:
 
 
 def bars(pages: Any, browser: Browser) -> None:
-    """The bar is as long as the bound of the epoch: under hh no more than n²/2 + n - 2, the half rounded down. The
-    moves that were spent and those that can come fill it, and never more than it."""
+    """The bar's length is the bound of the epoch: under hh at most n²/2 + n - 2, the half rounded down. The
+    moves spent and the moves that can come fill it, and never exceed it."""
     links = ";".join(f"link+{v}+{w}" for v in range(1, 7) for w in range(v + 1, 7))
     ring = ";".join(f"point+{v}+{v % 6 + 1}" for v in range(1, 7))
     abandons = ";".join(f"step+{v}" for v in range(1, 6))
-    # six nodes, all linked: 2m + n is 36, and 36/2 + 6 - 2 is 22. All point round: the charge is 36. Then five of them
-    # abandon: 2 for each edge but the one along which 6 waits for 1, and 1 for that pointer, are 29
+    # six nodes, all linked: 2m + n is 36, and 36/2 + 6 - 2 is 22. All point round: the charge is 36. Then
+    # five of them abandon: 2 for each edge but the one along which 6 waits for 1, and 1 for that pointer, are
+    # 29
     for script, spent in [(f"{links};{ring}", 0), (f"{links};{ring};{abandons}", 5)]:
         begin(browser, f"#script={script}&nodes=6&rules=hh")
         waited(browser, "own", "value", "#preset")
@@ -196,7 +194,7 @@ def bars(pages: Any, browser: Browser) -> None:
 
 
 def use(pages: Any, browser: Browser) -> None:
-    """All of it; where one part breaks off, the others go on."""
+    """All parts; if one breaks off, the others go on."""
     for part in [cuts, tools, keys, bars]:
         try:
             part(pages, browser)

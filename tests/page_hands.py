@@ -1,5 +1,5 @@
-"""What hands do with a page that plays a transcript: they point, tap, type, pinch, save and go back; each is tried
-in a browser."""
+"""Tests gestures on a page that plays a transcript: pointing, tapping, typing, pinching, saving and going
+back, each in a browser."""
 
 from __future__ import annotations
 
@@ -45,19 +45,16 @@ def place(browser: Browser, selector: str) -> Any:
 
 
 def edge_place(browser: Browser, low: int, high: int) -> Any:
-    """A place on an edge of the drawing."""
     return place(browser, f"[data-ends='{low}-{high}']")
 
 
 class Asks(Protocol):
-    """A browser that is asked by probes."""
-
     def ask(self, probe: str, *words: Any) -> Any:
         """What a probe of page_probes.js returns."""
 
 
 def waited(browser: Asks, wanted: Any, probe: str, *words: Any, seconds: float = 10) -> Any:
-    """What a probe returns in the page, once it is what is wanted or so many seconds have passed."""
+    """What a probe returns in the page, once it is the expected value or this many seconds have passed."""
     until = time.monotonic() + seconds
     while (came := browser.ask(probe, *words)) != wanted and time.monotonic() < until:
         time.sleep(0.05)
@@ -89,7 +86,7 @@ def fills(pages: Pages, browser: Browser) -> None:
 
 
 def titles(pages: Pages, browser: Browser) -> None:
-    """The title says what is played, and a base is told with its number."""
+    """The title names what is played, and a base is shown with its number."""
     for text, title, entry in [
         (RING, "hh: 5 nodes, 8 entries", ["step 1>2", "1:seduce>2", "6"]),
         (b"matching manne 1\n1 show 1 = -\n", "manne: 1 node, 1 entry", ["the opening state", "no entry yet", "0"]),
@@ -106,7 +103,7 @@ def titles(pages: Pages, browser: Browser) -> None:
 
 
 def long_one(pages: Pages, browser: Browser) -> None:
-    """Of many entries the plots are lines of means with a band, and digits are grouped in one way."""
+    """With many entries the plots are lines of means with a band, and digits are grouped in one way."""
     script = "".join(f"link {v} {v % 60 + 1}\n" for v in range(1, 61)) + "".join(
         f"scramble {k} 7\ndrive {k} 900\n" for k in range(1, 1500)
     )
@@ -175,7 +172,7 @@ def addresses(pages: Pages, browser: Browser) -> None:
 
 
 def pinches(pages: Pages, browser: Browser) -> None:
-    """Two fingers bring the drawing nearer where they are, and move it; one finger moves it then."""
+    """Two fingers zoom the drawing in at their place, and move it; one finger moves it then."""
     browser.window(390, 844)
     browser.fingers(True)
     browser.open(pages.write(RING))
@@ -219,7 +216,6 @@ def pinches(pages: Pages, browser: Browser) -> None:
 
 
 def type_number(browser: Browser, digits: str) -> None:
-    """Types a node's number into the field, to which a key leads."""
     browser.ask("blur")
     browser.key("f", "KeyF", 70, "f")
     for digit in digits:
@@ -251,7 +247,7 @@ SUITED = {
 
 
 def tells(pages: Pages, browser: Browser) -> None:
-    """A node and an edge under the mouse, picked by a click, by keys or by number, tell what they hold."""
+    """A node and an edge under the mouse, picked by a click, by keys or by number, show their content."""
     browser.open(pages.write(RING))
     browser.key("End", "End", 35)
     browser.move(*place(browser, "[data-node='3'] .body"))
@@ -307,7 +303,6 @@ def tells(pages: Pages, browser: Browser) -> None:
 
 
 def colours_of(png: bytes) -> tuple[int, int, int]:
-    """Width, height and some of the bytes of a picture's lines."""
     width, height = struct.unpack(">II", png[16:24])
     at, data = 8, b""
     while at < len(png):
@@ -318,7 +313,6 @@ def colours_of(png: bytes) -> tuple[int, int, int]:
 
 
 def saved(folder: str, name: str, seconds: float = 20) -> bytes:
-    """A file that a page saves."""
     until = time.monotonic() + seconds
     path = os.path.join(folder, name)
     while not os.path.exists(path) and time.monotonic() < until:
@@ -328,7 +322,7 @@ def saved(folder: str, name: str, seconds: float = 20) -> bytes:
 
 
 def saves(pages: Pages, browser: Browser) -> None:
-    """The picture is saved as an SVG file that needs no page, with all names, and as a PNG that is finer than the
+    """The picture is saved as an SVG file that needs no page, with all names, and as a PNG finer than the
     page."""
     browser.save_into(pages.folder)
     browser.open(pages.write(RING))
@@ -372,7 +366,7 @@ YES = """#!/usr/bin/env bash
 cat > /dev/null
 printf 'accepted: 1 entries, 1 epochs, 0 moves\\n'
 """
-# Texts that would run as scripts, or ask for much, each with the line at which it is no transcript.
+# Texts that would run as scripts, or ask for much, each with its first wrong line.
 HOSTILE = [
     (b"</script><script>document.title = 'ran'</script>\n", 1),
     (b"matching hh 2\n1 show 1 = <img src=x onerror=\"document.title = 'ran'\">\n", 2),
@@ -384,7 +378,7 @@ HOSTILE = [
 
 
 def judges(pages: Pages, browser: Browser) -> None:
-    """The foot of a page names its judge; text that a false judge lets in runs nothing, and is told to be no
+    """The foot of a page names its judge. Text that a false judge lets in runs nothing, and is reported as no
     transcript."""
     named = os.path.join(pages.folder, "judge")
     with open(named, "w", encoding="ascii") as file:
@@ -438,7 +432,7 @@ def judges(pages: Pages, browser: Browser) -> None:
 
 
 def use(pages: Pages, browser: Browser) -> None:
-    """All of it; where one part breaks off, the others go on."""
+    """All parts; if one breaks off, the others go on."""
     for part in [fills, titles, long_one, phone, addresses, pinches, tells, saves, judges]:
         try:
             part(pages, browser)

@@ -1,5 +1,5 @@
-"""What hands do with the playground: each act is tried in a browser, by mouse, finger and key, and what it writes is
-given to the program."""
+"""Tests gestures on the playground: each act in a browser, by mouse, finger and key, and its text by the
+program."""
 
 from __future__ import annotations
 
@@ -21,7 +21,7 @@ WEIGHTS = {"hh": 1, "manne": 3}
 
 
 def begin(browser: Browser, address: str = "") -> None:
-    """Opens the playground as somebody does who was never there."""
+    """Opens the playground as at a first visit."""
     browser.open(f"{TOP}/viewer/page.css")
     browser.ask("forgetAll")
     browser.open(PLAYGROUND + address)
@@ -29,7 +29,7 @@ def begin(browser: Browser, address: str = "") -> None:
 
 
 def place(browser: Browser, selector: str) -> Any:
-    """The middle of what a selector names, once it is in the window."""
+    """The middle of a selector's element, once it is in the window."""
     browser.ask("show", selector)
     return browser.ask("place", selector)
 
@@ -51,7 +51,6 @@ def settles(browser: Browser, seconds: float = 15) -> Any:
 
 
 def edge(browser: Browser, low: int, high: int, which: int = 0) -> Any:
-    """A place on an edge of the picture, beside its middle where another might lie."""
     return browser.ask("place", f"[data-ends='{low}-{high}']", which)
 
 
@@ -80,7 +79,6 @@ def tool(browser: Browser, name: str) -> None:
 
 
 def last_act(browser: Browser, wanted: str) -> Any:
-    """The last line of the script that is a hand's, once it is what is wanted."""
     return waited(browser, wanted, "lastAct", seconds=3)
 
 
@@ -98,7 +96,8 @@ def transcript(browser: Browser) -> bytes:
 
 
 def budget_of(told: dict[str, str], rules: str) -> tuple[int, int]:
-    """How many moves can come, and the bound of the epoch: under hh at most n²/2 + n - 2, the half rounded down."""
+    """The moves that can come, and the bound of the epoch: under hh at most n²/2 + n - 2, the half rounded
+    down."""
     nodes, charge = int(told["nodes"]), int(told["charge"])
     by_edges = 2 * int(told["edges"]) + WEIGHTS[rules] * nodes
     by_nodes = max(0, nodes * nodes // 2 + nodes - 2) if rules == "hh" else by_edges
@@ -106,7 +105,7 @@ def budget_of(told: dict[str, str], rules: str) -> tuple[int, int]:
 
 
 def agrees(pages: Pages, browser: Browser, name: str, rules: str = "hh") -> None:
-    """The transcript is accepted, the script makes it, and what is drawn is what the program says of it."""
+    """The transcript is accepted, the script makes it, and the drawing agrees with the program."""
     written = transcript(browser)
     verdict = pages.run([pages.program, "audit"], written)
     pages.expect(f"{name}: the transcript is accepted", (verdict[0], verdict[1][:9]), (0, b"accepted:"))
@@ -123,8 +122,8 @@ def agrees(pages: Pages, browser: Browser, name: str, rules: str = "hh") -> None
 
 
 def opens(pages: Pages, browser: Browser) -> None:
-    """Who opens the page sees a network that runs or has settled within a second, is told what to do, and sees it
-    mend."""
+    """A first visitor sees a network that runs or has settled within a second, is told what to do, and sees
+    it recover."""
     begin(browser)
     time.sleep(1)
     said = [
@@ -146,7 +145,7 @@ def opens(pages: Pages, browser: Browser) -> None:
 
 
 def acts(pages: Pages, browser: Browser) -> None:
-    """Each act by the mouse is a line of the script; all that comes of it is what the program says."""
+    """Each act by the mouse is a line of the script; all its effects agree with the program."""
     fresh(browser)
     before = browser.ask("attribute", "[data-node='2']", "transform")
     x, y = node(browser, 2)
@@ -186,7 +185,7 @@ def acts(pages: Pages, browser: Browser) -> None:
 
 
 def moves(pages: Pages, browser: Browser) -> None:
-    """Who moves is chosen by a hand, by a seeded daemon, or is all that may."""
+    """The movers are chosen by a hand, by a seeded daemon, or are all enabled nodes."""
     fresh(browser, rules="manne", nodes=8)
     tool(browser, "flag")
     browser.click(*node(browser, 3))
@@ -230,8 +229,8 @@ def moves(pages: Pages, browser: Browser) -> None:
 
 
 def networks(pages: Pages, browser: Browser) -> None:
-    """Each network begins, settles and is what the program makes of its script; two rule sets stand side by side,
-    disturbed alike."""
+    """Each network begins, settles and agrees with the program's run of its script; two rule sets run side by
+    side, disturbed alike."""
     for kind in ["ring", "path", "grid", "star", "disk", "random", "racks", "mesh"]:
         for nodes in (2, 23):
             fresh(browser, kind, nodes, "manne" if nodes == 23 else "hh")
@@ -259,7 +258,6 @@ def networks(pages: Pages, browser: Browser) -> None:
 
 
 def typed(browser: Browser, text: str) -> None:
-    """Types a text in the place of the field's own, as hands do."""
     browser.click(*place(browser, "#text"))
     browser.call(
         "Input.dispatchKeyEvent",
@@ -275,8 +273,8 @@ def typed(browser: Browser, text: str) -> None:
 
 
 def texts(pages: Pages, browser: Browser) -> None:
-    """The script is edited and played, the transcript is edited and judged; both are saved, and what is saved is
-    accepted."""
+    """The script is edited and played, the transcript is edited and judged; both are saved, and the saved
+    files are accepted."""
     browser.save_into(pages.folder)
     fresh(browser, "path", 4)
     typed(browser, "link 1 2\nlink 2 3\nstep 1\nlink 1 9\n")
@@ -331,7 +329,6 @@ def texts(pages: Pages, browser: Browser) -> None:
 
 
 def dropped(browser: Browser, path: str) -> None:
-    """Drops a file on the page."""
     data = {"items": [], "files": [path], "dragOperationsMask": 1}
     for kind in ["dragEnter", "dragOver", "drop"]:
         browser.call("Input.dispatchDragEvent", type=kind, x=400, y=300, data=data)
@@ -346,7 +343,8 @@ HOSTILE = [
 
 
 def drops(pages: Pages, browser: Browser) -> None:
-    """A transcript that is dropped is judged and played; a refused one shows its first wrong line, and runs nothing."""
+    """A dropped transcript is judged and played; a refused one shows its first wrong line, and runs
+    nothing."""
     fresh(browser)
     path = os.path.join(pages.folder, "dropped.transcript")
     for at, (text, said) in enumerate(HOSTILE):
@@ -396,7 +394,7 @@ def drops(pages: Pages, browser: Browser) -> None:
 
 
 def addresses(pages: Pages, browser: Browser) -> None:
-    """A script in the address is played; one that is hostile is told of, and runs nothing."""
+    """A script in the address is played; a hostile one is reported, and runs nothing."""
     begin(browser, "#script=link+1+2;link+2+3;drive+7+100&rules=manne&nodes=4&present=3")
     waited(browser, "✓ stable, 1 pair", "text", ".state")
     pages.expect("a script in the address", browser.ask("script"), ["link 1 2", "link 2 3", "drive 7 100"])
@@ -433,7 +431,7 @@ def addresses(pages: Pages, browser: Browser) -> None:
 
 
 def fingers(pages: Pages, browser: Browser) -> None:
-    """On a phone, in the dark: a finger cuts, drags and draws, and nothing is wider than the window."""
+    """On a phone, in dark mode: a finger cuts, drags and draws, and nothing is wider than the window."""
     browser.window(390, 844, True)
     browser.fingers(True)
     fresh(browser, "ring", 6)
@@ -470,7 +468,7 @@ def fingers(pages: Pages, browser: Browser) -> None:
 
 
 def keys(pages: Pages, browser: Browser) -> None:
-    """All of it goes by keys alone."""
+    """Everything works by keys alone."""
     fresh(browser, "ring", 6)
     browser.ask("focus", ".graph")
     press: dict[str, tuple[Any, ...]] = {
@@ -520,8 +518,8 @@ def keys(pages: Pages, browser: Browser) -> None:
 
 
 def many(pages: Pages, browser: Browser) -> None:
-    """500 nodes run at 30 pictures a second at least, in the best of three tries. If other programs keep the processors
-    busy that is skipped, and above half of it too, since a slower machine draws fewer."""
+    """500 nodes run at 30 pictures a second at least, in the best of three tries. If other programs keep the
+    processors busy that is skipped; so are results above half of it, since a slower machine draws fewer."""
     best, shown = 0, 0
     for seed in (1, 2, 3):
         begin(browser)
@@ -545,8 +543,8 @@ def many(pages: Pages, browser: Browser) -> None:
 
 
 def without(pages: Pages, browser: Browser) -> None:
-    """A browser without WebAssembly, or one that refuses the module, plays a recorded transcript, and those that are
-    opened; it says why no network is there."""
+    """A browser without WebAssembly, or one that refuses the module, plays a recorded transcript and opened
+    ones; it says why there is no network."""
     with open(f"{TOP}/examples/breaks_and_mends.transcript", "rb") as file:
         verdict = pages.run([pages.program, "audit"], file.read())[1].decode().strip()
     with open(f"{TOP}/examples/broken_ring.transcript", encoding="ascii") as lines:
@@ -575,7 +573,7 @@ def without(pages: Pages, browser: Browser) -> None:
 
 
 def use(pages: Pages, browser: Browser) -> None:
-    """All of it; where one part breaks off, the others go on."""
+    """All parts; if one breaks off, the others go on."""
     for part in [opens, acts, moves, networks, texts, drops, addresses, fingers, keys, many, without]:
         try:
             part(pages, browser)

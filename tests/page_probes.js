@@ -1,12 +1,11 @@
-// What tests ask of a page. It stands in each page before its own script begins, and the page knows nothing of it.
-// tests/browser.py calls `probes.NAME(words)`; what comes back is plain data.
+// Probes that tests ask of a page. They are loaded in each page before its own script, and the page does not
+// know of them. tests/browser.py calls `probes.NAME(words)`; the result is plain data.
 "use strict";
 
 const probes = (() => {
   const one = (selector) => document.querySelector(selector);
   const all = (selector, root = document) => [...root.querySelectorAll(selector)];
 
-  /** Whether an element is drawn. */
   const isShown = (element) => Boolean(element) && getComputedStyle(element).display !== "none"
     && getComputedStyle(element).visibility === "visible";
 
@@ -18,7 +17,7 @@ const probes = (() => {
   const paper = () => getComputedStyle(document.body).backgroundColor;
   const digits = (text) => text.replace(/\D/g, "");
 
-  /** Name, mark, and whether it is filled, of each node of a picture that is seen. */
+  /** Name, mark, and whether it is filled, of each visible node of a picture. */
   const nodesOf = (graph) => all(".nodes > g", graph).filter(isShown).map((group) => {
     const mark = group.querySelector(".mark");
     return [
@@ -66,7 +65,7 @@ const probes = (() => {
     place: (selector, at = 0) => middleOf(all(selector)[at]),
     width: (selector) => one(selector).clientWidth,
 
-    /** Sets a field and tells the page, as a hand does that leaves it. */
+    /** Sets a field and informs the page, like a person who leaves the field. */
     choose: (selector, value) => {
       one(selector).value = value;
       one(selector).dispatchEvent(new Event("change", { bubbles: true }));
@@ -76,13 +75,13 @@ const probes = (() => {
     isAbove: (upper, lower) => one(upper).getBoundingClientRect().bottom <= one(lower).getBoundingClientRect().top + 1,
     tops: (selector) => all(selector).map((part) => Math.round(part.getBoundingClientRect().top)),
 
-    /** Whether something lies in the window, and nothing before it. */
+    /** Whether something lies in the window, and nothing covers it. */
     isSeen: (selector) => {
       const [x, y] = middleOf(one(selector));
       return one(selector).contains(document.elementFromPoint(x, y));
     },
 
-    /** Pictures and signs that are seen and have no name that a screen reader could say. */
+    /** Visible pictures and signs without a name for a screen reader. */
     nameless: () => all("svg, img, canvas, [role=img]")
                       .filter(
                         (it) => it.getClientRects().length > 0 && !it.closest("[aria-hidden=true]")
@@ -98,7 +97,7 @@ const probes = (() => {
       return [one("#card-heading").textContent, one("#card-rule").textContent, Object.fromEntries(rows)];
     },
 
-    /** How much of the drawing's width and height its nodes take. */
+    /** The share of the drawing's width and height that its nodes take. */
     shares: () => {
       const box = one("#graph").getBoundingClientRect();
       const nodes = all(".nodes .body").map((node) => node.getBoundingClientRect());
@@ -107,21 +106,21 @@ const probes = (() => {
       return [(most("right") - least("left")) / box.width, (most("bottom") - least("top")) / box.height];
     },
 
-    /** What something else covers, of the entry and the figures. */
+    /** The parts of the entry and the figures that something else covers. */
     covered: () => all("#entry p, #figures dd")
                      .filter((part) => document.elementFromPoint(...middleOf(part)) !== part)
                      .map((part) => part.id),
 
     /**
-       Numbers of four digits and more without commas, and other signs between digits; a transcript's own lines are
-       left out.
+     * Numbers of four digits and more without commas, and other signs between digits; a transcript's own
+     * lines are left out.
      */
     ungrouped: () =>
       all("body *:not(script, style, #event, #reply, #near *, #judged)")
         .flatMap((part) => [...part.childNodes].filter((node) => node.nodeType === 3).map((node) => node.data))
         .filter((text) => /\d{4}|\d[\u202f\u2009 ]\d/.test(text)),
 
-    /** Whether the drawing that an element is a part of takes room in the page. */
+    /** Whether the drawing that an element belongs to takes room in the page. */
     isLaidOut: (selector) => one(selector).ownerSVGElement.getClientRects().length > 0,
 
     viewBox: (selector = "#graph") => one(selector).getAttribute("viewBox").split(" ").map(Number),
@@ -138,7 +137,7 @@ const probes = (() => {
       one("#go").blur();
     },
 
-    /** Where the plot has its first and last entry, and its middle from top to bottom. */
+    /** The places of the plot's first and last entry, and its vertical middle. */
     plot: () => {
       const [plot, cursor] = [one("#budget"), one("#budget .cursor")];
       plot.scrollIntoView();
@@ -150,7 +149,6 @@ const probes = (() => {
       return [box.left + first, box.left + at(), box.top + box.height / 2];
     },
 
-    /** The entry at which playing ends. */
     ended: () => new Promise((done) => {
       const ask = () =>
         (one("#play").textContent.includes("play") ? done(document.body.dataset.entry) : setTimeout(ask, 20));
@@ -158,8 +156,8 @@ const probes = (() => {
     }),
 
     /**
-     * What a reader of a played transcript sees, told from styles and places, not from names: who is filled, how wide
-     * a line is, where an arrow begins and ends.
+     * What a reader of a played transcript sees, by styles and places, not by names: filled nodes, widths of
+     * lines, ends of arrows.
      */
     played: () => {
       const graph = one("#graph");
@@ -205,7 +203,7 @@ const probes = (() => {
     acts: () => probes.script().filter((line) => !/^(drive|link) /.test(line)),
     scriptLength: () => probes.script().length,
 
-    /** The script as it is now: the field shows it a while later. */
+    /** The present script: the field shows it a while later. */
     scriptNow: () => {
       one("#show-script").click();
       return probes.script();
@@ -223,7 +221,10 @@ const probes = (() => {
 
     isStable: () => all(".state").every((state) => state.textContent.includes("stable")),
     isRunning: () => one("#run").getAttribute("aria-pressed") === "true",
-    /** So many pixels high are the smallest name and the least node of the picture; a name that is not drawn is 0. */
+    /**
+     * The heights in pixels of the smallest name and the least node of the picture; a name that is not drawn
+     * has 0.
+     */
     nameSize: () => Math.min(...all(".graph .node:not(.absent) .name")
                                .map((name) => (isShown(name) ? name.getBoundingClientRect().height : 0))),
     nodeSizes: () => {
@@ -232,7 +233,7 @@ const probes = (() => {
     },
     present: () => all(".graph .node:not(.absent)").length,
 
-    /** The network that is drawn, told from styles: nodes that are filled, edges with their widths, arrows, marks. */
+    /** The drawn network, by styles: nodes that are filled, edges with their widths, arrows, marks. */
     lab: (which) => {
       const graph = document.getElementById(which);
       const edges =
@@ -255,19 +256,22 @@ const probes = (() => {
       };
     },
 
-    /** The nodes of a picture round which a part is seen: a halo, or the ring of those that may still move. */
+    /**
+     * The nodes of a picture with a visible part round them: a halo, or the ring of those that may still
+     * move.
+     */
     ringed: (part, which) => all(".nodes > g", document.getElementById(which))
                                .filter((group) => isShown(group) && isShown(group.querySelector(`.${part}`)))
                                .map((group) => Number(group.querySelector(".name").textContent)),
 
-    /** Which shares of the bar are filled, and how wide it is. */
+    /** The filled shares of the bar, and its width. */
     bar: () => {
       const [bar, ...parts] = [".meter .bar", ".meter .bar .spent", ".meter .bar .left"].map(
         (selector) => one(selector).getBoundingClientRect().width);
       return [bar, ...parts];
     },
 
-    /** A place of the picture where nothing is, as far from all as can be. */
+    /** An empty place of the picture, as far from everything as possible. */
     emptyPlace: () => {
       const box = one(".graph").getBoundingClientRect();
       const nodes = all(".graph .node:not(.absent) .body").map((node) => node.getBoundingClientRect());
@@ -314,14 +318,13 @@ const probes = (() => {
       requestAnimationFrame(look);
     }),
 
-    /** Writes a text in the place of the script, as hands do that type. */
+    /** Types a text in place of the script. */
     write: (text) => {
       one("#show-script").click();
       one("#text").value = text;
       one("#text").dispatchEvent(new Event("input", { bubbles: true }));
     },
 
-    /** Pastes a text where the focus is. */
     paste: (text) => {
       const data = new DataTransfer();
       data.setData("text/plain", text);
@@ -329,7 +332,7 @@ const probes = (() => {
         new ClipboardEvent("paste", { clipboardData: data, bubbles: true, cancelable: true }));
     },
 
-    /** Whether the page asks before it is left, as if so many milliseconds had passed. */
+    /** Whether the page asks before it is left, as if this many milliseconds had passed. */
     asksToLeave: (later) => {
       const now = performance.now.bind(performance);
       performance.now = () => now() + later;
@@ -339,10 +342,9 @@ const probes = (() => {
       return event.defaultPrevented;
     },
 
-    /** The text that is selected in a field. */
     selected: (selector) => one(selector).value.slice(one(selector).selectionStart, one(selector).selectionEnd),
 
-    /** What a hand may touch: the middle of each control that is seen, with what it is. */
+    /** What a hand may touch: the middle of each visible control, with its description. */
     controls: (seed, count) => {
       const next = drawer(seed);
       const seen =

@@ -1,4 +1,4 @@
-"""Pages as scripts/play makes them, the program that they are compared with, and the count of what agrees."""
+"""Pages made by scripts/play, the program that they are compared with, and the count of agreements."""
 
 from __future__ import annotations
 
@@ -20,7 +20,7 @@ Ended = tuple[int, bytes, bytes]
 
 
 class Pages(Tally):
-    """Counts checks of pages, and makes these of transcripts."""
+    """Counts checks of pages, and makes pages of transcripts."""
 
     def __init__(self, program: str, wait: float, folder: str, own: bool = False) -> None:
         super().__init__()
@@ -34,7 +34,6 @@ class Pages(Tally):
         return self.run([PLAY, "--program", program or self.program], text)
 
     def write(self, text: bytes, program: Optional[str] = None) -> str:
-        """Where the page of a transcript is."""
         status, made, told = self.play(text, program)
         if status != 0:
             raise PageFault(f"no page: {told.decode()}")
@@ -44,7 +43,6 @@ class Pages(Tally):
         return path
 
     def drawing(self, text: bytes) -> dict[str, list[Any]]:
-        """Nodes, edges and arrows of the program's picture of a transcript."""
         return drawing_of(self.run([self.program, "picture"], text)[1].decode())
 
     def transcript(self, page: Page) -> str:
@@ -60,7 +58,6 @@ class Pages(Tally):
 
 
 def drawing_of(picture: str) -> dict[str, list[Any]]:
-    """Nodes, edges and arrows of a picture, as a page shows them."""
     # lists, as JSON from a page has them
     nodes: list[list[Any]] = []
     edges: list[list[Any]] = []

@@ -1,5 +1,5 @@
-"""What the playground opens, keeps, tells and shows: files, pasted texts and addresses, reloads, and what is told of
-each fault."""
+"""Tests what the playground opens, keeps and shows: files, pasted texts and addresses, reloads, and the
+message for each fault."""
 
 from __future__ import annotations
 
@@ -67,8 +67,8 @@ def write(pages: Pages, name: str, text: str) -> str:
 
 
 def addresses(pages: Pages, browser: Browser) -> None:
-    """A link that names a node which is not there opens all the same, and sets the selectors; the page writes such
-    links itself."""
+    """A link that names an absent node still opens, and sets the selectors; the page writes such links
+    itself."""
     begin(browser, "#script=link+1+2;link+2+9;drive+3+9&nodes=4&rules=manne")
     pages.expect("a link beyond the nodes", waited(browser, "✓ stable, 1 pair", "text", ".state"), "✓ stable, 1 pair")
     agrees(pages, browser, "a link beyond the nodes", "manne")
@@ -94,7 +94,8 @@ def addresses(pages: Pages, browser: Browser) -> None:
 
 
 def full(pages: Pages, browser: Browser) -> None:
-    """A script that would fill the log is told of at once, by its line, where it was given; what was there stays."""
+    """A script that would fill the log is refused at once, with its line, at its place; the state before
+    stays."""
     lines = "".join(f"scramble {k} 1000000\n" for k in range(1, 18))
     fresh(browser, "path", 4)
     before = browser.ask("scriptNow")
@@ -117,7 +118,7 @@ def full(pages: Pages, browser: Browser) -> None:
 
 
 def keys(pages: Pages, browser: Browser) -> None:
-    """The key for links is no error after a node left, and where nothing was chosen."""
+    """The key for links causes no error after a node left, or if none was chosen."""
     fresh(browser, "ring", 6)
     browser.ask("focus", ".graph")
     browser.key(*E_KEY)
@@ -132,8 +133,8 @@ def keys(pages: Pages, browser: Browser) -> None:
 
 
 def looks(pages: Pages, browser: Browser) -> None:
-    """Nothing is wider than a window of 200 pixels; all pictures have names; the page says its name and leads to the
-    project."""
+    """Nothing is wider than a window of 200 pixels; all pictures have names; the page says its name and leads
+    to the project."""
     browser.window(200, 500)
     begin(browser)
     pages.expect("what is wider than 200", browser.ask("widest"), 200)
@@ -169,7 +170,7 @@ def looks(pages: Pages, browser: Browser) -> None:
 
 
 def sizes(pages: Pages, browser: Browser) -> None:
-    """More nodes than the page makes are told of, and a star of 500 can be seen."""
+    """More nodes than the page can draw are refused, and a star of 500 is visible."""
     begin(browser)
     browser.ask("choose", "#preset", "star")
     browser.ask("choose", "#size", "600")
@@ -184,7 +185,7 @@ def sizes(pages: Pages, browser: Browser) -> None:
 
 
 def calm(pages: Pages, browser: Browser) -> None:
-    """Who wants little motion sees none that was not asked for."""
+    """A reader who prefers little motion sees only what was asked for."""
     reduced = {"name": "prefers-reduced-motion", "value": "reduce"}
     browser.call("Emulation.setEmulatedMedia", features=[reduced])
     begin(browser)
@@ -199,8 +200,8 @@ def calm(pages: Pages, browser: Browser) -> None:
 
 
 def opens(pages: Pages, browser: Browser) -> None:
-    """What the page saves it opens: a script comes back to the same transcript; graph files become networks; all
-    others are refused."""
+    """The page opens what it saves: a script comes back to the same transcript; graph files become networks;
+    all others are refused."""
     browser.save_into(pages.folder)
     fresh(browser, "ring", 6, "manne")
     tool(browser, "flag")
@@ -251,7 +252,7 @@ def opens(pages: Pages, browser: Browser) -> None:
 
 
 def reloads(pages: Pages, browser: Browser) -> None:
-    """A reload brings back what stood there, a played transcript too; leaving more than a minute of unsaved work
+    """A reload restores the state, a played transcript too; leaving more than a minute of unsaved work
     asks."""
     fresh(browser, "ring", 8, "both", 5)
     browser.click(*edge(browser, 2, 3))
@@ -317,7 +318,7 @@ def reloads(pages: Pages, browser: Browser) -> None:
 
 
 def redoes(pages: Pages, browser: Browser) -> None:
-    """What was taken back is done again, line for line, until another act comes between."""
+    """Undone acts are redone, line for line, until another act comes between."""
     fresh(browser, "grid", 9)
     pages.expect("nothing to do again", browser.ask("isDisabled", "#redo"), True)
     browser.click(*edge(browser, 1, 2))
@@ -352,7 +353,7 @@ def redoes(pages: Pages, browser: Browser) -> None:
 
 
 def wrongs(pages: Pages, browser: Browser) -> None:
-    """A script that is bad is told where it stands, with its line marked; on a phone too."""
+    """A bad script is reported at its place, with its line marked; on a phone too."""
     for width, height in [(1280, 900), (360, 740)]:
         browser.window(width, height)
         fresh(browser, "path", 4)
@@ -374,7 +375,7 @@ def wrongs(pages: Pages, browser: Browser) -> None:
 
 
 def pictures(pages: Pages, browser: Browser) -> None:
-    """The playground's picture is saved as SVG and PNG, with all names and the heads of arrows."""
+    """The playground's picture is saved as SVG and PNG, with all names and arrowheads."""
     browser.save_into(pages.folder)
     fresh(browser, "path", 5)
     browser.click(*place(browser, "#lab-svg"))
@@ -390,7 +391,7 @@ def pictures(pages: Pages, browser: Browser) -> None:
 
 
 def use(pages: Pages, browser: Browser) -> None:
-    """All of it; where one part breaks off, the others go on."""
+    """All parts; if one breaks off, the others go on."""
     for part in [addresses, full, keys, looks, sizes, calm, opens, reloads, redoes, wrongs, pictures]:
         try:
             part(pages, browser)

@@ -1,4 +1,5 @@
-"""The scripts whose transcripts are played in pages: the repository's examples, and networks of both rule sets."""
+"""The scripts whose transcripts are played in pages: the repository's examples, and networks of both rule
+sets."""
 
 from __future__ import annotations
 
@@ -12,8 +13,8 @@ TOP = pathlib.Path(__file__).resolve().parent.parent
 
 @dataclasses.dataclass
 class Page:
-    """A script with its rules, its names, and how many of these are present at the start; or a storm of several
-    scripts. Its page plays the whole transcript, or what begins with the first base in it."""
+    """A script with its rules, its names, and how many of these are present at the start; or a storm of
+    several scripts. Its page plays the whole transcript, or the part from its first base on."""
 
     name: str
     rules: str
@@ -24,7 +25,6 @@ class Page:
     from_base: bool = False
 
     def words(self) -> list[str]:
-        """The words of the command line for it."""
         present = [] if self.present is None else ["--present", str(self.present)]
         return ["--rules", self.rules, "--nodes", str(self.nodes), *present]
 
@@ -43,13 +43,11 @@ def grid(width: int, height: int) -> list[str]:
 
 
 def graph(nodes: int, edges: int, seed: int) -> list[str]:
-    """Links of a graph that is drawn by chance."""
     pairs = [(v, w) for v in range(1, nodes + 1) for w in range(v + 1, nodes + 1)]
     return [f"link {v} {w}" for v, w in random.Random(seed).sample(pairs, edges)]
 
 
 def mended(seed: int, faults: int = 6) -> list[str]:
-    """It settles, is broken, and settles again."""
     return [
         f"drive {seed} 10000",
         "status",
@@ -61,7 +59,7 @@ def mended(seed: int, faults: int = 6) -> list[str]:
 
 
 def stirred(nodes: int, seed: int, events: int) -> list[str]:
-    """Edits, faults, steps and questions by chance: many are refused."""
+    """Random edits, faults, steps and questions: many are refused."""
     chance = random.Random(seed)
 
     def name() -> int:
@@ -115,14 +113,12 @@ EVERY_REFUSAL = [
 
 
 def examples() -> Iterator[Page]:
-    """The examples that stand in the repository."""
     for script in sorted((TOP / "examples").glob("*.script")):
         _, rules, _, nodes = script.with_suffix(".args").read_text(encoding="ascii").split()
         yield Page(f"the example {script.stem}", rules, int(nodes), script.read_text(encoding="ascii"))
 
 
 def of_both() -> Iterator[Page]:
-    """Networks that both rule sets play."""
     wide = [f"step {' '.join(map(str, range(1, 13)))}", "step 12 3 7", "drive 4 9"]
     parted = [
         "link 1 2",

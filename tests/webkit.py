@@ -1,8 +1,8 @@
-"""A WebKit, the engine of Safari and of all browsers on iPhones: a window of WebKitGTK on a screen of Xvfb, driven
-through WebKitWebDriver with the standard library alone.
+"""A WebKit, the engine of Safari and of all browsers on iPhones: a window of WebKitGTK on a screen of Xvfb,
+driven through WebKitWebDriver with the standard library alone.
 
-It has the calls of `browser.Browser` that short visits need. It needs Debian's packages webkit2gtk-driver, xvfb,
-python3-gi and gir1.2-webkit2-4.1.
+It has the calls of `browser.Browser` that short visits need. It needs Debian's packages webkit2gtk-driver,
+xvfb, python3-gi and gir1.2-webkit2-4.1.
 """
 
 from __future__ import annotations
@@ -32,7 +32,7 @@ def why_no_webkit() -> str:
 
 
 class WebKit:
-    """One WebKit with one window. Raises `BrowserFault` if it ends, keeps silent or refuses a call."""
+    """One WebKit with one window. Raises `BrowserFault` if it ends, stays silent or refuses a call."""
 
     def __init__(self, wait: float = 60, width: int = 1280, height: int = 900) -> None:
         self.wait = wait
@@ -50,7 +50,6 @@ class WebKit:
             raise
 
     def begin(self, width: int, height: int) -> None:
-        """Starts the screen, the driver and the browser."""
         heard, told = os.pipe()
         quiet = subprocess.DEVNULL
         words = [SCREEN, "-displayfd", str(told), "-screen", "0", f"{width}x{height}x24", "-nolisten", "tcp"]
@@ -71,7 +70,7 @@ class WebKit:
             "WEBKIT_DISABLE_COMPOSITING_MODE": "1",
             "NO_AT_BRIDGE": "1",
         }
-        # the driver takes a port that is free, and does not say which: one that was free a moment ago is taken
+        # the driver takes a free port, and does not report which: one that was free a moment ago is taken
         self.port = free_port()
         words = [DRIVER, f"--port={self.port}"]
         self.runs.append(subprocess.Popen(words, stdin=quiet, stdout=quiet, stderr=quiet, env=places))
@@ -91,7 +90,6 @@ class WebKit:
         self.end()
 
     def end(self) -> None:
-        """Ends what was started, the last first."""
         for run in reversed(self.runs):
             run.terminate()
             try:
@@ -102,7 +100,6 @@ class WebKit:
         self.remove_home()
 
     def call(self, method: str, path: str, **words: Any) -> Any:
-        """What the driver answers; it is waited for until it listens."""
         body = json.dumps(words).encode() if method == "POST" else None
         until = time.monotonic() + self.wait
         while True:
@@ -125,13 +122,11 @@ class WebKit:
         return answer
 
     def noted(self, kind: str) -> list[str]:
-        """What pages have done so far of one kind."""
         with open(self.notes, encoding="utf-8", errors="replace") as file:
             return [line.rstrip("\n").split(" ", 1)[1] for line in file if line.startswith(f"{kind} ")]
 
     @property
     def complaints(self) -> list[str]:
-        """What pages have written to their consoles so far, and errors that nothing caught."""
         return self.noted("complaint")
 
     @property
@@ -140,11 +135,9 @@ class WebKit:
         return self.noted("request")
 
     def open(self, path: str) -> None:
-        """Opens a file, or an address."""
         self.call("POST", "/url", url=path if "://" in path else f"file://{path}")
 
     def ask(self, probe: str, *words: Any) -> Any:
-        """What a probe of page_probes.js returns."""
         script = f"{self.probes}\nreturn probes.{probe}(...arguments);"
         return self.call("POST", "/execute/sync", script=script, args=list(words))
 
@@ -156,7 +149,6 @@ class WebKit:
 
 
 def free_port() -> int:
-    """A port of this machine that nobody listens at."""
     with socket.socket() as made:
         made.bind(("127.0.0.1", 0))
         port: int = made.getsockname()[1]

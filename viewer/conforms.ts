@@ -1,4 +1,4 @@
-// Compiled by tests/lint and never run: the module has what rudekpi.d.ts says of it.
+// Compiled by tests/lint and never run: checks that the module has all that rudekpi.d.ts declares.
 import * as made from "./src/rudekpi.mjs";
 
 export const module: typeof import("./rudekpi") = made;

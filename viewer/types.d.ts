@@ -11,11 +11,11 @@ interface Thing {
 interface Place {
   x: number;
   y: number;
-  /** Whether a finger is there, where that is known. */
+  /** Whether the pointer is a finger, if that is known. */
   finger?: boolean;
 }
 
-/** Where nodes lie, by their numbers from 1, in a box from 0, 0. */
+/** The places of nodes, by their numbers from 1, in a box from 0, 0. */
 interface Layout {
   x: Float64Array;
   y: Float64Array;
@@ -55,7 +55,7 @@ interface Move {
   target: number;
 }
 
-/** A network to begin with. `places` are where the first nodes lie, if that is known. */
+/** A first network. `places` are those of its first nodes, if known. */
 interface Network {
   nodes: number;
   links?: Link[];
@@ -67,11 +67,11 @@ interface Plan extends Network {
   names: number;
   present: number;
   labs: { rules: RuleName; lines: string[] }[];
-  /** Where nodes lie, if hands have moved them. */
+  /** The places of nodes, if hands have moved them. */
   layout?: Layout;
 }
 
-/** Who judged a transcript, and the verdict, or null if nobody did. */
+/** Who judged a transcript, and the verdict; null if it was not judged. */
 interface Judge {
   program?: string;
   own?: boolean;
@@ -98,14 +98,14 @@ interface Wrong {
   line: string;
 }
 
-/** What a node or an edge is, in words. */
+/** A node or an edge in words. */
 interface Explained {
   heading: string;
   rule: string | null;
   rows: [string, string][];
 }
 
-/** A column of a plot that stands for several entries. */
+/** A column of a plot for several entries. */
 interface Column {
   middle: number;
   least: number;

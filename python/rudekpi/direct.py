@@ -17,7 +17,7 @@ from .batch import Batch
 from .calls import DirectBatch, Rooms
 from .errors import Ended, Inherited, RudekpiError, text_of
 from .kept_text import KeptText
-from .library import DONE, LOG_FULL, NO_MEMORY, NO_SESSION, Library, Slot
+from .library import DONE, LOG_FULL, NO_MEMORY, NO_SESSION, NOT_SILENT, Library, Slot
 from .names import Names
 
 if TYPE_CHECKING:
@@ -145,13 +145,22 @@ class Direct:
 
     def cost_of(self, word: str, numbers: Sequence[int]) -> int:
         """The cost of an edit or a fault if it came now; 0 also if it would be refused."""
+        return self._number(f"cost_of_{word}", numbers)[1]
+
+    def silent_cost_of(self, word: str, numbers: Sequence[int]) -> Optional[int]:
+        """The same in a silent network; None if a rule is enabled."""
+        status, cost = self._number(f"silent_cost_of_{word}", numbers)
+        return None if status == NOT_SILENT else cost
+
+    def _number(self, name: str, numbers: Sequence[int]) -> tuple[int, int]:
+        """The status of a call that changes nothing, and the number that it writes."""
         found = ctypes.c_uint32()
-        call: Callable[..., int] = getattr(self.library, f"cost_of_{word}")
+        call: Callable[..., int] = getattr(self.library, name)
         with self.lock:
             status = call(self.at, *numbers, ctypes.byref(found))
-        if status:
+        if status not in (DONE, NOT_SILENT):
             self.raise_for(status)
-        return found.value
+        return status, found.value
 
     def reach(self, word: str, numbers: Sequence[int]) -> list[int]:
         """The nodes that an edit or a fault would reach if it came now, ascending; none if it is refused."""

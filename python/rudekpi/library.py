@@ -15,6 +15,7 @@ from .program import PACKAGE, Program
 from .replies import Summary
 
 DONE, BAD_LINE, LOG_FULL, NO_MEMORY, NO_SESSION, BAD_ARGUMENT, REFUSED = range(7)
+NOT_SILENT = 8
 ENGINES = ("library", "program")
 # the refusals, numbered from 1
 REFUSALS = (
@@ -83,6 +84,7 @@ SHORT = (
     "is_at_rest",
     "transcript",
     *(f"cost_of_{word}" for word in COSTED),
+    *(f"silent_cost_of_{word}" for word in COSTED),
     *(f"reach_of_{word}" for word in COSTED),
 )
 LONG = (

@@ -3,7 +3,7 @@
 from __future__ import annotations
 
 import os
-from typing import Any, Callable, Iterable, NoReturn, Optional, Union, cast
+from typing import Any, Callable, Iterable, NoReturn, Optional, Sequence, Union, cast
 
 from . import audits, drawings, library
 from .answers import Setting
@@ -257,9 +257,25 @@ class Network:
         refused, such as the unlinking of unlinked nodes, `TypeError` for a wrong number of words, and
         `NoSuchCommand` with a program.
         """
+        cost = self._asked_cost(self._session.cost_of, word, given)
+        assert cost is not None
+        return cost
+
+    def silent_cost_of(self, word: str, *given: Name) -> Optional[int]:
+        """The most moves that an edit or a fault of a silent network can cause; None if a rule is enabled.
+
+        The words are those of `cost_of`. Under `hh` it is at most `cost_of`, as it counts unpaired neighbours
+        alone. Under `manne` it may exceed that by 2 for a pair that may come, and by 1 for a node that leaves.
+        Nothing is done, and no entry is added. Raises what `cost_of` raises.
+        """
+        return self._asked_cost(self._session.silent_cost_of, word, given)
+
+    def _asked_cost(
+        self, ask: Callable[[str, Sequence[int]], Optional[int]], word: str, given: tuple[Name, ...]
+    ) -> Optional[int]:
         numbers = numbers_of_edit(self._names, word, given)
-        cost = self._session.cost_of(word, numbers)
-        if not cost:
+        cost = ask(word, numbers)
+        if cost == 0:
             # some edits and faults cost nothing, and the library returns 0 for refused ones too
             why = self._look(lambda state: why_refused(state, word, *numbers))
             if why:

@@ -90,6 +90,9 @@ class Session:
     def cost_of(self, word: str, numbers: Sequence[int]) -> int:
         raise self._untold(f"tells no cost of {word} beforehand")
 
+    def silent_cost_of(self, word: str, numbers: Sequence[int]) -> Optional[int]:
+        return self.cost_of(word, numbers)
+
     def reach(self, word: str, numbers: Sequence[int]) -> list[int]:
         raise self._untold(f"tells no reach of {word} beforehand")
 

@@ -282,6 +282,54 @@ class CostsTold(Timed):
             self.assertEqual(net.link("cleo", "dan").entry, 9)
 
 
+class SilentCosts(Timed):
+    """Ann and bob are a pair, bob and cy are linked, and cy points nowhere: no rule is enabled."""
+
+    # each event with its costs under hh and under manne; none if it would be refused
+    rows: list[tuple[Any, ...]] = [
+        (("link", "ann", "cy"), 0, 0),
+        (("link", "cy", "dan"), 2, 4),
+        (("unlink", "ann", "bob"), 2, 8),
+        (("unlink", "bob", "cy"), 0, 0),
+        (("leave", "ann"), 2, 5),
+        (("leave", "bob"), 0, 3),
+        (("leave", "cy"), 0, 0),
+        (("join", "eve"), 0, 0),
+        (("point", "ann", None), 3, 11),
+        (("point", "ann", "bob"), 0, 0),
+        (("point", "bob", "cy"), 4, 12),
+        (("point", "cy", "bob"), 1, 1),
+        (("point", "cy", None), 0, 0),
+        (("flag", "ann", 0), None, 1),
+        (("flag", "ann", 1), None, 0),
+    ]
+
+    def test_by_hand(self) -> None:
+        for at, rules in enumerate(("hh", "manne")):
+            with Network(rules, ["ann", "bob", "cy", "dan", "eve"], present=4, engine="library") as net:
+                net.link("ann", "bob")
+                net.link("bob", "cy")
+                self.assertIsNone(net.silent_cost_of("unlink", "ann", "bob"))
+                net.step(["ann"])
+                net.step(["bob"])
+                if rules == "manne":
+                    net.step(["ann", "bob"])
+                before = net.transcript()
+                for event, *costs in self.rows:
+                    with self.subTest(rules, event=event):
+                        if costs[at] is None:
+                            self.assertRaisesRegex(ValueError, "no-flag", net.silent_cost_of, *event)
+                        else:
+                            self.assertEqual(net.silent_cost_of(*event), costs[at])
+                self.assertEqual(net.transcript(), before)
+                self.assertRaisesRegex(ValueError, "not-linked", net.silent_cost_of, "unlink", "ann", "cy")
+                self.assertRaises(TypeError, net.silent_cost_of, "link", "ann")
+
+    def test_by_the_program(self) -> None:
+        with Network("hh", 2, engine="program") as net:
+            self.assertRaises(NoSuchCommand, net.silent_cost_of, "link", 1, 2)
+
+
 class Partners(Timed):
     """With the library a node's partner is its answer: the client does not derive it from a transcript."""
 

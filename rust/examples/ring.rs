@@ -1,4 +1,4 @@
-//! A ring of twelve nodes settles, is broken by a fault and by a node that leaves, and mends itself. The transcript
+//! A ring of twelve nodes settles, a fault and a departing node break it, and it recovers. The transcript
 //! goes to standard output; the pairs and the verdict go to standard error.
 
 use rudekpi::{audit, Fault, Network, Rules, Verdict};

@@ -1,5 +1,5 @@
-//! Four threads share one network behind a mutex. Each cuts and mends links of its own; the order of the log is that of
-//! the lock. The transcript is judged in the end, and has every thread's entries.
+//! Four threads share one network, guarded by a mutex. Each removes and adds links of its own; the log has
+//! the order of the lock. In the end the transcript is judged, and has every thread's entries.
 
 use rudekpi::{audit, Fault, Network, Rules, Verdict};
 use std::error::Error;
@@ -13,7 +13,7 @@ fn locked(net: &Mutex<Network>) -> MutexGuard<'_, Network> {
     net.lock().unwrap_or_else(|poisoned| poisoned.into_inner())
 }
 
-/// Links and unlinks one edge again and again, and lets the network settle after each.
+/// Links and unlinks one edge repeatedly, and lets the network settle after each.
 fn edit(net: &Mutex<Network>, thread: u32) -> Result<(), Fault> {
     let (a, b) = (2 * thread + 1, 2 * thread + 2);
     for turn in 0..TURNS {

@@ -1,10 +1,10 @@
-//! The auditor: whether bytes are the transcript of a run of the rules.
+//! The auditor: decides whether bytes are the transcript of a run of the rules.
 
 use crate::fault::{fault, Fault};
 use crate::ffi::{self, RawVerdict, Slot};
 use std::fmt;
 
-/// What a transcript has.
+/// The counts of a transcript.
 #[derive(Clone, Copy, Debug, PartialEq, Eq)]
 pub struct Summary {
     pub entries: u32,
@@ -23,7 +23,7 @@ pub enum Damage {
 }
 
 impl Damage {
-    /// What it says, in the words of the program's `audit`.
+    /// The text in the words of the program's `audit`.
     pub fn text(self) -> &'static str {
         match self {
             Damage::BadHeader => "bad header",
@@ -35,17 +35,17 @@ impl Damage {
     }
 }
 
-/// What an audit finds.
+/// The verdict of an audit.
 #[derive(Clone, Copy, Debug, PartialEq, Eq)]
 pub enum Verdict {
     /// The bytes are the transcript of a run of the rules.
     Accepted(Summary),
-    /// They are none, and this is the first line that is wrong, from 1.
+    /// The bytes are no transcript; `line` is the first wrong line, from 1.
     Damaged { line: u64, damage: Damage },
 }
 
 impl Verdict {
-    /// The verdict of C's numbers; memory that was refused is a fault.
+    /// The verdict from C's numbers; a fault if memory ran out.
     fn of(raw: RawVerdict) -> Result<Verdict, Fault> {
         let damage = match raw.kind {
             0 => {
@@ -78,7 +78,7 @@ impl fmt::Display for Verdict {
     }
 }
 
-/// Judges a transcript that is in memory.
+/// Judges a transcript in memory.
 pub fn audit(text: &[u8]) -> Result<Verdict, Fault> {
     let mut verdict = RawVerdict::default();
     // a slice's pointer is never null
@@ -86,7 +86,7 @@ pub fn audit(text: &[u8]) -> Result<Verdict, Fault> {
     Verdict::of(verdict)
 }
 
-/// An audit that is fed a transcript as it comes.
+/// An audit that is fed a transcript in pieces.
 pub struct Audit {
     slot: Box<Slot>,
 }
@@ -95,7 +95,7 @@ pub struct Audit {
 unsafe impl Send for Audit {}
 
 impl Audit {
-    /// Begins an audit that was fed nothing.
+    /// Begins an audit.
     pub fn new() -> Result<Audit, Fault> {
         let mut slot = Slot::empty();
         match unsafe { ffi::rudekpi_audit_new(&mut *slot) } {
@@ -104,7 +104,7 @@ impl Audit {
         }
     }
 
-    /// Feeds the bytes that come next, cut anywhere, and returns whether nothing wrong was found so far.
+    /// Feeds the next bytes, cut anywhere. Returns whether no damage was found so far.
     pub fn feed(&mut self, piece: &[u8]) -> Result<bool, Fault> {
         match unsafe { ffi::rudekpi_audit_feed(&mut *self.slot, piece.as_ptr(), piece.len()) } {
             ffi::DONE => Ok(true),
@@ -113,7 +113,7 @@ impl Audit {
         }
     }
 
-    /// Returns the verdict on all that was fed.
+    /// Returns the verdict on all bytes fed.
     pub fn finish(mut self) -> Result<Verdict, Fault> {
         let mut verdict = RawVerdict::default();
         unsafe { ffi::rudekpi_audit_finish(&mut *self.slot, &mut verdict) };

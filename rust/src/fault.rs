@@ -1,9 +1,9 @@
-//! Why a call has no answer.
+//! Why a call failed.
 
 use crate::ffi::{self, Told};
 use std::fmt;
 
-/// Why the machine refuses an event: the first reason that holds, in the order of their numbers in `docs/USE.md`.
+/// Why the machine refuses an event: the first reason that applies, in the order given in `docs/USE.md`.
 #[derive(Clone, Copy, Debug, PartialEq, Eq, Hash)]
 #[non_exhaustive]
 pub enum Refusal {
@@ -40,7 +40,7 @@ impl Refusal {
         (Refusal::AlreadyPresent, "already-present"),
     ];
 
-    /// The refusal of this number in a transcript, 1 to 13.
+    /// The refusal with this number, 1 to 13.
     pub fn from_number(number: u32) -> Option<Refusal> {
         let at = usize::try_from(number).ok()?.checked_sub(1)?;
         Some(Refusal::ALL.get(at)?.0)
@@ -58,19 +58,19 @@ impl fmt::Display for Refusal {
     }
 }
 
-/// Why a call has no answer.
+/// Why a call failed.
 #[derive(Clone, Copy, Debug, PartialEq, Eq)]
 #[non_exhaustive]
 pub enum Fault {
-    /// The machine refused the event, which entry `entry` says. The network is as before.
+    /// The machine refused the event, as entry `entry` says. The network is unchanged.
     Refused { why: Refusal, entry: u32 },
-    /// The log has 16,777,216 entries already.
+    /// The log has 16,777,216 entries and takes no more.
     LogFull,
-    /// Memory was refused. The network is as before, but first turns of a `drive` or a `scramble` stay.
+    /// Memory ran out. The network is unchanged, but the first turns of a `drive` or a `scramble` may remain.
     NoMemory,
-    /// A number was out of its range. Nothing was done.
+    /// A number is out of range. Nothing changed.
     BadArgument,
-    /// Line `number` is neither empty nor a command. Nothing was done.
+    /// Line `number` is neither empty nor a command. Nothing changed.
     BadLine { number: u64 },
 }
 
@@ -88,7 +88,7 @@ impl fmt::Display for Fault {
 
 impl std::error::Error for Fault {}
 
-/// The number of the entry, or why there is no answer.
+/// The number of the entry, or the fault.
 pub(crate) fn answer(status: u32, told: &Told) -> Result<u32, Fault> {
     match (status, Refusal::from_number(told.refusal)) {
         (ffi::DONE, _) => Ok(told.entry),

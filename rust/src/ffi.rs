@@ -9,7 +9,7 @@ pub(crate) const NO_MEMORY: u32 = 3;
 pub(crate) const REFUSED: u32 = 6;
 pub(crate) const DAMAGED: u32 = 7;
 
-/// Where a session or an audit is kept. A full one stays at its place in memory.
+/// Holds a session or an audit. A full slot stays at its address.
 #[repr(C)]
 pub(crate) struct Slot {
     pub at: *mut c_void,

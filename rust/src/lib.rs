@@ -1,7 +1,7 @@
-//! Rudekpi for Rust: a network whose nodes its rules keep in pairs, and an auditor of its transcripts.
+//! Rudekpi for Rust: a network that maintains a maximal matching, and an auditor of its transcripts.
 //!
-//! Each call is one of `rudekpi.h`, whose functions are proved; these types around them are tested. A network or an
-//! audit owns its memory and may be sent between threads; one thread at a time uses it.
+//! Each method calls a function of `rudekpi.h`. Those functions are proved; the types around them are tested.
+//! A network or an audit owns its memory and may be sent between threads; one thread at a time uses it.
 //!
 //! ```
 //! use rudekpi::{Fault, Network, Rules};
@@ -27,7 +27,8 @@ pub use network::{Counts, Enabled, Item, Move, Network, Rule, Rules};
 /// A node's name, from 1 on.
 pub type Node = u32;
 
-/// Returns the version of the library: 1,000,000 times the major, plus 1,000 times the minor, plus the patch number.
+/// Returns the version of the library: 1,000,000 times the major, plus 1,000 times the minor, plus the patch
+/// number.
 pub fn version() -> u32 {
     unsafe { ffi::rudekpi_version() }
 }

@@ -33,7 +33,7 @@ impl Rule {
     }
 }
 
-/// The state of a network in numbers. At most `charge` moves come before the next edit or fault.
+/// The counts of a network. At most `charge` moves come before the next edit or fault.
 #[repr(C)]
 #[derive(Clone, Copy, Debug, Default, PartialEq, Eq)]
 pub struct Counts {
@@ -45,14 +45,14 @@ pub struct Counts {
     pub spent: u32,
 }
 
-/// A node that may move, and by which rule.
+/// An enabled node and its rule.
 #[derive(Clone, Copy, Debug, PartialEq, Eq)]
 pub struct Enabled {
     pub node: Node,
     pub rule: Rule,
 }
 
-/// A node that moved, by which rule, and where it points now if the rule wrote its pointer.
+/// A node that moved, its rule, and its new pointer if the rule wrote one.
 #[derive(Clone, Copy, Debug, PartialEq, Eq)]
 pub struct Move {
     pub node: Node,
@@ -60,7 +60,7 @@ pub struct Move {
     pub target: Option<Node>,
 }
 
-/// A chosen node, and the neighbour that it shall point at, if any.
+/// A chosen node, and optionally the neighbour that it is to point at.
 #[derive(Clone, Copy, Debug, PartialEq, Eq)]
 pub struct Item {
     pub node: Node,
@@ -71,7 +71,7 @@ fn node_or_null(node: u32) -> Option<Node> {
     Some(node).filter(|&it| it != 0)
 }
 
-/// A network whose nodes its rules keep in pairs, with its transcript.
+/// A network that maintains a maximal matching, with its transcript.
 pub struct Network {
     slot: Box<Slot>,
 }
@@ -116,12 +116,12 @@ macro_rules! lists {
 }
 
 impl Network {
-    /// A network of the nodes 1 to `nodes`, at most 65,535, without edges.
+    /// Returns a network of the nodes 1 to `nodes`, at most 65,535, without edges.
     pub fn new(rules: Rules, nodes: u32) -> Result<Network, Fault> {
         Network::with_present(rules, nodes, nodes)
     }
 
-    /// A network of the names 1 to `nodes`, at most 65,535, of which the nodes 1 to `present` are present.
+    /// Returns a network of the names 1 to `nodes`, at most 65,535; the nodes 1 to `present` are present.
     pub fn with_present(rules: Rules, nodes: u32, present: u32) -> Result<Network, Fault> {
         let mut slot = Slot::empty();
         match unsafe { ffi::rudekpi_session_new(rules as u32, nodes, present, &mut *slot) } {
@@ -145,39 +145,39 @@ impl Network {
         drive, rudekpi_drive, (seed: u64, count: u32);
         /// Makes `count` seeded faults of registers.
         scramble, rudekpi_scramble, (seed: u64, count: u32);
-        /// Adds the lines of a base to the transcript, from which an audit can begin.
+        /// Adds the lines of a base, from which an audit can begin, to the transcript.
         checkpoint, rudekpi_checkpoint, ();
     }
 
     values! {
-        /// How many moves can still come before the next edit or fault, at most.
+        /// The most moves that can still come before the next edit or fault.
         moves_left, rudekpi_moves_left, () -> u32;
         /// Whether a node is at rest: it does not move until an edit or a fault reaches it.
         is_at_rest, rudekpi_is_at_rest, (node: Node) -> bool;
-        /// How many moves an edge that comes would cost at most; 0 also if it would be refused. Nothing is done.
+        /// The cost of adding an edge, in moves at most; 0 if it would be refused. Changes nothing.
         cost_of_link, rudekpi_cost_of_link, (a: Node, b: Node) -> u32;
-        /// How many moves an edge that goes would cost at most.
+        /// The cost of removing an edge.
         cost_of_unlink, rudekpi_cost_of_unlink, (a: Node, b: Node) -> u32;
-        /// How many moves a node that comes would cost at most.
+        /// The cost of a node's arrival.
         cost_of_join, rudekpi_cost_of_join, (node: Node) -> u32;
-        /// How many moves a node that goes would cost at most.
+        /// The cost of a node's departure.
         cost_of_leave, rudekpi_cost_of_leave, (node: Node) -> u32;
-        /// How many moves a written flag would cost at most.
+        /// The cost of writing a flag.
         cost_of_flag, rudekpi_cost_of_flag, (node: Node, value: bool) -> u32;
     }
 
     lists! {
-        /// The nodes that an edge that comes would reach, ascending. Nothing is done.
+        /// The nodes that adding an edge would reach, ascending. Changes nothing.
         reach_of_link, rudekpi_reach_of_link, (a: Node, b: Node);
-        /// The nodes that an edge that goes would reach.
+        /// The nodes that removing an edge would reach.
         reach_of_unlink, rudekpi_reach_of_unlink, (a: Node, b: Node);
-        /// The nodes that a node that goes would reach.
+        /// The nodes that a node's departure would reach.
         reach_of_leave, rudekpi_reach_of_leave, (node: Node);
-        /// The nodes that a written flag would reach.
+        /// The nodes that writing a flag would reach.
         reach_of_flag, rudekpi_reach_of_flag, (node: Node, value: bool);
     }
 
-    /// The nodes that a written pointer would reach.
+    /// The nodes that writing a pointer would reach.
     pub fn reach_of_point(&mut self, node: Node, target: Option<Node>) -> Result<Vec<Node>, Fault> {
         let target = target.unwrap_or(0);
         self.names(|slot, out, room, count| unsafe {
@@ -185,7 +185,7 @@ impl Network {
         })
     }
 
-    /// How many moves a written pointer would cost at most.
+    /// The cost of writing a pointer, in moves at most.
     pub fn cost_of_point(&mut self, node: Node, target: Option<Node>) -> Result<u32, Fault> {
         let mut cost = 0;
         let target = target.unwrap_or(0);
@@ -195,7 +195,7 @@ impl Network {
         }
     }
 
-    /// The node's partner, if it is in a pair. Adds no entry.
+    /// The node's partner, if it has one. Adds no entry.
     pub fn partner(&mut self, node: Node) -> Result<Option<Node>, Fault> {
         let mut partner = 0;
         match unsafe { ffi::rudekpi_partner(&mut *self.slot, node, &mut partner) } {
@@ -211,7 +211,7 @@ impl Network {
         answer(status, &told)
     }
 
-    /// Where a node points.
+    /// A node's pointer.
     pub fn show(&mut self, node: Node) -> Result<Option<Node>, Fault> {
         let mut told = Told::default();
         let status = unsafe { ffi::rudekpi_show(&mut *self.slot, node, &mut told) };
@@ -219,7 +219,7 @@ impl Network {
         Ok(node_or_null(told.target))
     }
 
-    /// Lets nodes move, all at once, and returns their moves.
+    /// Lets nodes move, all at once. Returns their moves.
     pub fn step(&mut self, items: &[Item]) -> Result<Vec<Move>, Fault> {
         let raw: Vec<RawItem> = items
             .iter()
@@ -237,7 +237,7 @@ impl Network {
         Ok(rows.iter().map(of).collect())
     }
 
-    /// The nodes that may move, and by which rule.
+    /// The enabled nodes, each with its rule.
     pub fn enabled(&mut self) -> Result<Vec<Enabled>, Fault> {
         let rows = self.rows(|slot, told| unsafe { ffi::rudekpi_enabled(slot, told) })?;
         Ok(rows
@@ -249,13 +249,13 @@ impl Network {
             .collect())
     }
 
-    /// The nodes that point at each other.
+    /// The pairs of nodes that point at each other.
     pub fn matching(&mut self) -> Result<Vec<(Node, Node)>, Fault> {
         let rows = self.rows(|slot, told| unsafe { ffi::rudekpi_pairs(slot, told) })?;
         Ok(rows.iter().map(|it| (it.node, it.other)).collect())
     }
 
-    /// The state of the network in numbers.
+    /// The counts of the network.
     pub fn status(&mut self) -> Result<Counts, Fault> {
         let (mut counts, mut told) = (Counts::default(), Told::default());
         let status = unsafe { ffi::rudekpi_status(&mut *self.slot, &mut counts, &mut told) };
@@ -263,7 +263,8 @@ impl Network {
         Ok(counts)
     }
 
-    /// Carries out a line of a script, without its line feed. The transcript says if its event is refused.
+    /// Carries out a line of a script, given without its line feed. A refused event is no fault; its entry
+    /// says so.
     pub fn feed(&mut self, line: &[u8]) -> Result<(), Fault> {
         let mut number = 0;
         match unsafe { ffi::rudekpi_session_feed(&mut *self.slot, line.as_ptr(), line.len(), &mut number) } {
@@ -273,14 +274,14 @@ impl Network {
         }
     }
 
-    /// The text of the transcript since this was last called.
+    /// Takes the text of the transcript since the last call.
     pub fn take_transcript(&mut self) -> Vec<u8> {
         let mut text = vec![0; unsafe { ffi::rudekpi_session_length(&mut *self.slot) }];
         unsafe { ffi::rudekpi_session_read(&mut *self.slot, text.as_mut_ptr(), text.len()) };
         text
     }
 
-    /// Whether the network keeps its text from here on. If not, what there is is dropped.
+    /// Decides whether the network keeps its text from here on. If not, the unread text is dropped.
     pub fn keep_transcript(&mut self, keeps: bool) -> Result<(), Fault> {
         match unsafe { ffi::rudekpi_transcript(&mut *self.slot, keeps) } {
             ffi::DONE => Ok(()),

@@ -1,8 +1,10 @@
 //! Each call once, with answers worked out by hand, and each fault.
 
-use rudekpi::{audit, version, Audit, Counts, Damage, Enabled, Fault, Item, Move, Network, Refusal, Rule, Rules, Verdict};
+use rudekpi::{
+    audit, version, Audit, Counts, Damage, Enabled, Fault, Item, Move, Network, Refusal, Rule, Rules, Verdict,
+};
 
-/// Three nodes in a row, 1 - 2 - 3, of four names, that nobody has moved.
+/// Three nodes in a row, 1 - 2 - 3, of four names, before any move.
 fn row(rules: Rules) -> Network {
     let mut net = Network::with_present(rules, 4, 3).expect("a network");
     assert_eq!((net.link(1, 2), net.link(2, 3)), (Ok(1), Ok(2)));

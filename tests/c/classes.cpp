@@ -1,5 +1,5 @@
-/* The classes of rudekpi.hpp: each call once, with answers worked out by hand, and each fault as its exception. Three
- * nodes in a row: 1 - 2 - 3, Hsu and Huang's rules. */
+/* Tests the classes of rudekpi.hpp: each call once, with answers worked out by hand, and each fault as its
+ * exception. Three nodes in a row: 1 - 2 - 3, Hsu and Huang's rules. */
 #include <iostream>
 #include <string>
 #include "rudekpi.hpp"
@@ -96,8 +96,8 @@ static void audits() {
 
 static void versions() {
     const std::uint32_t number = rudekpi::version();
-    const std::string text =
-        std::to_string(number / 1000000) + "." + std::to_string(number / 1000 % 1000) + "." + std::to_string(number % 1000);
+    const std::string text = std::to_string(number / 1000000) + "." + std::to_string(number / 1000 % 1000) + "." +
+                             std::to_string(number % 1000);
     expect("version", number == RUDEKPI_VERSION_NUMBER && text == RUDEKPI_VERSION);
 }
 

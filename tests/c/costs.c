@@ -1,19 +1,20 @@
-/* What edits and faults would cost, asked of the library for C: a network whose pointers are written by hand, and each row of the table in
-   docs/BOUNDS.md, reckoned by hand from its edges. */
+/* Tests the costs of edits and faults by the library for C: a network with pointers written by hand, and
+ * each row of the table in docs/BOUNDS.md, computed by hand from its edges. */
 #include <stdio.h>
 #include <stdlib.h>
 #include "rudekpi.h"
 
 enum kind { LINK, UNLINK, JOIN, LEAVE, POINT, FLAG };
 
-/* What is asked, and what it costs under each of the rules. */
+/* An event, and its cost under both rule sets. */
 struct row {
     enum kind kind;
     uint32_t a, b;
     uint32_t costs[2];
 };
 
-/* 1 and 2 are a pair; 3 points at 1 and 7 at 5, which do not answer; 4 and 6 are linked with 1 and 2; 8 is not present. */
+/* 1 and 2 are a pair; 3 points at 1 and 7 at 5, which do not answer; 4 and 6 are linked with 1 and 2; 8 is
+ * not present. */
 static const uint32_t edges[][2] = {{1, 2}, {1, 3}, {1, 4}, {2, 5}, {2, 6}, {5, 7}},
                       pointers[][2] = {{1, 2}, {2, 1}, {3, 1}, {7, 5}};
 
@@ -25,10 +26,10 @@ static const struct row rows[] = {
     {POINT, 1, 3, {12, 16}}, /* in a pair, with three edges at each */
     {POINT, 3, 0, {6, 2}},   /* it points at 1, which has three edges */
     {POINT, 5, 2, {4, 1}},   /* it points nowhere, has two edges, and 7 points at it */
-    {POINT, 4, 1, {1, 1}},   /* it points nowhere, and nobody points at it */
+    {POINT, 4, 1, {1, 1}},   /* neither points nor is pointed at */
     {FLAG, 1, 1, {0, 7}},    /* 2 and 3 point at it, and it has three edges */
     {FLAG, 1, 0, {0, 1}},
-    {FLAG, 4, 1, {0, 1}}, /* nobody points at it */
+    {FLAG, 4, 1, {0, 1}}, /* not pointed at */
     {JOIN, 8, 0, {0, 1}},
     {LEAVE, 1, 0, {4, 6}}, /* in a pair with 2, which has two other edges */
     {LEAVE, 3, 0, {4, 0}}, /* it points at 1, which has two other edges */
@@ -70,7 +71,7 @@ static uint32_t asked(struct rudekpi_slot *slot, enum kind kind, uint32_t a, uin
     }
 }
 
-/* Names that are out of their range, of either node, and in a slot with a session or with none. */
+/* Names out of range, for either node, in a slot with a session and without. */
 static void give_bad_names(struct rudekpi_slot *slot) {
     for (enum kind kind = LINK; kind <= FLAG; kind++)
         for (size_t at = 0; at < 3; at++) {
@@ -99,7 +100,7 @@ static void ask_each(uint32_t rules) {
         if (status != RUDEKPI_DONE || cost != rows[at].costs[rules]) fail("a cost", at);
     }
     give_bad_names(&slot);
-    /* nothing was done: no entry came, and the last answer is still there */
+    /* nothing changed: no entry was added, and the last answer is still there */
     if (rudekpi_session_length(&slot) != written || rudekpi_rows(&slot, enabled, 8) != listed)
         fail("a question that leaves a trace", rules);
     if (rudekpi_show(&slot, 1, &told) != RUDEKPI_DONE || told.entry != 12 || told.target != 2)

@@ -1,6 +1,6 @@
-/* Who is at rest and whom edits and faults would reach, asked of the library for C: a network whose pointers are written by hand, and each row of
-   the table in docs/BOUNDS.md, found by hand from its edges. Each allocation of a row is refused once, after which the row is asked again. Link
-   with -Wl,--wrap=malloc,--wrap=realloc. */
+/* Tests rest and reach by the library for C: a network with pointers written by hand, and each row of the
+ * table in docs/BOUNDS.md, found by hand from its edges. Each allocation of a row is refused once, then
+ * the row is asked again. Link with -Wl,--wrap=malloc,--wrap=realloc. */
 #include <stdio.h>
 #include <stdlib.h>
 #include <string.h>
@@ -26,38 +26,39 @@ void *__wrap_realloc(void *old, size_t size) {
 
 enum kind { LINK, UNLINK, JOIN, LEAVE, POINT, FLAG };
 
-/* What is asked, and whom it reaches, as digits: by Hsu and Huang's rules, and by Manne's. */
+/* An event, and the nodes that it reaches, as digits: by Hsu and Huang's rules, and by Manne's. */
 struct row {
     enum kind kind;
     uint32_t a, b;
     const char *reach[2];
 };
 
-/* 1 and 2 are a pair; 3 points at 1 and 7 at 5, which do not answer; 4 and 6 are linked with 1 and 2; 8 is not present. */
+/* 1 and 2 are a pair; 3 points at 1 and 7 at 5, which do not answer; 4 and 6 are linked with 1 and 2; 8 is
+ * not present. */
 static const uint32_t edges[][2] = {{1, 2}, {1, 3}, {1, 4}, {2, 5}, {2, 6}, {5, 7}},
                       pointers[][2] = {{1, 2}, {2, 1}, {3, 1}, {7, 5}};
 
-/* who is at rest, from 1 on; the flags of the pair are not set */
+/* whether each node from 1 on is at rest; the flags of the pair are not set */
 static const char *rests[2] = {"11010101", "00010101"};
 
 static const struct row rows[] = {
     {LINK, 3, 4, {"34", "34"}}, /* neither is in a pair */
     {LINK, 5, 4, {"45", "45"}},
     {LINK, 3, 2, {"", ""}},               /* one is */
-    {UNLINK, 1, 2, {"123456", "123456"}}, /* a pair, and all their neighbours but 7 are in none */
+    {UNLINK, 1, 2, {"123456", "123456"}}, /* a pair, and all their neighbours but 7 are unpaired */
     {UNLINK, 1, 3, {"", ""}},
     {POINT, 1, 3, {"123456", "123456"}}, /* in a pair, and points elsewhere */
     {POINT, 2, 0, {"123456", "123456"}},
-    {POINT, 1, 2, {"", ""}}, /* where it points already */
-    {POINT, 3, 0, {"", ""}}, /* in no pair, and points nowhere then */
+    {POINT, 1, 2, {"", ""}}, /* its present target */
+    {POINT, 3, 0, {"", ""}}, /* unpaired, and points nowhere then */
     {POINT, 3, 1, {"", ""}},
-    {POINT, 5, 2, {"5", "5"}}, /* in no pair, and points elsewhere */
+    {POINT, 5, 2, {"5", "5"}}, /* unpaired, and points elsewhere */
     {FLAG, 1, 1, {"", ""}},    /* right */
     {FLAG, 1, 0, {"", "1"}},   /* wrong */
     {FLAG, 4, 1, {"", "4"}},
     {FLAG, 4, 0, {"", ""}},
     {JOIN, 8, 0, {"", ""}},
-    {LEAVE, 1, 0, {"256", "256"}}, /* its partner, with two neighbours that are in no pair */
+    {LEAVE, 1, 0, {"256", "256"}}, /* its partner, with two unpaired neighbours */
     {LEAVE, 2, 0, {"134", "134"}},
     {LEAVE, 3, 0, {"", ""}},
     /* refused */
@@ -101,7 +102,7 @@ static uint32_t asked(struct rudekpi_slot *slot, enum kind kind, uint32_t a, uin
     }
 }
 
-/* All places from one on are as they were. */
+/* All places from `from` on are untouched. */
 static void expect_untouched(const uint32_t *out, size_t from, size_t at) {
     for (size_t place = from; place < ROOM; place++)
         if (out[place] != UNTOUCHED) fail("a place that was written", at);
@@ -111,7 +112,8 @@ static void blank(uint32_t *out) {
     for (size_t place = 0; place < ROOM; place++) out[place] = UNTOUCHED;
 }
 
-/* The reach with every room from 0 to all: it is copied where there is enough, and else nothing is. */
+/* Asks for the reach with every room from 0 to all: it is copied if there is enough, otherwise nothing is
+ * written. */
 static void ask_row(struct rudekpi_slot *slot, uint32_t rules, size_t at) {
     const struct row *row = &rows[at];
     size_t wanted = strlen(row->reach[rules]);
@@ -131,7 +133,8 @@ static void ask_row(struct rudekpi_slot *slot, uint32_t rules, size_t at) {
     }
 }
 
-/* Each allocation of a row refused in turn: nothing is told then, and nothing written. How many were refused. */
+/* Refuses each allocation of a row in turn: then nothing is reported or written. Returns how many were
+ * refused. */
 static unsigned long refuse_row(struct rudekpi_slot *slot, size_t at) {
     for (refused_number = 1;; refused_number++) {
         uint32_t out[ROOM];
@@ -151,7 +154,7 @@ static unsigned long refuse_row(struct rudekpi_slot *slot, size_t at) {
     }
 }
 
-/* Names that are out of their range, of either node, and in a slot with a session or with none. */
+/* Names out of range, for either node, in a slot with a session and without. */
 static void give_bad_names(struct rudekpi_slot *slot) {
     uint32_t out[ROOM];
     blank(out);
@@ -196,7 +199,7 @@ static void ask_each(uint32_t rules) {
     bool beyond = false;
     if (rudekpi_is_at_rest(&slot, 65535, &beyond) != RUDEKPI_DONE || !beyond) fail("a name that nobody has", rules);
     give_bad_names(&slot);
-    /* nothing was done: no entry came */
+    /* nothing changed: no entry was added */
     if (rudekpi_session_length(&slot) != written) fail("a question that leaves a trace", rules);
     if (rudekpi_show(&slot, 1, &told) != RUDEKPI_DONE || told.entry != 11 || told.target != 2)
         fail("a network that was changed", rules);

@@ -1,6 +1,7 @@
-/* Audits of the library for C that are fed a transcript in pieces, and whose N-th allocation is refused, for N = 1, 2, .. until none is: an
-   audit that wanted memory judges nothing and says so at each call, and any other judges as it does with memory. Before that, audits that are
-   freed behind each byte, and slots without an audit. Link with -Wl,--wrap=malloc,--wrap=realloc. */
+/* Feeds a transcript to audits of the library for C in pieces, and refuses their N-th allocation, for N =
+ * 1, 2, .. until none is refused. An audit that lacked memory judges nothing and reports that at each
+ * call; any other judges as it does with memory. First come audits that are freed after each byte, and
+ * slots without an audit. Link with -Wl,--wrap=malloc,--wrap=realloc. */
 #include <stdio.h>
 #include <stdlib.h>
 #include <string.h>
@@ -31,7 +32,7 @@ static const char run[] =
     "matching = 1-2\n";
 static const char damaged[] = "matching manne 3 2\n1 link 1 2 = ok\n2 enabled = 2:seduce\n3 step 1 = 1:seduce>2\n";
 
-/* A text, how it is cut, the verdict, and what the last piece of it is told. */
+/* A text, how it is cut, the verdict, and the status after its last piece. */
 struct trial {
     const char *text;
     size_t length, piece;
@@ -63,14 +64,15 @@ static void is_verdict(const struct rudekpi_verdict *found, const struct rudekpi
     }
 }
 
-/* Begins an audit, again where memory is refused. */
+/* Begins an audit, again if memory is refused. */
 static void begin(struct rudekpi_audit_slot *slot) {
     uint32_t status = rudekpi_audit_new(slot);
     if (status == RUDEKPI_NO_MEMORY && was_refused && !slot->full) status = rudekpi_audit_new(slot);
     if (status != RUDEKPI_DONE || !slot->full) fail("no audit", status);
 }
 
-/* Feeds a text in pieces: what the last one was told. What is told once is told again. */
+/* Feeds a text in pieces and returns the status after the last one. Each status comes again if asked
+ * again. */
 static uint32_t feed(struct rudekpi_audit_slot *slot, const char *text, size_t length, size_t piece) {
     uint32_t told = RUDEKPI_DONE;
     for (size_t at = 0; at < length; at += piece) {
@@ -97,7 +99,6 @@ static void judge(const struct trial *trial, size_t at) {
                at);
 }
 
-/* How many allocations were refused, one an audit. */
 static unsigned long refuse_each(const struct trial *trial, size_t at) {
     for (refused_number = 1;; refused_number++) {
         allocations = 0;
@@ -107,7 +108,7 @@ static unsigned long refuse_each(const struct trial *trial, size_t at) {
     }
 }
 
-/* Audits that are freed, or begun anew, behind each byte. */
+/* Audits that are freed, or begun anew, after each byte. */
 static void free_each(void) {
     struct rudekpi_audit_slot slot = RUDEKPI_NONE;
     for (size_t length = 0; length < sizeof run; length++) {

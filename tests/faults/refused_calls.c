@@ -1,7 +1,7 @@
-/* Sessions of the library for C that are told commands in numbers, and whose N-th allocation is refused, for N = 1, 2, .. until none is. A
-   call that wanted memory is made again: where none asks for turns the text and the answers have to be what they are with memory, and
-   else the text that of a run. Before that, calls with bad arguments, which have to change nothing. Link with
-   -Wl,--wrap=malloc,--wrap=realloc. */
+/* Gives sessions of the library for C commands in numbers, and refuses their N-th allocation, for N = 1,
+ * 2, .. until none is refused. A call that lacked memory is made again. Without calls for turns the text
+ * and the answers must be those with memory; otherwise the text must be that of a run. First come calls
+ * with bad arguments, which must change nothing. Link with -Wl,--wrap=malloc,--wrap=realloc. */
 #include <stdio.h>
 #include <stdlib.h>
 #include <string.h>
@@ -110,7 +110,7 @@ static uint32_t made(struct rudekpi_slot *slot, const struct call *call, struct 
     }
 }
 
-/* One session, begun again and each call made again where memory is refused. */
+/* One session, begun again and each call made again if memory is refused. */
 static void play(const struct call *calls, struct text *text) {
     struct rudekpi_slot slot = RUDEKPI_NONE;
     uint32_t status = rudekpi_session_new(RUDEKPI_MANNE, 6, 4, &slot);
@@ -134,7 +134,6 @@ static void play(const struct call *calls, struct text *text) {
     rudekpi_session_free(&slot);
 }
 
-/* How many allocations were refused, one a session. */
 static unsigned long refuse_each(const struct call *calls, bool same) {
     static struct text whole, text;
     struct rudekpi_verdict verdict;
@@ -156,7 +155,7 @@ static void is_bad(uint32_t status, uint32_t wanted, const struct rudekpi_told *
     if (status != wanted || told->entry || told->refusal || told->target || told->rows) fail("a bad argument");
 }
 
-/* Arguments that are out of their ranges, and slots without a session, change nothing. */
+/* Arguments out of range, and slots without a session, change nothing. */
 static void give_bad_arguments(struct rudekpi_slot *slot, uint32_t wanted) {
     static const uint32_t none[] = {0, 65536, UINT32_MAX};
     static struct rudekpi_item many[65536];

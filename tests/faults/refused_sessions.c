@@ -1,6 +1,6 @@
-/* Sessions of the library for C whose N-th allocation is refused, for N = 1, 2, .. until none is. A line that wanted memory is given
-   again: where no line asks for turns the text has to be what it is with memory, and else that of a run. Link with
-   -Wl,--wrap=malloc,--wrap=realloc. */
+/* Refuses the N-th allocation of sessions of the library for C, for N = 1, 2, .. until none is refused. A
+ * line that lacked memory is given again. Without lines that ask for turns the text must be the one with
+ * memory; otherwise it must be that of a run. Link with -Wl,--wrap=malloc,--wrap=realloc. */
 #include <stdio.h>
 #include <stdlib.h>
 #include <string.h>
@@ -41,7 +41,7 @@ static void fail(const char *what) {
     exit(1);
 }
 
-/* One session, begun again and each line given again where memory is refused. */
+/* One session, begun again and each line given again if memory is refused. */
 static void play(const char *const *lines, struct text *text) {
     struct rudekpi_slot slot = RUDEKPI_NONE;
     uint64_t number = 0;
@@ -62,7 +62,6 @@ static void play(const char *const *lines, struct text *text) {
     rudekpi_session_free(&slot);
 }
 
-/* How many allocations were refused, one a session. */
 static unsigned long refuse_each(const char *const *lines, bool same) {
     static struct text whole, text;
     struct rudekpi_verdict verdict;

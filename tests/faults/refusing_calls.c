@@ -1,13 +1,15 @@
-/* Preloaded in front of the C library: calls of the program that fail where the environment says so. What is met is told by a byte
-   each in the file FAULT_TOLD: 'm' memory refused, 't' a thread refused, 'r' a read failed, 'w' a write failed, and 'W' a write to
-   the same stream after that; at last 'e', the program's end, or 'l', its end while another thread is left. What is done before
-   the program's main is not counted.
-
-   REFUSE_MEMORY=N   the N-th malloc, calloc, realloc, reallocarray, aligned_alloc, memalign or posix_memalign answers null
-   REFUSE_THREAD=N   the N-th pthread_create answers EAGAIN
-   NO_WORDS=1        the program is given no words, not even its name, as kernels before 5.18 allow
-   READ_STOPS=K      reads give K bytes, and the next one fails with the error number READ_ERROR
-   WRITE_STOPS=K     writes to standard output take K bytes, and the next one fails with WRITE_ERROR, or takes none where that is 0 */
+/* Preloaded before the C library: lets calls of the program fail as the environment says. Writes a byte
+ * for each to the file FAULT_TOLD: 'm' memory refused, 't' a thread refused, 'r' a read failed, 'w' a
+ * write failed, 'W' a write to the same stream after that; in the end 'e', the program's end, or 'l', its
+ * end while another thread is left. Calls before the program's main are not counted.
+ *
+ * REFUSE_MEMORY=N   the N-th malloc, calloc, realloc, reallocarray, aligned_alloc, memalign or
+ *                   posix_memalign returns null
+ * REFUSE_THREAD=N   the N-th pthread_create returns EAGAIN
+ * NO_WORDS=1        the program is given no words, not even its name, as kernels before 5.18 allow
+ * READ_STOPS=K      reads give K bytes, and the next one fails with the error number READ_ERROR
+ * WRITE_STOPS=K     writes to standard output take K bytes, and the next one fails with WRITE_ERROR, or
+ *                   takes none if that is 0 */
 #define _GNU_SOURCE
 #include <dirent.h>
 #include <dlfcn.h>
@@ -36,7 +38,7 @@ static void tell(char what) {
     if (told >= 0) syscall(SYS_write, told, &what, 1);
 }
 
-/* Whether there are other threads; one that has been joined may be listed for a moment still. */
+/* Whether there are other threads; a joined one may be listed for a moment still. */
 static int is_left(void) {
     for (int look = 0; look < 100; look++) {
         int tasks = 0;
@@ -75,7 +77,7 @@ void _exit(int status) {
     __builtin_unreachable();
 }
 
-/* Puts the function of the C library that has a name into a pointer to a function. */
+/* Finds the function of the C library with this name, and stores it in a pointer to a function. */
 static void find(const char *name, void *pointer) {
     void *found = dlsym(RTLD_NEXT, name);
     memcpy(pointer, &found, sizeof found);

@@ -1,5 +1,5 @@
-/* Between a program and the C library's heap: of the allocations of all threads the N-th answers null. What is allocated in a pause is
-   not counted; pauses may stand inside one another. */
+/* Lies between a program and the C library's heap: the N-th allocation of all threads together returns
+ * null. Allocations in a pause are not counted; pauses may be nested. */
 #include <stdatomic.h>
 #include <stdint.h>
 #include <stdlib.h>

@@ -1,1 +1,1 @@
-"""What the tests share: where things are, how checks are counted, and how scripts of tests are run."""
+"""Shared by the tests: paths, counted checks, and the runner of test scripts."""

@@ -1,4 +1,4 @@
-"""The structs of include/rudekpi.h: those that the Python client has, and those that it does without."""
+"""The structs of include/rudekpi.h: those that the Python client defines, and the others."""
 
 from __future__ import annotations
 
@@ -15,7 +15,7 @@ COUNTS = ("nodes", "edges", "pairs", "enabled", "charge", "spent")
 
 
 class Told(ctypes.Structure):
-    """What a call tells of its entry."""
+    """What a call reports of its entry."""
 
     _fields_ = [(name, ctypes.c_uint32) for name in ("entry", "refusal", "target")] + [("rows", ctypes.c_size_t)]
 
@@ -27,12 +27,10 @@ class Row(ctypes.Structure):
 
 
 class Item(ctypes.Structure):
-    """A node of a step, with the target that is wished, or 0."""
+    """A node of a step, with the wished target, or 0."""
 
     _fields_ = [("node", ctypes.c_uint32), ("wish", ctypes.c_uint32)]
 
 
 class Counts(ctypes.Structure):
-    """What `status` counts."""
-
     _fields_ = [(name, ctypes.c_uint32) for name in COUNTS]

@@ -1,4 +1,4 @@
-"""Reads case files, whose form the help of tests/run tells."""
+"""Reads case files; the help of tests/run describes their form."""
 
 from __future__ import annotations
 
@@ -30,7 +30,7 @@ Block = tuple[int, bytes]
 
 
 class Malformed(Exception):
-    """A case file has a wrong form at a line."""
+    """A case file is malformed at a line."""
 
     def __init__(self, line: int, why: str) -> None:
         super().__init__(why)
@@ -39,7 +39,8 @@ class Malformed(Exception):
 
 @dataclasses.dataclass
 class Wanted:
-    """What a case says of an output stream. Blocks are pairs of how often bytes come and the bytes."""
+    """The expectations of a case for an output stream. Blocks are pairs: how often bytes come, and the
+    bytes."""
 
     blocks: list[Block] = dataclasses.field(default_factory=list)
     parts: list[bytes] = dataclasses.field(default_factory=list)
@@ -73,7 +74,6 @@ class Case:
 
 
 def unescaped(text: str) -> bytes:
-    """The bytes of an escaped string with its quotes."""
     found = bytearray()
     rest = text[1:-1]
     while rest:
@@ -90,7 +90,6 @@ def unescaped(text: str) -> bytes:
 
 
 def text_bytes(number: int, text: str) -> tuple[bytes, bool]:
-    """The bytes of a TEXT, and whether it is an escaped string."""
     if not text.startswith('"'):
         return text.encode(), False
     if not re.fullmatch(STRING, text):
@@ -99,13 +98,11 @@ def text_bytes(number: int, text: str) -> tuple[bytes, bool]:
 
 
 def literal_bytes(number: int, text: str) -> bytes:
-    """The bytes of a line below a part."""
     found, quoted = text_bytes(number, text)
     return found if quoted else found + b"\n"
 
 
 def word_list(number: int, text: str) -> list[bytes]:
-    """The words of a line, each as bytes."""
     words = []
     place = 0
     while text:
@@ -126,7 +123,7 @@ def word_list(number: int, text: str) -> list[bytes]:
 
 
 def grouped(path: pathlib.Path) -> list[tuple[int, str, list[tuple[int, str]]]]:
-    """The parts of a file, each with its number and the numbered lines below it."""
+    """Each part with its number and the numbered lines below it."""
     parts: list[tuple[int, str, list[tuple[int, str]]]] = []
     for number, raw in enumerate(path.read_bytes().split(b"\n"), 1):
         if not all(32 <= byte < 127 for byte in raw):
@@ -148,7 +145,7 @@ def grouped(path: pathlib.Path) -> list[tuple[int, str, list[tuple[int, str]]]]:
 
 
 def add_part(case: Case, number: int, found: re.Match[str], below: list[tuple[int, str]]) -> bool:
-    """Adds a part to a case. Answers whether lines belong below it."""
+    """Returns whether lines belong below it."""
     if found["words"]:
         if case.words is not None:
             raise Malformed(number, "a second 'words'")
@@ -191,7 +188,6 @@ def add_part(case: Case, number: int, found: re.Match[str], below: list[tuple[in
 
 
 def check_case(case: Case) -> None:
-    """Stops at a case of which a part lacks or contradicts another."""
     for there, why in (
         (case.status is None, "no 'status'"),
         (case.words is None and case.table != "words", "no 'words'"),
@@ -209,7 +205,6 @@ def check_case(case: Case) -> None:
 
 
 def read_cases(path: pathlib.Path) -> list[Case]:
-    """The cases of a file."""
     cases: list[Case] = []
     for number, line, below in grouped(path):
         found = PARTS.fullmatch(line)
@@ -232,7 +227,7 @@ def read_cases(path: pathlib.Path) -> list[Case]:
 
 
 def runs_of(case: Case) -> Iterator[Case]:
-    """What is to be run of a case: the case itself, or a run for each line of its table; and what is audited."""
+    """The runs of a case: the case itself, or a run for each line of its table; and its audit."""
     if not case.table:
         yield case
     for number, text in case.entries:

@@ -1,4 +1,4 @@
-"""What edits and faults cost, by the tables of docs/BOUNDS.md, of a network that is kept from its entries alone."""
+"""The costs of edits and faults by the tables of docs/BOUNDS.md, in a network kept from its entries alone."""
 
 from __future__ import annotations
 
@@ -9,7 +9,7 @@ from typing import Callable, Iterable, Optional
 
 @dataclasses.dataclass
 class Network:
-    """What the entries have made of a network."""
+    """The network after the entries so far."""
 
     names: int
     present: set[int]
@@ -62,7 +62,7 @@ class Network:
             self.cut(node, other)
 
     def move(self, moves: Iterable[str]) -> None:
-        """The moves of a step, all read in the state before it."""
+        """All read in the state before it."""
         married = {node for node in self.present if self.partner(node)}
         for text in moves:
             name, _, act = text.partition(":")
@@ -73,7 +73,6 @@ class Network:
 
 
 def hsu_huang_cost(net: Network, kind: str, node: int, other: Optional[int] = None) -> int:
-    """The table's column `hh`."""
     target = net.pointers.get(node)
     if kind == "link":
         return 2
@@ -90,7 +89,6 @@ def hsu_huang_cost(net: Network, kind: str, node: int, other: Optional[int] = No
 
 
 def manne_cost(net: Network, kind: str, node: int, other: Optional[int] = None) -> int:
-    """The table's column `manne`."""
     partner = net.partner(node)
     if kind == "link":
         return 2
@@ -107,6 +105,5 @@ def manne_cost(net: Network, kind: str, node: int, other: Optional[int] = None) 
     return 2 if net.pointers.get(node) else 1
 
 
-# An edit or a fault with what it names.
 Event = tuple[str, int, Optional[int]]
 COSTS: dict[str, Callable[[Network, str, int, Optional[int]], int]] = {"hh": hsu_huang_cost, "manne": manne_cost}

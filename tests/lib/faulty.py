@@ -1,4 +1,4 @@
-"""Runs the program with calls that fail, by a preloaded library that is built from tests/faults/refusing_calls.c."""
+"""Runs the program with failing calls, by a preloaded library built from tests/faults/refusing_calls.c."""
 
 from __future__ import annotations
 
@@ -18,14 +18,14 @@ from .runner import Checks
 # How a call fails: the error number, or 0 for a write that takes no byte.
 FAILS, INTERRUPTED, TAKES_NONE = errno.EIO, errno.EINTR, 0
 SOURCE = TOP / "tests" / "faults" / "refusing_calls.c"
-# What a run answers: its status, its output, and what it says on standard error. Without an end the status is `None`.
+# The result of a run: its status, its output, and its standard error. Without an end the status is `None`.
 Answer = tuple[Optional[int], bytes, Optional[bytes]]
 
 
 @dataclasses.dataclass(frozen=True)
 class Ended:
-    """How a run ended, and which failures its calls met, a letter each as refusing_calls.c has them; `l` if a thread
-    was left."""
+    """How a run ended, and which failures its calls met, a letter each as refusing_calls.c has them; `l` if a
+    thread was left."""
 
     status: Optional[int]
     out: bytes
@@ -37,7 +37,8 @@ class Ended:
 
 
 class Faulty:
-    """A program whose calls are made to fail. `folder` is for what is built and told; a run may take `wait` seconds."""
+    """A program with failing calls. `folder` is for the built library and its reports; a run may take `wait`
+    seconds."""
 
     def __init__(self, program: str, folder: str, wait: float) -> None:
         self.program, self.folder, self.wait = program, folder, wait
@@ -54,7 +55,6 @@ class Faulty:
         return None
 
     def refuses_memory(self) -> bool:
-        """Whether the program takes its memory from the C library."""
         return b"m" in self.run(["--version"], REFUSE_MEMORY=1).met
 
     def run(
@@ -76,8 +76,8 @@ class Faulty:
         environment: Optional[Mapping[str, str]],
         err: Union[int, IO[bytes]] = subprocess.PIPE,
     ) -> Answer:
-        """How a run ended; its status is `None` if it took too long. What it says goes to `err`, and is `None` if that
-        is a file."""
+        """The status is `None` if it took too long. Standard error goes to `err`, and is `None` if that is a
+        file."""
         try:
             made = subprocess.run(
                 [self.program, *words],
@@ -92,12 +92,11 @@ class Faulty:
         return made.returncode, made.stdout, made.stderr
 
     def plainly(self, words: Sequence[str], text: bytes = b"") -> Answer:
-        """A run in which nothing is made to fail."""
         return self.ended(words, text, None)
 
 
 class Plain(Checks):
-    """Checks of a program whose calls do not fail; the tests of a class share its folder."""
+    """Checks of a program without failing calls; the tests of a class share its folder."""
 
     program: Faulty
     folder: str
@@ -110,7 +109,6 @@ class Plain(Checks):
         cls.program = Faulty(cls.given.program, cls.folder, cls.given.wait)
 
     def script(self, name: str, text: bytes) -> str:
-        """The path of a file in the folder, with this text."""
         path = os.path.join(self.folder, name)
         with open(path, "wb") as file:
             file.write(text)
@@ -118,7 +116,7 @@ class Plain(Checks):
 
 
 class Failing(Plain):
-    """Checks of a program whose calls are made to fail. All of them are skipped if there is no compiler."""
+    """Checks of a program with failing calls. All of them are skipped if there is no compiler."""
 
     @classmethod
     def setUpClass(cls) -> None:
@@ -129,5 +127,4 @@ class Failing(Plain):
 
 
 def wait_option(parser: argparse.ArgumentParser) -> None:
-    """Lets the words say how many seconds a run may take."""
     parser.add_argument("--wait", type=float, default=60, metavar="SECONDS", help="how long a run may take")

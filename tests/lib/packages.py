@@ -48,13 +48,14 @@ PACKAGES = {
     "WebKitWebDriver": "webkit2gtk-driver",
     "Xvfb": "xvfb",
 }
-# The programs that `.ci/tools` installs for the gate; the libraries are those that `tests/client --lacks` prints.
+# The programs that `.ci/tools` installs for the gate; the libraries are those that `tests/client --lacks`
+# prints.
 OF_THE_GATE = (
     *("chromium", "dot", "firefox-esr", "gcc", "man", "mandoc", "node", "wasm-opt", "WebKitWebDriver", "Xvfb"),
     *("black", "clang", "clang-format", "flake8", "mypy", "shellcheck", "tsc"),
     *("aarch64-linux-gnu-gcc", "cmake", "g++", "make", "pkg-config", "qemu-aarch64", "riscv64-linux-gnu-gcc"),
 )
-# What the gate needs that is no program, by its package.
+# The gate's needs that are no programs, by package.
 FILES = {
     "python3-gi": "/usr/lib/python3/dist-packages/gi/__init__.py",
     "gir1.2-webkit2-4.1": "/usr/lib/*/girepository-1.0/WebKit2-4.1.typelib",
@@ -62,12 +63,11 @@ FILES = {
 
 
 def missing_files() -> list[str]:
-    """Debian's packages of the files that the gate needs and that are not there."""
+    """Debian's packages of the gate's missing files."""
     return [package for package, path in FILES.items() if not glob.glob(path)]
 
 
 def missing_packages() -> list[str]:
-    """Debian's packages of the programs and files that the gate needs and that are not there."""
     lacking = [PACKAGES[name] for name in OF_THE_GATE if shutil.which(name) is None]
     return [*(package for it in lacking for package in it.split()), *missing_files()]
 

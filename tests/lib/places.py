@@ -1,4 +1,4 @@
-"""Where the repository, the program and the library are."""
+"""The paths of the repository, the program and the library."""
 
 from __future__ import annotations
 
@@ -13,11 +13,11 @@ BUILT = TOP / "crates" / "console" / "out" / "console"
 
 
 class Missing(Exception):
-    """Something that the tests need is not there; the text says what, in one line."""
+    """Something that the tests need is missing; the text names it in one line."""
 
 
 def program_at(path: Union[str, os.PathLike[str]]) -> pathlib.Path:
-    """The program at a path, as an absolute path. Raises `Missing` if nothing there can be run."""
+    """The absolute path. Raises `Missing` if it can't be run."""
     found = pathlib.Path(os.path.abspath(path))
     if not os.access(found, os.X_OK) or found.is_dir():
         raise Missing(f"no program at {found}")
@@ -25,7 +25,7 @@ def program_at(path: Union[str, os.PathLike[str]]) -> pathlib.Path:
 
 
 def built_program() -> pathlib.Path:
-    """The program that `./console` runs: it is taken from release/, or built, if need be. Raises `Missing` if there
+    """The program that `./console` runs, taken from release/ or built if need be. Raises `Missing` if there
     is none."""
     try:
         ran = subprocess.run([TOP / "console", "--version"], stdin=subprocess.DEVNULL, stdout=subprocess.DEVNULL)
@@ -37,12 +37,11 @@ def built_program() -> pathlib.Path:
 
 
 def program_of(given: Optional[str]) -> pathlib.Path:
-    """The program that is named, or else the one that `./console` runs. Raises `Missing` if there is none."""
+    """The named program, or else the one that `./console` runs. Raises `Missing` if there is none."""
     return built_program() if given is None else program_at(given)
 
 
 def library_in(folder: Union[str, os.PathLike[str]]) -> pathlib.Path:
-    """The shared library in a folder. Raises `Missing` if there is none."""
     found = pathlib.Path(os.path.abspath(folder)) / "librudekpi.so"
     if not found.is_file():
         raise Missing(f"no library at {found}")
@@ -50,7 +49,7 @@ def library_in(folder: Union[str, os.PathLike[str]]) -> pathlib.Path:
 
 
 def is_as_released() -> bool:
-    """Whether the sources are those of which the program in release/ was made."""
+    """Whether the program in release/ was made from the sources."""
     try:
         digest = subprocess.run([TOP / "scripts" / "digest"], capture_output=True, text=True, check=True).stdout
         told = (RELEASE / "MADE_FROM").read_text(encoding="ascii").splitlines()

@@ -1,4 +1,5 @@
-"""Checks of the program that the words name: its runs, and files in a folder that the tests of a class share."""
+"""Checks of the program that the words name: its runs, and files in a folder that the tests of a class share.
+"""
 
 from __future__ import annotations
 
@@ -11,22 +12,19 @@ from .runner import Checks
 
 
 def pipe(end: Optional[IO[bytes]]) -> IO[bytes]:
-    """One of a process's streams that is a pipe. Raises `ValueError` if it is none."""
+    """Raises `ValueError` if the stream is no pipe."""
     if end is None:
         raise ValueError("this stream is no pipe")
     return end
 
 
 def pipe_of_text(end: Optional[IO[str]]) -> IO[str]:
-    """The same for a stream of text."""
     if end is None:
         raise ValueError("this stream is no pipe")
     return end
 
 
 class ProgramChecks(Checks):
-    """Tests that run the program to its end."""
-
     folder: str
     # the most seconds that a run may take
     seconds = 600
@@ -38,16 +36,14 @@ class ProgramChecks(Checks):
         cls.folder = made.name
 
     def run_program(self, words: Sequence[str], text: bytes = b"") -> tuple[int, bytes, bytes]:
-        """The status of a run, its output, and what it says on standard error."""
+        """The status of a run, its output, and its standard error."""
         made = subprocess.run([self.given.program, *words], input=text, capture_output=True, timeout=self.seconds)
         return made.returncode, made.stdout, made.stderr
 
     def verdict(self, text: bytes) -> str:
-        """What the program's audit says of a transcript."""
         return self.run_program(["audit"], text)[1].decode()
 
     def script(self, name: str, text: Union[str, bytes]) -> str:
-        """The path of a file in the folder, with this text."""
         path = os.path.join(self.folder, name)
         with open(path, "wb") as file:
             file.write(text if isinstance(text, bytes) else text.encode())

@@ -9,7 +9,7 @@ LINES = 60
 
 
 def script(chance: random.Random, nodes: int) -> str:
-    """Lines for a network of these many names; some speak of the name behind the last."""
+    """Lines for a network of these many names; some use the name after the last."""
 
     def name() -> int:
         return chance.randint(1, nodes + 1)
@@ -38,6 +38,5 @@ def script(chance: random.Random, nodes: int) -> str:
 
 
 def damaged(chance: random.Random, text: bytes) -> bytes:
-    """The bytes with one that is changed, left out or put in."""
     at, other = chance.randrange(len(text)), bytes([chance.choice(b"0123456789 -=>:\nabe")])
     return text[:at] + chance.choice([other + text[at + 1 :], text[at + 1 :], other + text[at:]])

@@ -1,4 +1,5 @@
-"""Who is at rest, and whom edits and faults reach, by docs/BOUNDS.md; a network is that of tests/lib/cost_tables.py."""
+"""The nodes at rest, and those that edits and faults reach, by docs/BOUNDS.md; a network is that of
+tests/lib/cost_tables.py."""
 
 from __future__ import annotations
 
@@ -8,7 +9,6 @@ from .cost_tables import Network
 
 
 def lone(net: Network, node: int) -> set[int]:
-    """The neighbours of a node that are in no pair."""
     return {other for other in net.near[node] if net.partner(other) is None}
 
 
@@ -21,7 +21,6 @@ def is_at_rest(net: Network, rules: str, node: int) -> bool:
 
 
 def point_reach(net: Network, node: int, target: Optional[int]) -> set[int]:
-    """Of a pointer that is written."""
     partner = net.partner(node)
     if partner is None:
         return set() if target in (None, net.pointers.get(node)) else {node}

@@ -1,4 +1,5 @@
-"""Runs the tests of a script: `--help`, a program to test, names to choose, each check counted, and one last line."""
+"""Runs the tests of a script: `--help`, a program to test, names to choose, each check counted, and one last
+line."""
 
 from __future__ import annotations
 
@@ -15,22 +16,22 @@ from . import places
 from .tally import Tally
 
 ExcInfo = Union[Tuple[Type[BaseException], BaseException, types.TracebackType], Tuple[None, None, None]]
-# what all tests of a run share
+# shared by all tests of a run
 TALLY = Tally()
 
 
 class Checks(unittest.TestCase):
-    """A test whose checks are counted one by one: one that fails is printed, and the test goes on.
+    """A test that counts its checks one by one; a failed one is printed, and the test goes on.
 
-    `given` has the words of the command line, `tally` the counts. A test of this kind that makes no check has failed;
-    one of `unittest.TestCase` alone counts as one check.
+    `given` has the words of the command line, `tally` the counts. A test of this kind without a check has
+    failed; one of `unittest.TestCase` alone counts as one check.
     """
 
     given = argparse.Namespace()
     tally = TALLY
 
     def expect(self, name: str, came: object, wanted: object) -> bool:
-        """Counts whether a value is the one that is wanted, and returns it."""
+        """Counts whether a value is the expected one, and returns it."""
         return self.tally.expect(name, came, wanted)
 
     def require(self, name: str, holds: object, told: object = "it does not hold") -> bool:
@@ -39,7 +40,8 @@ class Checks(unittest.TestCase):
 
 
 class Counting(unittest.TestResult):
-    """The result of a run, told to a tally. A test with several wrong subtests counts as one that failed."""
+    """Reports the result of a run to a tally. A test with several wrong subtests counts as one that
+    failed."""
 
     def __init__(self, tally: Tally) -> None:
         super().__init__()
@@ -59,7 +61,7 @@ class Counting(unittest.TestResult):
                 self.note(test, "it made no check")
             else:
                 self.tally.passed += 1
-        # what comes now is no test's: the beginning or the end of a class
+        # what follows belongs to no test: the beginning or the end of a class
         self.wrong = False
 
     def note(self, test: unittest.TestCase, told: str) -> None:
@@ -86,13 +88,13 @@ class Counting(unittest.TestResult):
 
 
 def tests_of(cases: Iterable[Type[unittest.TestCase]]) -> Iterator[unittest.TestCase]:
-    """The tests of some classes, in the order in which they are written."""
     for case in cases:
         yield from (case(name) for name in vars(case) if name.startswith("test_"))
 
 
 def name_of(test: unittest.TestCase) -> str:
-    """A test's name without the script's, or the name of a class whose beginning failed or skipped its tests."""
+    """A test's name without the script's, or the name of a class whose beginning failed or skipped its
+    tests."""
     name = test.id()
     if name.startswith("setUpClass (") and name.endswith(")"):
         name = name[len("setUpClass (") : -1]
@@ -100,19 +102,18 @@ def name_of(test: unittest.TestCase) -> str:
 
 
 def fits(test: unittest.TestCase, names: Sequence[str]) -> bool:
-    """Whether a test's name has one of the names in it, or fits one as a pattern. No names fit all."""
+    """A name is a part of the test's name, or a pattern. No names fit all."""
     own = name_of(test)
     return not names or any(name in own or fnmatch.fnmatchcase(own.rsplit(".", 1)[-1], name) for name in names)
 
 
 def run_tests(tests: Iterable[unittest.TestCase], tally: Tally = TALLY) -> Tally:
-    """Runs tests one after another, and counts what comes of them."""
     unittest.TestSuite(tests).run(Counting(tally))
     return tally
 
 
 def parser_of(doc: str) -> argparse.ArgumentParser:
-    """A parser of words whose help is a script's own text, which has its usage in the second paragraph."""
+    """A parser whose help is a script's own docstring, with its usage in the second paragraph."""
     name = f"tests/{os.path.basename(sys.argv[0])}"
     parser = argparse.ArgumentParser(prog=name, description=doc, usage=argparse.SUPPRESS)
     parser.formatter_class = argparse.RawDescriptionHelpFormatter
@@ -126,18 +127,16 @@ def parser_of(doc: str) -> argparse.ArgumentParser:
 
 
 def program_option(parser: argparse.ArgumentParser) -> None:
-    """Lets the words name the program that is tested."""
     parser.add_argument("--program", metavar="PATH", help="the program that is tested")
 
 
 def names_option(parser: argparse.ArgumentParser) -> None:
-    """Lets the words choose tests, and list them."""
     parser.add_argument("--list", action="store_true", help="print the names of the tests")
     parser.add_argument("names", nargs="*", metavar="NAME", help="a part of a test's name, or a pattern")
 
 
 def stop(why: object) -> int:
-    """Prints one line on standard error, and returns the exit status for wrong words or a missing program."""
+    """Returns the exit status for wrong words or a missing program."""
     print(f"tests/{os.path.basename(sys.argv[0])}: {why}", file=sys.stderr)
     return 2
 
@@ -148,7 +147,8 @@ Options = Callable[[argparse.ArgumentParser], Any]
 def main(doc: str, cases: Sequence[Type[unittest.TestCase]], *options: Options) -> int:
     """Reads the words, runs the tests that they choose, and returns the exit status.
 
-    0: some checks passed and none failed; 1: one failed, or none passed; 2: wrong words, or no program at the path."""
+    0: some checks passed and none failed; 1: one failed, or none passed; 2: wrong words, or no program at
+    the path."""
     parser = parser_of(doc)
     for option in options:
         option(parser)

@@ -1,4 +1,4 @@
-"""Runs several scripts of tests one after another, and adds up what they count."""
+"""Runs several scripts of tests one after another, and adds up their counts."""
 
 from __future__ import annotations
 
@@ -21,26 +21,27 @@ INDENT = "    "
 
 @dataclasses.dataclass(frozen=True)
 class Suite:
-    """A script of tests: what it tests, its words, and those of the short run, or `None` if that leaves it out."""
+    """A script of tests: its subject, its words, and those of the short run, or `None` if that leaves it
+    out."""
 
     name: str
     about: str
     words: tuple[str, ...]
     quick: Optional[tuple[str, ...]] = None
-    # programs without which nothing of it runs
+    # programs that it cannot run without
     needs: tuple[str, ...] = ()
-    # says what else is lacking, or nothing
+    # returns what else is missing, or nothing
     lacks: Callable[[], str] = str
 
     def missing(self) -> str:
-        """What keeps the suite from running, as one line; empty if nothing does."""
+        """Why the suite can't run, as one line; empty if it can."""
         absent = [need for need in self.needs if shutil.which(need) is None]
         return ", ".join(f"no {need}" for need in absent) or self.lacks()
 
 
 @dataclasses.dataclass
 class Result:
-    """What came of a suite: its counts, the lines that name what it skipped, all that it printed, and its seconds."""
+    """Counts, lines on skipped checks, the whole output, and seconds."""
 
     passed: int = 0
     failed: int = 0
@@ -49,12 +50,11 @@ class Result:
     seconds: float = 0.0
 
     def line(self) -> str:
-        """The counts as the line with which each script of tests ends."""
         return f"{self.passed} passed, {self.failed} failed, {len(self.skipped)} skipped"
 
 
 def counts_in(text: str) -> Optional[tuple[int, int]]:
-    """How many checks passed and failed by a suite's last line, or by the last lines of `node --test`; `None`
+    """The checks that passed and failed by a suite's last line, or by the last lines of `node --test`; `None`
     without such."""
     lines = text.splitlines()
     found = ENDED.match(lines[-1]) if lines else None
@@ -65,10 +65,11 @@ def counts_in(text: str) -> Optional[tuple[int, int]]:
 
 
 def judged(text: str, status: Optional[int]) -> Result:
-    """What a suite's text and exit status say. The status is `None` if it was ended for taking too long.
+    """The result from a suite's text and exit status. The status is `None` if it was ended for taking too
+    long.
 
-    A suite that fails without a count of failures counts as one failure: it ended by a signal, or printed no
-    counts, or its status and its counts disagree. One that ends well with nothing but skipped checks is no
+    A suite that fails without a count of failures counts as one failure: it ended by a signal, or printed
+    no counts, or its status and its counts disagree. One that ends well with only skipped checks is no
     failure."""
     skipped = [line[len(SKIPPED) :] for line in text.splitlines() if line.startswith(SKIPPED)]
     counts = counts_in(text)
@@ -89,7 +90,6 @@ def judged(text: str, status: Optional[int]) -> Result:
 
 
 def run_suite(words: Iterable[str], seconds: float) -> Result:
-    """Runs a command to its end, or for `seconds` at most, and judges what it printed and how it ended."""
     began = time.monotonic()
     try:
         ran = subprocess.run(
@@ -112,13 +112,11 @@ def run_suite(words: Iterable[str], seconds: float) -> Result:
 
 
 def package_of(reason: str) -> Optional[str]:
-    """Debian's package that has what a skipped check lacks, or `None` if the line names no such."""
+    """Debian's package for a skipped check, or `None` if the line names none."""
     return next((PACKAGES[name] for name in LACKED.findall(reason) if name in PACKAGES), None)
 
 
 class Report:
-    """What came of all suites, printed as they end."""
-
     def __init__(self, out: TextIO) -> None:
         self.out, self.total = out, Result()
 
@@ -126,7 +124,7 @@ class Report:
         print(text, file=self.out, flush=True)
 
     def add(self, name: str, result: Result) -> None:
-        """Prints a suite's line, what it skipped, and if it failed all that it printed."""
+        """Prints a suite's line, its skipped checks, and if it failed its output."""
         self.total.passed += result.passed
         self.total.failed += result.failed
         self.total.skipped += result.skipped

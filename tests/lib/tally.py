@@ -1,23 +1,22 @@
-"""How many checks passed, failed and were skipped, and the last line that says so."""
+"""Counts how many checks passed, failed and were skipped, and prints the last line."""
 
 from __future__ import annotations
 
 import sys
 from typing import Sequence, TextIO
 
-# How much of a value is printed.
+# The length at which a printed value is cut.
 SHOWN = 600
 INDENT = "    "
 
 
 def shown(value: object) -> str:
-    """A value as text, cut after its first characters."""
     text = value if isinstance(value, str) else repr(value)
     return text if len(text) <= SHOWN else f"{text[:SHOWN]} .."
 
 
 class Tally:
-    """Counts checks. Each that fails is printed as it fails, and each that is skipped is named."""
+    """Counts checks. Prints each that fails, and names each that is skipped."""
 
     def __init__(self, out: TextIO = sys.stdout) -> None:
         self.out = out
@@ -27,7 +26,7 @@ class Tally:
         print(text, file=self.out, flush=True)
 
     def expect(self, name: str, came: object, wanted: object) -> bool:
-        """Counts whether a value is the one that is wanted, and returns it."""
+        """Counts whether a value is the expected one, and returns it."""
         return self.require(name, came == wanted, lambda: f"{shown(came)}, and not {shown(wanted)}")
 
     def require(self, name: str, holds: object, told: object = "it does not hold") -> bool:
@@ -40,7 +39,6 @@ class Tally:
         return bool(holds)
 
     def fail(self, name: str, told: str) -> None:
-        """Counts a check that failed, and prints its name and why: below it, if that has several lines."""
         self.failed += 1
         lines = told.rstrip("\n").split("\n")
         self.print(
@@ -48,7 +46,7 @@ class Tally:
         )
 
     def same(self, name: str, differs: Sequence[str]) -> None:
-        """Counts a comparison, which passes if nothing differs. What differs is printed below the name."""
+        """Counts a comparison, which passes if nothing differs. Prints differences below the name."""
         if differs:
             self.failed += 1
             self.print("\n".join([name, *(INDENT + line for line in differs)]))
@@ -56,7 +54,6 @@ class Tally:
             self.passed += 1
 
     def skip(self, name: str, why: str) -> None:
-        """Counts a check that is skipped, and prints its name and what it lacks."""
         self.skipped += 1
         self.print(f"skipped: {name}: {why}")
 

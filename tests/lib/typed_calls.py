@@ -1,4 +1,4 @@
-"""The library's calls that are given numbers in place of a line, beside what the line's entry says."""
+"""Compares the library's calls that take numbers instead of a line with the line's entry."""
 
 from __future__ import annotations
 
@@ -11,12 +11,11 @@ from .c_structs import COUNTS, Counts, Item, Row, Told
 DONE, REFUSED = 0, 6
 RULES = {"update": 1, "marry": 2, "seduce": 3, "abandon": 4}
 EDITS = {"link": 2, "unlink": 2, "join": 1, "leave": 1, "point": 2, "flag": 2}
-# The calls of the library by their names behind `rudekpi_`.
+# The calls of the library by their names after `rudekpi_`.
 Calls = dict[str, Any]
 
 
 def typed(library: ctypes.CDLL, slot: Any) -> Calls:
-    """The calls of a shared library, with their types."""
     number, told = ctypes.c_uint32, ctypes.POINTER(Told)
     of: dict[str, list[Any]] = {name: [number] for name in ("join", "leave", "show")} | {
         name: [number] * 2 for name in ("link", "unlink", "point")
@@ -63,7 +62,7 @@ def typed(library: ctypes.CDLL, slot: Any) -> Calls:
 
 
 def made(calls: Calls, slot: Any, line: str, told: Told) -> tuple[int, Optional[list[int]]]:
-    """The status of the call that stands for a line, and what it tells of counts."""
+    """The status of the call for a line, and the counts that it reports."""
     word, *names = line.split(" ")
     numbers = [int(name) if name != "-" else 0 for name in names] if word != "step" else []
     if word == "step":
@@ -76,7 +75,7 @@ def made(calls: Calls, slot: Any, line: str, told: Told) -> tuple[int, Optional[
 
 
 def rows(calls: Calls, slot: Any) -> list[tuple[int, int, int]]:
-    """The rows of the last answer, which are handed out whole or not at all."""
+    """They come whole or not at all."""
     size = calls["rows"](slot, Row(), 0)
     room = (Row * (size + 1))(*[Row(9, 9, 9)] * (size + 1))
     if size and (calls["rows"](slot, room, size - 1) != size or room[0].node != 9 or room[0].other != 9):
@@ -96,7 +95,7 @@ def row_of(word: str) -> tuple[int, int, int]:
 
 
 def expected(line: str, entries: list[str], base: int) -> tuple[object, ...]:
-    """What a line's entries say: the status, the numbers that are told, the rows, and the counts."""
+    """The call's expected result by a line's entries: the status, the numbers, the rows, and the counts."""
     word = line.split(" ")[0]
     if word in ("drive", "scramble", "checkpoint"):
         return DONE, (base if not entries else int(entries[-1].split(" ")[0]), 0, 0, 0), [], None
@@ -112,7 +111,7 @@ def expected(line: str, entries: list[str], base: int) -> tuple[object, ...]:
 
 
 def differs(calls: Calls, slot: Any, line: str, text: bytes, last: int) -> Optional[str]:
-    """What is wrong with the call for a line whose text, with the entries in front of it so many, is this, or None."""
+    """What is wrong with the call for a line with this text, after this many entries, or None."""
     entries = [it for it in text.decode().splitlines() if re.match(r"\d", it)]
     told = Told(9, 9, 9, 9)
     status, counts = made(calls, slot, line, told)
@@ -122,7 +121,6 @@ def differs(calls: Calls, slot: Any, line: str, text: bytes, last: int) -> Optio
 
 
 def partners(calls: Calls, slot: Any, nodes: int) -> set[tuple[int, int]]:
-    """The pairs, as each node tells its partner."""
     found = ctypes.c_uint32()
     pairs: set[tuple[int, int]] = set()
     for node in range(1, nodes + 2):
@@ -134,7 +132,6 @@ def partners(calls: Calls, slot: Any, nodes: int) -> set[tuple[int, int]]:
 
 
 def cost(calls: Calls, slot: Any, kind: str, *numbers: Optional[int]) -> int:
-    """What an edit or a fault is told to cost."""
     found = ctypes.c_uint32(9)
     if calls[f"cost_of_{kind}"](slot, *(number or 0 for number in numbers), found) != DONE:
         raise ValueError(f"no cost for {kind} {numbers}")
@@ -142,7 +139,7 @@ def cost(calls: Calls, slot: Any, kind: str, *numbers: Optional[int]) -> int:
 
 
 def reach(calls: Calls, slot: Any, room: int, kind: str, *numbers: Optional[int]) -> tuple[Optional[list[int]], int]:
-    """Whom an edit or a fault is told to reach, and how many; the list is None where nothing was written to `out`."""
+    """The list is None if `out` was not written."""
     out, count = (ctypes.c_uint32 * (room + 1))(*[0] * (room + 1)), ctypes.c_size_t(9)
     if calls[f"reach_of_{kind}"](slot, *(number or 0 for number in numbers), out, room, count) != DONE:
         raise ValueError(f"no reach of {kind} {numbers}")
@@ -151,7 +148,6 @@ def reach(calls: Calls, slot: Any, room: int, kind: str, *numbers: Optional[int]
 
 
 def is_at_rest(calls: Calls, slot: Any, node: int) -> bool:
-    """Whether a node is told to be at rest."""
     found = ctypes.c_bool(True)
     if calls["is_at_rest"](slot, node, found) != DONE:
         raise ValueError(f"no answer whether {node} is at rest")
@@ -159,7 +155,6 @@ def is_at_rest(calls: Calls, slot: Any, node: int) -> bool:
 
 
 def left(calls: Calls, slot: Any) -> int:
-    """How many moves can still come, as the library says."""
     found = ctypes.c_uint32(9)
     if calls["moves_left"](slot, ctypes.byref(found)) != DONE:
         raise ValueError("no answer how many moves can still come")
@@ -167,5 +162,6 @@ def left(calls: Calls, slot: Any) -> int:
 
 
 def most_left(rules: int, charge: int, nodes: int) -> int:
-    """The smaller of the charge and, under the rules 0, n²/2 + n - 2 with the half rounded down; never below 0."""
+    """The smaller of the charge and, under the rules 0, n²/2 + n - 2 with the half rounded down; never below
+    0."""
     return min(charge, max(0, nodes * nodes // 2 + nodes - 2)) if rules == 0 else charge

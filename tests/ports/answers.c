@@ -1,7 +1,8 @@
-/* Plays scripts and judges transcripts, one after another, so that one emulated process serves many. Each question on
- * standard input is a line and bytes behind it: `play RULES NODES PRESENT SIZE` and a script, or `audit SIZE` and a
- * transcript. Each answer on standard output is a line with its size and so many bytes: the session's transcript, up to
- * the first line that is not carried out, or the verdict's numbers. Build: cc answers.c librudekpi.a */
+/* Plays scripts and judges transcripts, one after another, so that one emulated process serves many. Each
+ * question on standard input is a line followed by bytes: `play RULES NODES PRESENT SIZE` and a script, or
+ * `audit SIZE` and a transcript. Each answer on standard output is a line with its size, followed by its
+ * bytes: the session's transcript, up to the first line that is not carried out, or the verdict's numbers.
+ * Build: cc answers.c librudekpi.a */
 #include <stdio.h>
 #include <stdlib.h>
 #include <string.h>

@@ -1,11 +1,11 @@
-// The entry's number in the page's address, so that an address leads back to it.
+// The entry number in the page's address, so that a link leads back to the entry.
 
 // browsers refuse more than some hundred changes of an address in half a minute
 const LEAST_GAP = 400;
 
 export class Address {
   /**
-   * `goTo` is called where somebody writes another number there, until `signal` ends it.
+   * Calls `goTo` if someone edits the address, until `signal` ends it.
    * @param {(number: number) => void} goTo
    * @param {AbortSignal} signal
    */
@@ -13,10 +13,7 @@ export class Address {
     this.written = -Infinity;
     /** @type {ReturnType<typeof setTimeout> | null} */
     this.timer = null;
-    /**
-     * What is to be written, or null.
-     * @type {number | null}
-     */
+    /** @type {number | null} */
     this.number = null;
     this.known = location.hash;
     const heard = () => {
@@ -30,13 +27,12 @@ export class Address {
     signal.addEventListener("abort", () => clearTimeout(this.timer));
   }
 
-  /** The number that stands there, or null. */
   get entry() {
     return /^#\d+$/.test(location.hash) ? Number(location.hash.slice(1)) : null;
   }
 
   /**
-   * Writes a number soon: the last of those that come at once.
+   * Writes a number soon, the last of several.
    * @param {number} number
    */
   show(number) {
@@ -47,7 +43,7 @@ export class Address {
   write() {
     clearTimeout(this.timer);
     this.timer = null;
-    // what somebody has just written there is not written over, but gone to
+    // a number that someone has just typed is not overwritten: the page goes to it
     if (this.number !== null && this.number !== this.entry && location.hash === this.known) {
       this.written = performance.now();
       history.replaceState(history.state, "", `#${this.number}`);

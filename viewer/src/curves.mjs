@@ -1,11 +1,11 @@
-// Lines of a plot as paths. A line holds each value until the next entry; where many entries share a pixel it is their
-// mean, and a band behind it goes from their least to their greatest.
+// Lines of a plot as paths. Each value holds until the next entry. If entries share a pixel, the line is
+// their mean, in a band from the least to the greatest.
 
-// so many pixels has a column that stands for several entries
+// the width in pixels of a column for several entries
 const COLUMN = 2;
 
 /**
- * Steps of 1, 2 or 5 times a power of ten, of which at most `most` fit.
+ * The step, 1, 2 or 5 times a power of ten, that fits at most `most` times into a range.
  * @param {number} range
  * @param {number} most
  */
@@ -16,7 +16,7 @@ export function stepOf(range, most) {
 }
 
 /**
- * So many entries share a column of a plot that has places for 0 to `last`, and is so wide; 1 where each has its own.
+ * How many entries share a column of a plot for 0 to `last`, `width` pixels wide; 1 if each has its own.
  * @param {number} last
  * @param {number} width
  */
@@ -25,7 +25,7 @@ export function strideOf(last, width) {
 }
 
 /**
- * The least, the greatest and the mean of each `stride` of the values of 0 to `last`, with the middle of their places.
+ * The least, greatest and mean value and the middle place of each column of `stride` values.
  * @param {(at: number) => number} valueAt
  * @param {number} last
  * @param {number} stride
@@ -64,7 +64,6 @@ export function stepPath(valueAt, last, xOf, yOf) {
 }
 
 /**
- * A line through the means of columns.
  * @param {Column[]} columns
  * @param {(at: number) => number} xOf
  * @param {(value: number) => number} yOf

@@ -1,4 +1,5 @@
-// Places whose distances are like those along the edges: classical scaling with a few pivots (Brandes and Pich, 2007).
+// Places whose distances resemble those along the edges: classical scaling with a few pivots (Brandes and
+// Pich, 2007).
 
 const PIVOTS = 30;
 const ROUNDS = 60;
@@ -23,7 +24,7 @@ function stepsFrom(start, lists) {
 }
 
 /**
- * Squared distances from nodes that lie far apart, one column a pivot.
+ * Squared distances from nodes that lie far apart, one column for each pivot.
  * @param {number[][]} lists
  */
 function pivotColumns(lists) {
@@ -45,10 +46,7 @@ function mean(numbers) {
   return [...numbers].reduce((a, b) => a + b, 0) / numbers.length;
 }
 
-/**
- * Takes the mean of each row and column away.
- * @param {Float64Array[]} columns
- */
+/** @param {Float64Array[]} columns */
 function centre(columns) {
   const columnMeans = columns.map(mean);
   const rowMeans = columns[0].map((_, v) => mean(columns.map((column) => column[v])));
@@ -70,7 +68,7 @@ function product(a, b) {
 }
 
 /**
- * The direction in which the pivots' products are greatest, at a right angle to those found before.
+ * The direction with the greatest products of the pivots, at a right angle to those found before.
  * @param {number[][]} products
  * @param {number[][]} before
  */
@@ -89,7 +87,7 @@ function principal(products, before) {
 }
 
 /**
- * Places of the nodes 0, 1, .., in which an edge is about `spacing` long.
+ * Places for the nodes 0, 1, .., with edges about `spacing` long.
  * @param {number[][]} lists
  * @param {number} spacing
  */

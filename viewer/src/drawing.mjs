@@ -1,16 +1,16 @@
-// The network as a drawing: every element keeps its place, and is written anew only where it shows something else.
+// The network as a drawing. Elements keep their places, and only those that change are written anew.
 import {add} from "./svg.mjs";
 
 export const MOST_DRAWN = 2000;
 export const RADIUS = 12;
-// so many edges a node make a drawing dense: its plain edges are faint
+// a drawing with this many edges a node is dense: its plain edges are faint
 const DENSE = 8;
 const ARROW_GAP = 3;
 const MARK_DISTANCE = 16;
-// angles: how far two marks stand from the middle of a wide gap, and what is wide
+// angles: how far two marks lie from the middle of a wide gap, and how wide such a gap is
 const ASIDE = 0.5;
 const WIDE = 1.8;
-// so many pixels a unit, and names can be read; nodes grow where there are fewer, as far as their neighbours leave room
+// names are readable at this many pixels a unit; below it nodes grow, as far as their neighbours leave room
 const READABLE = 0.8;
 const SHARE_OF_GAP = 0.32;
 const MOST_GROWTH = 2;
@@ -23,8 +23,8 @@ const MARKS = {
 };
 
 /**
- * Two places round a node where marks hide no pointer: both in the widest angle between its edges where that is wide,
- * else one in the middle of each of the two widest.
+ * Two angles round a node for marks that hide no pointer: both in the widest gap between edges if it is wide,
+ * else one in each of the two widest gaps.
  * @param {number[]} angles
  */
 export function freeAngles(angles) {
@@ -33,7 +33,7 @@ export function freeAngles(angles) {
   }
   const sorted = [...angles].sort((a, b) => a - b);
   const gaps = sorted.map((angle, at) => ({ from: angle, size: (sorted[at + 1] ?? sorted[0] + 2 * Math.PI) - angle }));
-  // a hair's breadth tells no two angles apart, so that the first of equal ones is taken
+  // rounded, so that of nearly equal gaps the first one is taken
   gaps.sort((one, other) => Math.round(1e6 * (other.size - one.size)));
   /** @param {{ from: number, size: number }} gap */
   const middle = ({ from, size }) => from + size / 2;
@@ -44,7 +44,7 @@ export function freeAngles(angles) {
 }
 
 /**
- * By which factor nodes of this layout may grow until they meet: a few that lie very near each other don't count.
+ * How far nodes may grow until they meet; a few very close ones do not count.
  * @param {Layout} layout
  * @param {number} nodes
  */
@@ -54,7 +54,7 @@ function roomToGrow({ x, y }, nodes) {
     let least = Infinity;
     for (let w = 1; w <= nodes; w += 1) {
       const far = v === w ? 0 : Math.hypot(x[v] - x[w], y[v] - y[w]);
-      // names that were not placed yet lie at one place
+      // names without a place yet share one
       least = far > 0 && far < least ? far : least;
     }
     gaps.push(least);
@@ -69,10 +69,7 @@ function nameSize(name) {
   return [0, 13, 12, 10, 8][String(name).length];
 }
 
-/**
- * The edge of an entry that links or unlinks, with what the entry did to it.
- * @param {Entry | null} entry
- */
+/** @param {Entry | null} entry */
 function changedEdge(entry) {
   if (entry && entry.disturbs && (entry.kind === "link" || entry.kind === "unlink")) {
     const [low, high] = entry.event.split(" ").slice(1).map(Number).sort((a, b) => a - b);
@@ -83,8 +80,8 @@ function changedEdge(entry) {
 
 /** @typedef {{ line: SVGElement, classes: string }} KnownEdge */
 /**
- * @typedef {{ group: SVGElement, classes: string, mark: SVGElement | null, letter: SVGElement | null, flag: SVGElement
- * | null }} Shape
+ * @typedef {{ group: SVGElement, classes: string, mark: SVGElement | null, letter: SVGElement | null,
+ * flag: SVGElement | null }} Shape
  */
 
 export class Drawing {
@@ -98,10 +95,7 @@ export class Drawing {
     this.svg = svg;
     this.layout = layout;
     this.nodes = nodes;
-    /**
-     * At which angles edges leave each node.
-     * @type {number[][]}
-     */
+    /** @type {number[][]} */
     this.angles = Array.from({ length: nodes + 1 }, () => []);
     for (const [v, w] of edgesEver) {
       const angle = Math.atan2(layout.y[w] - layout.y[v], layout.x[w] - layout.x[v]);
@@ -127,8 +121,7 @@ export class Drawing {
   }
 
   /**
-   * Enlarges nodes and marks where a unit of the drawing has few pixels, so that their names can be read; returns the
-   * factor.
+   * Enlarges nodes and marks to keep names readable. Returns the factor.
    * @param {number} pixels
    */
   growFor(pixels) {
@@ -149,7 +142,6 @@ export class Drawing {
   }
 
   /**
-   * The first or the second place of a mark beside a node.
    * @param {number} v
    * @param {number} which
    */
@@ -195,7 +187,7 @@ export class Drawing {
   }
 
   /**
-   * Shows the state of a machine after an entry that named the nodes in `lit`.
+   * Shows a machine's state after an entry that named the nodes in `lit`.
    * @param {import("./machine.mjs").Machine} machine
    * @param {Entry | null} entry
    * @param {number[]} lit
@@ -232,7 +224,7 @@ export class Drawing {
   }
 
   /**
-   * An edge that came has a plus at its middle, and one that went is dashed with a cross.
+   * A new edge has a plus at its middle; a removed one is dashed with a cross.
    * @param {{ low: number, high: number, change: string } | null} changed
    */
   showChange(changed) {
@@ -282,7 +274,7 @@ export class Drawing {
   }
 
   /**
-   * A pointer that is not answered is an arrow; one that is answered is half of a bold edge.
+   * An unanswered pointer is an arrow; an answered one is half of a bold edge.
    * @param {import("./machine.mjs").Machine} machine
    * @param {number} v
    */
@@ -301,7 +293,6 @@ export class Drawing {
   }
 
   /**
-   * Draws the arrow from a node to another.
    * @param {number} v
    * @param {number} target
    */
@@ -309,7 +300,7 @@ export class Drawing {
     const line = this.pointers.get(v)?.line
       ?? add(this.layers.pointers, "line", { class: "pointer", "marker-end": "url(#arrow)" });
     const [[x1, y1], [x2, y2]] = [this.place(v), this.place(target)];
-    // two nodes that lie at one place have no direction
+    // two nodes at one place have no direction
     const length = Math.hypot(x2 - x1, y2 - y1) || 1;
     const [dx, dy] = [(x2 - x1) / length, (y2 - y1) / length];
     const [from, to] = [RADIUS * this.growth, RADIUS * this.growth + ARROW_GAP];
@@ -320,7 +311,7 @@ export class Drawing {
   }
 
   /**
-   * How many nodes that are there touch the box between two places; each has this radius.
+   * How many present nodes of this radius touch the box.
    * @param {Place} from
    * @param {Place} to
    * @param {number} radius

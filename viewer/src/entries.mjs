@@ -16,7 +16,7 @@ function namesOf(entry) {
 }
 
 /**
- * Whether a node may move by this rule, at this target (0 where the rule takes none).
+ * Whether a node may move by this rule, to this target (0 if the rule takes none).
  * @param {import("./machine.mjs").Machine} machine
  * @param {Move} move
  */
@@ -35,7 +35,6 @@ function mayMove(machine, { node, rule, target }) {
 }
 
 /**
- * Whether the moves of a step may be made at once: each by the rule that is enabled, at a target that it allows.
  * @param {import("./machine.mjs").Machine} machine
  * @param {Move[]} moves
  */
@@ -74,7 +73,6 @@ export function isPossible(machine, entry) {
 }
 
 /**
- * Carries out an accepted entry on the machine.
  * @param {import("./machine.mjs").Machine} machine
  * @param {Entry} entry
  */

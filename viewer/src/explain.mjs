@@ -1,5 +1,4 @@
-// What a node or an edge is, in words: its registers, the rule that is enabled there with its guard, and what the
-// charge counts.
+// Explains a node or an edge: its registers, enabled rule with guard, and charge.
 import {lastOf} from "./lists.mjs";
 import {counted} from "./numbers.mjs";
 
@@ -38,7 +37,7 @@ function pointerOf(machine, v) {
 }
 
 /**
- * Where a pointer leads, as the end of a sentence about its node.
+ * The end of a sentence about a node: its target.
  * @param {import("./machine.mjs").Machine} machine
  * @param {number} w
  */
@@ -74,7 +73,6 @@ function whyAbandon(machine, v) {
 }
 
 /**
- * The guard that holds at v, in words.
  * @param {import("./machine.mjs").Machine} machine
  * @param {number} v
  */
@@ -96,7 +94,6 @@ function whyEnabled(machine, v) {
 }
 
 /**
- * Why no guard holds at v, in words.
  * @param {import("./machine.mjs").Machine} machine
  * @param {number} v
  */
@@ -118,7 +115,7 @@ function whyQuiet(machine, v) {
 }
 
 /**
- * What the charge counts at v itself: each part with its count and what for.
+ * The parts of v's charge, each with its count and reason.
  * @param {import("./machine.mjs").Machine} machine
  * @param {number} v
  */
@@ -156,7 +153,7 @@ function chargeOfNode(machine, v) {
 }
 
 /**
- * What is told of a node that is there: a heading, and terms with what is said of each.
+ * A heading, and terms with their descriptions.
  * @param {import("./machine.mjs").Machine} machine
  * @param {number} v
  * @returns {Explained}
@@ -225,7 +222,6 @@ function alongEdge(machine, low, high) {
 }
 
 /**
- * What is told of an edge that is there.
  * @param {import("./machine.mjs").Machine} machine
  * @param {number} low
  * @param {number} high
@@ -246,7 +242,6 @@ export function explainEdge(machine, low, high) {
 }
 
 /**
- * What is told of a node or an edge, whether it is there or not.
  * @param {import("./machine.mjs").Machine} machine
  * @param {Thing | null} thing
  * @returns {Explained}

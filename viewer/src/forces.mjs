@@ -1,16 +1,15 @@
-// Spreads places by forces (Fruchterman and Reingold, 1991): edges pull, and all nodes push one another. Nothing is
-// drawn by chance. Each round looks at every two nodes: with the 2,000 that are drawn at most that is a second in all.
+// Spreads places by forces (Fruchterman and Reingold, 1991): edges pull, all nodes push one another. Nothing
+// is random. Each round looks at all pairs: a second in all for 2,000 nodes, the most that are drawn.
 
 const ROUNDS = 300;
 const PAIRS_IN_ALL = 1e8;
 const APART_ROUNDS = 50;
-// how many spacings square a node has at the most
+// how much room a node has at most, in squares of the spacing
 const ROOM = 1.35;
 const GRAVITY = 0.12;
 const NEAREST = 0.85;
 
 /**
- * Adds to each node the push of every other one.
  * @param {Float64Array} x
  * @param {Float64Array} y
  * @param {Float64Array} pushX
@@ -33,7 +32,6 @@ function pushAll(x, y, pushX, pushY, ideal) {
 }
 
 /**
- * Adds to each node the pull of its neighbours.
  * @param {number[][]} lists
  * @param {Float64Array} x
  * @param {Float64Array} y
@@ -54,7 +52,7 @@ function pullAlong(lists, x, y, pushX, pushY, ideal) {
 }
 
 /**
- * Draws each node to the middle, so that those with few edges do not drift away.
+ * So that nodes with few edges do not drift away.
  * @param {Float64Array} x
  * @param {Float64Array} y
  * @param {Float64Array} pushX
@@ -138,7 +136,6 @@ function part(x, y, least) {
 }
 
 /**
- * Turns places so that they are widest from left to right.
  * @param {Float64Array} x
  * @param {Float64Array} y
  */
@@ -160,13 +157,13 @@ function layFlat(x, y) {
 }
 
 /**
- * Places in which nodes stand about `spacing` apart, and no two much nearer.
+ * Places for nodes about `spacing` apart, and no two much nearer.
  * @param {number[][]} start
  * @param {number[][]} lists
  * @param {number} spacing
  */
 export function spread(start, lists, spacing) {
-  // a little off the start: nodes at one place would push each other nowhere
+  // slightly off the start: nodes at one place would push each other nowhere
   const x = Float64Array.from(start, (place, v) => place[0] + Math.sin(v * 12.9898) * 2);
   const y = Float64Array.from(start, (place, v) => place[1] + Math.cos(v * 78.233) * 2);
   const pairs = (x.length * (x.length - 1)) / 2;

@@ -1,6 +1,6 @@
-// What a hand does on an element: it hovers, taps, drags, or moves two fingers. Places are pixels of the window.
+// Gestures on an element: hover, tap, drag, and two fingers. Places are pixels of the window.
 
-// so many pixels may a finger stray that taps
+// how many pixels a tapping finger may stray
 const SLACK = 6;
 
 /** @param {PointerEvent} event */
@@ -19,8 +19,8 @@ function spread([one, other]) {
 }
 
 /**
- * What gestures do. `press` comes before a tap or drag, with null where it turns out to be none; `drop` after a drag by
- * one finger.
+ * `press` comes before a tap or drag, with null if it turns out to be neither; `drop` after a drag by one
+ * finger.
  * @typedef {object} Handlers
  * @property {(place: Place) => void} hover
  * @property {() => void} leave
@@ -39,15 +39,9 @@ export class Gestures {
   constructor(element, handlers) {
     this.element = element;
     this.handlers = handlers;
-    /**
-     * Where each finger or the mouse is that touches.
-     * @type {Map<number, Place>}
-     */
+    /** @type {Map<number, Place>} */
     this.held = new Map();
-    /**
-     * Where the first one began.
-     * @type {Place | null}
-     */
+    /** @type {Place | null} */
     this.start = null;
     this.strayed = false;
     element.addEventListener("pointerdown", (event) => this.press(event));
@@ -55,7 +49,7 @@ export class Gestures {
     element.addEventListener("pointerup", (event) => this.release(event));
     element.addEventListener("pointercancel", (event) => this.cancel(event));
     element.addEventListener("pointerleave", () => this.held.size === 0 && handlers.leave());
-    // two fingers are the element's own, and the page does not scroll under them
+    // two fingers belong to the element; the page does not scroll under them
     for (const kind of /** @type {const} */ (["touchstart", "touchmove"])) {
       element.addEventListener(kind, (event) => event.touches.length > 1 && event.preventDefault(), { passive: false });
     }

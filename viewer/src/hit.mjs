@@ -1,7 +1,6 @@
-// Which node or edge lies at a place of a drawing.
+// Finds the node or edge at a place of a drawing.
 
 /**
- * How far a place is from the stretch between two others.
  * @param {number} x
  * @param {number} y
  * @param {number[]} one
@@ -33,8 +32,8 @@ function nearestNode(layout, machine, x, y, within) {
 }
 
 /**
- * The present node at a place, `{ node }`, at most `radius` and `reach` away; else the edge, `{ low, high }`, at most
- * `reach` away; else null. Looks at each node and edge once.
+ * The present node at a place, `{ node }`, within `radius` and `reach`; else the edge, `{ low, high }`,
+ * within `reach`; else null. Looks at each node and edge once.
  * @param {Layout} layout
  * @param {import("./machine.mjs").Machine} machine
  * @param {number} x

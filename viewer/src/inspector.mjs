@@ -1,5 +1,4 @@
-// What is under the pointer, or was picked by tap, key or number: it is marked in the drawing, and a card tells what it
-// holds.
+// Marks the node or edge under the pointer, or picked by tap, key or number, and describes it on a card.
 import {explain} from "./explain.mjs";
 import {bestBox} from "./placing.mjs";
 import {addText, byId} from "./svg.mjs";
@@ -14,30 +13,24 @@ function isSame(one, other) {
 
 export class Inspector {
   /**
-   * `machine()` is the state that is shown. `stage` marks a thing (`pick`) and says where it is seen (`pixelOf`); null
-   * where nothing is drawn.
+   * `machine()` is the state that is shown. `stage` marks a thing (`pick`) and gives its place on the screen
+   * (`pixelOf`), or null if nothing is drawn.
    * @param {() => import("./machine.mjs").Machine} machine
    * @param {import("./stage.mjs").Stage | null} stage
    */
   constructor(machine, stage) {
     this.machine = machine;
     this.stage = stage;
-    /**
-     * What was picked.
-     * @type {Thing | null}
-     */
+    /** @type {Thing | null} */
     this.picked = null;
-    /**
-     * What lies under the pointer.
-     * @type {Thing | null}
-     */
+    /** @type {Thing | null} */
     this.under = null;
-    /** The end from which a node's edges are gone through, 0 if none is. */
+    /** The node whose edges the keys step through, or 0. */
     this.end = 0;
     byId("card-close").addEventListener("click", () => this.pick(null));
   }
 
-  /** What is told of: what lies under the pointer, else what was picked. */
+  /** The thing under the pointer, else the picked one. */
   get thing() {
     return this.under ?? this.picked;
   }
@@ -57,17 +50,13 @@ export class Inspector {
     this.show();
   }
 
-  /**
-   * Picks a thing, or lets go of it where it is picked already.
-   * @param {Thing | null} thing
-   */
+  /** @param {Thing | null} thing */
   toggle(thing) {
     this.pick(isSame(this.picked, thing) ? null : thing);
   }
 
   /**
-   * Picks the node by this number of steps farther on among those that are there; where none is picked the first or the
-   * last.
+   * Moves the pick by this many present nodes; without one, picks the first or the last.
    * @param {number} step
    */
   stepNode(step) {
@@ -81,13 +70,16 @@ export class Inspector {
     }
   }
 
-  /** The node whose edges are gone through: the picked one, or the end of the picked edge from which that began. */
+  /**
+   * The node whose edges the keys step through: the picked one, or the end of the picked edge that they began
+   * from.
+   */
   get hub() {
     const { picked } = this;
     return picked === null ? 0 : picked.node ?? (this.end === picked.high ? picked.high : picked.low);
   }
 
-  /** Picks the next edge of that node, and the first behind its last. */
+  /** Picks the next edge of that node, cyclically. */
   stepEdge() {
     const { hub, picked } = this;
     const others = [...this.machine().neighbours[hub]].sort((a, b) => a - b);
@@ -99,7 +91,6 @@ export class Inspector {
     }
   }
 
-  /** Shows the card anew: the state, the thing or the view has changed. */
   show() {
     const { thing } = this;
     const card = byId("card");
@@ -121,7 +112,7 @@ export class Inspector {
     this.place();
   }
 
-  /** Puts the card near what it tells of, where it covers little. */
+  /** Puts the card near its thing, and covers little. */
   place() {
     const { thing, stage } = this;
     if (thing === null || !stage) {

@@ -1,4 +1,4 @@
-// Who judged the transcript before it came into the page, and what was said of it.
+// The judge of the transcript and its verdict.
 import {byId} from "./svg.mjs";
 
 const REPLAYED = "What is shown is replayed by this page, which is tested and not proved.";
@@ -7,7 +7,7 @@ const HERE =
   "the audit inside this page, which is the proved one compiled by a way of our own: tested, not proved for this target";
 
 /**
- * Who judged: the program that the page's maker named, or the page itself where a transcript was opened in it.
+ * The program that the page's maker named, or the page itself if a transcript was opened in it.
  * @param {Judge} judge
  */
 function judgeOf({ program, own, here }) {
@@ -19,8 +19,7 @@ function judgeOf({ program, own, here }) {
 }
 
 /**
- * What the foot of the page says of the judge, and whether its verdict is in doubt; `counted` is what the page itself
- * counts.
+ * The text on the judge in the page's foot, and whether its verdict is in doubt by the page's own counts.
  * @param {string} counted
  * @param {Judge} judged
  */

@@ -1,14 +1,10 @@
-// Keys of the page. A field that takes typing keeps its own.
+// The keys of the page. A field for typing keeps its own.
 
 /**
- * Names of actions by keys.
  * @typedef {{ page: Record<string, string>, drawing: Record<string, string> }} Keys
  */
 
-/**
- * What keys do while a transcript is played: those of the whole page, and those of the drawing alone, where it has the
- * focus.
- */
+/** Keys while a transcript is played: of the whole page, and of the drawing if it has the focus. */
 export const PLAYER_KEYS = {
   page: {
     ArrowLeft: "back",
@@ -31,7 +27,6 @@ export const PLAYER_KEYS = {
   drawing: {ArrowUp: "node-before", ArrowDown: "node-behind"},
 };
 
-/** And while a network is in hands. */
 export const LAB_KEYS = {
   page: {
     " ": "run",
@@ -82,7 +77,7 @@ function nameOf(event) {
 }
 
 /**
- * Lets keys do what `actions` names, until `signal` ends it.
+ * Runs `actions` for keys until `signal` ends it.
  * @param {AbortSignal} signal
  * @param {Record<string, () => void>} actions
  * @param {Keys} keys

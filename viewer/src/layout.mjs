@@ -1,17 +1,18 @@
-// Places for the nodes of a network: a pure function of its nodes and edges, so that a transcript has one drawing.
-// A path or a cycle lies on a ring; any other part is spread by its distances (pivot scaling) and then by forces.
+// Places for the nodes of a network: a pure function of its nodes and edges, so that a transcript has one
+// drawing.
+// A path or a cycle lies on a ring; any other component is spread by its distances (pivot scaling), then by
+// forces.
 import {spread} from "./forces.mjs";
 import {placeByDistance} from "./distances.mjs";
 import {lastOf} from "./lists.mjs";
 
 /**
- * Nodes that hang together, and their places.
  * @typedef {{ order: number[], places: number[][] }} Part
  */
 
 export const SPACING = 48;
 const ROUND_RING = 60;
-// so many chords a node may a ring have
+// how many chords a node a ring may have
 const CHORDS = 0.25;
 const PACKED_WIDTH_RATIO = 1.5;
 // a small drawing is spread until it fills this box
@@ -34,7 +35,7 @@ function neighbourLists(nodes, edges) {
 }
 
 /**
- * The parts that hang together, each as its nodes in the order of a breadth-first walk.
+ * The connected components, each with its nodes in breadth-first order.
  * @param {number[][]} lists
  */
 function partsOf(lists) {
@@ -60,7 +61,7 @@ function partsOf(lists) {
 }
 
 /**
- * The nodes of a path or a cycle one after another, or null for any other part.
+ * The nodes of a path or a cycle in order; null for other components.
  * @param {number[]} part
  * @param {number[][]} lists
  */
@@ -80,7 +81,7 @@ function alongRing(part, lists) {
 }
 
 /**
- * A part lies on a ring where its first edges made a path or a cycle, and where few others ever came.
+ * A component lies on a ring if its first edges formed a path or a cycle and few others ever came.
  * @param {number[]} part
  * @param {number} nodes
  * @param {Link[]} edges
@@ -112,7 +113,7 @@ function onCircle(count, radius) {
 }
 
 /**
- * A long ring runs outward along one spoke and inward along the next, so that it takes less room than a circle.
+ * A long ring runs outward along one spoke and inward along the next, to take less room than a circle.
  * @param {number} count
  */
 function onSpokes(count) {
@@ -136,7 +137,6 @@ function ringPlaces(count) {
 }
 
 /**
- * Places of one part's nodes, by the node's place in `order`.
  * @param {number[]} part
  * @param {number[][]} lists
  * @param {Link[]} edges
@@ -170,7 +170,7 @@ function boxOf(places) {
 }
 
 /**
- * Sets the parts in rows, the highest first.
+ * Arranges the components in rows, the highest first.
  * @param {Part[]} parts
  */
 function pack(parts) {
@@ -204,7 +204,8 @@ function pack(parts) {
 }
 
 /**
- * A place for each name from 1, in a box whose upper left corner is 0, 0; `edges` are in the order in which they came.
+ * A place for each name from 1, in a box with its upper left corner at 0, 0; `edges` are in the order of
+ * their arrival.
  * @param {number} nodes
  * @param {Link[]} edges
  * @returns {Layout}
@@ -225,8 +226,8 @@ export function layOut(nodes, edges) {
 }
 
 /**
- * The same drawing in a box that is not smaller than a page can show well: a smaller one is spread there, so that nodes
- * keep their size and come to stand farther apart.
+ * The same drawing in a box of at least the size that a page shows well. A smaller one is spread: nodes keep
+ * their size and lie farther apart.
  * @param {Layout} layout
  * @returns {Layout}
  */

@@ -1,7 +1,7 @@
-// Ends of lists, for browsers that came before `at` and `findLast`.
+// Ends of lists, for browsers older than `at` and `findLast`.
 
 /**
- * The last item of a list that has one.
+ * The last item of a list that is not empty.
  * @template Item
  * @param {Item[]} list
  */
@@ -10,7 +10,7 @@ export function lastOf(list) {
 }
 
 /**
- * The last item that is wanted, or undefined.
+ * The last item that `isWanted` accepts, or undefined.
  * @template Item
  * @param {Item[]} list
  * @param {(item: Item) => boolean} isWanted

@@ -1,5 +1,5 @@
-// The machine of the definitions: a network with its registers, and at each node the rule that is enabled there. Counts
-// are kept with each change, so that a change costs what stands near it, and not what the network holds.
+// The machine of the definitions: a network with its registers and each node's enabled rule. A change updates
+// the counts, at a cost of its neighbourhood, not of the network.
 
 /** The most that a node adds to a bound, and what a rule set does with flags. */
 export const RULE_SETS = {
@@ -10,8 +10,8 @@ export const RULE_SETS = {
 const NOBODY = 0;
 
 /**
- * The most moves that come between two disturbances among so many present nodes, whatever the edges: n²/2 + n - 2 under
- * hh, the half rounded down, and 0 if there are fewer than two. No such bound is known under manne: `Infinity`.
+ * The most moves between two disturbances among `present` nodes, whatever the edges. Under hh n²/2 + n - 2,
+ * the half rounded down, and 0 for fewer than two nodes. Under manne no such bound is known: `Infinity`.
  * @param {RuleName} rules
  * @param {number} present
  */
@@ -24,7 +24,7 @@ export function mostAmong(rules, present) {
 
 export class Machine {
   /**
-   * A network without edges of the names 1 to `nodes`, the first of which are present, so many.
+   * A network of the names 1 to `nodes` without edges; the first `present` are present.
    * @param {RuleName} rules
    * @param {number} nodes
    */
@@ -36,7 +36,7 @@ export class Machine {
     this.load({ here, pointers: new Int32Array(nodes + 1), flags: new Uint8Array(nodes + 1), ends: new Int32Array(0) });
   }
 
-  /** What `load` makes the same state of. */
+  /** The state in the form that `load` restores. */
   snapshot() {
     const ends = new Int32Array(2 * this.edgeCount);
     this.edges().forEach(([v, w], at) => ends.set([v, w], 2 * at));
@@ -57,14 +57,10 @@ export class Machine {
     this.recount();
   }
 
-  /** Finds all counts anew. */
   recount() {
     this.suitors = new Int32Array(this.nodes + 1);
     this.open = new Int32Array(this.nodes + 1);
-    /**
-     * The rule that is enabled at each node, or null.
-     * @type {(string | null)[]}
-     */
+    /** @type {(string | null)[]} */
     this.rule = new Array(this.nodes + 1).fill(null);
     this.present = this.openEdges = this.nodeCharges = this.pairCount = this.enabledCount = 0;
     for (let v = 1; v <= this.nodes; v += 1) {
@@ -100,7 +96,7 @@ export class Machine {
   }
 
   /**
-   * Whom v points at and is pointed at by, or 0.
+   * The node that v points at and that points back, or 0.
    * @param {number} v
    */
   partner(v) {
@@ -114,7 +110,7 @@ export class Machine {
   }
 
   /**
-   * Whether v may seduce its neighbour w, where v is free to.
+   * Whether v, if it is free to seduce, may seduce its neighbour w.
    * @param {number} w
    * @param {number} v
    */
@@ -122,10 +118,7 @@ export class Machine {
     return this.pointer[w] === NOBODY && (!this.flags || (this.flag[w] === 0 && w > v));
   }
 
-  /**
-   * The rule that is enabled at v, or null.
-   * @param {number} v
-   */
+  /** @param {number} v */
   ruleAt(v) {
     if (this.flags && this.isMarried(v) !== (this.flag[v] === 1)) {
       return "update";
@@ -142,7 +135,8 @@ export class Machine {
   }
 
   /**
-   * The neighbours that v may seduce, where it is free to: by Manne's rules the greatest of them alone is a target.
+   * The neighbours that v, if it is free to, may seduce; by Manne's rules only the greatest of them is a
+   * target.
    * @param {number} v
    */
   openNeighbours(v) {
@@ -179,7 +173,8 @@ export class Machine {
   }
 
   /**
-   * What v adds to the charge beside the open edges; an absent name, which is null and unflagged, adds nothing.
+   * What v adds to the charge, apart from open edges. An absent name, which is null and unflagged, adds
+   * nothing.
    * @param {number} v
    */
   nodeCharge(v) {
@@ -195,25 +190,22 @@ export class Machine {
     return 2 * this.openEdges + this.nodeCharges;
   }
 
-  /** What the moves spent and the charge never exceed together: 2m + n under hh, 2m + 3n under manne. */
+  /** The bound on moves spent and charge together: 2m + n under hh, 2m + 3n under manne. */
   get bound() {
     return 2 * this.edgeCount + RULE_SETS[this.rules].weight * this.present;
   }
 
-  /** The most moves of an epoch: the smaller of the bound and that by the nodes alone. */
+  /** The most moves of an epoch: the smaller of that bound and the bound by the nodes alone. */
   get epochBound() {
     return Math.min(this.bound, mostAmong(this.rules, this.present));
   }
 
-  /** How many moves can come before the next disturbance, at most. */
+  /** The most moves that can come before the next disturbance. */
   get movesLeft() {
     return Math.min(this.charge, mostAmong(this.rules, this.present));
   }
 
-  /**
-   * Looks again which rule is enabled at v.
-   * @param {number} v
-   */
+  /** @param {number} v */
   look(v) {
     const rule = this.ruleAt(v);
     this.enabledCount += (rule ? 1 : 0) - (this.rule[v] ? 1 : 0);
@@ -221,7 +213,7 @@ export class Machine {
   }
 
   /**
-   * Adds `sign` times what these nodes and their edges count for.
+   * Adds `sign` times what these nodes and their edges count.
    * @param {number[]} touched
    * @param {number} sign
    */
@@ -238,8 +230,8 @@ export class Machine {
   }
 
   /**
-   * The nodes whose edges may count otherwise once v points at `target`: v, and a target that is married or courted
-   * then and not before, or the other way round.
+   * The nodes whose edges may count differently once v points at `target`: v, and each target whose married
+   * or courted state changes.
    * @param {number} v
    * @param {number} target
    */
@@ -313,7 +305,6 @@ export class Machine {
   }
 
   /**
-   * A name becomes present, or is no longer.
    * @param {number} v
    * @param {number} here
    */
@@ -330,7 +321,7 @@ export class Machine {
   }
 
   /**
-   * The node goes, with its edges and the pointers that cross them.
+   * Removes a node, with its edges and the pointers that cross them.
    * @param {number} v
    */
   leave(v) {
@@ -356,7 +347,7 @@ export class Machine {
   }
 
   /**
-   * All moves at once: what each writes is read in the state before the step.
+   * Makes all moves at once: each reads the state before the step.
    * @param {Move[]} moves
    */
   step(moves) {

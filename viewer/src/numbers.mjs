@@ -1,15 +1,12 @@
-// Numbers as the page writes them: one way for all.
+// Numbers as the page writes them.
 
-/**
- * A number with commas between thousands.
- * @param {number} number
- */
+/** @param {number} number */
 export function grouped(number) {
   return String(number).replace(/\B(?=(\d{3})+$)/g, ",");
 }
 
 /**
- * `1 entry`, `2 entries`: a count with its noun, whose plural is `many` where no s makes it.
+ * `1 entry`, `2 entries`: a count with its noun; `many` is the plural if it is not formed with s.
  * @param {number} count
  * @param {string} one
  * @param {string} many

@@ -1,5 +1,5 @@
-// Puts the page together: a transcript that stands in it is played; else there is a network to break. What is opened,
-// dropped or pasted is told apart: the engine inside judges a transcript, plays a script, and links a graph.
+// Plays the transcript in the page; without one, offers the playground. The engine judges a transcript, plays
+// a script or links a graph that is opened, dropped or pasted.
 import {Playing} from "./playing.mjs";
 import {forget, keep, kept} from "./playground/keeping.mjs";
 import {LabPage} from "./playground/lab_page.mjs";
@@ -11,7 +11,7 @@ import {Damaged} from "./rudekpi/errors.mjs";
 import {byId, nameWindow} from "./svg.mjs";
 
 const LONGEST_SHOWN = 300;
-// so many milliseconds after a change is it kept; larger ones are kept only when the page is left
+// saves this many milliseconds after a change; larger states only when the page is left
 const SOON = 400;
 const LARGE = 1 << 20;
 const WITHOUT =
@@ -35,8 +35,8 @@ async function load(text) {
 }
 
 /**
- * What the audit says of a transcript: a line as the program writes it, whether it accepts, and the first wrong line,
- * else 0.
+ * The audit's verdict on a transcript: a line as the program writes it, whether it accepts, and the first
+ * wrong line, else 0.
  * @param {Engine} engine
  * @param {Uint8Array} bytes
  */
@@ -64,14 +64,10 @@ class Page {
     this.opened = null;
     /** @type {Promise<Engine | null> | undefined} */
     this.loaded = undefined;
-    /** Whether the engine runs here, as far as that is known. */
     this.runs = dataOf("engine") !== null && canRun();
     byId("to-lab").hidden = !this.runs;
     byId("to-lab").addEventListener("click", () => this.openLab(null));
-    /**
-     * The transcript that stands in the page, or null.
-     * @type {string | null}
-     */
+    /** @type {string | null} */
     this.embedded = dataOf("transcript");
     byId("to-transcript").hidden = this.embedded === null;
     byId("to-transcript").addEventListener("click", () => this.play(this.embedded, dataOf("judge")));
@@ -92,7 +88,7 @@ class Page {
     }
   }
 
-  /** The engine, which is loaded when it is needed first; null if this browser does not run it. */
+  /** The engine, loaded at its first use; null if this browser does not run it. */
   async engine() {
     this.loaded ??= this.runs ? load(dataOf("engine")) : Promise.resolve(null);
     const engine = await this.loaded;
@@ -101,7 +97,7 @@ class Page {
     return engine;
   }
 
-  /** What is there without the engine: the page's own transcript, or a recorded one. */
+  /** Plays the page's own transcript, or a recorded one. */
   playRecorded() {
     if (this.embedded !== null) {
       this.play(this.embedded, dataOf("judge"));
@@ -125,7 +121,7 @@ class Page {
     this.playing.begin(text, judge);
   }
 
-  /** @param {import("./playground/keeping.mjs").KeptLab | null} state what was kept before a reload, or null */
+  /** @param {import("./playground/keeping.mjs").KeptLab | null} state kept before a reload, or null */
   async openLab(state) {
     const engine = await this.engine();
     if (engine === null) {
@@ -158,7 +154,6 @@ class Page {
     return lab;
   }
 
-  /** Keeps what stands here for a reload, but for the large. */
   keepSoon() {
     this.soon ??= setTimeout(() => {
       this.soon = null;
@@ -179,7 +174,6 @@ class Page {
   }
 
   /**
-   * Opens a text of any kind.
    * @param {Uint8Array} bytes
    * @param {string} name the file's, or empty
    */
@@ -214,7 +208,7 @@ class Page {
   }
 
   /**
-   * Has the engine judge a transcript, and plays it if it is accepted.
+   * Judges a transcript by the engine, and plays it if it is accepted.
    * @param {Uint8Array} bytes
    */
   async judge(bytes) {
@@ -239,7 +233,7 @@ class Page {
   }
 
   /**
-   * Shows what is wrong with what was given, and the line where it is; null if nothing is wrong.
+   * Shows what is wrong with the input, and the line; null if nothing is wrong.
    * @param {Wrong | null} wrong
    */
   refuse(wrong) {

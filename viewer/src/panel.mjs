@@ -1,4 +1,4 @@
-// What stands beside the drawing: the entry with its reply, the entries near it, and the state in numbers.
+// The entry with its reply, the entries near it, and the state in numbers.
 import {counted, grouped} from "./numbers.mjs";
 import {byId} from "./svg.mjs";
 
@@ -11,7 +11,7 @@ function cut(text) {
 }
 
 /**
- * What stands before the first entry: nothing, or the entries that led to a base.
+ * The items before the first entry: none, or the entries that led to a base.
  * @param {import("./transcript.mjs").Transcript} transcript
  */
 function openingOf(transcript) {
@@ -47,7 +47,7 @@ function item(transcript, number, current) {
 }
 
 /**
- * A base further down, which is no entry and is not gone to.
+ * A later base, which is no entry; the page does not go to it.
  * @param {string} line
  */
 function baseItem(line) {
@@ -102,10 +102,7 @@ export class Panel {
     byId("quiet").classList.toggle("stable", machine.enabledCount === 0);
   }
 
-  /**
-   * The formula of the bound.
-   * @param {number} number
-   */
+  /** @param {number} number */
   boundBy(number) {
     if (this.replay.isBoundByNodes(number)) {
       return this.replay.valueAt("nodes", number) < 2 ? "n < 2" : "⌊n²/2⌋+n−2";

@@ -1,10 +1,10 @@
-// The drawing as a file of its own, as it is seen: SVG, or PNG that the browser makes of it.
+// Saves the visible drawing as a file: SVG, or PNG made by the browser.
 import {byId} from "./svg.mjs";
 
 const TEXT_STYLES = ["fill", "font-size", "font-weight", "font-family", "text-anchor"];
 const SHAPE_STYLES =
   ["fill", "stroke", "stroke-width", "stroke-dasharray", "stroke-linecap", "opacity", "fill-opacity"];
-// what an element has where nothing is said
+// the value of a property without a declaration
 /** @type {Record<string, string>} */
 const PLAIN = {
   stroke: "none",
@@ -15,7 +15,7 @@ const PLAIN = {
   "fill-opacity": "1"
 };
 const DROPPED = /^(class|tabindex|role|aria-.*|data-.*)$/;
-// a PNG is twice as fine as what is seen, and at least so many pixels wide or high
+// a PNG is twice as fine as the screen, and at least this many pixels wide or high
 const PNG_SCALE = 2;
 const PNG_PIXELS = 1600;
 const MOST_PIXELS = 8192;
@@ -27,7 +27,6 @@ function isSeen(element) {
 }
 
 /**
- * Writes how an element looks into a copy of it.
  * @param {Element} element
  * @param {Element} copy
  */
@@ -42,7 +41,6 @@ function writeStyles(element, copy) {
 }
 
 /**
- * Writes by how much an element is enlarged into a copy of it.
  * @param {Element} element
  * @param {Element} copy
  */
@@ -54,9 +52,9 @@ function writeScale(element, copy) {
 }
 
 /**
- * A copy of an element with all that is seen in it, which needs no style sheet.
+ * A self-contained copy of an element, without style sheet.
  * @param {Element} element
- * @param {boolean} always whether what is not seen is copied too
+ * @param {boolean} always whether to copy it if it is not visible
  * @returns {Element}
  */
 function copyOf(element, always) {
@@ -79,7 +77,7 @@ function copyOf(element, always) {
 }
 
 /**
- * A copy of the drawing, with names that are too small to be read on the page, and with the heads of arrows.
+ * A copy of the drawing, with all names and arrowheads.
  * @param {SVGSVGElement} svg
  */
 function drawingOf(svg) {
@@ -94,7 +92,7 @@ function drawingOf(svg) {
 }
 
 /**
- * The text of an SVG file that shows what an SVG element of the page shows, on the page's paper.
+ * A self-contained SVG file of an SVG element, on the page's paper.
  * @param {SVGSVGElement} svg
  * @param {string} title
  */
@@ -116,7 +114,6 @@ export function standalone(svg, title) {
 }
 
 /**
- * The PNG of an SVG text.
  * @param {string} text
  * @returns {Promise<Blob>}
  */
@@ -145,11 +142,10 @@ function hand(blob, name) {
 }
 
 /**
- * Lets two buttons save a picture.
  * @param {string} svgButton
  * @param {string} pngButton
- * @param {() => { svg: SVGSVGElement, name: string, title: string }} told the picture, the file's name without its end,
- *   and the title
+ * @param {() => { svg: SVGSVGElement, name: string, title: string }} told the picture, the file's
+ *   name without its suffix, and the title
  */
 export function listenToSaving(svgButton, pngButton, told) {
   byId(svgButton).addEventListener("click", () => {

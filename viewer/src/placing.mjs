@@ -1,15 +1,14 @@
-// Where a card stands in a room: near what it tells of, where it covers little.
+// Places a card in a room: near its thing, and covering little.
 
 const GAP = 22;
 const BORDER = 4;
 // places that are tried, across and down
 const ACROSS = 16;
 const DOWN = 12;
-// so many pixels farther away is it worth that nothing is covered where all would be
+// covering nothing rather than everything is worth this many pixels of distance
 const WORTH = 500;
 
 /**
- * How far a place is from a box; 0 inside.
  * @param {Place} place
  * @param {Box} box
  */
@@ -24,7 +23,6 @@ function distanceToBox({ x, y }, { left, top, width, height }) {
 }
 
 /**
- * Boxes of a size in a room: right and left of a place, and all over the room.
  * @param {Place} place
  * @param {{ left: number, right: number, top: number, bottom: number }} room
  * @param {Size} size
@@ -53,7 +51,8 @@ function boxes(place, room, { width, height }) {
 }
 
 /**
- * The best box of a size for what lies at a place of the room; `shareIn` tells which share of all things a box covers.
+ * The best box of a size for a thing at a place of the room; `shareIn` returns the share of all things that a
+ * box covers.
  * @param {Place} place
  * @param {Size} size
  * @param {(box: Box) => number} shareIn

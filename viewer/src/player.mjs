@@ -1,4 +1,4 @@
-// Where the page stands in the transcript: slider, buttons, keys, and playing on by itself.
+// Moves through the transcript: slider, buttons, keys, and automatic play.
 import {grouped} from "./numbers.mjs";
 import {byId, field} from "./svg.mjs";
 
@@ -6,7 +6,7 @@ const FAR = 10;
 
 export class Player {
   /**
-   * `show` draws an entry; `replay` knows where disturbances are. What is told to `moved` is where somebody went.
+   * `show` draws an entry; `moved` gets the entry that a person went to.
    * @param {import("./replay.mjs").Replay} replay
    * @param {(number: number) => void} show
    */
@@ -18,13 +18,10 @@ export class Player {
     this.last = last;
     this.at = first;
     this.owed = 0;
-    /**
-     * When the last picture was while it plays, or null.
-     * @type {number | null}
-     */
+    /** @type {number | null} */
     this.since = null;
     /**
-     * Is told where somebody went.
+     * Called with the entry that a person went to.
      * @type {(number: number) => void}
      */
     this.moved = () => {};
@@ -36,10 +33,7 @@ export class Player {
     field("slider").min = field("go").min = String(first);
     field("slider").addEventListener("input", () => this.goTo(Number(field("slider").value)));
     field("go").addEventListener("change", () => this.goTo(Number(field("go").value)));
-    /**
-     * What buttons and keys do.
-     * @type {Record<string, () => void>}
-     */
+    /** @type {Record<string, () => void>} */
     this.actions = {
       first: () => this.goTo(first),
       back: () => this.goTo(this.at - 1),
@@ -57,7 +51,7 @@ export class Player {
   }
 
   /**
-   * Goes to an entry by hand: playing stops.
+   * Goes to an entry by hand, and stops play.
    * @param {number} number
    */
   goTo(number) {
@@ -107,10 +101,7 @@ export class Player {
     byId("entry").setAttribute("aria-live", playing ? "off" : "polite");
   }
 
-  /**
-   * One frame: as many entries as are due by now.
-   * @param {number} now
-   */
+  /** @param {number} now */
   tick(now) {
     if (this.since === null) {
       return;

@@ -1,4 +1,4 @@
-// Plays a transcript: it is replayed, and each part of the page shows the entry that is gone to.
+// Plays a transcript: replays it, and shows the current entry in each part of the page.
 import {Address} from "./address.mjs";
 import {MOST_DRAWN} from "./drawing.mjs";
 import {Inspector} from "./inspector.mjs";
@@ -18,21 +18,15 @@ const RULE_SET_NAMES = {
   hh: "Hsu and Huang",
   manne: "Manne, Mjelde, Pilard and Tixeuil"
 };
-// the parts of the page in which a transcript is played
+// the parts of the page that play a transcript
 const PARTS = ["player", "bar"];
 
-/**
- * How large a transcript is.
- * @param {Transcript} transcript
- */
+/** @param {Transcript} transcript */
 function sizeOf({ nodes, length }) {
   return `${counted(nodes, "node")}, ${counted(length, "entry", "entries")}`;
 }
 
-/**
- * The base with which a transcript begins, in words.
- * @param {Transcript} transcript
- */
+/** @param {Transcript} transcript */
 function baseOf({ first, state }) {
   return state ? `, from the base at entry ${grouped(first)}` : "";
 }
@@ -49,10 +43,7 @@ function showTitle(transcript) {
   nameWindow(titleOf(transcript));
 }
 
-/**
- * The stage, or null with a word on what is there in its place.
- * @param {import("./replay.mjs").Replay} replay
- */
+/** @param {import("./replay.mjs").Replay} replay */
 function stageOf(replay) {
   const { nodes } = replay.transcript;
   if (nodes > 0 && nodes <= MOST_DRAWN) {
@@ -68,7 +59,6 @@ function stageOf(replay) {
 }
 
 /**
- * What the buttons and keys of the drawing do.
  * @param {import("./stage.mjs").Stage | null} stage
  * @param {import("./inspector.mjs").Inspector} inspector
  */
@@ -107,7 +97,6 @@ function listenToFinding(nodes, inspector, stage) {
 }
 
 /**
- * What a saved picture is called.
  * @param {Replay} replay
  * @param {number} number
  */
@@ -121,7 +110,7 @@ function pictureOf({ transcript }, number) {
 }
 
 /**
- * Plays a replay until `signal` ends it; the player.
+ * Plays a replay until `signal` ends it. Returns the player.
  * @param {import("./replay.mjs").Replay} replay
  * @param {AbortSignal} signal
  */
@@ -156,10 +145,7 @@ function play(replay, signal) {
 }
 
 
-/**
- * Says what is wrong with the text, and shows nothing else.
- * @param {Error} wrong
- */
+/** @param {Error} wrong */
 function refuse(wrong) {
   document.body.classList.add("broken");
   byId("title").textContent = `This is no transcript: ${wrong.message}.`;
@@ -167,7 +153,6 @@ function refuse(wrong) {
 }
 
 /**
- * Puts the transcript of a text on the page, with what its judge said of it.
  * @param {string} text
  * @param {Judge} judge
  * @param {AbortSignal} signal
@@ -189,7 +174,6 @@ export class Playing {
   }
 
   /**
-   * Plays a text in the place of what was played before.
    * @param {string} text
    * @param {Judge} judge
    */
@@ -210,12 +194,10 @@ export class Playing {
     }
   }
 
-  /** Whether a transcript is played. */
   get isOn() {
     return this.ended !== null && !this.ended.signal.aborted;
   }
 
-  /** Lets go of keys and the address. */
   end() {
     this.ended?.abort();
   }

@@ -1,4 +1,4 @@
-// Plots over entries: lines, with epochs as bands behind them.
+// Plots over entries: lines in front of a band for every second epoch.
 import {bandPath, columnsOf, meanPath, stepOf, stepPath, strideOf} from "./curves.mjs";
 import {grouped} from "./numbers.mjs";
 import {add, graphic} from "./svg.mjs";
@@ -9,11 +9,11 @@ const MARGIN = {
   top: 8,
   bottom: 18
 };
-// epochs narrower than so many pixels are not told apart, and have no bands
+// epochs narrower than this many pixels have no bands
 const LEAST_BAND = 2;
 
 /**
- * A line's name, which is its class too, and its value after each entry.
+ * A line's name, which is also its class, and its value after each entry.
  * @typedef {{ name: string, valueAt: (number: number) => number }} PlotLine
  */
 
@@ -67,7 +67,6 @@ export class Plot {
     return this.height - MARGIN.bottom - (value / this.top) * (this.height - MARGIN.top - MARGIN.bottom);
   }
 
-  /** Draws all anew, as large as the plot is now; so many entries share a column then. */
   draw() {
     const box = this.svg.getBoundingClientRect();
     [this.width, this.height] = [Math.max(120, box.width), Math.max(60, box.height)];
@@ -82,7 +81,7 @@ export class Plot {
     this.point(this.at ?? this.first);
   }
 
-  /** Says what a line is where entries share a column. */
+  /** Explains the lines if entries share a column. */
   sayStride() {
     const caption = this.svg.parentElement.querySelector(".shared");
     caption.textContent = this.stride === 1 ? "" : `mean and range of ${grouped(this.stride)} entries`;
@@ -105,7 +104,6 @@ export class Plot {
     add(this.svg, "path", { class: `line ${line.name}`, d: meanPath(columns, xOf, yOf) });
   }
 
-  /** Every second epoch that is wide enough has a band. */
   drawBands() {
     const starts = [this.first, ...this.replay.disturbances, this.last];
     const [top, height] = [MARGIN.top, this.height - MARGIN.top - MARGIN.bottom];
@@ -138,10 +136,7 @@ export class Plot {
     }
   }
 
-  /**
-   * Moves the cursor to an entry.
-   * @param {number} number
-   */
+  /** @param {number} number */
   point(number) {
     this.at = number;
     const x = this.xOf(number).toFixed(1);

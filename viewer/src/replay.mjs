@@ -1,4 +1,5 @@
-// Replays a transcript once, keeps what the plots show of every entry, and a snapshot here and there to go back to.
+// Replays a transcript once. Keeps the plots' values of every entry, and snapshots at intervals to go back
+// to.
 import {Machine, mostAmong, RULE_SETS} from "./machine.mjs";
 import {carryOut, changes, isPossible} from "./entries.mjs";
 import {lastOf, lastWhere} from "./lists.mjs";
@@ -19,31 +20,27 @@ export class Replay {
     this.weight = RULE_SETS[transcript.rules].weight;
     const places = transcript.length + 1;
     /**
-     * What the plots show, by its name and place.
+     * The plots' values, by name and entry.
      * @type {Record<string, Int32Array>}
      */
     this.series = Object.fromEntries(
       ["charge", "spent", "nodes", "edges", "pairs", "enabled"].map((name) => [name, new Int32Array(places)]));
     /** @type {number[]} */
     this.disturbances = [];
-    // the last entry of each burst: disturbances between which nobody moves
+    // the last entry of each burst: disturbances without moves between them
     /** @type {number[]} */
     this.burstEnds = [];
     /** @type {number | null} */
     this.firstMove = null;
     this.lastMove = 0;
     this.moves = 0;
-    /**
-     * Each edge that ever is.
-     * @type {Map<number, Link>}
-     */
+    /** @type {Map<number, Link>} */
     this.union = new Map();
     /** @type {{ number: number, state: MachineState }[]} */
     this.snapshots = [];
     this.playOnce();
   }
 
-  /** The first walk over all entries. */
   playOnce() {
     const { first, last } = this.transcript;
     let next = first;
@@ -74,17 +71,13 @@ export class Replay {
     this.at = last;
   }
 
-  /**
-   * Adds a disturbance to the burst before it, or begins one if somebody has moved since.
-   * @param {number} number
-   */
+  /** @param {number} number */
   noteBurst(number) {
     const goesOn = this.burstEnds.length > 0 && !(this.lastMove > lastOf(this.burstEnds));
     this.burstEnds.splice(goesOn ? -1 : this.burstEnds.length, 1, number);
   }
 
   /**
-   * Carries out an entry for the first time; what is spent then.
    * @param {Entry} entry
    * @param {number} spent
    */
@@ -98,7 +91,7 @@ export class Replay {
     return entry.disturbs ? 0 : spent + moves;
   }
 
-  /** So many entries lie between two snapshots that all of them fit in memory, and take less time than the entries. */
+  /** Chosen so that all snapshots fit in memory and cost less time than the entries. */
   spacing() {
     const { nodes, edgeCount } = this.machine;
     const bytes = 6 * nodes + 8 * edgeCount + 100;
@@ -122,7 +115,6 @@ export class Replay {
   }
 
   /**
-   * What one of the series has after so many entries.
    * @param {string} name
    * @param {number} number
    */
@@ -130,10 +122,7 @@ export class Replay {
     return this.series[name][number - this.transcript.first];
   }
 
-  /**
-   * Remembers each edge that ever is, for the layout.
-   * @param {number[]} ends
-   */
+  /** @param {number[]} ends */
   meet(ends) {
     const [v, w] = ends.sort((a, b) => a - b);
     this.union.set(v * 65536 + w, [v, w]);
@@ -149,7 +138,7 @@ export class Replay {
   }
 
   /**
-   * How many moves can come after so many entries before the next disturbance, at most.
+   * The most moves that can come after `number` entries before the next disturbance.
    * @param {number} number
    */
   movesLeft(number) {
@@ -157,8 +146,8 @@ export class Replay {
   }
 
   /**
-   * Whether the bound of an entry's epoch is that by the nodes alone, which is then the smaller one. An epoch that an
-   * opening base cuts has the other: what such a base says was spent may be more.
+   * Whether the bound of an entry's epoch is the one by the nodes alone, because it is smaller. An epoch cut
+   * by an opening base has the other bound: the spent moves that the base records may exceed the smaller one.
    * @param {number} number
    */
   isBoundByNodes(number) {
@@ -175,18 +164,15 @@ export class Replay {
     return 2 * this.valueAt("edges", number) + this.weight * this.valueAt("nodes", number);
   }
 
-  /**
-   * The most moves of the epoch of an entry.
-   * @param {number} number
-   */
+  /** @param {number} number */
   bound(number) {
     return this.isBoundByNodes(number) ? mostAmong(this.transcript.rules, this.valueAt("nodes", number)) :
                                          this.boundByEdges(number);
   }
 
   /**
-   * The number of the disturbance that began the epoch of an entry, null where the transcript begins at a base behind
-   * it; and which epoch it is, counted from 1.
+   * The disturbance that began the epoch of an entry, or null if the transcript begins at a base after it;
+   * and the number of the epoch, from 1.
    * @param {number} number
    */
   epochAt(number) {
@@ -216,18 +202,15 @@ export class Replay {
   }
 
   /**
-   * The entry to open at: the base, or else the first move, so that nobody sees a network before it has its edges.
-   * Without moves it is the end of the first burst.
+   * The entry to open at: the base, else the first move, so that the network has its edges. Without moves,
+   * the end of the first burst.
    */
   get opening() {
     const { first, state } = this.transcript;
     return state ? first : this.firstMove ?? this.burstEnds[0] ?? first;
   }
 
-  /**
-   * The machine after so many entries.
-   * @param {number} number
-   */
+  /** @param {number} number */
   goTo(number) {
     const last = lastWhere(this.snapshots, (snapshot) => snapshot.number <= number);
     if (last && (number < this.at || last.number > this.at)) {

@@ -1,4 +1,4 @@
-// Rudekpi as a module for JavaScript: networks that the engine inside plays, and audits. Types: rudekpi.d.ts.
+// Rudekpi as a module for JavaScript: networks and audits, run by the engine inside. Types: rudekpi.d.ts.
 import {Audit, audit} from "./rudekpi/audits.mjs";
 import {Damaged, Ended, MemoryError, NoReply, Refused, RudekpiError} from "./rudekpi/errors.mjs";
 import {Network} from "./rudekpi/network.mjs";

@@ -1,16 +1,16 @@
-// The stage: the drawing of a network with its zoom, and the hands on it.
+// The stage: the drawing of a network with its zoom and its gestures.
 import {Drawing, RADIUS} from "./drawing.mjs";
 import {Gestures} from "./gestures.mjs";
 import {thingAt} from "./hit.mjs";
 import {fill, layOut} from "./layout.mjs";
 import {Zoom} from "./zoom.mjs";
 
-// so many pixels from an edge is on it
+// a place within this many pixels of an edge is on it
 const REACH = 7;
 
 export class Stage {
   /**
-   * The names 1 to `nodes`, with places for all edges that ever are.
+   * The names 1 to `nodes`, with places for all edges that ever exist.
    * @param {SVGSVGElement} svg
    * @param {number} nodes
    * @param {Link[]} edgesEver
@@ -20,7 +20,7 @@ export class Stage {
     this.layout = fill(layOut(nodes, edgesEver));
     this.drawing = new Drawing(svg, this.layout, nodes, edgesEver);
     /**
-     * Is told when another part is seen.
+     * Called when another part comes into view.
      * @type {() => void}
      */
     this.moved = () => {};
@@ -31,7 +31,7 @@ export class Stage {
   }
 
   /**
-   * Lets hands in: what they point at is told to the inspector, and what they drag moves what is seen.
+   * Pointing informs the inspector, dragging moves the view.
    * @param {import("./inspector.mjs").Inspector} inspector
    * @param {() => import("./machine.mjs").Machine} machine
    */
@@ -69,7 +69,7 @@ export class Stage {
   }
 
   /**
-   * Where a node or the middle of an edge is in the drawing.
+   * The place of a node, or of the middle of an edge, in the drawing.
    * @param {Thing | null} thing
    */
   placeOf(thing) {
@@ -84,10 +84,7 @@ export class Stage {
     return this.zoom.pixelAt(x, y);
   }
 
-  /**
-   * Which share of the nodes that are drawn lies in a box of the window.
-   * @param {Box} box
-   */
+  /** @param {Box} box */
   shareIn({ left, top, width, height }) {
     const [from, to] =
       [this.zoom.placeAt({ x: left, y: top }), this.zoom.placeAt({ x: left + width, y: top + height })];

@@ -1,7 +1,7 @@
 // Elements of the page.
 
 /**
- * A new SVG element with these attributes, as the last child of `parent`.
+ * Appends a new SVG element to `parent`.
  * @param {Element} parent
  * @param {string} name
  * @param {Record<string, string | number>} attributes
@@ -19,7 +19,7 @@ export function add(parent, name, attributes = {}, text = "") {
 }
 
 /**
- * A new HTML element with this text, as the last child of `parent`.
+ * Appends a new HTML element to `parent`.
  * @param {Element} parent
  * @param {string} name
  * @param {string} text
@@ -36,26 +36,17 @@ export function byId(id) {
   return document.getElementById(id);
 }
 
-/**
- * Names the window by what it shows.
- * @param {string} text
- */
+/** @param {string} text */
 export function nameWindow(text) {
   document.title = `${text} – Rudekpi`;
 }
 
-/**
- * A picture of the page.
- * @param {string} id
- */
+/** @param {string} id */
 export function graphic(id) {
   return /** @type {SVGSVGElement} */ (/** @type {unknown} */ (document.getElementById(id)));
 }
 
-/**
- * A field or a button of the page.
- * @param {string} id
- */
+/** @param {string} id */
 export function field(id) {
   return /** @type {HTMLInputElement} */ (document.getElementById(id));
 }

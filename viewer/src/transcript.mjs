@@ -1,5 +1,5 @@
-// Reads a transcript. `console audit` has judged what it says; that each line has the form of one is looked at here
-// once more, so that any text at all is either a transcript or a fault with its line.
+// Reads a transcript. `console audit` judged its content; this checks the form of each line again, so that
+// any text is either a transcript or a fault with its line.
 
 const CHANGES = new Set(["link", "unlink", "point", "flag", "join", "leave"]);
 const MOST_NAMES = 65535;
@@ -20,7 +20,7 @@ const EVENTS = [
 ];
 const ENTRY = new RegExp(`[1-9]\\d{0,7} (?:${EVENTS.join("|")})\\n`, "y");
 
-/** Where a text is no transcript: its first line, counted from 1, that is wrong. */
+/** A text that is no transcript: its first wrong line, from 1. */
 export class TranscriptFault extends Error {
   /**
    * @param {number} line
@@ -48,7 +48,7 @@ export function readEntry(line) {
 }
 
 /**
- * The words behind an event's kind: `["1", "2"]` of `link 1 2`.
+ * `["1", "2"]` of `link 1 2`.
  * @param {Entry} entry
  */
 export function wordsOf(entry) {
@@ -56,7 +56,7 @@ export function wordsOf(entry) {
 }
 
 /**
- * The moves that a step's reply tells: who moved, by which rule, and to which target (0 where the rule takes none).
+ * The moves in a step's reply: each node, its rule, and its target (0 if the rule takes none).
  * @param {Entry} entry
  */
 export function movesOf(entry) {
@@ -67,8 +67,8 @@ export function movesOf(entry) {
 }
 
 /**
- * The nodes that an entry speaks of: the ends of an edge, whose register a fault wrote, who came or went, who moved,
- * who was asked about.
+ * The nodes of an entry: the ends of an edge, the node of a written register, of a join or leave, of a move
+ * or a question.
  * @param {Entry} entry
  */
 export function nodesOf(entry) {
@@ -89,7 +89,7 @@ function lineAt(text, at) {
 }
 
 /**
- * The groups of a line that has to stand at a place.
+ * The groups of a line that must match at this place.
  * @param {RegExp} pattern
  * @param {string} text
  * @param {number} at
@@ -104,7 +104,7 @@ function match(pattern, text, at) {
 }
 
 /**
- * The numbers of a line, none of which is above `most`; `-` is 0.
+ * The numbers of a line, none above `most`; `-` is 0.
  * @param {string[]} words
  * @param {number} most
  * @param {string} text
@@ -119,7 +119,7 @@ function numbersOf(words, most, text, at) {
 }
 
 /**
- * The base whose lines begin at a place: its numbers, the state that they tell, as a machine loads it, and where they
+ * The base whose lines begin at a place: its numbers, its state in the form that a machine loads, and its
  * end.
  * @param {string} text
  * @param {number} at
@@ -159,23 +159,19 @@ export function readBase(text, at) {
 }
 
 /**
- * A header and entries numbered from 1, or a base and entries numbered behind it: `first` is the number at which it
- * opens, `last` that of its last entry, and `length` how many it has. An entry is read from its line when it is asked
- * for. Names are 1 to `nodes`. Behind a header the first are present at the start, `present` of them; a base has a
- * `state`. `bases` are the lines that tell the numbers of bases, each by the entry behind which it stands. A text that
- * is none is a `TranscriptFault`.
+ * A header and entries numbered from 1, or a base and the entries after it: `first` is the number that it
+ * opens at, `last` that of its last entry, and `length` how many it has. Entries are parsed on demand. Names
+ * are 1 to `nodes`. After a header the first `present` nodes are present; a base has a `state`. `bases` are
+ * the numbered lines of bases, by the entry before each. Throws `TranscriptFault` for any other text.
  */
 export class Transcript {
   /** @param {string} text */
   constructor(text) {
     this.text = text;
-    /**
-     * Where each entry begins.
-     * @type {number[]}
-     */
+    /** @type {number[]} */
     this.starts = [];
     /**
-     * The lines of bases, by the entry after which they stand.
+     * The lines of bases, by the entry before each.
      * @type {Map<number, string>}
      */
     this.bases = new Map();
@@ -183,7 +179,7 @@ export class Transcript {
     this.rules = "hh";
     this.nodes = this.present = this.first = this.spent = 0;
     /**
-     * The state of the base with which it begins, or null.
+     * The state of the base that begins the transcript, or null.
      * @type {MachineState | null}
      */
     this.state = null;
@@ -245,7 +241,6 @@ export class Transcript {
   }
 
   /**
-   * What is wrong with an entry, as a fault of its line.
    * @param {number} number
    * @param {string} wrong
    */

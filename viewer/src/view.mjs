@@ -1,4 +1,4 @@
-// Which part of a drawing is seen: a box of the drawing's own units, as far in as `scale` says, round a middle.
+// The visible part of a drawing: a box in the drawing's units, round a middle, enlarged by `scale`.
 
 const MOST = 20;
 
@@ -13,7 +13,6 @@ export class View {
     this.fit();
   }
 
-  /** The whole drawing. */
   fit() {
     this.scale = 1;
     this.x = this.fullWidth / 2;
@@ -21,7 +20,7 @@ export class View {
   }
 
   /**
-   * Nearer by a factor, where the place x, y stays where it is seen; the middle where none is named.
+   * Zooms by a factor; the place x, y, by default the middle, stays fixed on the screen.
    * @param {number} factor
    */
   by(factor, x = this.x, y = this.y) {
@@ -32,7 +31,6 @@ export class View {
   }
 
   /**
-   * Moves the middle, as far as the drawing goes.
    * @param {number} x
    * @param {number} y
    */
@@ -48,7 +46,6 @@ export class View {
   }
 
   /**
-   * Moves what is seen along with a hand that moves so far.
    * @param {number} dx
    * @param {number} dy
    */
@@ -64,13 +61,11 @@ export class View {
     return this.fullHeight / this.scale;
   }
 
-  /** Left, top, width and height of what is seen. */
   get box() {
     return [this.x - this.width / 2, this.y - this.height / 2, this.width, this.height];
   }
 
   /**
-   * Whether a place is seen, and not at the very border.
    * @param {number} x
    * @param {number} y
    * @param {number} border

@@ -1,10 +1,10 @@
-// Shows a part of a drawing, which buttons, keys, the wheel and fingers choose.
+// Shows a part of a drawing, chosen by buttons, keys, the wheel and fingers.
 import {View} from "./view.mjs";
 
-// names smaller than so many pixels are left out: nobody reads them, and they are what takes time to draw
+// smaller names, in pixels, are left out: they are unreadable and the slowest to draw
 const NAME_SIZE = 10;
 const LEAST_NAME = 5;
-// so many units a pixel, and a name can still be read
+// at most this many units a pixel, a name is readable
 const READABLE = 1.6;
 
 export class Zoom {
@@ -12,9 +12,8 @@ export class Zoom {
    * @param {SVGSVGElement} svg
    * @param {number} width
    * @param {number} height
-   * @param {(pixels: number) => number} changed is told whenever another part is seen how many pixels a unit has then,
-   *   and returns
-   *     by which factor nodes are enlarged
+   * @param {(pixels: number) => number} changed called with the pixels of a unit when another part comes
+   *   into view; returns the factor by which nodes are enlarged
    * @param {number} leastName names of fewer pixels are left out
    */
   constructor(svg, width, height, changed, leastName = LEAST_NAME) {
@@ -44,7 +43,7 @@ export class Zoom {
   }
 
   /**
-   * Moves so that a place of the drawing is seen, nearer than before if its names can't be read.
+   * Moves to show a place of the drawing, enlarged if its names are unreadable.
    * @param {number} x
    * @param {number} y
    */
@@ -70,7 +69,6 @@ export class Zoom {
   }
 
   /**
-   * Two fingers moved from one place to another, and apart by a factor.
    * @param {number} factor
    * @param {Place} from
    * @param {Place} to
@@ -91,21 +89,16 @@ export class Zoom {
     svg.classList.toggle("nameless", NAME_SIZE * pixels * growth < this.leastName);
   }
 
-  /** So many units of the drawing a pixel. */
   get unit() {
     return 1 / this.svg.getScreenCTM().a;
   }
 
-  /**
-   * The place of the drawing at a place of the window.
-   * @param {Place} place
-   */
+  /** @param {Place} place */
   placeAt({ x, y }) {
     return new DOMPoint(x, y).matrixTransform(this.svg.getScreenCTM().inverse());
   }
 
   /**
-   * The place of the window at a place of the drawing.
    * @param {number} x
    * @param {number} y
    */

@@ -1,10 +1,10 @@
-// The transcripts that stand in the repository's case files: those that `audit` accepts there.
+// The transcripts in the repository's case files that `audit` accepts there.
 import {readdirSync, readFileSync} from "node:fs";
 
 const TESTS = new URL("../../tests/", import.meta.url);
 const EXAMPLES = new URL("../../examples/", import.meta.url);
 
-/** The indented lines below a part, with the two spaces taken away. */
+/** The indented lines below a part, without their two spaces. */
 function linesBelow(part) {
   return part.split("\n").slice(1).filter((line) => line.startsWith("  ")).map((line) => `${line.slice(2)}\n`).join("");
 }

@@ -1,5 +1,6 @@
-// The engine inside the playground beside the program, on scripts that are drawn by chance: the same bytes of each
-// script, and the same verdict on each transcript, whole or damaged. SCRIPTS says how many; 200 where nothing is said.
+// Compares the engine inside the playground with the program on random scripts: the same bytes of each
+// script, and the same verdict on each transcript, whole or damaged. SCRIPTS is the number of scripts; by
+// default 200.
 import assert from "node:assert/strict";
 import test from "node:test";
 import {scriptOf, wordsOf} from "./scripts.mjs";
@@ -15,7 +16,7 @@ const SCRIPTS = Number(process.env.SCRIPTS ?? 200);
 const DAMAGES = 3;
 const skip = whatIsMissing();
 
-/** What the engine writes of a script, and the exit status that the program would have. */
+/** The engine's text for a script, and the exit status that the program would have. */
 function played(engine, { rules, names, present, lines }) {
   const session = new Session(engine, rules, names, present);
   const parts = [session.read()];
@@ -34,7 +35,6 @@ function played(engine, { rules, names, present, lines }) {
   return { status, text: parts.join("") };
 }
 
-/** The verdict of the engine, and the exit status that the program would have. */
 function judged(engine, text) {
   try {
     const { entries, epochs, moves } = summaryOf(engine, Buffer.from(text, "latin1"));
@@ -45,7 +45,7 @@ function judged(engine, text) {
   }
 }
 
-/** A transcript with one byte or one line otherwise than it was, or cut. */
+/** A transcript that is cut, or with one byte or one line changed. */
 function damaged(text, next) {
   const at = next(text.length);
   const lines = text.split(/(?<=\n)/);
@@ -78,7 +78,7 @@ test(`the engine writes what the program writes of ${SCRIPTS} scripts, and judge
       [refused, accepted] = [refused + verdict.status, accepted + 1 - verdict.status];
     }
   }
-  // what is compared is not all of one kind
+  // the comparisons cover both kinds
   assert.ok(
     bad > SCRIPTS / 10 && refused > SCRIPTS && accepted > SCRIPTS,
     `${bad} bad lines, ${refused} refused, ${accepted} accepted`);
@@ -157,7 +157,7 @@ test("a lab takes no line that would have the page stand still, and says which a
   assert.throws(() => lab.replay(lines), { message: /^line \d+ comes after 16,777,216 characters of transcript/});
   assert.ok(lab.size > MOST_TEXT && lab.lines.length < 20, `${lab.size} characters of ${lab.lines.length} lines`);
   assert.ok(performance.now() - begun < 5000, `${performance.now() - begun} ms`);
-  // a drive ends where nothing is enabled, however many steps it has
+  // a drive ends once no node is enabled, however many steps it has
   const drive = "link 1 2\ndrive 1 1000000\n";
   lab.replay(drive.trimEnd().split("\n"));
   assert.equal(lab.transcript, program(["run", "--rules", "hh", "--nodes", "3"], drive).text);

@@ -1,4 +1,4 @@
-// What no judge would accept is a fault of its line, however it came into the page.
+// An entry that no judge would accept is a fault of its line, however it came into the page.
 import assert from "node:assert/strict";
 import test from "node:test";
 import {Replay} from "../src/replay.mjs";

@@ -1,4 +1,4 @@
-// What is told of nodes and edges, against sentences that were written by hand from the rules.
+// Compares the texts on nodes and edges with sentences written by hand from the rules.
 import assert from "node:assert/strict";
 import test from "node:test";
 import {transcriptsOfCases, transcriptsOfExamples} from "./cases.mjs";

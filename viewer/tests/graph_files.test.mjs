@@ -1,4 +1,4 @@
-// Graph files as the page reads them, what a text is taken for, what can be taken back, and when work is at risk.
+// Tests graph files, the kinds of texts, undo, and when work is at risk.
 import assert from "node:assert/strict";
 import test from "node:test";
 import {GraphFault, MOST_LINKS, readGraph} from "../src/playground/graph_files.mjs";
@@ -14,7 +14,7 @@ test("edge lists: names, weights, comments, nodes alone, and an edge from both e
   assert.deepEqual({ nodes, links, renamed }, { nodes: 4, links: [[1, 2], [1, 3]], renamed: true });
   assert.deepEqual(readGraph("10 2\n2 1\r\n", "edge list"), { nodes: 3, links: [[2, 3], [1, 2]], renamed: true });
   assert.deepEqual(readGraph("2 1\n", "edge list"), { nodes: 2, links: [[1, 2]], renamed: false });
-  // a sign that looks like a digit is a name, and no number
+  // a sign that looks like a digit is a name, not a number
   assert.deepEqual(readGraph("² 1\n", "edge list"), { nodes: 2, links: [[1, 2]], renamed: true });
 });
 
@@ -94,7 +94,7 @@ test(
           const { nodes, links } = readGraph(damaged, format);
           assert.ok(links.every(([v, w]) => v >= 1 && v < w && w <= nodes), damaged);
           assert.equal(new Set(links.map(String)).size, links.length, damaged);
-          // each pair of numbers that is told, and no other
+          // each given pair of numbers, and no other
           if (format === "DIMACS graph") {
             const told = damaged.split("\n")
                            .map((line) => line.trim().split(/\s+/))

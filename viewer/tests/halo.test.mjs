@@ -1,5 +1,5 @@
-// Whom an edit or a fault would reach, who may still move, and how many moves can come: what the page asks the engine,
-// and what it makes of the answers. All values are worked out by hand from the table of docs/BOUNDS.md.
+// Tests reach, rest and possible moves: what the page asks the engine, and how it uses the answers. All
+// values are worked out by hand from the table in docs/BOUNDS.md.
 import assert from "node:assert/strict";
 import test from "node:test";
 import {engineOfPage, program, whatIsMissing} from "./wasm.mjs";
@@ -8,7 +8,7 @@ import {Lab} from "../src/playground/lab.mjs";
 import {sharesOf} from "../src/playground/pane.mjs";
 
 const skip = whatIsMissing();
-// 1 - 2 = 3 - 4 - 5 = 6: 2 and 3 are a pair, and 5 and 6; 1 and 4 have married neighbours alone
+// 1 - 2 = 3 - 4 - 5 = 6: 2 and 3 are a pair, and 5 and 6; all neighbours of 1 and 4 are married
 const LINKS = ["link 1 2", "link 2 3", "link 3 4", "link 4 5", "link 5 6"];
 const SETTLED = {
   hh: [...LINKS, "step 2>3", "step 3", "step 5>6", "step 6"],
@@ -51,7 +51,7 @@ function restless(lab) {
   return [...lab.seen.restless.keys()].filter((v) => lab.seen.restless[v]);
 }
 
-/** Who moves in a transcript after its last edit or fault. */
+/** The nodes that move in a transcript after its last edit or fault. */
 function moversOf(text) {
   const last = text.trimEnd().split("\n").findLastIndex((line) => / = ok$/.test(line));
   const steps = text.trimEnd().split("\n").slice(last).filter((line) => line.includes(" step "));
@@ -113,8 +113,9 @@ test("a reach of more nodes than were given room, in a star of 200", { skip }, a
 test("how many moves can come: the charge, and under hh no more than the nodes allow", { skip }, async () => {
   const ends = [[1, 2], [1, 3], [1, 4], [2, 3], [2, 4], [3, 4]];
   const lines = ends.map((edge) => `link ${edge.join(" ")}`);
-  // four nodes that point round. hh: 2 for each of six edges and 1 for each pointer are 16, and 16/2 + 4 - 2 are 10.
-  // manne: 2 for each of the three edges whose lower end does not point along it, 1 for each pointer and for each flag
+  // four nodes that point round. hh: 2 for each of six edges and 1 for each pointer are 16, and 16/2 + 4 - 2
+  // are 10. manne: 2 for each of the three edges whose lower end does not point along it, 1 for each pointer
+  // and for each flag
   const round = ["point 1 2", "point 2 3", "point 3 4", "point 4 1"];
   for (const [rules, charge, left, bound] of [["hh", 16, 10, 10], ["manne", 14, 14, 24]]) {
     const lab = new Lab(await engineOfPage(), { rules, names: 4, present: 4 });
@@ -150,7 +151,7 @@ test("what a click is about to do, by the tool in hand", () => {
 test("the bar: spent moves and those to come, and never more than its bound", () => {
   assert.deepEqual(sharesOf(0, 10, 10), { spent: 0, left: 1 });
   assert.deepEqual(sharesOf(5, 10, 20), { spent: 0.25, left: 0.5 });
-  // 16 of 22 were spent: of the 10 that the state allows no more than 6 come in this epoch
+  // 16 of 22 were spent: of the 10 that the state allows, at most 6 come in this epoch
   assert.deepEqual(sharesOf(16, 10, 22), { spent: 16 / 22, left: 6 / 22 });
   assert.deepEqual(sharesOf(0, 0, 0), { spent: 0, left: 0 });
 });

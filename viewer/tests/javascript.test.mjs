@@ -1,5 +1,6 @@
-// release/rudekpi.mjs, or the module that RUDEKPI_MJS names, beside the program: random scripts told by calls make the
-// same bytes, and each reply is what its entry says. SCRIPTS says how many; 200 if nothing is said.
+// Compares release/rudekpi.mjs, or the module that RUDEKPI_MJS names, with the program: random scripts
+// carried out by calls give the same bytes, and each reply agrees with its entry. SCRIPTS is the number of
+// scripts; by default 200.
 import assert from "node:assert/strict";
 import {existsSync, readFileSync} from "node:fs";
 import {spawnSync} from "node:child_process";
@@ -17,13 +18,13 @@ const { Audit, audit, Damaged, Ended, Network, Refused, RudekpiError, version, W
 
 const TURNED = ["drive", "scramble"];
 const LISTED = ["enabled", "matching"];
-// by docs/USE.md
+// as in docs/USE.md
 const REFUSALS = [
   "unknown-node", "self-loop", "already-linked", "not-linked", "too-many-edges", "not-neighbour", "no-flag",
   "empty-choice", "not-central", "chosen-twice", "not-enabled", "bad-target", "already-present"
 ];
 
-/** Calls what a line of a script says, on a network of numbers or of the caller's own names. */
+/** Makes the call for a line of a script, on a network of numbers or of the caller's own names. */
 function told(net, line, name = (number) => number) {
   const [word, ...given] = line.split(" ");
   const node = (text) => (text === "-" ? null : name(Number(text)));
@@ -44,7 +45,7 @@ function told(net, line, name = (number) => number) {
   }
 }
 
-/** A reply as its entry says it. */
+/** A reply in the form of its entry. */
 function written(word, reply) {
   const move = ({ node, rule, target }) => `${node}:${rule}${target === null ? "" : `>${target}`}`;
   switch (word) {
@@ -65,7 +66,7 @@ function written(word, reply) {
   }
 }
 
-/** The entries that a call says it has made, with their replies as a transcript has them. */
+/** The entries that a call reports, with their replies as a transcript has them. */
 function entriesOf(net, line) {
   const [word] = line.split(" ");
   try {
@@ -83,7 +84,10 @@ function entriesOf(net, line) {
   }
 }
 
-/** The lines that the calls of a script stand for: a status comes after turns, and what is no command is left out. */
+/**
+ * The script lines equivalent to the calls: a status follows turns, and lines that are no commands are left
+ * out.
+ */
 function linesOf({ lines }) {
   const words = ["link", "unlink", "point", "flag", "join", "leave", "step", "show", "status", "checkpoint"];
   const known = [...words, ...LISTED, ...TURNED];
@@ -96,7 +100,7 @@ function linesOf({ lines }) {
   });
 }
 
-/** The script as the program gets it. */
+/** The script in the form for the program. */
 function scriptFor(lines) {
   return lines.flatMap((line) => (TURNED.includes(line.split(" ")[0]) ? [line, "status"] : [line]))
     .map((line) => `${line}\n`)
@@ -108,7 +112,9 @@ function entriesIn(text) {
   return [...text.matchAll(/^(\d+) [^=]*?(?: = )(.*)$/gm)].map(([, entry, reply]) => [Number(entry), reply]);
 }
 
-/** Compares what is asked without an entry with the last base and the last answers of a transcript. */
+/**
+ * Compares the answers of calls that add no entry with the last base and the last answers of a transcript.
+ */
 function compareState(net, text, seed) {
   const base = text.slice(text.lastIndexOf("matching2 "));
   const nodes = [...base.matchAll(/^node (\d+) (\d+|-) ([01])$/gm)].map(
@@ -140,7 +146,7 @@ test(`${SCRIPTS} random scripts by calls write what the program writes, and repl
     const said = program(["audit"], theirs).text;
     const { entries: count, epochs, moves } = net.audit();
     assert.equal(`accepted: ${count} entries, ${epochs} epochs, ${moves} moves\n`, said, `seed ${seed}`);
-    // what can still come, by docs/BOUNDS.md
+    // the moves that can still come, by docs/BOUNDS.md
     const { nodes, charge } = net.status();
     const dense = nodes < 2 ? 0 : Math.floor((nodes * nodes) / 2) + nodes - 2;
     assert.equal(net.movesLeft(), script.rules === "hh" ? Math.min(charge, dense) : charge, `seed ${seed}`);
@@ -175,7 +181,7 @@ test("names of the caller's own stand for numbers, in replies and in errors", { 
   });
   assert.throws(() => net.link("ann", "cleo"), { name: "RangeError", message: "no node has the name \"cleo\"" });
   assert.throws(() => net.step([new Wish("ann", 7)]), /^Refused: step "ann">7: refused 11 not-enabled \(entry 12\)$/);
-  // those of a set go by number, so the same set is the same step
+  // a set is sorted by number, so the same set is the same step
   net.scramble(3, 4);
   const enabled = [...net.enabled().keys()];
   const [one, other] = [new Network("manne", 3), new Network("manne", 3)];
@@ -294,7 +300,7 @@ test("a transcript that is not kept begins with its last base", { skip }, () => 
   assert.deepEqual(net.audit(), { entries: 1, epochs: 1, moves: 1 });
 });
 
-/** The verdict of the module, at once or in pieces, as the program says it. */
+/** The module's verdict, at once or in pieces, in the program's words. */
 function verdict(judge) {
   try {
     const { entries, epochs, moves } = judge();

@@ -6,7 +6,6 @@ import {fill, layOut, ringOf, SPACING} from "../src/layout.mjs";
 const ring = (nodes) => Array.from({ length: nodes }, (_, at) => [at + 1, ((at + 1) % nodes) + 1]);
 const path = (nodes) => ring(nodes).slice(0, -1);
 
-/** The least distance of two nodes. */
 function nearest({ x, y }) {
   let least = Infinity;
   for (let v = 1; v < x.length; v += 1) {
@@ -17,7 +16,6 @@ function nearest({ x, y }) {
   return least;
 }
 
-/** Edges that a fixed rule scatters. */
 function scattered(nodes, count) {
   const found = new Map();
   for (let draw = 1; found.size < count; draw = (draw * 48271) % 2147483647) {

@@ -1,5 +1,5 @@
-// The module when memory is refused: its own limit is set to each number of pages, so that each growth is refused in
-// turn. A refused growth is answered as such, nothing is done then, and all goes on.
+// The module when memory is refused: its limit is set to each number of pages in turn, so that each growth is
+// refused once. A refused growth is reported, changes nothing, and the module goes on.
 import assert from "node:assert/strict";
 import test from "node:test";
 import {Audit} from "../src/rudekpi/audits.mjs";
@@ -19,7 +19,7 @@ function encoded(number) {
   return number < 128 ? [number] : [(number % 128) | 128, ...encoded(Math.floor(number / 128))];
 }
 
-/** A number of that form, and where it ends. */
+/** A number of that form, and its end. */
 function decoded(bytes, at) {
   let [value, scale, end] = [0, 1, at];
   do {
@@ -30,7 +30,7 @@ function decoded(bytes, at) {
   return [value, end];
 }
 
-/** Where the section of the memory lies: its content, and how many pages it begins with. */
+/** The memory section: its content, its place, and the initial number of pages. */
 function memoryOf(bytes) {
   for (let at = 8; at < bytes.length;) {
     const [size, start] = decoded(bytes, at + 1);
@@ -43,7 +43,7 @@ function memoryOf(bytes) {
   throw new Error("the module has no memory");
 }
 
-/** The module with a memory that has no more pages than these. */
+/** The module with a memory of at most this many pages. */
 function limited(bytes, most) {
   const { at, end, pages } = memoryOf(bytes);
   const content = [1, 1, ...encoded(pages), ...encoded(most)];
@@ -63,7 +63,10 @@ function linesOfGrowth() {
   return [...lines, "enabled", "checkpoint"];
 }
 
-/** Feeds all lines; what memory is refused for is left out. Returns the lines that were carried out, and the text. */
+/**
+ * Feeds all lines, and skips those that memory is refused for. Returns the lines that were carried out, and
+ * the text.
+ */
 function played(engine, lines) {
   const session = new Session(engine, "hh", NAMES, NAMES);
   const [done, parts] = [[], [session.read()]];
@@ -96,7 +99,7 @@ test(
   "a module whose memory does not grow beyond a limit says so, and promises no byte beyond it", { skip }, async () => {
     const bytes = moduleOfPage();
     const { pages } = memoryOf(bytes);
-    // one page is left of the limit, or three, or sixteen and more; a growth by sixteen at least is asked for
+    // one page is left of the limit, or three, or sixteen and more; each growth asks for at least sixteen
     for (const most of [pages + 1, pages + 3, pages + 16, pages + 40]) {
       const engine = await Engine.load(limited(bytes, most)).catch((wrong) => wrong);
       if (most < pages + 16) {
@@ -165,7 +168,7 @@ test("networks and audits throw a MemoryError, and live on", { skip }, async () 
     }, MemoryError);
     assert.deepEqual(net.link(2, 3), { entry: 2 });
     assert.equal(net.status().edges, 2);
-    // what one gives back another one takes, and the text needs room, too
+    // memory that one frees another takes, and the text needs room too
     assert.ok(others.length > 3);
     others.pop().close();
     others[0].close();

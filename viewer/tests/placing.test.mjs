@@ -12,7 +12,6 @@ const SIZE = {
   width: 300,
   height: 200
 };
-/** Which share of these places a box covers. */
 const counting = (places) => ({ left, top, width, height }) =>
   places.filter(([x, y]) => x >= left && x <= left + width && y >= top && y <= top + height).length / places.length;
 

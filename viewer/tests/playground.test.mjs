@@ -1,5 +1,5 @@
-// What the playground makes by itself: networks to begin with, addresses that hold a script, places of nodes, and its
-// sentences.
+// Tests what the playground produces without the engine: first networks, addresses that hold a script, places
+// of nodes, and sentences.
 import assert from "node:assert/strict";
 import test from "node:test";
 import {frame, freePlace, placesOf, within} from "../src/playground/places.mjs";
@@ -8,7 +8,6 @@ import {readAddress, writeAddress} from "../src/playground/sharing.mjs";
 import {Story, toldOf} from "../src/playground/story.mjs";
 import {Tools} from "../src/playground/tools.mjs";
 
-/** How many parts hang together. */
 function parts(nodes, links) {
   const root = Array.from({ length: nodes + 1 }, (_, v) => v);
   const find = (v) => (root[v] === v ? v : (root[v] = find(root[v])));

@@ -1,6 +1,6 @@
-// The machine of the page beside the program, state by state, on scripts that are drawn by chance: after each command
-// the program writes a base, in which all registers and edges stand, and is asked what is enabled, for the pairs and
-// for the status. The program is the repository's as it is built, or the one that CONSOLE names.
+// Compares the machine of the page with the program, state by state, on random scripts. After each command
+// the program writes a base, with all registers and edges, and is asked for the enabled nodes, the pairs and
+// the status. The program is the repository's as it is built, or the one that CONSOLE names.
 import assert from "node:assert/strict";
 import {spawnSync} from "node:child_process";
 import {existsSync} from "node:fs";
@@ -53,13 +53,13 @@ function scriptOf(seed) {
   };
 }
 
-/** The bases of a transcript, each as its number and its lines. */
+/** The bases of a transcript, each with its number and its lines. */
 function basesOf(text) {
   return [...text.matchAll(/^matching2 .*\nbase (\d+) .*\n(?:node .*\n|edge .*\n)*/gm)].map(
     (found) => ({ number: Number(found[1]), lines: found[0].trimEnd().split("\n"), at: found.index }));
 }
 
-/** Compares each base and each answer of a transcript with the machine's; how many there were. */
+/** Compares each base and each answer of a transcript with the machine's. Returns how many there were. */
 function compare(text, seed) {
   const replay = new Replay(new Transcript(text));
   const { transcript } = replay;

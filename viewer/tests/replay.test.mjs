@@ -1,4 +1,4 @@
-// The replay against what stands in the repository's case files, examples, README and docs/USE.md: replies that were
+// Compares the replay with the repository's case files, examples, README and docs/USE.md, whose replies were
 // found by hand.
 import assert from "node:assert/strict";
 import test from "node:test";
@@ -10,7 +10,6 @@ import {carryOut} from "../src/entries.mjs";
 import {Replay} from "../src/replay.mjs";
 import {readEntry, Transcript} from "../src/transcript.mjs";
 
-/** The reply to a question, as the machine has it. */
 function answer(replay, entry) {
   const machine = replay.goTo(entry.number);
   switch (entry.kind) {
@@ -92,7 +91,7 @@ for (const { name, text, replay } of replays.filter((found) => found.replay.tran
   });
 }
 
-/** The lines up to that of an entry, which all that comes behind it changes nothing of. */
+/** The lines up to that of an entry; the lines after it must change none of their values. */
 function upTo(text, entry) {
   const lines = text.split("\n");
   const at = lines.findIndex((line) => line.startsWith(`${entry} `));
@@ -133,7 +132,8 @@ test("the budget of the ring of three of docs/USE.md: from its charge 9 to silen
   assert.deepEqual([...series.charge], [0, 2, 4, 6, 5, 6, 9, 6, 5, 0]);
   assert.deepEqual([...series.spent], [0, 0, 0, 0, 0, 0, 0, 1, 2, 3]);
   assert.deepEqual([...series.pairs], [0, 0, 0, 0, 0, 0, 0, 0, 0, 1]);
-  // three nodes have at most 9/2 + 3 - 2 moves, the half rounded down, which is less than 2m + n from two edges on
+  // three nodes have at most 9/2 + 3 - 2 moves, the half rounded down, which is less than 2m + n from two
+  // edges on
   const numbers = [...series.charge.keys()];
   assert.deepEqual(numbers.map((number) => replay.bound(number)), [3, 5, 5, 5, 5, 5, 5, 5, 5, 5]);
   assert.deepEqual(numbers.map((number) => replay.movesLeft(number)), [0, 2, 4, 5, 5, 5, 5, 5, 5, 0]);

@@ -38,7 +38,7 @@ function lineOf(next, nodes) {
 /** A network and a script; one of four has a line that is no command. */
 export function scriptOf(seed) {
   const next = drawn(seed);
-  // the first of near seeds are near
+  // the first draws of near seeds are near
   next(2);
   const names = 1 + next(14);
   const lines = Array.from({ length: LINES }, () => lineOf(next, names));
@@ -48,7 +48,7 @@ export function scriptOf(seed) {
   return { rules: ["hh", "manne"][seed % 2], names, present: names - next(3 < names ? 3 : 1), lines, next };
 }
 
-/** The words of the command line that plays such a script. */
+/** The command-line words that play such a script. */
 export function wordsOf({rules, names, present}) {
   return ["run", "--rules", rules, "--nodes", `${names}`, "--present", `${present}`];
 }

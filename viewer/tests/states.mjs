@@ -1,18 +1,16 @@
-// The state of a machine, as the program tells it.
+// The state of a machine, in the program's words.
 
-/** The reply to `enabled`. */
 export function enabledOf(machine) {
   const found = machine.rule.flatMap((rule, v) => (rule ? [`${v}:${rule}`] : []));
   return found.join(" ") || "none";
 }
 
-/** The reply to `matching`. */
 export function pairsOf(machine) {
   const found = machine.edges().filter(([v, w]) => machine.partner(v) === w);
   return found.sort((a, b) => a[0] - b[0]).map((pair) => pair.join("-")).join(" ") || "none";
 }
 
-/** The lines of the base at which a replay stands after so many entries. */
+/** The lines of a replay's base after `number` entries. */
 export function baseAt(replay, number) {
   const machine = replay.goTo(number);
   const present = Array.from({ length: machine.nodes }, (_, at) => at + 1).filter((v) => machine.here[v]);

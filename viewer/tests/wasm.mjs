@@ -1,5 +1,5 @@
-// The engine of the page that lies in release/, or of the page that PLAYGROUND names; and the program beside which it
-// is tried.
+// The engine of the page in release/, or of the page that PLAYGROUND names; and the program that it is
+// compared with.
 import {existsSync, readFileSync} from "node:fs";
 import {spawnSync} from "node:child_process";
 import {fileURLToPath} from "node:url";
@@ -9,7 +9,7 @@ const PAGE = process.env.PLAYGROUND ?? fileURLToPath(new URL("../../release/play
 const PROGRAM = process.env.CONSOLE ?? fileURLToPath(new URL("../../crates/console/out/console", import.meta.url));
 const EMBEDDED = /<script type="application\/json" id="engine">"([A-Za-z0-9+/=]+)"<\/script>/;
 
-/** Why nothing can be tried here, or false. */
+/** Why no test can run here, or false. */
 export function whatIsMissing() {
   if (!existsSync(PAGE)) {
     return `no page at ${PAGE}`;
@@ -20,18 +20,15 @@ export function whatIsMissing() {
   return !canRun() && "this node does not run the engine";
 }
 
-/** The bytes of the module in the page. */
 export function moduleOfPage() {
   const [, text] = EMBEDDED.exec(readFileSync(PAGE, "utf8"));
   return Buffer.from(text, "base64");
 }
 
-/** A new engine. */
 export function engineOfPage() {
   return Engine.load(moduleOfPage());
 }
 
-/** What the program answers: its exit status and its text. */
 export function program(words, input) {
   const { status, stdout } = spawnSync(PROGRAM, words, { input, maxBuffer: 1 << 26 });
   return { status, text: stdout.toString("latin1") };

@@ -1,8 +1,9 @@
-/* The heap of the WebAssembly module in the playground and in rudekpi.mjs: what the engine's code calls to take or give back memory.
- * Nothing of it is proved; in the library for C, malloc stands in its place.
+/* The heap of the WebAssembly module in the playground and in rudekpi.mjs: the engine's code calls it to
+ * take or give back memory. It is not proved; the library for C uses malloc instead.
  *
- * Blocks are powers of two from 32 bytes on, with their class in a header of 16 bytes; a block that is given back goes to the front
- * of its class's list, and memory never shrinks. A call returns whether it was done, and where. */
+ * Blocks are powers of two from 32 bytes on, with their class in a header of 16 bytes. A freed block goes
+ * to the front of its class's list; memory never shrinks. A call returns whether it succeeded, and the
+ * address. */
 typedef unsigned long u64;
 typedef unsigned char u8;
 
@@ -23,7 +24,7 @@ static int class_of(u64 size) {
     return class;
 }
 
-/* Lets memory grow until so many bytes lie between top and end; 0 if that is refused. */
+/* Grows memory until `size` bytes lie between top and end; returns 0 if that is refused. */
 static int has_room(u64 size) {
     if (!top) {
         top = (u8 *)(((u64)&__heap_base + HEADER - 1) & -(u64)HEADER);
@@ -33,7 +34,8 @@ static int has_room(u64 size) {
     if (left >= size) return 1;
     u64 pages = (size - left + PAGE - 1) / PAGE + 1;
     if (pages < LEAST_PAGES) pages = LEAST_PAGES;
-    /* The memory's size says whether it grew: lowered to 32 bits, this module gets no -1 of 64 bits for a growth that is refused. */
+    /* The memory's size shows whether it grew: lowered to 32 bits, this module gets no -1 of 64 bits for a
+     * refused growth. */
     __builtin_wasm_memory_grow(0, pages);
     u8 *grown = (u8 *)(__builtin_wasm_memory_size(0) * PAGE);
     if (grown < end + pages * PAGE) return 0;
@@ -50,7 +52,7 @@ static u8 *take(u64 size) {
         *(int *)block = class;
         return block + HEADER;
     }
-    /* If memory does not grow, a larger block that was given back has to do. */
+    /* If memory does not grow, a larger freed block has to do. */
     while (class < CLASSES && !free_blocks[class]) class ++;
     if (class == CLASSES) return 0;
     u8 *block = free_blocks[class];
@@ -87,7 +89,7 @@ struct tried rattle_realloc(u8 *at, u64 kept, u64 size, u64 align) {
     return told(to);
 }
 
-/* Room for what JavaScript hands over and is handed; null if there is none. */
+/* Room for bytes that JavaScript and the module exchange; null if there is none. */
 u8 *rudekpi_room(u64 size) {
     return take(size);
 }

@@ -1,4 +1,4 @@
-// The node that was chosen, in words, with what can be done to it.
+// The chosen node in words, with what can be done to it.
 import {explain} from "../explain.mjs";
 import {addText, byId} from "../svg.mjs";
 
@@ -19,8 +19,7 @@ export class Card {
   }
 
   /**
-   * A button that carries out a line for what was chosen; while a hand or the focus is on it, the halo is that of the
-   * line.
+   * A button that carries out a line. Under the mouse or the focus it shows that line's halo.
    * @param {string} id
    * @param {(thing: Thing) => string} lineOf
    */

@@ -1,14 +1,14 @@
-// The node or edge that is chosen, and the way to the next one by keys.
+// The chosen node or edge, and the keys to the next one.
 
 /** @typedef {import("./seen.mjs").Seen} Seen */
 
 export class Chooser {
-  /** @param {(thing: Thing | null) => void} shown is told what is chosen */
+  /** @param {(thing: Thing | null) => void} shown called with the chosen thing */
   constructor(shown) {
     this.shown = shown;
     /** @type {Thing | null} */
     this.thing = null;
-    /** The node whose links are gone through, 0 if none is. */
+    /** The node whose links the keys step through, or 0. */
     this.hub = 0;
   }
 
@@ -19,7 +19,6 @@ export class Chooser {
   }
 
   /**
-   * Chooses the next node that is there, or the one before.
    * @param {Seen} seen
    * @param {number} step 1 or -1
    */
@@ -34,8 +33,7 @@ export class Chooser {
   }
 
   /**
-   * Chooses the next link of the node that is chosen, or of the end from which that began. If nothing is chosen, or
-   * what is chosen is gone, it begins at the first node that has a link.
+   * Chooses the next link of the chosen node or end; if that is gone, begins at the first node with a link.
    * @param {Seen} seen
    */
   turn(seen) {

@@ -1,5 +1,5 @@
-// Who lets nodes move: a daemon that a seed draws, or all that are enabled at once; move by move, or by itself.
-// Scrambles are drawn by the same seeds.
+// The page's daemon: moves drawn from a seed, or all enabled nodes at once; step by step, or automatically.
+// Scrambles use the same seeds.
 import {byId, field} from "../svg.mjs";
 import {Runner} from "./runner.mjs";
 
@@ -12,20 +12,18 @@ export class Daemon {
   /** @param {import("./playground.mjs").Playground} play */
   constructor(play) {
     this.play = play;
-    /** The seed that was drawn last. */
     this.seed = 0;
-    /** Whether the next move goes on an act that can be taken back as one. */
+    /** Whether the next move extends an act that is undone as one. */
     this.stretch = false;
     this.runner = new Runner(() => this.stepAll(), (count) => count > 0 && play.show(count));
   }
 
-  /** A seed that was not used before. */
   nextSeed() {
     this.seed = (this.seed % LAST_SEED) + 1;
     return this.seed;
   }
 
-  /** One move of each network; whether there was one. */
+  /** Makes one move in each network. Returns whether there was one. */
   stepAll() {
     return this.play.labs.map((lab) => this.stepOne(lab)).some(Boolean);
   }
@@ -50,13 +48,12 @@ export class Daemon {
     const made = play.attempt(() => play.feed(line, [lab]), begins);
     this.stretch = made !== null;
     if (made?.[0] === "") {
-      // nothing was enabled
+      // no node was enabled
       lab.lines.pop();
     }
     return Boolean(made?.[0]);
   }
 
-  /** One move by hand on the button. */
   stepNow() {
     const { play } = this;
     this.run(false);
@@ -70,10 +67,7 @@ export class Daemon {
     this.stretch = false;
   }
 
-  /**
-   * Lets nodes move by themselves, or stops that.
-   * @param {boolean} on
-   */
+  /** @param {boolean} on */
   run(on) {
     if (on) {
       this.runner.start();

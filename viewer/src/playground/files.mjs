@@ -1,4 +1,4 @@
-// Text that goes out of the page: saved as a file, or copied.
+// Text that leaves the page: saved as a file, or copied.
 
 /**
  * @param {string} text
@@ -13,8 +13,7 @@ export function save(text, name) {
 }
 
 /**
- * Copies a text and returns whether it is copied. If the browser does not let the page, the field that holds it is
- * selected, for a hand to copy.
+ * Copies a text. Returns whether it is copied; else selects the field that holds it.
  * @param {string} text
  * @param {HTMLInputElement} [field]
  */

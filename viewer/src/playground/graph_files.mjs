@@ -1,5 +1,5 @@
-// Graph files, as the Python client reads them: edge lists, DIMACS, METIS and node-link JSON. A line that is not what
-// its format says is refused with its number: no graph is ever taken for another one.
+// Graph files, read as the Python client reads them: edge lists, DIMACS, METIS and node-link JSON. A
+// malformed line is refused with its number: no graph is ever mistaken for another.
 import {grouped} from "../numbers.mjs";
 import {MOST_NODES} from "./presets.mjs";
 
@@ -9,7 +9,7 @@ const NUMBER = /^(?:0|[1-9]\d{0,8})$/;
 const WEIGHT = /^[-+]?(?:\d+\.?\d*|\.\d+)(?:[eE][-+]?\d+)?$/;
 const LONGEST_SHOWN = 60;
 
-/** A text that is no graph that can be read here. `text` is the line that is wrong, or empty. */
+/** `text` is the wrong line, or empty. */
 export class GraphFault extends Error {
   /**
    * @param {string} said
@@ -32,7 +32,6 @@ function wrong({ number, text }, why) {
 }
 
 /**
- * The lines of a text that are neither empty nor comments.
  * @param {string} text
  * @param {(words: string[]) => boolean} isComment
  * @returns {Line[]}
@@ -44,7 +43,6 @@ function linesOf(text, isComment) {
 }
 
 /**
- * A number of a line, from `least` to `most`.
  * @param {Line} line
  * @param {string} word
  * @param {number} least
@@ -58,7 +56,7 @@ function numberIn(line, word, least, most, what) {
   return Number(word);
 }
 
-/** Collects nodes and links in the order in which they come; a link that is told from both ends is there once. */
+/** Collects nodes and links in the order of their appearance; a link given from both ends counts once. */
 class Collected {
   constructor() {
     /** @type {Map<string, number>} */
@@ -86,7 +84,8 @@ class Collected {
   }
 
   /**
-   * The network: nodes are numbered in the order of their names if all are numbers, else in that in which they came.
+   * The network: nodes are numbered in the order of their names if all are numbers, else in that of
+   * appearance.
    */
   get network() {
     const names = [...this.names.keys()];
@@ -104,7 +103,7 @@ class Collected {
 }
 
 /**
- * Two names a line with or without a weight, or the name of a node alone; `#` begins a comment.
+ * Two names a line with or without a weight, or the name of a single node; `#` begins a comment.
  * @param {string} text
  */
 function edgeList(text) {
@@ -130,7 +129,7 @@ function edgeList(text) {
 }
 
 /**
- * A line `p edge N M`, and one `e A B` an edge; `c` begins a comment.
+ * A line `p edge N M`, then a line `e A B` for each edge; `c` begins a comment.
  * @param {string} text
  */
 function dimacs(text) {
@@ -163,7 +162,7 @@ function dimacs(text) {
 }
 
 /**
- * A line `N M`, and one a node with its neighbours; `%` begins a comment.
+ * A line `N M`, then a line for each node with its neighbours; `%` begins a comment.
  * @param {string} text
  */
 function metis(text) {
@@ -177,7 +176,7 @@ function metis(text) {
   }
   const nodes = numberIn(head, head.words[0], 0, MOST_NODES, "the number of nodes");
   Array.from({ length: nodes }, (_, at) => found.node(String(at + 1)));
-  // empty lines behind the last node are none of a node's
+  // empty lines after the last node belong to no node
   const own = rest.slice(0, nodes);
   const further = rest.slice(nodes).find(({ words }) => words.length > 0);
   if (further) {
@@ -199,7 +198,6 @@ function metis(text) {
 }
 
 /**
- * A name of node-link JSON: a text or a number.
  * @param {unknown} name
  * @param {string} what
  */
@@ -260,8 +258,8 @@ const READERS = {
 /** @typedef {keyof typeof READERS} GraphFormat */
 
 /**
- * The network of a graph file: how many nodes it has, its links, and whether its names gave way to numbers. Throws a
- * `GraphFault` if the text is none of its format, or too large to draw.
+ * The network of a graph file: its number of nodes, its links, and whether its names were replaced by
+ * numbers. Throws `GraphFault` if the text does not have the format, or is too large to draw.
  * @param {string} text
  * @param {GraphFormat} format
  */

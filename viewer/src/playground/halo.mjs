@@ -1,11 +1,11 @@
-// Whom a hand would reach: if it does what it is about to do, only these nodes can move, beside those that are not at
-// rest now. The engine answers that for each edit and fault; here stand the lines that it is asked about.
+// The halo: the nodes that the intended act would reach. After it only these and the nodes not at rest before
+// can move. The engine computes the reach of the lines listed here.
 
 /** @typedef {import("./seen.mjs").Seen} Seen */
 /** @typedef {import("./tools.mjs").Tools} Tools */
 
 /**
- * All that a pointer of a node may come to, if a hand begins to write it.
+ * All lines by which a node's pointer may be written.
  * @param {Seen} seen
  * @param {number} node
  */
@@ -14,8 +14,7 @@ function pointersOf(seen, node) {
 }
 
 /**
- * The edits and faults that a click on a thing carries out: none if it only reads or moves, several if a second click
- * is to choose one of them.
+ * The edits and faults of a click: none if it only reads or moves, several if a second click will choose.
  * @param {Tools} tools
  * @param {Seen} seen
  * @param {Thing | null} thing
@@ -45,7 +44,7 @@ export function linesAt({name, from}, seen, thing) {
 }
 
 /**
- * The edit or fault of a line that a hand draws from a node to a thing.
+ * The edit or fault of a line drawn from a node to a thing.
  * @param {string} name that of the tool
  * @param {number} node
  * @param {Thing | null} thing
@@ -60,7 +59,7 @@ export function linesBetween(name, node, thing) {
 }
 
 /**
- * The nodes that one of the lines would reach, ascending: all others that are at rest stay at rest.
+ * The nodes that one of the lines would reach, ascending; all others at rest stay at rest.
  * @param {import("../rudekpi/engine.mjs").Session} session
  * @param {string[]} lines
  */

@@ -1,27 +1,28 @@
-// What a reload brings back: it is kept in the storage of the browser's session, which ends with the tab.
+// The state that a reload restores, kept in the browser's session storage, which ends with the tab.
 
 const VERSION = 1;
 
 /**
- * @typedef {{ plan: Plan, places: Size & { x: number[], y: number[] }, placeless: number[], at: number, source:
- * import("./sources.mjs").Source | null, preset: string, size: string, seed: string, daemonSeed: number }} KeptLab
+ * @typedef {{ plan: Plan, places: Size & { x: number[], y: number[] }, placeless: number[], at: number,
+ * source: import("./sources.mjs").Source | null, preset: string, size: string, seed: string,
+ * daemonSeed: number }} KeptLab
  */
-/** @typedef {{ version: number, hash: string, view: string, lab: KeptLab | null, transcript: string | null }} Kept */
+/**
+ * @typedef {{ version: number, hash: string, view: string, lab: KeptLab | null,
+ * transcript: string | null }} Kept
+ */
 
 function key() {
   return `rudekpi ${location.pathname}`;
 }
 
-/**
- * Whether an address holds a script.
- * @param {string} hash
- */
+/** @param {string} hash */
 function holdsScript(hash) {
   return new URLSearchParams(hash.replace(/^#/, "")).has("script");
 }
 
 /**
- * Keeps what stands on the page; returns whether the browser had room for it.
+ * Returns whether the browser had room for it.
  * @param {string} view "lab" or "player"
  * @param {KeptLab | null} lab
  * @param {string | null} transcript
@@ -41,12 +42,12 @@ export function forget() {
   try {
     sessionStorage.removeItem(key());
   } catch {
-    // no storage at all: there is nothing to forget
+    // without any storage there is nothing to forget
   }
 }
 
 /**
- * What was kept, or null. An address with another script than that of the kept state counts for more.
+ * The kept state, or null. If the address has a script that differs from the kept state's, the address wins.
  * @returns {Kept | null}
  */
 export function kept() {

@@ -1,5 +1,4 @@
-// A network in hands: its script so far, the transcript that the engine writes of it, and its state, which follows
-// that.
+// A network of the playground: its script, the engine's transcript of it, and the state that follows from it.
 import {grouped} from "../numbers.mjs";
 import {BAD_LINE, Session} from "../rudekpi/engine.mjs";
 import {EngineFault} from "../rudekpi/errors.mjs";
@@ -8,7 +7,8 @@ import {Seen} from "./seen.mjs";
 
 /** @typedef {import("../rudekpi/engine.mjs").Engine} Engine */
 
-// What one line and one lab may make here. The engine takes more, but the page would stand still while it does.
+// The most that one line and one lab may produce here. The engine takes more, but the page would freeze
+// meanwhile.
 export const MOST_FAULTS = 100_000;
 export const MOST_TEXT = 1 << 24;
 const LONGEST_SHOWN = 60;
@@ -38,7 +38,7 @@ export class Lab {
     this.rules = rules;
     this.names = names;
     this.present = present;
-    /** Whether a line was fed since the state was last looked at. */
+    /** Whether a line was fed since the state was last read. */
     this.fed = false;
     /**
      * The nodes that moved since the last picture.
@@ -56,14 +56,14 @@ export class Lab {
     this.lines = [];
     this.parts = [this.session.read()];
     this.size = this.parts[0].length;
-    /** What the engine wrote since the state was last looked at. */
+    /** The text that the engine wrote since the state was last read. */
     this.unseen = "";
     this.look();
   }
 
   /**
-   * Carries out a line and returns the text of its entries. Throws a `BadLine`, and changes nothing, if it is no
-   * command or if it would make more than this page holds.
+   * Carries out a line and returns its entries' text. Throws `BadLine` and changes nothing if it is no
+   * command or would produce more than this page holds.
    * @param {string} line
    */
   feed(line) {
@@ -82,7 +82,7 @@ export class Lab {
   }
 
   /**
-   * Throws a `BadLine` if a line would make more than this page holds.
+   * Throws `BadLine` if a line would produce more than this page holds.
    * @param {string} line
    */
   admit(line) {
@@ -107,15 +107,11 @@ export class Lab {
     return new BadLine(this.lines.length + 1, line, why);
   }
 
-  /**
-   * The nodes that one of some edits and faults would reach, ascending.
-   * @param {string[]} lines
-   */
+  /** @param {string[]} lines */
   reachOf(lines) {
     return reachOf(this.session, lines);
   }
 
-  /** The state as of now. */
   look() {
     this.seen.goOn(this.unseen, this.session);
     this.unseen = "";
@@ -153,13 +149,13 @@ export class Lab {
     return [...new Map(made.map(([v, w]) => [v * 65536 + w, /** @type {Link} */ ([v, w])])).values()];
   }
 
-  /** The words of the command line that makes the same transcript of the script. */
+  /** The command-line words that make the same transcript from the script. */
   get words() {
     const { rules, names, present } = this;
     return `run --rules ${rules} --nodes ${names}${present === names ? "" : ` --present ${present}`}`;
   }
 
-  /** What a saved script or transcript is called, so that a script's name tells its network. */
+  /** The file name of a saved script or transcript; a script's name includes its network. */
   get fileName() {
     const { rules, names, present } = this;
     return `matching-${rules}-${names}${present === names ? "" : `-${present}`}`;

@@ -1,5 +1,5 @@
-// The playground's buttons, fields and keys, and what it begins with: what was there before a reload, the script of the
-// address, or a small network.
+// The playground's controls, and its first network: the one before a reload, the address's script, or a small
+// one.
 import {LAB_KEYS, listen} from "../keys.mjs";
 import {counted} from "../numbers.mjs";
 import {listenToSaving} from "../picture.mjs";
@@ -11,9 +11,9 @@ import {isTold, SPARE, sourceOf, tryOut} from "./sources.mjs";
 import {TOOLS} from "./tools.mjs";
 
 const NEARER = 1.4;
-// so many units does a key move a node
+// how many units a key moves a node
 const STRIDE = 12;
-// the network of the selectors that is none of the presets
+// the selectors' value for a network that is no preset
 const OWN = "own";
 
 /** @typedef {import("./keeping.mjs").KeptLab} KeptLab */
@@ -28,14 +28,14 @@ export class LabPage {
   /**
    * @param {import("../rudekpi/engine.mjs").Engine} engine
    * @param {(text: string) => void} judge judges a transcript and plays it
-   * @param {(wrong: Wrong | null) => void} refuse tells what was refused
+   * @param {(wrong: Wrong | null) => void} refuse shows why an input was refused
    */
   constructor(engine, judge, refuse) {
     this.play = new Playground(engine, judge);
     this.engine = engine;
     this.refuse = refuse;
     /**
-     * What was opened in place of a preset, or null.
+     * The source opened in place of a preset, or null.
      * @type {Source | null}
      */
     this.source = null;
@@ -92,10 +92,7 @@ export class LabPage {
                                          }));
   }
 
-  /**
-   * What keys do.
-   * @returns {Record<string, () => void>}
-   */
+  /** @returns {Record<string, () => void>} */
   get actions() {
     const { play } = this;
     /** @param {string} id */
@@ -134,7 +131,7 @@ export class LabPage {
   }
 
   /**
-   * Shows the playground, and goes on where it was left, or with what was kept before a reload.
+   * Shows the playground; goes on as it was left, or with the state kept before a reload.
    * @param {KeptLab | null} kept
    */
   enter(kept) {
@@ -185,10 +182,7 @@ export class LabPage {
     this.play.daemon.run(!isCalm());
   }
 
-  /**
-   * Has the selectors tell what is there.
-   * @param {number} nodes
-   */
+  /** @param {number} nodes */
   showChoice(nodes) {
     const { source } = this;
     this.own.hidden = source === null;
@@ -208,7 +202,7 @@ export class LabPage {
   }
 
   /**
-   * Opens a script or a graph under some rules. Throws a `BadLine`, and changes nothing, if a line is none.
+   * Opens a script or a graph under some rules. Throws `BadLine` and changes nothing if a line is bad.
    * @param {Source} source
    * @param {RuleName[]} rules
    */
@@ -221,7 +215,7 @@ export class LabPage {
   }
 
   /**
-   * Opens a text of a kind that `kindOf` told. What is wrong with it is told, and then nothing has changed.
+   * Opens a text of a kind that `kindOf` returned. If it is bad, shows why and changes nothing.
    * @param {string} text
    * @param {string} name the file's, or empty
    * @param {string} kind
@@ -245,7 +239,6 @@ export class LabPage {
     }
   }
 
-  /** Plays the script of the address, if it holds one. */
   openAddress() {
     try {
       const held = readAddress(location.hash);
@@ -263,10 +256,7 @@ export class LabPage {
     }
   }
 
-  /**
-   * What a reload brings back.
-   * @returns {KeptLab}
-   */
+  /** @returns {KeptLab} */
   get state() {
     const { layout, ...plan } = this.play.plan;
     const places = {...layout, x: [...layout.x], y: [...layout.y] };
@@ -285,7 +275,7 @@ export class LabPage {
   }
 
   /**
-   * Brings back what was kept; returns whether it could be.
+   * Restores a kept state. Returns whether it succeeded.
    * @param {KeptLab} kept
    */
   restore(kept) {
@@ -305,7 +295,7 @@ export class LabPage {
       this.play.story.say("Here is what stood on the page before it was loaded again.");
       return true;
     } catch {
-      // what another version of the page kept is not worth a word
+      // no message for a state that another version of the page kept
       this.source = null;
       return false;
     }

@@ -12,22 +12,16 @@ export class LiveDrawing extends Drawing {
   constructor(svg, layout, names) {
     super(svg, layout, names, []);
     this.hanging = Array.from({ length: names + 1 }, () => new Map());
-    // by which each node's edges are known again
+    // detects changes of each node's edges
     this.seen = new Float64Array(names + 1).fill(NaN);
     this.band = add(this.layers.picks, "line", { class: "band" });
-    // which nodes have the ring of one that may still move
+    // which nodes have the ring of a node that may still move
     this.ringed = new Uint8Array(names + 1);
-    /**
-     * The nodes in a halo.
-     * @type {Set<number>}
-     */
+    /** @type {Set<number>} */
     this.reached = new Set();
   }
 
-  /**
-   * A node with room for a halo and for the ring of one that may still move.
-   * @param {number} v
-   */
+  /** @param {number} v */
   makeNode(v) {
     const shape = super.makeNode(v);
     shape.group.prepend(
@@ -37,7 +31,7 @@ export class LiveDrawing extends Drawing {
   }
 
   /**
-   * Draws a halo round some nodes, and round no other.
+   * Draws a halo round these nodes, and removes all others.
    * @param {number[]} nodes
    */
   surround(nodes) {
@@ -68,7 +62,7 @@ export class LiveDrawing extends Drawing {
   }
 
   /**
-   * Marks stand where the edges of now leave room.
+   * Puts marks into the gaps between the present edges.
    * @param {import("./seen.mjs").Seen} machine
    * @param {number} v
    * @param {boolean} isLit
@@ -91,7 +85,7 @@ export class LiveDrawing extends Drawing {
   }
 
   /**
-   * Whether the edges of a node lie otherwise than when its marks were placed.
+   * Whether a node's edges have changed direction since its marks were placed.
    * @param {import("./seen.mjs").Seen} machine
    * @param {number} v
    */
@@ -107,10 +101,7 @@ export class LiveDrawing extends Drawing {
     return true;
   }
 
-  /**
-   * Draws a node, and what hangs on it, where it lies now.
-   * @param {number} v
-   */
+  /** @param {number} v */
   replace(v) {
     const [x, y] = this.place(v).map((at) => at.toFixed(1));
     this.shapes[v].group.setAttribute("transform", `translate(${x} ${y})`);
@@ -129,10 +120,7 @@ export class LiveDrawing extends Drawing {
     }
   }
 
-  /**
-   * Draws the arrow of a node anew.
-   * @param {number} v
-   */
+  /** @param {number} v */
   turn(v) {
     this.pointers.get(v)?.line.remove();
     this.pointers.delete(v);
@@ -140,7 +128,7 @@ export class LiveDrawing extends Drawing {
   }
 
   /**
-   * A line from a node to a place, as long as a hand draws it; null takes it away.
+   * A line from a node to a place, while a drag draws it; null removes it.
    * @param {Place | null} place
    * @param {number | null} node
    */
@@ -155,7 +143,7 @@ export class LiveDrawing extends Drawing {
   }
 
   /**
-   * Marks a node or an edge, in the way of a class; null marks none.
+   * Marks a node or an edge by a class; null marks none.
    * @param {Thing | null} thing
    */
   pick(thing, as = "") {

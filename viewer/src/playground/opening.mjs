@@ -10,7 +10,7 @@ function takesText(target) {
 }
 
 /**
- * Hands over the bytes of each file or text with its name, which is empty for what is pasted.
+ * Passes on the bytes and the name of each file or text; a pasted text has an empty name.
  * @param {(bytes: Uint8Array, name: string) => Promise<void>} open
  * @param {(wrong: Wrong) => void} refuse
  */

@@ -1,4 +1,4 @@
-// One network of the page: its picture with the hands on it, and its moves under their bound.
+// One network of the page: its picture with its gestures, and its moves under their bound.
 import {RADIUS} from "../drawing.mjs";
 import {Gestures} from "../gestures.mjs";
 import {thingAt} from "../hit.mjs";
@@ -9,10 +9,10 @@ import {LiveDrawing} from "./live_drawing.mjs";
 import {frame} from "./places.mjs";
 import {Trace} from "./trace.mjs";
 
-// so many pixels from an edge is on it, for a mouse and for a finger
+// a place within this many pixels of an edge is on it, for a mouse and for a finger
 const REACH = 8;
 const FINGER_REACH = 18;
-// names of fewer pixels are left out here, as they take longer to draw than all else
+// smaller names, in pixels, are left out here: they are the slowest to draw
 const LEAST_NAME = 7;
 const RULE_SET_NAMES = {
   hh: "rules of Hsu and Huang",
@@ -20,8 +20,8 @@ const RULE_SET_NAMES = {
 };
 
 /**
- * Which shares of a bar as long as an epoch's bound are moves that were spent, and moves that can come. Both together
- * are at most the whole: no epoch has more moves than its bound.
+ * The shares of the bar for moves spent and for moves that can come; the whole bar is an epoch's bound. Both
+ * together fit: no epoch has more moves than its bound.
  * @param {number} spent
  * @param {number} movesLeft
  * @param {number} bound
@@ -32,8 +32,8 @@ export function sharesOf(spent, movesLeft, bound) {
 }
 
 /**
- * What hands do in a picture. `draws` says whether a drag draws a line from a node, and does not move it; `stretch` is
- * called while it draws one.
+ * Calls for gestures in a picture. `draws` says whether a drag from a node draws a line instead of moving the
+ * node; `stretch` is called while it draws.
  * @typedef {object} Hands
  * @property {(thing: Thing | null, place: Place) => void} tap
  * @property {(node: number, thing: Thing | null) => void} pair
@@ -57,10 +57,7 @@ export class Pane {
     this.layout = layout;
     this.hands = hands;
     this.root = root;
-    /**
-     * The node that a hand holds, or null.
-     * @type {number | null}
-     */
+    /** @type {number | null} */
     this.grip = null;
     byId("panes").append(root);
     /** @param {string} name */
@@ -87,10 +84,7 @@ export class Pane {
     });
   }
 
-  /**
-   * The node or edge under a place of the window.
-   * @param {Place} place
-   */
+  /** @param {Place} place */
   under(place) {
     const { x, y } = this.zoom.placeAt(place);
     return thingAt(
@@ -125,7 +119,7 @@ export class Pane {
   }
 
   /**
-   * Shows the state of the network as the engine told it, after an entry that names the nodes in `lit`.
+   * Shows the network's state after an entry that names the nodes in `lit`.
    * @param {Entry | null} entry
    * @param {number[]} lit
    */
@@ -139,7 +133,7 @@ export class Pane {
     this.parts.state.classList.toggle("stable", quiet);
   }
 
-  /** The bar is as long as the bound: the moves that were spent, and those that can come. */
+  /** Draws the bar: its length is the bound, its parts the moves spent and the moves that can come. */
   meter() {
     const { movesLeft, epochBound, spent } = this.lab.seen;
     const shares = sharesOf(spent, movesLeft, epochBound);
@@ -149,16 +143,12 @@ export class Pane {
       `spent ${grouped(spent)}, at most ${grouped(movesLeft)} to come; bound ${grouped(epochBound)}`;
   }
 
-  /** Adds the state to the lines below the picture. */
   note() {
     const { spent, movesLeft, epochBound } = this.lab.seen;
     this.trace.note(spent, movesLeft, epochBound);
   }
 
-  /**
-   * Draws a halo round the nodes that one of the lines would reach.
-   * @param {string[]} lines
-   */
+  /** @param {string[]} lines */
   surround(lines) {
     this.drawing.surround(this.lab.reachOf(lines));
   }

@@ -1,4 +1,4 @@
-// What can be taken back and done again: where the scripts of all labs stood before each act.
+// Undo and redo: the lengths of all labs' scripts before each act.
 
 /** @typedef {import("./lab.mjs").Lab} Lab */
 /**
@@ -11,7 +11,7 @@ export class Past {
     /** @type {Point[]} */
     this.acts = [];
     /**
-     * What was taken back: where that began, and for each lab the lines that went.
+     * What was undone: its starting point, and for each lab the removed lines.
      * @type {{ point: Point, lines: string[][] }[]}
      */
     this.undone = [];
@@ -19,7 +19,7 @@ export class Past {
   }
 
   /**
-   * Remembers where all scripts stand before an act. With `whole` the act may change lines that are there.
+   * Remembers the lengths of all scripts before an act. With `whole` the act may change existing lines.
    * @param {Lab[]} labs
    * @param {boolean} whole
    */
@@ -29,14 +29,13 @@ export class Past {
     this.undone = [];
   }
 
-  /** Forgets the act that was remembered last, since it came to nothing. */
   forget() {
     this.acts.pop();
     this.undone = this.before;
   }
 
   /**
-   * Takes the last act back: the lines that each lab has then, or null if there is no act.
+   * Undoes the last act: the lines that each lab has then, or null if there is no act.
    * @param {Lab[]} labs
    */
   back(labs) {
@@ -54,7 +53,7 @@ export class Past {
   }
 
   /**
-   * Does again what was taken back last: the lines that each lab has then, or null if there is none.
+   * Redoes the act that was undone last: the lines that each lab has then, or null if there is none.
    * @param {Lab[]} labs
    */
   again(labs) {

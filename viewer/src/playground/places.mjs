@@ -1,5 +1,5 @@
-// Where nodes lie: places of a preset, or found by the layout of the transcripts' page; hands may move them, and
-// newcomers find room.
+// Places of nodes: those of a preset, or found by the layout of the transcripts' page. Hands may move nodes,
+// and newcomers find room.
 import {fill, layOut, SPACING} from "../layout.mjs";
 
 // a unit of a preset's places
@@ -10,7 +10,6 @@ const ACROSS = 24;
 const DOWN = 16;
 
 /**
- * The same places, with room for all names.
  * @param {Layout} layout
  * @param {number} names
  * @returns {Layout}
@@ -26,7 +25,8 @@ function forNames({ x, y, width, height }, names) {
 }
 
 /**
- * Places of a network of so many names: those that it has for its first nodes, else they are found from its links.
+ * Places for a network of `names` names: its own for its first nodes, if it has any; else computed from its
+ * links.
  * @param {Network} network
  * @param {number} names
  */
@@ -46,8 +46,7 @@ export function placesOf({nodes, links, places}, names) {
 }
 
 /**
- * Gives a layout the form of the picture in which it is seen, so many times wider than high: what it has stays in the
- * middle.
+ * Gives a layout the picture's form, width over height, with its content in the middle.
  * @param {Layout} layout
  * @param {number} form
  */
@@ -60,7 +59,7 @@ export function frame(layout, form) {
 }
 
 /**
- * A place inside the drawing, as near as can be.
+ * The nearest place inside the drawing.
  * @param {Size} size
  * @param {number} x
  * @param {number} y
@@ -75,7 +74,7 @@ export function within({width, height}, x, y) {
 }
 
 /**
- * The place that is farthest from all nodes that are there.
+ * The place that is farthest from all present nodes.
  * @param {Layout} layout
  * @param {Uint8Array} here
  */

@@ -1,4 +1,4 @@
-// The playground: one network, or the same one under both rule sets, in the hands of whoever opens the page.
+// The playground: one network, or the same one under both rule sets, for the page's user to change.
 import {lastOf} from "../lists.mjs";
 import {counted} from "../numbers.mjs";
 import {byId, field} from "../svg.mjs";
@@ -16,9 +16,9 @@ import {Texts} from "./texts.mjs";
 import {Tools} from "./tools.mjs";
 import {Work} from "./work.mjs";
 
-// so many milliseconds does an edge that came or went stay marked
+// how many milliseconds a changed edge stays marked
 const MARKED = 1600;
-// and nodes that moved lit
+// and a moved node lit
 const LIT = 700;
 
 /**
@@ -49,7 +49,6 @@ export class Playground {
     this.labs = [];
     /** @type {Pane[]} */
     this.panes = [];
-    /** Which lab the card and the texts tell of. */
     this.at = 0;
     /**
      * The entry whose edge is marked.
@@ -57,14 +56,11 @@ export class Playground {
      */
     this.changed = null;
     /**
-     * The edits and faults that a hand is about to make, in the network of now.
+     * The intended edits and faults, in the present network.
      * @type {() => string[]}
      */
     this.intended = () => [];
-    /**
-     * Is called after each change.
-     * @type {() => void}
-     */
+    /** @type {() => void} */
     this.hasChanged = () => {};
     this.past = new Past();
     this.work = new Work();
@@ -105,13 +101,12 @@ export class Playground {
     });
   }
 
-  /** The network whose texts and nodes are told of. */
   get lab() {
     return this.labs[this.at];
   }
 
   /**
-   * Begins anew. Throws a `BadLine`, and changes nothing, if a line is none.
+   * Begins anew. Throws `BadLine` and changes nothing if a line is bad.
    * @param {Plan} plan
    */
   open(plan) {
@@ -136,7 +131,7 @@ export class Playground {
     this.changed = null;
     this.intended = () => [];
     this.layout = plan.layout ?? placesOf({...plan, links: plan.links ?? labs[0].linksEver }, names);
-    // names that were given no place
+    // names without a given place
     this.placeless =
       new Set(plan.layout ? [] : Array.from({ length: names - plan.nodes }, (_, at) => plan.nodes + 1 + at));
     byId("panes").classList.toggle("two", labs.length > 1);
@@ -152,7 +147,7 @@ export class Playground {
   }
 
   /**
-   * What `open` makes the same of.
+   * The plan from which `open` makes the same.
    * @returns {Plan}
    */
   get plan() {
@@ -190,7 +185,7 @@ export class Playground {
   }
 
   /**
-   * Which of two networks the card and the texts tell of.
+   * Chooses the network of two that the card and the texts describe.
    * @param {number} at
    */
   turnTo(at) {
@@ -202,17 +197,14 @@ export class Playground {
     field("which").value = this.lab.rules;
   }
 
-  /**
-   * Remembers where all scripts stand, for `undo`.
-   * @param {boolean} whole
-   */
+  /** @param {boolean} whole */
   remember(whole = false) {
     this.past.remember(this.labs, whole);
     this.daemon.stretch = false;
   }
 
   /**
-   * Feeds a line to some networks: their entries.
+   * Feeds a line to some networks. Returns their entries.
    * @param {string} line
    * @param {Lab[]} labs
    */
@@ -242,7 +234,7 @@ export class Playground {
   }
 
   /**
-   * An edit, a fault or a scramble, in all networks that have what it writes.
+   * Carries out an edit, a fault or a scramble in all networks that have the register it writes.
    * @param {string} line
    */
   disturb(line) {
@@ -271,7 +263,7 @@ export class Playground {
   }
 
   /**
-   * What an act comes to, or null if its line was not carried out, which has been told then.
+   * Returns null if the act's line was not carried out, which is then shown.
    * @template T
    * @param {() => T} act
    * @param {boolean} begins whether the act was remembered as one of its own
@@ -292,7 +284,6 @@ export class Playground {
   }
 
   /**
-   * A step that a hand chose, in one network.
    * @param {Lab} lab
    * @param {string} line
    */
@@ -304,10 +295,7 @@ export class Playground {
     }
   }
 
-  /**
-   * Tells where it has come to, after so many further moves.
-   * @param {number} moves
-   */
+  /** @param {number} moves */
   tell(moves) {
     if (this.labs.length > 0) {
       const enabled = this.labs.reduce((sum, { seen }) => sum + seen.enabledCount, 0);
@@ -315,20 +303,17 @@ export class Playground {
     }
   }
 
-  /** Takes the last act back: its lines go, and the rest is played again. */
   undo() {
     this.retrace(this.past.back(this.labs), "There is nothing to take back.", "Taken back");
   }
 
-  /** Does again what was taken back last. */
   redo() {
     this.retrace(this.past.again(this.labs), "There is nothing to do again.", "Done again");
   }
 
   /**
-   * Plays the lines that each lab has before or after an act.
    * @param {string[][] | null} scripts
-   * @param {string} nothing what is said if there was no such act
+   * @param {string} nothing the message if there was no such act
    * @param {string} done
    */
   retrace(scripts, nothing, done) {
@@ -350,7 +335,7 @@ export class Playground {
   }
 
   /**
-   * Plays a script in the network that is told of. Throws a `BadLine`, and changes nothing, if a line is none.
+   * Plays a script in the described network. Throws `BadLine` and changes nothing if a line is bad.
    * @param {string[]} lines
    */
   playLines(lines) {
@@ -382,9 +367,8 @@ export class Playground {
   }
 
   /**
-   * Draws a halo round the nodes that a hand reaches if it does what it is about to do, from now on until it is about
-   * to do something else.
-   * @param {() => string[]} intended the lines of that
+   * Draws a halo round the nodes that the intended act would reach, until the intention changes.
+   * @param {() => string[]} intended the lines of that act
    */
   surround(intended) {
     this.intended = intended;
@@ -392,7 +376,6 @@ export class Playground {
   }
 
   /**
-   * Marks what a click would hit, and whom it would reach.
    * @param {Lab} lab
    * @param {Thing | null} thing
    */
@@ -407,7 +390,7 @@ export class Playground {
   }
 
   /**
-   * Puts a node where a hand wants it, or with null where there is room.
+   * Puts a node at a given place, or with null at a free one.
    * @param {number} node
    * @param {Place | null} place
    */
@@ -420,16 +403,12 @@ export class Playground {
     this.hasChanged();
   }
 
-  /** Nodes that nobody placed get places of their own. */
   placeNewcomers() {
     const { here } = this.lab.seen;
     here.forEach((present, v) => present && this.placeless.has(v) && this.settle(v, null));
   }
 
-  /**
-   * An edge that came or went is marked for a while.
-   * @param {Entry | null} entry
-   */
+  /** @param {Entry | null} entry */
   mark(entry) {
     clearTimeout(this.fading);
     this.changed = entry?.disturbs ? entry : null;
@@ -439,16 +418,13 @@ export class Playground {
     }, MARKED);
   }
 
-  /**
-   * Asks the engine about networks that have come on since it was asked last.
-   * @param {Lab[]} labs
-   */
+  /** @param {Lab[]} labs */
   look(labs) {
     labs.filter((lab) => lab.fed).forEach((lab) => lab.look());
   }
 
   /**
-   * Asks the engine about all networks, after so many moves, and shows them.
+   * Reads all networks from the engine, after `moves` moves, and shows them.
    * @param {number} moves
    */
   show(moves) {

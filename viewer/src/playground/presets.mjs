@@ -1,19 +1,19 @@
-// Networks to begin with: their nodes are 1 to `nodes`, `links` their edges, and `places` where the nodes lie, by their
-// names; where there are none, the page finds places by itself.
+// The first networks: nodes 1 to `nodes`, their edges `links`, and the nodes' `places` by name; without
+// places the page computes some.
 import {distanceToStretch} from "../hit.mjs";
 import {chanceOf} from "./chance.mjs";
 
 export const MOST_NODES = 500;
-// how much wider than high a field of nodes is
+// how many times wider than high a field of nodes is
 const WIDE = 1.6;
-// distances in a field, where each node has a square of 1
+// distances in a field with a square of 1 for each node
 const DISK_REACH = 1.32;
 const MESH_REACH = 2.1;
 const JITTER = 0.24;
 // no link of a mesh comes nearer to a third node
 const CLEAR = 0.3;
 const RACK_HOSTS = 8;
-// so many leaves of a star lie on one circle
+// how many leaves of a star lie on one circle
 const ROUND = 40;
 
 /** @param {number} nodes */
@@ -50,7 +50,6 @@ function grid(nodes) {
 }
 
 /**
- * A place by its angle and its distance from the middle.
  * @param {number} angle
  * @param {number} far
  * @returns {Link}
@@ -60,8 +59,8 @@ function around(angle, far) {
 }
 
 /**
- * The hub in the middle, and the others on a circle; many lie as the seeds of a sunflower do (Vogel, 1979), since their
- * circle would be too large to be seen.
+ * The hub in the middle, the others on a circle. Many lie like the seeds of a sunflower (Vogel, 1979), since
+ * their circle would be too large.
  * @param {number} nodes
  */
 function star(nodes) {
@@ -84,7 +83,6 @@ function distance([x1, y1], [x2, y2]) {
 }
 
 /**
- * All pairs of places that are no farther apart than `reach`.
  * @param {Link[]} places
  * @param {number} reach
  */
@@ -102,7 +100,7 @@ function near(places, reach) {
 }
 
 /**
- * Radios that lie by chance, each of which hears what is near; none lies on another, so that all can be seen.
+ * Radios at random places, linked to all in reach; none lies on another, so that all are visible.
  * @param {number} nodes
  * @param {number} seed
  */
@@ -123,7 +121,6 @@ function unitDisk(nodes, seed) {
 }
 
 /**
- * Whether a link between two places runs past all others.
  * @param {Link[]} places
  * @param {number} v
  * @param {number} w
@@ -133,8 +130,8 @@ function isClear(places, v, w) {
 }
 
 /**
- * Routers and what hangs on them, on a grid that was shaken: one of three is a router, which hears the routers near it;
- * each other node hears the two routers that are nearest, of those whose links run past all others where there are any.
+ * Routers and hosts on a shaken grid. One of three nodes is a router, linked to all near it. Each other node
+ * links to the two nearest routers, with clear links if possible.
  * @param {number} nodes
  * @param {number} seed
  */
@@ -164,7 +161,7 @@ function mesh(nodes, seed) {
 }
 
 /**
- * A tree that hangs together, and as many further edges as make three of two nodes.
+ * A tree with further edges: three edges for every two nodes in all.
  * @param {number} nodes
  * @param {number} seed
  */
@@ -190,7 +187,7 @@ function random(nodes, seed) {
 }
 
 /**
- * Hosts in racks: a partner that holds a host's copy has to stand in the rack beside it, so that no rack takes both
+ * Hosts in racks: the partner that holds a host's copy must be in the next rack, so that no rack takes both
  * away.
  * @param {number} nodes
  */
@@ -212,12 +209,11 @@ function racks(nodes) {
 }
 
 /**
- * By their words in the page: how many nodes there are at first, and how they are made of a number of nodes and a
- * seed.
+ * By their words in the page: the initial number of nodes, and the network of a number of nodes and a seed.
  */
 /**
- * @type {Record<string, { name: string, nodes: number, make: (nodes: number, seed: number) => { links: Link[],
- *   places?: Link[] } }>}
+ * @type {Record<string, { name: string, nodes: number,
+ *   make: (nodes: number, seed: number) => { links: Link[], places?: Link[] } }>}
  */
 export const PRESETS = {
   mesh: {name: "wireless mesh", nodes: 15, make: mesh},
@@ -231,7 +227,7 @@ export const PRESETS = {
 };
 
 /**
- * A network of a kind, of 2 to 500 nodes.
+ * Makes 2 to 500 nodes.
  * @param {number} nodes
  * @param {number} seed
  * @param {string} kind

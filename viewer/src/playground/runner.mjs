@@ -1,12 +1,12 @@
-// Lets the network move by itself: so many moves a second, as long as somewhere something is enabled.
+// Runs the network automatically: some moves a second, as long as any node is enabled.
 
-// so many milliseconds of a picture may moves take
+// how many milliseconds of a picture moves may take
 const MOST_TIME = 8;
 
 export class Runner {
   /**
-   * @param {() => boolean} step lets each network move once, and says whether one did
-   * @param {(count: number) => void} shown shows what came of so many of that
+   * @param {() => boolean} step lets each network move once, and returns whether one did
+   * @param {(count: number) => void} shown shows the result of `count` such moves
    */
   constructor(step, shown) {
     this.step = step;
@@ -14,10 +14,7 @@ export class Runner {
     this.on = false;
     this.speed = 4;
     this.owed = 0;
-    /**
-     * When the last picture was, or null.
-     * @type {number | null}
-     */
+    /** @type {number | null} */
     this.since = null;
   }
 
@@ -34,10 +31,7 @@ export class Runner {
     this.on = false;
   }
 
-  /**
-   * One picture: as many moves as are due by now.
-   * @param {number} now
-   */
+  /** @param {number} now */
   tick(now) {
     if (!this.on) {
       this.since = null;

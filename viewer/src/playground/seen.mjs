@@ -1,10 +1,10 @@
-// The state of a network: what the engine's replies change, or after many of them a base; who is at rest, and how many
-// moves can come.
+// The state of a network, updated by replies or, after many, by a base; the nodes at rest; and the moves that
+// can come.
 import {carryOut, changes} from "../entries.mjs";
 import {Machine} from "../machine.mjs";
 import {movesOf, readBase, readEntry} from "../transcript.mjs";
 
-// after a longer text a base is read, and not each entry
+// after a longer text, a base is read instead of each entry
 const LONG = 1 << 13;
 
 export class Seen extends Machine {
@@ -23,8 +23,8 @@ export class Seen extends Machine {
   }
 
   /**
-   * Goes on with what a session wrote, and asks it about its network.
-   * @param {string} text whole lines, all that came since the last time
+   * Follows the new text of a session, and asks the session about its network.
+   * @param {string} text whole lines, all since the last call
    * @param {import("../rudekpi/engine.mjs").Session} session
    */
   goOn(text, session) {
@@ -40,7 +40,7 @@ export class Seen extends Machine {
   }
 
   /**
-   * Carries out what entries change. The lines of a base change nothing.
+   * Carries out the changes of entries. The lines of a base change nothing.
    * @param {string} text whole lines
    */
   follow(text) {
@@ -53,7 +53,6 @@ export class Seen extends Machine {
     }
   }
 
-  /** The nodes that are enabled, in the order of their names. */
   get enabledNodes() {
     return this.rule.flatMap((rule, v) => (rule === null ? [] : [v]));
   }

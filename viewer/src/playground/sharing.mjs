@@ -1,16 +1,14 @@
-// A script in the page's address: `#script=link+1+2;drive+7+100&rules=manne&nodes=4`. Whoever wrote the address is not
-// known, so what stands there is only ever text for the engine.
+// A script in the page's address: `#script=link+1+2;drive+7+100&rules=manne&nodes=4`. Its author is unknown,
+// so it is only ever text for the engine.
 import {MOST_NODES} from "./presets.mjs";
 
 const MOST_CHARACTERS = 4000;
-/** More names than this are none of a network that is drawn here. */
+/** A network that is drawn here has at most this many names. */
 export const MOST_NAMES = MOST_NODES + 100;
 
-/** What is wrong with an address. */
 export class AddressFault extends Error {}
 
 /**
- * A number of an address, or null if it has none of that name.
  * @param {URLSearchParams} fields
  * @param {string} key
  * @param {number} least
@@ -28,7 +26,7 @@ function numberOf(fields, key, least, most) {
 }
 
 /**
- * The greatest name of which the lines of a script speak, and 2 at least.
+ * The greatest name in the lines of a script, and at least 2.
  * @param {string[]} lines
  */
 export function namesIn(lines) {
@@ -39,8 +37,8 @@ export function namesIn(lines) {
 }
 
 /**
- * The script of an address with its network, or null if it holds none. Throws an `AddressFault` if that can't be one.
- * Lines are not looked at: that is the engine's.
+ * The script of an address with its network, or null if it holds none. Throws `AddressFault` if it is
+ * malformed. The lines are left to the engine.
  * @param {string} hash
  */
 export function readAddress(hash) {

@@ -1,4 +1,4 @@
-// What a script or a graph that is opened makes: a network with the lines that each rule set plays in it.
+// Turns an opened script or graph into a network, with the lines that each rule set plays in it.
 import {counted, grouped} from "../numbers.mjs";
 import {RudekpiError} from "../rudekpi/errors.mjs";
 import {GraphFault, readGraph} from "./graph_files.mjs";
@@ -7,18 +7,18 @@ import {AddressFault, MOST_NAMES, namesIn} from "./sharing.mjs";
 import {networkOfName} from "./text_kinds.mjs";
 import {linesOf, renumbered} from "./texts.mjs";
 
-/** So many further names may join a network that is no script's. */
+/** How many further names may join a network that came without a script. */
 export const SPARE = 12;
 
 /** @typedef {import("./graph_files.mjs").GraphFormat} GraphFormat */
 
 /**
- * A network with the lines that were opened, and what the selectors call it.
+ * A network with its opened lines, and its name in the selectors.
  * @typedef {Network & { names: number, present: number, lines: string[], title: string }} Source
  */
 
 /**
- * A source with the numbers of its lines in their text, the rules that play them, and what is said then.
+ * A source with the numbers of its lines in their text, the rules that play them, and a message.
  * @typedef {{ source: Source, numbers: number[], rules: RuleName[], said: string }} Opened
  */
 
@@ -74,12 +74,12 @@ function readNetwork(text, name, format, rules) {
 }
 
 /**
- * What a text makes. Throws a `GraphFault` if it is no graph, or too large to draw; lines of a script are not looked
- * at.
+ * The source of a text. Throws `GraphFault` if it is no graph, or too large to draw. Does not check the lines
+ * of a script.
  * @param {string} text
  * @param {string} name the file's, or empty
- * @param {string} kind as `kindOf` told it
- * @param {RuleName[]} rules those that play it if its name tells none
+ * @param {string} kind as `kindOf` returned it
+ * @param {RuleName[]} rules those that play it if its name gives none
  */
 export function sourceOf(text, name, kind, rules) {
   return kind === "script" ? readScript(text, name, rules) :
@@ -87,7 +87,7 @@ export function sourceOf(text, name, kind, rules) {
 }
 
 /**
- * Throws a `BadLine`, with its number in the text, if a line can't be played.
+ * Throws `BadLine`, with its number in the text, if a line can't be played.
  * @param {import("../rudekpi/engine.mjs").Engine} engine
  * @param {Opened} opened
  */
@@ -104,7 +104,7 @@ export function tryOut(engine, {source, rules, numbers}) {
 }
 
 /**
- * Whether somebody who opened a text is told of a fault: it is the text's, and not the page's.
+ * Whether a fault is the opened text's, to be shown to the user, and not the page's.
  * @param {unknown} wrong
  */
 export function isTold(wrong) {

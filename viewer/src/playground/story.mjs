@@ -1,8 +1,7 @@
-// What has happened, in a sentence: what was broken, how many moves it took until all was stable, and how many it could
-// have taken.
+// Describes the last events: the change, how many moves until all was stable, and how many were possible.
 import {counted, grouped} from "../numbers.mjs";
 
-// so many milliseconds does a word stand that is none of the story's own
+// how many milliseconds another message stays
 const HELD = 2500;
 /** @type {Record<string, (words: string[]) => string>} */
 const BROKEN = {
@@ -16,7 +15,7 @@ const BROKEN = {
 };
 
 /**
- * What a line of a script did, as a sentence.
+ * A script line's effect, as a sentence.
  * @param {string} line
  */
 export function toldOf(line) {
@@ -28,7 +27,6 @@ export class Story {
   /** @param {Element} place */
   constructor(place) {
     this.place = place;
-    /** Whether the network moves by itself. */
     this.runs = true;
     this.open();
   }
@@ -42,7 +40,7 @@ export class Story {
   }
 
   /**
-   * Somebody broke something, after which at most so many moves can come.
+   * Reports a change, after which at most `most` moves can come.
    * @param {string} line
    * @param {number} most
    */
@@ -55,7 +53,7 @@ export class Story {
   }
 
   /**
-   * Shows where it has come to: so many further moves, and how many nodes may move still.
+   * Reports the progress: further moves, and how many nodes may still move.
    * @param {number} moves
    * @param {number} enabled
    * @param {number} pairs
@@ -86,7 +84,6 @@ export class Story {
   }
 
   /**
-   * Says something else, which stands for a while.
    * @param {string} text
    * @param {boolean} wrong
    */

@@ -1,4 +1,4 @@
-// What a text is that was opened, dropped or pasted: a transcript, a script, or a graph of some format.
+// The kind of an opened, dropped or pasted text: a transcript, a script, or a graph of some format.
 
 const COMMANDS = new Set([
   "link", "unlink", "point", "flag", "join", "leave", "step", "show", "enabled", "matching", "status", "checkpoint",
@@ -16,10 +16,12 @@ const ENDS = {
 };
 const NAMED = /matching-(hh|manne)-(\d{1,5})(?:-(\d{1,5}))?(?!\d)/;
 
-/** @typedef {"transcript" | "script" | "GraphML" | "nothing" | import("./graph_files.mjs").GraphFormat} Kind */
+/**
+ * @typedef {"transcript" | "script" | "GraphML" | "nothing"
+ *   | import("./graph_files.mjs").GraphFormat} Kind
+ */
 
 /**
- * The kind of a text by what it says.
  * @param {string} text
  * @returns {Kind}
  */
@@ -45,7 +47,7 @@ function byContent(text) {
 }
 
 /**
- * The kind of a text: by what it says, and if that leaves it open by the end of its file's name.
+ * The kind of a text: by its content, or if that leaves it open by its file's suffix.
  * @param {string} text
  * @param {string} name the file's, or empty
  * @returns {Kind}
@@ -60,7 +62,8 @@ export function kindOf(text, name) {
 }
 
 /**
- * The network that a script's file name tells, as the page saves it: `matching-hh-27-15.script`; null if it tells none.
+ * The network in a script's file name, as the page saves it: `matching-hh-27-15.script`; null if there is
+ * none.
  * @param {string} name
  */
 export function networkOfName(name) {

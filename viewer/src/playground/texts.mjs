@@ -1,12 +1,12 @@
-// The script and the transcript beside the picture: shown as they grow, edited, copied and saved.
+// The script and the transcript at the picture: shown as they grow, edited, copied and saved.
 import {byId, field} from "../svg.mjs";
 import {RudekpiError} from "../rudekpi/errors.mjs";
 import {copy, save} from "./files.mjs";
 import {BadLine} from "./lab.mjs";
 import {writeAddress} from "./sharing.mjs";
 
-// so many milliseconds lie between two writings of a text that grows; more where it is long, as a field takes long to
-// show it
+// how many milliseconds lie between two updates of a growing text; more if it is long, as a field takes long
+// to show it
 const GAP = 300;
 const CHARACTERS_A_MILLISECOND = 15;
 // farther down than any text goes
@@ -16,7 +16,7 @@ const KINDS = /** @type {const} */ (["script", "transcript"]);
 /** @typedef {typeof KINDS[number]} TextKind */
 
 /**
- * The lines of a script that somebody typed, without empty ones, each with its number from 1 in the text.
+ * The lines of a typed script, without empty ones, each with its number from 1 in the text.
  * @param {string} text
  */
 export function linesOf(text) {
@@ -26,7 +26,6 @@ export function linesOf(text) {
 }
 
 /**
- * What a `BadLine` says with the number that its line has in the text.
  * @param {BadLine} wrong
  * @param {number[]} numbers
  */
@@ -36,7 +35,7 @@ export function renumbered(wrong, numbers) {
 
 /**
  * @typedef {object} TextActs
- * @property {(lines: string[]) => void} play throws a `BadLine` if a line is none
+ * @property {(lines: string[]) => void} play throws a `BadLine` if a line is bad
  * @property {(text: string) => void} judge
  * @property {() => void} pause
  * @property {(text: string, wrong?: boolean) => void} say
@@ -92,14 +91,13 @@ export class Texts {
     field("text-use").disabled = !edited && this.kind === "script";
   }
 
-  /** Lets go of what was edited, and shows the text as it is. */
   drop() {
     this.edit(false);
     this.write();
   }
 
   /**
-   * Says below the field what is wrong with its text; an empty text is nothing wrong.
+   * Shows below the field what is wrong with its text; an empty message means nothing.
    * @param {string} said
    */
   refuse(said) {
@@ -108,7 +106,7 @@ export class Texts {
     this.field.setAttribute("aria-invalid", String(said !== ""));
   }
 
-  /** Has the text shown soon; what somebody edits is left alone. */
+  /** Shows the text soon, unless it is edited. */
   show() {
     this.timer ??= setTimeout(
       () => this.write(),
@@ -144,7 +142,7 @@ export class Texts {
   }
 
   /**
-   * Tells why a script was not played, where it stands.
+   * Shows at its line why a script was not played.
    * @param {Error} wrong
    * @param {number[]} numbers those of its lines in the field
    */
@@ -160,10 +158,7 @@ export class Texts {
     }
   }
 
-  /**
-   * Selects a line of the field.
-   * @param {number} number
-   */
+  /** @param {number} number */
   mark(number) {
     const lines = this.field.value.split("\n");
     const from = lines.slice(0, number - 1).reduce((sum, line) => sum + line.length + 1, 0);

@@ -1,5 +1,5 @@
-// What a click, a tap or Enter on a node, an edge or an empty place does, by the tool that is in hand. Each act is a
-// line of a script.
+// The tools: what a click, a tap or Enter does to a node, an edge or an empty place. Each act is a line of a
+// script.
 import {explainNode} from "../explain.mjs";
 import {linesBetween} from "./halo.mjs";
 
@@ -8,7 +8,6 @@ import {linesBetween} from "./halo.mjs";
 /** @typedef {"cut" | "link" | "point" | "flag" | "node" | "move"} ToolName */
 
 /**
- * What tools do to networks.
  * @typedef {object} Acts
  * @property {(line: string) => void} disturb
  * @property {(lab: Lab, line: string) => void} move
@@ -19,7 +18,7 @@ import {linesBetween} from "./halo.mjs";
  */
 
 /**
- * What is said of a tool, and whether a drag with it draws a line.
+ * The text on each tool, and whether a drag with it draws a line.
  * @type {Record<ToolName, { hint: string, draws: boolean }>}
  */
 export const TOOLS = {
@@ -32,10 +31,7 @@ export const TOOLS = {
   move: {hint: "Click a node with a yellow ring: it moves.", draws: false},
 };
 
-/**
- * The first name that is absent, or 0.
- * @param {Seen} seen
- */
+/** @param {Seen} seen */
 function firstAbsent(seen) {
   for (let v = 1; v <= seen.nodes; v += 1) {
     if (!seen.here[v]) {
@@ -69,7 +65,7 @@ export class Tools {
   }
 
   /**
-   * What lies under the pointer and would be hit, or null if a click there does nothing to it.
+   * The thing under the pointer that a click would hit, or null if a click does nothing to it.
    * @param {Thing | null} thing
    */
   aims(thing) {
@@ -77,7 +73,6 @@ export class Tools {
   }
 
   /**
-   * A click on a thing of a lab's picture, or on nothing, at a place of the picture.
    * @param {Lab} lab
    * @param {Thing | null} thing
    * @param {Place | null} place
@@ -87,7 +82,6 @@ export class Tools {
   }
 
   /**
-   * A line was drawn from a node to a thing.
    * @param {number} node
    * @param {Thing | null} thing
    */
@@ -110,7 +104,7 @@ export class Tools {
   }
 
   /**
-   * The first node is kept until a second one is clicked.
+   * Keeps the first node until a second one is clicked.
    * @param {Thing | null} thing
    * @param {(node: number) => string} said
    */
@@ -170,7 +164,7 @@ export class Tools {
   }
 
   /**
-   * The first name that is absent joins, at a place, or where there is room.
+   * Lets the first absent name join, at a place, or wherever there is room.
    * @param {Lab} lab
    * @param {Place | null} place
    */

@@ -1,4 +1,4 @@
-// The moves that were spent and those that could come, under the bound, over the last changes that were shown.
+// Moves spent and possible, under the bound, over the last changes.
 import {counted, grouped} from "../numbers.mjs";
 import {add} from "../svg.mjs";
 

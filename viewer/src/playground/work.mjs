@@ -1,7 +1,6 @@
-// Whether there is work that would be lost: acts by hand that were neither saved nor copied, the first of them a while
-// ago.
+// Detects work that would be lost: acts by hand, neither saved nor copied, the first of them a while ago.
 
-/** So many milliseconds of unsaved work are worth a question. */
+/** The unsaved time, in milliseconds, from which on the page asks. */
 export const WORTH = 60_000;
 
 export class Work {
@@ -9,7 +8,7 @@ export class Work {
   constructor(now = () => performance.now()) {
     this.now = now;
     /**
-     * When the first unsaved act was, or null.
+     * The time of the first unsaved act, or null.
      * @type {number | null}
      */
     this.since = null;
@@ -23,12 +22,11 @@ export class Work {
     this.since = null;
   }
 
-  /** Whether more than a minute of work is not saved. */
   get isAtRisk() {
     return this.since !== null && this.now() - this.since > WORTH;
   }
 
-  /** Has the browser ask before it leaves unsaved work. */
+  /** Lets the browser ask before it leaves unsaved work. */
   listen() {
     addEventListener("beforeunload", (event) => {
       if (this.isAtRisk) {

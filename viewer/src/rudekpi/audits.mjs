@@ -1,22 +1,21 @@
-// Judges transcripts: the audit of the engine accepts exactly the texts of runs, and names the first wrong line of
+// Judges transcripts: the engine's audit accepts exactly the texts of runs, and names the first wrong line of
 // every other text.
 import {DONE, Engine, inUse, NO_SESSION} from "./engine.mjs";
 import {Damaged, MemoryError} from "./errors.mjs";
 import {shown} from "./names.mjs";
 
 const VERDICT_BYTES = 32;
-// what an audit is handed at once
+// how many bytes an audit gets at once
 const PIECE = 1 << 20;
 const ACCEPTED = 0;
 const WHYS = ["", "bad header", "not a transcript line", "out of order", "not the machine's reply", "bad base"];
 
 /**
- * What an accepted transcript has.
+ * The counts of an accepted transcript.
  * @typedef {{ entries: number, epochs: number, moves: number }} Summary
  */
 
 /**
- * The bytes of a text. Throws a `TypeError` for what is none.
  * @param {any} text
  * @returns {Uint8Array}
  */
@@ -34,9 +33,9 @@ function bytesOf(text) {
 }
 
 /**
- * What a verdict says. Throws a `Damaged`, or a `MemoryError`.
+ * Reads a verdict. Throws `Damaged` or `MemoryError`.
  * @param {Engine} engine
- * @param {bigint} at where it lies
+ * @param {bigint} at its address
  * @returns {Summary}
  */
 function read(engine, at) {
@@ -53,14 +52,13 @@ function read(engine, at) {
 }
 
 /**
- * The verdict of an engine on a text or its bytes.
  * @param {Engine} engine
  * @param {any} text
  */
 export function summaryOf(engine, text) {
   const judge = new Audit(engine);
   try {
-    // a long text is handed over piece by piece; a character beyond ASCII is no transcript's, however it is cut
+    // a long text is passed in pieces; a character beyond ASCII is in no transcript, however it is cut
     for (let at = 0; at < text.length; at += PIECE) {
       judge.feed(typeof text === "string" ? text.slice(at, at + PIECE) : bytesOf(text).subarray(at, at + PIECE));
     }
@@ -71,35 +69,32 @@ export function summaryOf(engine, text) {
 }
 
 /**
- * Judges a transcript: what it has. Throws a `Damaged` if it is none.
+ * Judges a transcript and returns its counts. Throws `Damaged` if it is none.
  * @param {string | ArrayBuffer | ArrayBufferView} text
  */
 export function audit(text) {
   return summaryOf(inUse.engine, typeof text === "string" ? text : bytesOf(text));
 }
 
-/**
- * Ends audits that nothing refers to any more.
- * @type {FinalizationRegistry<{ engine: Engine, slot: bigint }>}
- */
+/** @type {FinalizationRegistry<{ engine: Engine, slot: bigint }>} */
 const FORGOTTEN = new FinalizationRegistry(({ engine, slot }) => {
   engine.calls.rudekpi_audit_free(slot);
   engine.calls.rudekpi_give_back(slot);
 });
 
-/** Judges a transcript that comes in pieces, cut anywhere, and keeps only a line or a base that is not whole yet. */
+/** Judges a transcript that comes in pieces, cut anywhere. Keeps only an incomplete line or base. */
 export class Audit {
   /** @type {Engine} */
   #engine;
   /** @type {bigint} */
   #slot;
   /**
-   * What it came to: a summary, or what is thrown.
+   * The result: a summary, or the error to throw.
    * @type {{ summary?: Summary, wrong?: Error } | null}
    */
   #verdict = null;
 
-  /** @param {Engine} engine that of the module if none is given */
+  /** @param {Engine} engine by default that of the module */
   constructor(engine = inUse.engine) {
     this.#engine = engine;
     this.#slot = engine.slot();
@@ -111,8 +106,8 @@ export class Audit {
   }
 
   /**
-   * Feeds it what comes next. Throws a `Damaged` if what came is no transcript, whatever comes next, and so do later
-   * calls.
+   * Feeds the next piece. Throws `Damaged` once the pieces begin no transcript, whatever follows, and at each
+   * later call.
    * @param {string | ArrayBuffer | ArrayBufferView} piece
    */
   feed(piece) {
@@ -127,7 +122,7 @@ export class Audit {
     }
   }
 
-  /** What the transcript has that it was fed; it may be asked again, and nothing more can be fed. */
+  /** The counts of the transcript. May be called again; ends the feeding. */
   finish() {
     if (this.#verdict === null && this.#slot !== this.#engine.nowhere) {
       this.#verdict = this.#end();
@@ -142,7 +137,7 @@ export class Audit {
     return this.#verdict.summary;
   }
 
-  /** Ends it, without a verdict if none was asked for. */
+  /** Ends the audit, without a verdict if none was asked for. */
   close() {
     const engine = this.#engine;
     if (this.#slot !== engine.nowhere) {

@@ -1,4 +1,4 @@
-// An edit or a fault about which something is asked beforehand: its numbers, and why it would be refused.
+// An edit or a fault that is asked about beforehand: its numbers, and why it would be refused.
 import {numberWithin, shown} from "./names.mjs";
 
 /** @typedef {import("./names.mjs").Names} Names */
@@ -16,12 +16,12 @@ const COSTED = {
 const MOST_EDGES = 1_048_576;
 
 /**
- * The numbers of an edit's or a fault's words, 0 for the pointer that is null. Throws a `RangeError` or a `TypeError`
- * for what is none.
+ * The numbers of an edit or a fault, 0 for a null pointer. Throws a `RangeError` or a `TypeError` for bad
+ * arguments.
  * @param {Names} names
  * @param {string} word
  * @param {Name[]} given
- * @param {string} asked what is asked of it
+ * @param {string} asked the question
  */
 export function numbersOfEdit(names, word, given, asked) {
   if (!Object.keys(COSTED).includes(word)) {
@@ -43,7 +43,7 @@ export function numbersOfEdit(names, word, given, asked) {
 }
 
 /**
- * The refusal with which a network answers an edit or a fault; no text if it carries it out.
+ * The refusal of an edit or a fault; an empty text if the network would carry it out.
  * @param {{ rules: RuleName, names: number, here: Uint8Array, ends: Int32Array }} state
  * @param {string} word
  * @param {number} node
@@ -76,7 +76,6 @@ export function whyRefused({rules, names, here, ends}, word, node, other = 0) {
 }
 
 /**
- * Whether two nodes are linked.
  * @param {Int32Array} ends both ends of each edge in turn, the lower one first
  * @param {number} v
  * @param {number} w

@@ -1,13 +1,12 @@
-// The engine: the proved code as a WebAssembly module, called as C calls the library. What include/rudekpi.h says of a
-// call holds here too. A place in the module's memory is a number of 64 bits, a `bigint`.
+// The engine: the proved code as a WebAssembly module, called as C calls the library; include/rudekpi.h
+// documents the calls. An address in the module's memory is a number of 64 bits, a `bigint`.
 import {EngineFault, MemoryError} from "./errors.mjs";
 
 /**
- * The calls of the module, those of include/rudekpi.h, and two that hand over memory.
+ * The calls of the module: those of include/rudekpi.h, and two for memory.
  * @typedef {Record<string, (...words: (bigint | number)[]) => any>} Calls
  */
 
-/** What calls answer. */
 export const DONE = 0;
 export const BAD_LINE = 1;
 export const LOG_FULL = 2;
@@ -17,11 +16,11 @@ export const REFUSED = 6;
 
 /** The rule sets, by the numbers that the calls take. */
 export const RULE_SET_NAMES = ["hh", "manne"];
-/** How many bytes a slot has, of a session or of an audit. */
+/** The size in bytes of a slot, of a session or of an audit. */
 export const SLOT_BYTES = 16;
 
-// what a call reports, in 32-bit numbers: its own three and a gap, the 64-bit number of rows, and the counts of a
-// status
+// what a call reports, in 32-bit numbers: its own three and a gap, the 64-bit number of rows, and the counts
+// of a status
 const TOLD_ROWS = 4;
 const COUNTS = 6;
 const DESK_WORDS = 12;
@@ -32,7 +31,7 @@ const NO_ROWS = new Uint32Array(0);
 const FEW = 64;
 const LEAST_ROOM = 1 << 12;
 const LEAST_TEXT = 1 << 15;
-// a module that uses what the engine's code uses and the first version of WebAssembly lacks
+// a module with the features that the engine needs beyond the first version of WebAssembly
 const PROBE = Uint8Array.of(
   0, 97, 115, 109, 1, 0, 0, 0, 1, 4, 1, 96, 0, 0, 3, 2, 1, 0, 5, 3, 1, 0, 1, 10, 27, 1, 25, 0, 68, 0, 0, 0, 0, 0, 0, 0,
   0, 252, 2, 192, 26, 65, 0, 65, 0, 65, 0, 252, 10, 0, 0, 11);
@@ -42,7 +41,7 @@ export function canRun() {
   return typeof WebAssembly === "object" && WebAssembly.validate(PROBE);
 }
 
-/** Room in the module's memory that grows as it must. */
+/** Room in the module's memory that grows as needed. */
 class Room {
   /** @param {Engine} engine */
   constructor(engine) {
@@ -52,7 +51,7 @@ class Room {
   }
 
   /**
-   * The place of this many bytes. Throws a `MemoryError` if there is no memory for them.
+   * The address of this many bytes. Throws `MemoryError` if memory runs out.
    * @param {number} size
    */
   of(size) {
@@ -79,21 +78,18 @@ export class Engine {
     this.memory = memory;
     this.given = new Room(this);
     this.taken = new Room(this);
-    /** Where calls write what they report, and the counts of a status. */
+    /** Receives what calls report, and the counts of a status. */
     this.told = this.roomFor(DESK_WORDS * WORD_BYTES);
     this.counts = this.told + BigInt(COUNTS * WORD_BYTES);
     this.desk = Number(this.told) / WORD_BYTES;
-    /** A slot that stays empty: what asks it is answered that there is no session. */
+    /** A slot that stays empty: questions to it return that there is no session. */
     this.nowhere = this.slot();
     this.numbers = new Uint32Array(memory.buffer);
-    // so that short texts are read even if memory is refused
+    // so that short texts can be read even if memory runs out
     this.taken.of(LEAST_TEXT);
   }
 
-  /**
-   * The engine of a module's bytes.
-   * @param {BufferSource} bytes
-   */
+  /** @param {BufferSource} bytes */
   static async load(bytes) {
     const { instance } = await WebAssembly.instantiate(bytes, {});
     const { memory, ...calls } = instance.exports;
@@ -103,7 +99,7 @@ export class Engine {
   }
 
   /**
-   * The place of this many bytes, until they are given back. Throws a `MemoryError` if there is no memory for them.
+   * The address of this many bytes, until they are given back. Throws `MemoryError` if memory runs out.
    * @param {number} size
    */
   roomFor(size) {
@@ -114,14 +110,14 @@ export class Engine {
     return at;
   }
 
-  /** Where a new slot lies, of a session or of an audit; it is empty. */
+  /** The address of a new, empty slot for a session or an audit. */
   slot() {
     const at = this.roomFor(SLOT_BYTES);
     this.bytesAt(at, SLOT_BYTES).fill(0);
     return at;
   }
 
-  /** All of memory as 32-bit numbers; they are new ones once it has grown. */
+  /** All of memory; an old view is void once memory grows. */
   words() {
     if (this.numbers.length === 0) {
       this.numbers = new Uint32Array(this.memory.buffer);
@@ -129,27 +125,23 @@ export class Engine {
     return this.numbers;
   }
 
-  /** The number of the last call's entry. */
   get entry() {
     return this.words()[this.desk];
   }
 
-  /** Why the last call's event was refused. */
   get refusal() {
     return this.words()[this.desk + 1];
   }
 
-  /** Where the node points that the last call asked about, 0 for null. */
+  /** The pointer of the node that the last call asked about, 0 for null. */
   get target() {
     return this.words()[this.desk + 2];
   }
 
-  /** How many rows the last call's answer has. */
   get rows() {
     return this.words()[this.desk + TOLD_ROWS];
   }
 
-  /** The last status. */
   statusTold() {
     const words = this.words();
     const { desk } = this;
@@ -166,7 +158,7 @@ export class Engine {
   }
 
   /**
-   * Bytes of memory; a later call may move them.
+   * Valid until the next call.
    * @param {bigint} at
    * @param {number} size
    */
@@ -175,7 +167,7 @@ export class Engine {
   }
 
   /**
-   * 32-bit numbers of memory; a later call may move them.
+   * Valid until the next call.
    * @param {bigint} at
    * @param {number} count
    */
@@ -185,7 +177,7 @@ export class Engine {
   }
 
   /**
-   * Hands bytes over: where they lie.
+   * Copies bytes into the module and returns their address.
    * @param {Uint8Array} bytes
    */
   give(bytes) {
@@ -195,7 +187,7 @@ export class Engine {
   }
 
   /**
-   * Makes room for the rows of an answer, so that none is lost. Throws a `MemoryError` if there is no memory.
+   * Makes room for the rows of an answer, so that none is lost. Throws `MemoryError` if memory runs out.
    * @param {number} most
    */
   expectRows(most) {
@@ -203,7 +195,7 @@ export class Engine {
   }
 
   /**
-   * The rows of the last answer of a session, three numbers each; a later call may move them.
+   * Three numbers a row; valid until the next call.
    * @param {bigint} slot
    */
   rowsOf(slot) {
@@ -217,8 +209,8 @@ export class Engine {
   }
 
   /**
-   * The nodes that an edit or a fault would reach, ascending, 0 for the pointer that is null; nothing is done. Throws
-   * an `EngineFault` if there is no session, a name is out of range or memory is refused.
+   * The nodes that an edit or a fault would reach, ascending; 0 stands for a null pointer. Changes nothing.
+   * Throws `EngineFault` if there is no session, a name is out of range or memory runs out.
    * @param {bigint} slot
    * @param {string} word of a script, as `unlink`
    * @param {number[]} numbers
@@ -246,10 +238,10 @@ export const inUse = {
   engine: /** @type {Engine | null} */ (null)
 };
 
-/** A network that goes along a script, line by line, and its text that was not read yet. */
+/** A session that runs a script line by line, and its unread text. */
 export class Session {
   /**
-   * Throws an `EngineFault` if the numbers are out of range, or memory is refused.
+   * Throws `EngineFault` if the numbers are out of range, or memory runs out.
    * @param {Engine} engine
    * @param {RuleName} rules
    * @param {number} names
@@ -274,7 +266,7 @@ export class Session {
   }
 
   /**
-   * Carries out the next line. Throws an `EngineFault` if it is none, or if there is no room.
+   * Carries out the next line. Throws `EngineFault` if it is no command, or if there is no room.
    * @param {string} line
    */
   feed(line) {
@@ -283,7 +275,7 @@ export class Session {
     this.hear(this.calls.rudekpi_session_feed(this.slot, at, BigInt(bytes.length), this.engine.told));
   }
 
-  /** The text that came since it was read last. Throws a `MemoryError` if there is no room for it. */
+  /** The text since the last read. Throws `MemoryError` if there is no room for it. */
   read() {
     const size = Number(this.calls.rudekpi_session_length(this.slot));
     const at = this.engine.taken.of(size);
@@ -292,7 +284,7 @@ export class Session {
   }
 
   /**
-   * The lines of a base, which are no entry. What came before it must have been read, and it stands in no later text.
+   * The lines of a base, which are no entry and come into no later text. All text before must have been read.
    */
   base() {
     this.hear(this.calls.rudekpi_checkpoint(this.slot, this.engine.told));
@@ -309,14 +301,14 @@ export class Session {
     return (this.engine.entry & 255) !== 0;
   }
 
-  /** How many moves can come before the next edit or fault, at most. */
+  /** The most moves that can come before the next edit or fault. */
   movesLeft() {
     this.hear(this.calls.rudekpi_moves_left(this.slot, this.engine.told));
     return this.engine.entry;
   }
 
   /**
-   * The nodes that an edit or a fault would reach, ascending; nothing is done. Nobody if it would be refused.
+   * The nodes that an edit or a fault would reach, ascending; none if it would be refused. Changes nothing.
    * @param {string} line of a script
    */
   reachOf(line) {
@@ -324,7 +316,7 @@ export class Session {
     return this.engine.reachOf(this.slot, word, given.map((text) => (text === "-" ? 0 : Number(text))));
   }
 
-  /** Gives its memory back; it can't be used any more. */
+  /** Frees its memory and ends its use. */
   free() {
     this.calls.rudekpi_session_free(this.slot);
     this.calls.rudekpi_give_back(this.slot);

@@ -1,10 +1,10 @@
-// What the module throws; for arguments that are out of range or of another type it throws `RangeError` and
+// The errors that the module throws. For arguments out of range or of another type it throws `RangeError` and
 // `TypeError`.
 
 const STATUSES =
   ["done", "not a command", "the log is full", "memory was refused", "there is no session", "out of range"];
 
-/** All errors of this module but those two. */
+/** All other errors of this module. */
 export class RudekpiError extends Error {
   /** @param {string} said */
   constructor(said) {
@@ -13,7 +13,7 @@ export class RudekpiError extends Error {
   }
 }
 
-/** The network refused an event, and is as it was. */
+/** The network refused an event and is unchanged. */
 export class Refused extends RudekpiError {
   /**
    * @param {string} event
@@ -30,7 +30,9 @@ export class Refused extends RudekpiError {
   }
 }
 
-/** The log is full, which ended the network: the exit status and the last line that the program would have. */
+/**
+ * The log is full, which ended the network: the exit status and the last line that the program would have.
+ */
 export class Ended extends RudekpiError {
   /**
    * @param {number} status
@@ -43,10 +45,10 @@ export class Ended extends RudekpiError {
   }
 }
 
-/** Memory was refused: nothing was carried out, and the network is as it was. */
+/** Memory ran out: nothing was carried out, and the network is unchanged. */
 export class MemoryError extends RudekpiError {}
 
-/** The command was carried out, and there is no memory for its reply: the transcript has it up to `entry`. */
+/** The command was carried out, but memory ran out for its reply. The transcript has it, up to `entry`. */
 export class NoReply extends MemoryError {
   /**
    * @param {number} entry
@@ -71,7 +73,10 @@ export class Damaged extends RudekpiError {
   }
 }
 
-/** What a session did not do, and why: how the engine answers, before a network makes an error of its own of it. */
+/**
+ * Why a session did not carry out a call, as the engine reports it; a network turns this into an error of its
+ * own.
+ */
 export class EngineFault extends RudekpiError {
   /** @param {number} status that of the library, from 1 */
   constructor(status) {

@@ -1,4 +1,3 @@
-// The names of a network's nodes, the numbers that a transcript has for them, and what numbers may be.
 
 /** @typedef {any} Name */
 
@@ -15,7 +14,7 @@ export function shown(value) {
 }
 
 /**
- * A whole number from 0 to the most that may be. Throws a `TypeError` or a `RangeError` for any other value.
+ * A whole number from 0 to `most`. Throws a `TypeError` or a `RangeError` for any other value.
  * @param {any} given
  * @param {number} most
  * @param {string} what
@@ -47,7 +46,7 @@ export function seedOf(given) {
 }
 
 /**
- * The caller's names, each of which is there once, and none is null. Throws a `TypeError` or a `RangeError`.
+ * The caller's names, distinct and none null. Throws a `TypeError` or a `RangeError`.
  * @param {any} nodes
  * @returns {Name[]}
  */
@@ -88,8 +87,8 @@ export class Names {
   }
 
   /**
-   * The number of a name. Throws a `TypeError` or a `RangeError` for what is no name; a number up to 65,535 that is no
-   * node's is one that the network refuses.
+   * The number of a name. Throws a `TypeError` or a `RangeError` for no name. A number up to 65,535 without a
+   * node passes, and the network refuses it.
    * @param {Name} name
    * @returns {number}
    */
@@ -101,7 +100,7 @@ export class Names {
   }
 
   /**
-   * Throws what a value is told that is no name.
+   * Throws the error for a value that is no name.
    * @param {any} name
    * @returns {number}
    */
@@ -115,16 +114,12 @@ export class Names {
     throw new RangeError(`a node's name is 1 to ${MOST_NODES}, and not ${name}`);
   }
 
-  /**
-   * The number of a pointer: 0 for null.
-   * @param {Name | null} name
-   */
+  /** @param {Name | null} name */
   numberOrNull(name) {
     return name === null ? 0 : this.numberOf(name);
   }
 
   /**
-   * The name of a node by its number.
    * @param {number} number
    * @returns {Name}
    */
@@ -136,7 +131,7 @@ export class Names {
   }
 
   /**
-   * What a pointer holds: a name, or null for 0.
+   * The value of a pointer: a name, or null for 0.
    * @param {number} number
    * @returns {Name | null}
    */

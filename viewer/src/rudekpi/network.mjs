@@ -1,4 +1,4 @@
-// A network that is played by the engine in this page or program, one command a call. rudekpi.d.ts says what each does.
+// A network run by the engine in this page or program, one command a call. rudekpi.d.ts documents each.
 import {readBase} from "../transcript.mjs";
 import {summaryOf} from "./audits.mjs";
 import {numbersOfEdit, whyRefused} from "./costs.mjs";
@@ -10,17 +10,14 @@ import {baseOf, enabledOfRows, faultOfLine, listWith, matchingOfRows, movesOfLin
 /** @typedef {import("./names.mjs").Name} Name */
 /** @typedef {import("./engine.mjs").Calls} Calls */
 
-// after so many entries and rows their text is taken out of the module's memory
+// takes the text out of the module's memory after this many entries and rows
 const OFTEN = 1 << 16;
 
-/**
- * Ends the sessions of networks that nothing refers to any more.
- * @type {FinalizationRegistry<Session>}
- */
+/** @type {FinalizationRegistry<Session>} */
 const FORGOTTEN = new FinalizationRegistry((session) => session.free());
 
 /**
- * A new session. Throws a `MemoryError` if memory is refused.
+ * A new session. Throws `MemoryError` if memory runs out.
  * @param {RuleName} rules
  * @param {number} names
  * @param {number} present
@@ -34,8 +31,8 @@ function begin(rules, names, present) {
 }
 
 /**
- * The numbers of a choice: of each item the node and its target, 0 for none; those of a set by number, so that the same
- * set is the same step.
+ * The numbers of a choice: the node and target of each item, 0 for none. A set is sorted by number, so that
+ * the same set is the same step.
  * @param {any} choice
  * @param {Names} names
  * @returns {[number, number][]}
@@ -73,17 +70,17 @@ export class Network {
   #keeps;
   /** @type {string[]} */
   #parts = [];
-  /** How many entries and rows have come since their text was taken last. */
+  /** How many entries and rows have come since the text was last taken. */
   #unread = 0;
   /**
-   * Where the network stands, until an act changes it.
+   * The state of the network, until a command changes it.
    * @type {{ rules: RuleName, names: number, here: Uint8Array, pointers: Int32Array, flags: Uint8Array, ends:
    *   Int32Array
    *     } | null}
    */
   #state = null;
   /**
-   * What has ended the network, but a close.
+   * What has ended the network, other than a close.
    * @type {Ended | null}
    */
   #ended = null;
@@ -91,8 +88,8 @@ export class Network {
   /**
    * @param {RuleName} rules
    * @param {number | Iterable<Name>} nodes how many there are, or their names
-   * @param {{ present?: number, keep?: boolean }} options how many are present at the start, and whether the transcript
-   *     is kept from before the last checkpoint
+   * @param {{ present?: number, keep?: boolean }} options how many are present at the start,
+   *   and whether the transcript before the last checkpoint is kept
    */
   constructor(rules = "manne", nodes = 0, { present, keep = true } = {}) {
     if (!RULE_SET_NAMES.includes(rules)) {
@@ -112,8 +109,8 @@ export class Network {
   }
 
   /**
-   * Ends the network and gives its memory back; the transcript stays. Throws a `MemoryError` if there is no memory for
-   * the end of that, which is lost then.
+   * Ends the network and frees its memory; the transcript stays. Throws `MemoryError` if there is no memory
+   * for its last part, which is lost then.
    */
   close() {
     if (this.#slot !== this.#engine.nowhere) {
@@ -127,7 +124,6 @@ export class Network {
     }
   }
 
-  /** All names, in the order of their numbers, whether their nodes are present or not. */
   get nodes() {
     return this.#names.all();
   }
@@ -285,7 +281,7 @@ export class Network {
   }
 
   /**
-   * With whom a node is paired, or null, also if it is not present; no entry is added.
+   * The partner of a node, or null, also if the node is not present. Adds no entry.
    * @param {Name} node
    */
   partner(node) {
@@ -324,7 +320,6 @@ export class Network {
     return (this.#engine.entry & 255) !== 0;
   }
 
-  /** The nodes that are not at rest, in the order of their numbers. */
   restless() {
     return this.present.filter((node) => !this.isAtRest(node));
   }
@@ -334,13 +329,11 @@ export class Network {
     return this.#engine.entry;
   }
 
-  /** The names of the nodes that are present, in the order of their numbers. */
   get present() {
     const { here } = this.#look();
     return this.nodes.filter((_, at) => here[at + 1] === 1);
   }
 
-  /** The edges, each with the node of the lower number first. */
   get edges() {
     const { ends } = this.#look();
     return Array.from(
@@ -348,10 +341,7 @@ export class Network {
       (_, at) => /** @type {[Name, Name]} */ ([this.nameOf(ends[2 * at]), this.nameOf(ends[2 * at + 1])]));
   }
 
-  /**
-   * The neighbours of a node that is present, in the order of their numbers.
-   * @param {Name} node
-   */
+  /** @param {Name} node */
   neighbours(node) {
     const number = this.#presentNumber(node);
     const near = [];
@@ -366,7 +356,7 @@ export class Network {
   }
 
   /**
-   * What a node that is present holds.
+   * The registers of a present node.
    * @param {Name} node
    */
   registers(node) {
@@ -375,20 +365,23 @@ export class Network {
     return { pointer: this.#names.named(pointers[number]), flag: flags[number] === 1 };
   }
 
-  /** What `console run` writes of the same commands, to the byte; without `keep`, from the last checkpoint on. */
+  /**
+   * What `console run` writes for the same commands, to the byte; without `keep`, from the last checkpoint
+   * on.
+   */
   transcript() {
     this.#collect();
     this.#parts = [this.#parts.join("")];
     return this.#parts[0];
   }
 
-  /** What the audit says of the transcript. */
+  /** The audit's summary of the transcript. */
   audit() {
     return summaryOf(this.#engine, this.transcript());
   }
 
   /**
-   * The reply to an edit or a fault, or throws what its status says.
+   * Returns the reply to an edit or a fault, or throws by its status.
    * @param {number} status
    * @param {string} word
    * @param {Name} node
@@ -415,7 +408,7 @@ export class Network {
   }
 
   /**
-   * Throws what a status says that is not done.
+   * Throws by a status that is not done.
    * @param {number} status
    * @param {string} event
    * @returns {never}
@@ -441,7 +434,7 @@ export class Network {
   }
 
   /**
-   * Throws what the status of a question says that is not done.
+   * Throws by a question's status that is not done.
    * @param {number} status
    */
   #asked(status) {
@@ -451,7 +444,7 @@ export class Network {
   }
 
   /**
-   * What a question answers; throws what its status says.
+   * Returns the answer to a question; throws by its status.
    * @template Answer
    * @param {() => Answer} question
    */
@@ -467,7 +460,7 @@ export class Network {
   }
 
   /**
-   * Counts an entry with so many rows, and takes their text if there is much.
+   * Counts an entry with `rows` rows, and takes the text if there is much.
    * @param {number} rows
    */
   #note(rows) {
@@ -477,7 +470,7 @@ export class Network {
     }
   }
 
-  /** Takes the text; if there is no memory for that now, it stays where it is. */
+  /** Takes the text; if memory is short, leaves it for later. */
   #collectSoon() {
     try {
       this.#collect();
@@ -488,7 +481,6 @@ export class Network {
     }
   }
 
-  /** Takes the text that has come. */
   #collect() {
     if (this.#slot !== this.#engine.nowhere) {
       this.#unread = 0;
@@ -497,7 +489,7 @@ export class Network {
   }
 
   /**
-   * The text of a call, whose last entry this is. Throws a `NoReply` if there is no memory for it.
+   * The text of a call with this last entry. Throws `NoReply` if there is no memory for it.
    * @param {number} entry
    */
   #written(entry) {
@@ -511,7 +503,7 @@ export class Network {
   }
 
   /**
-   * Many entries, one a turn, and the status after them.
+   * Makes the turns of a command, one entry each, and the status after them.
    * @template {object} Turn
    * @param {string} word
    * @param {number | bigint} seed
@@ -534,7 +526,10 @@ export class Network {
     return listWith(lines.map(read), { status: this.status() });
   }
 
-  /** Where the network stands: the engine writes a base, which is no entry and stays out of the transcript. */
+  /**
+   * The state of the network. The engine writes a base for it, which is no entry and is left out of the
+   * transcript.
+   */
   #look() {
     if (this.#state === null) {
       this.#collect();
@@ -545,7 +540,7 @@ export class Network {
   }
 
   /**
-   * The number of a node that is present. Throws a `RangeError` for any other node.
+   * The number of a present node. Throws a `RangeError` for any other node.
    * @param {Name} node
    */
   #presentNumber(node) {

@@ -1,4 +1,4 @@
-// What the network answers, and the texts of turns and bases, read into it.
+// The replies of a network, and the texts of turns and bases parsed into them.
 import {movesOf, readBase, readEntry} from "../transcript.mjs";
 
 /** @typedef {import("./names.mjs").Names} Names */
@@ -7,13 +7,12 @@ import {movesOf, readBase, readEntry} from "../transcript.mjs";
 /** The rules, by the numbers that rows have. */
 export const RULES = ["", "update", "marry", "seduce", "abandon"];
 
-/** The refusals, by their numbers. */
 export const REFUSALS = [
   "", "unknown-node", "self-loop", "already-linked", "not-linked", "too-many-edges", "not-neighbour", "no-flag",
   "empty-choice", "not-central", "chosen-twice", "not-enabled", "bad-target", "already-present"
 ];
 
-/** An item of a choice: this node shall move, and to that target. */
+/** An item of a choice: this node shall move, to that target. */
 export class Wish {
   /**
    * @param {Name} node
@@ -38,7 +37,7 @@ export class Matching {
   }
 
   /**
-   * With whom a node is paired, or null.
+   * The partner of a node, or null.
    * @param {Name} node
    * @returns {Name | null}
    */
@@ -48,7 +47,7 @@ export class Matching {
 }
 
 /**
- * A list with something beside its items.
+ * A list with further properties.
  * @template {object} List
  * @template {object} Beside
  * @param {List} list
@@ -60,7 +59,6 @@ export function listWith(list, beside) {
 }
 
 /**
- * The moves of a step, out of the rows of its answer.
  * @param {Names} names
  * @param {number} entry
  * @param {Uint32Array} rows
@@ -74,7 +72,6 @@ export function movesOfRows(names, entry, rows) {
 }
 
 /**
- * The enabled nodes with their rules, out of the rows of an answer.
  * @param {Names} names
  * @param {number} entry
  * @param {Uint32Array} rows
@@ -88,7 +85,6 @@ export function enabledOfRows(names, entry, rows) {
 }
 
 /**
- * The pairs, out of the rows of an answer.
  * @param {Names} names
  * @param {number} entry
  * @param {Uint32Array} rows
@@ -103,7 +99,6 @@ export function matchingOfRows(names, entry, rows) {
 }
 
 /**
- * A step of a seeded daemon, out of its line.
  * @param {Names} names
  * @param {string} line
  */
@@ -115,7 +110,6 @@ export function movesOfLine(names, line) {
 }
 
 /**
- * A fault of a scramble, out of its line.
  * @param {Names} names
  * @param {string} line
  */
@@ -128,7 +122,6 @@ export function faultOfLine(names, line) {
 }
 
 /**
- * Where a network stands, out of the lines of a base.
  * @param {Names} names
  * @param {string} text
  */
