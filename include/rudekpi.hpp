@@ -240,6 +240,26 @@ class Network {
         return asked<std::uint32_t>([&](auto it) { return rudekpi_cost_of_flag(slot(), node, value, it); });
     }
 
+    /* The most moves that an edit or a fault of a silent network can cause; empty if a rule is enabled. */
+    std::optional<std::uint32_t> silent_cost_of_link(Node a, Node b) {
+        return if_silent([&](auto it) { return rudekpi_silent_cost_of_link(slot(), a, b, it); });
+    }
+    std::optional<std::uint32_t> silent_cost_of_unlink(Node a, Node b) {
+        return if_silent([&](auto it) { return rudekpi_silent_cost_of_unlink(slot(), a, b, it); });
+    }
+    std::optional<std::uint32_t> silent_cost_of_join(Node node) {
+        return if_silent([&](auto it) { return rudekpi_silent_cost_of_join(slot(), node, it); });
+    }
+    std::optional<std::uint32_t> silent_cost_of_leave(Node node) {
+        return if_silent([&](auto it) { return rudekpi_silent_cost_of_leave(slot(), node, it); });
+    }
+    std::optional<std::uint32_t> silent_cost_of_point(Node node, std::optional<Node> target) {
+        return if_silent([&](auto it) { return rudekpi_silent_cost_of_point(slot(), node, target.value_or(0), it); });
+    }
+    std::optional<std::uint32_t> silent_cost_of_flag(Node node, bool value) {
+        return if_silent([&](auto it) { return rudekpi_silent_cost_of_flag(slot(), node, value, it); });
+    }
+
     /* The nodes that an edit or a fault would reach, ascending. */
     std::vector<Node> reach_of_link(Node a, Node b) {
         return names([&](auto... it) { return rudekpi_reach_of_link(slot(), a, b, it...); });
@@ -310,6 +330,14 @@ class Network {
         Value value{};
         detail::check(call(&value));
         return value;
+    }
+
+    template <typename Call> std::optional<std::uint32_t> if_silent(Call call) {
+        std::uint32_t cost = 0;
+        auto status = call(&cost);
+        if (status == RUDEKPI_NOT_SILENT) return std::nullopt;
+        detail::check(status);
+        return cost;
     }
 
     template <typename Call> std::vector<Node> names(Call call) {

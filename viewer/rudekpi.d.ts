@@ -162,6 +162,11 @@ export declare class Network {
    * `RangeError` for one that would be refused. A cost of 0 takes a look at the whole network.
    */
   costOf(word: Disturbance, ...given: Name[]): number;
+  /**
+   * The most moves that an edit or a fault of a silent network can cause; `null` if a rule is enabled. Throws what
+   * `costOf` throws.
+   */
+  silentCostOf(word: Disturbance, ...given: Name[]): number | null;
   /** The nodes that an edit or a fault would reach if it came now; none for one that would be refused. */
   reach(word: Disturbance, ...given: Name[]): Set<Name>;
   /** Whether a node stays still until an edit or a fault reaches it, whatever the daemon chooses. */

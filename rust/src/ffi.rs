@@ -8,6 +8,7 @@ pub(crate) const LOG_FULL: u32 = 2;
 pub(crate) const NO_MEMORY: u32 = 3;
 pub(crate) const REFUSED: u32 = 6;
 pub(crate) const DAMAGED: u32 = 7;
+pub(crate) const NOT_SILENT: u32 = 8;
 
 /// Holds a session or an audit. A full slot stays at its address.
 #[repr(C)]
@@ -92,6 +93,12 @@ extern "C" {
     pub(crate) fn rudekpi_cost_of_leave(slot: *mut Slot, node: u32, cost: *mut u32) -> u32;
     pub(crate) fn rudekpi_cost_of_point(slot: *mut Slot, node: u32, target: u32, cost: *mut u32) -> u32;
     pub(crate) fn rudekpi_cost_of_flag(slot: *mut Slot, node: u32, value: bool, cost: *mut u32) -> u32;
+    pub(crate) fn rudekpi_silent_cost_of_link(slot: *mut Slot, a: u32, b: u32, cost: *mut u32) -> u32;
+    pub(crate) fn rudekpi_silent_cost_of_unlink(slot: *mut Slot, a: u32, b: u32, cost: *mut u32) -> u32;
+    pub(crate) fn rudekpi_silent_cost_of_join(slot: *mut Slot, node: u32, cost: *mut u32) -> u32;
+    pub(crate) fn rudekpi_silent_cost_of_leave(slot: *mut Slot, node: u32, cost: *mut u32) -> u32;
+    pub(crate) fn rudekpi_silent_cost_of_point(slot: *mut Slot, node: u32, target: u32, cost: *mut u32) -> u32;
+    pub(crate) fn rudekpi_silent_cost_of_flag(slot: *mut Slot, node: u32, value: bool, cost: *mut u32) -> u32;
     pub(crate) fn rudekpi_reach_of_link(
         slot: *mut Slot,
         a: u32,

@@ -105,6 +105,21 @@ macro_rules! values {
     )*};
 }
 
+/// Calls that write the cost of an edit or a fault in a silent network.
+macro_rules! silent_costs {
+    ($($(#[$text:meta])* $name:ident, $call:ident, ($($word:ident: $kind:ty),*);)*) => {$(
+        $(#[$text])*
+        pub fn $name(&mut self, $($word: $kind),*) -> Result<Option<u32>, Fault> {
+            let mut cost = 0;
+            match unsafe { ffi::$call(&mut *self.slot, $($word,)* &mut cost) } {
+                ffi::DONE => Ok(Some(cost)),
+                ffi::NOT_SILENT => Ok(None),
+                status => Err(fault(status)),
+            }
+        }
+    )*};
+}
+
 /// Calls that list nodes and add no entry.
 macro_rules! lists {
     ($($(#[$text:meta])* $name:ident, $call:ident, ($($word:ident: $kind:ty),*);)*) => {$(
@@ -164,6 +179,21 @@ impl Network {
         cost_of_leave, rudekpi_cost_of_leave, (node: Node) -> u32;
         /// The cost of writing a flag.
         cost_of_flag, rudekpi_cost_of_flag, (node: Node, value: bool) -> u32;
+    }
+
+    silent_costs! {
+        /// The most moves that adding an edge to a silent network can cause; `None` if a rule is enabled.
+        silent_cost_of_link, rudekpi_silent_cost_of_link, (a: Node, b: Node);
+        /// The most moves that removing an edge can cause.
+        silent_cost_of_unlink, rudekpi_silent_cost_of_unlink, (a: Node, b: Node);
+        /// The most moves that a node's arrival can cause.
+        silent_cost_of_join, rudekpi_silent_cost_of_join, (node: Node);
+        /// The most moves that a node's departure can cause.
+        silent_cost_of_leave, rudekpi_silent_cost_of_leave, (node: Node);
+        /// The most moves that writing a pointer can cause; target 0 is null.
+        silent_cost_of_point, rudekpi_silent_cost_of_point, (node: Node, target: Node);
+        /// The most moves that writing a flag can cause.
+        silent_cost_of_flag, rudekpi_silent_cost_of_flag, (node: Node, value: bool);
     }
 
     lists! {

@@ -87,6 +87,28 @@ fn faults_of_calls() {
 }
 
 #[test]
+fn silent_costs() {
+    // 1 and 2 are a pair, 3 is linked with 2 and points nowhere, 4 is absent
+    let mut net = row(Rules::HsuHuang);
+    assert_eq!(net.silent_cost_of_unlink(1, 2), Ok(None));
+    for node in [1, 2] {
+        net.step(&[Item { node, wish: None }]).expect("a move");
+    }
+    assert_eq!(net.matching(), Ok(vec![(1, 2)]));
+    assert_eq!(net.silent_cost_of_link(1, 3), Ok(Some(0)));
+    assert_eq!(net.silent_cost_of_unlink(1, 2), Ok(Some(2)));
+    assert_eq!(
+        (net.silent_cost_of_join(4), net.silent_cost_of_leave(1)),
+        (Ok(Some(0)), Ok(Some(2)))
+    );
+    assert_eq!(
+        (net.silent_cost_of_point(1, 0), net.silent_cost_of_flag(1, true)),
+        (Ok(Some(3)), Ok(Some(0)))
+    );
+    assert_eq!(net.silent_cost_of_leave(0), Err(Fault::BadArgument));
+}
+
+#[test]
 fn audits() {
     let mut net = row(Rules::HsuHuang);
     net.checkpoint().expect("a base");

@@ -57,6 +57,23 @@ static void reach_and_faults() {
     expect("scramble", net.scramble(3, 2) > 0 && text(Rule::update) == std::string("update"));
 }
 
+static void silent_costs() {
+    /* 1 and 2 are a pair, 3 is linked with 2 and points nowhere */
+    Network net(Rules::hsu_huang, 5, 4);
+    net.link(1, 2);
+    net.link(2, 3);
+    expect("not silent", !net.silent_cost_of_unlink(1, 2));
+    net.step({{1, std::nullopt}});
+    net.step({{2, std::nullopt}});
+    expect("link in silence", net.silent_cost_of_link(3, 4) == 2u);
+    expect("unlink in silence", net.silent_cost_of_unlink(1, 2) == 2u);
+    expect("join in silence", net.silent_cost_of_join(5) == 0u);
+    expect("leave in silence", net.silent_cost_of_leave(1) == 2u);
+    expect("point in silence", net.silent_cost_of_point(1, std::nullopt) == 3u);
+    expect("flag in silence", net.silent_cost_of_flag(1, true) == 0u);
+    throws<std::invalid_argument>("a name that is 0", [&] { net.silent_cost_of_leave(0); });
+}
+
 static void exceptions() {
     Network net(Rules::hsu_huang, 2);
     throws<rudekpi::Refused>("a loop is refused", [&] { net.link(1, 1); });
@@ -105,6 +122,7 @@ int main() {
     versions();
     edits_and_steps();
     reach_and_faults();
+    silent_costs();
     exceptions();
     audits();
     std::cout << "classes: " << wrong << " wrong\n";

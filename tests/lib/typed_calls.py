@@ -8,7 +8,7 @@ from typing import Any, Optional
 
 from .c_structs import COUNTS, Counts, Item, Row, Told
 
-DONE, REFUSED = 0, 6
+DONE, REFUSED, NOT_SILENT = 0, 6, 8
 RULES = {"update": 1, "marry": 2, "seduce": 3, "abandon": 4}
 EDITS = {"link": 2, "unlink": 2, "join": 1, "leave": 1, "point": 2, "flag": 2}
 # The calls of the library by their names after `rudekpi_`.
@@ -50,6 +50,8 @@ def typed(library: ctypes.CDLL, slot: Any) -> Calls:
             *[ctypes.c_bool] * (name == "flag"),
             ctypes.POINTER(number),
         ]
+        calls[f"silent_cost_of_{name}"] = library[f"rudekpi_silent_cost_of_{name}"]
+        calls[f"silent_cost_of_{name}"].argtypes = calls[f"cost_of_{name}"].argtypes
         calls[f"reach_of_{name}"] = library[f"rudekpi_reach_of_{name}"]
         calls[f"reach_of_{name}"].argtypes = [
             *calls[f"cost_of_{name}"].argtypes[:-1],
@@ -136,6 +138,15 @@ def cost(calls: Calls, slot: Any, kind: str, *numbers: Optional[int]) -> int:
     if calls[f"cost_of_{kind}"](slot, *(number or 0 for number in numbers), found) != DONE:
         raise ValueError(f"no cost for {kind} {numbers}")
     return int(found.value)
+
+
+def silent_cost(calls: Calls, slot: Any, kind: str, *numbers: Optional[int]) -> Optional[int]:
+    """None if a rule is enabled."""
+    found = ctypes.c_uint32(9)
+    status = calls[f"silent_cost_of_{kind}"](slot, *(number or 0 for number in numbers), found)
+    if status not in (DONE, NOT_SILENT) or (status == NOT_SILENT and found.value):
+        raise ValueError(f"no silent cost for {kind} {numbers}")
+    return int(found.value) if status == DONE else None
 
 
 def reach(calls: Calls, slot: Any, room: int, kind: str, *numbers: Optional[int]) -> tuple[Optional[list[int]], int]:

@@ -201,6 +201,7 @@ test("the module tells the program's version", { skip }, () => {
 test("what an edit or a fault costs, and whom it reaches, by the tables of docs/BOUNDS.md", { skip }, () => {
   const net = new Network("hh", 4);
   [[1, 2], [2, 3], [3, 4]].forEach(([a, b]) => net.link(a, b));
+  assert.equal(net.silentCostOf("leave", 4), null);
   // 1 and 2 pair, and so do 3 and 4
   for (const choice of [[1], [2], [3], [4]]) {
     net.step(choice);
@@ -216,6 +217,10 @@ test("what an edit or a fault costs, and whom it reaches, by the tables of docs/
   assert.equal(net.costOf("unlink", 1, 2), 2);
   assert.equal(net.costOf("leave", 4), 2);
   assert.equal(net.costOf("point", 1, null), 6);
+  // no node is unpaired
+  assert.equal(net.silentCostOf("unlink", 1, 2), 0);
+  assert.equal(net.silentCostOf("leave", 4), 0);
+  assert.equal(net.silentCostOf("point", 1, null), 1);
   net.unlink(1, 2);
   assert.throws(
     () => net.costOf("unlink", 1, 2), { name: "RangeError", message: /^unlink 1 2 would be refused \(not-linked\)/});
@@ -230,6 +235,7 @@ test("what an edit or a fault costs, and whom it reaches, by the tables of docs/
     assert.throws(() => net.costOf(...words), { message: new RegExp(`would be refused \\(${why}\\)`) });
     assert.deepEqual([...net.reach(...words)], []);
   }
+  assert.equal(net.silentCostOf("link", 1, 2), 2);
   assert.throws(() => net.costOf("step", 1), { name: "RangeError" });
   assert.throws(() => net.costOf("link", 1), { name: "TypeError", message: "link takes 2 words, and not 1" });
   assert.deepEqual([net.isAtRest(3), net.isAtRest(1), net.restless()], [true, true, []]);

@@ -13,6 +13,7 @@ export const LOG_FULL = 2;
 export const NO_MEMORY = 3;
 export const NO_SESSION = 4;
 export const REFUSED = 6;
+export const NOT_SILENT = 8;
 
 /** The rule sets, by the numbers that the calls take. */
 export const RULE_SET_NAMES = ["hh", "manne"];

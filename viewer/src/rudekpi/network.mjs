@@ -2,7 +2,7 @@
 import {readBase} from "../transcript.mjs";
 import {summaryOf} from "./audits.mjs";
 import {numbersOfEdit, whyRefused} from "./costs.mjs";
-import {DONE, Engine, inUse, LOG_FULL, NO_MEMORY, NO_SESSION, REFUSED, RULE_SET_NAMES, Session} from "./engine.mjs";
+import {DONE, Engine, inUse, LOG_FULL, NO_MEMORY, NO_SESSION, NOT_SILENT, REFUSED, RULE_SET_NAMES, Session} from "./engine.mjs";
 import {Ended, EngineFault, MemoryError, NoReply, Refused} from "./errors.mjs";
 import {MOST_NODES, MOST_TURNS, Names, numberWithin, seedOf, shown} from "./names.mjs";
 import {baseOf, enabledOfRows, faultOfLine, listWith, matchingOfRows, movesOfLine, movesOfRows, REFUSALS, Wish} from "./replies.mjs";
@@ -296,6 +296,30 @@ export class Network {
   costOf(word, ...given) {
     const numbers = numbersOfEdit(this.#names, word, given, "cost");
     this.#asked(this.#calls[`rudekpi_cost_of_${word}`](this.#slot, ...numbers, this.#told));
+    return this.#costOf(word, given, numbers);
+  }
+
+  /**
+   * @param {string} word
+   * @param {...Name} given
+   */
+  silentCostOf(word, ...given) {
+    const numbers = numbersOfEdit(this.#names, word, given, "cost");
+    const status = this.#calls[`rudekpi_silent_cost_of_${word}`](this.#slot, ...numbers, this.#told);
+    if (status === NOT_SILENT) {
+      return null;
+    }
+    this.#asked(status);
+    return this.#costOf(word, given, numbers);
+  }
+
+  /**
+   * Returns the cost that the last call wrote. Throws a `RangeError` if the event would be refused.
+   * @param {string} word
+   * @param {Name[]} given
+   * @param {number[]} numbers
+   */
+  #costOf(word, given, numbers) {
     const cost = this.#engine.entry;
     const why = cost === 0 ? whyRefused(this.#look(), word, numbers[0], numbers[1]) : "";
     if (why !== "") {
