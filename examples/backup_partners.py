@@ -18,7 +18,7 @@ sys.path.insert(0, os.path.join(os.path.dirname(os.path.realpath(__file__)), "..
 from rudekpi import Enabled, Network  # noqa: E402
 
 HOSTS = [f"h{number:02}" for number in range(1, 13)]
-# a ring in which each third host has a link to the host across it
+# a ring whose every third host has a link to the host across it
 LINKS = [(HOSTS[at], HOSTS[(at + 1) % 12]) for at in range(12)] + [(HOSTS[at], HOSTS[at + 6]) for at in (0, 3)]
 EVENTS = [
     "fails h02",

@@ -182,7 +182,7 @@ size_t rudekpi_rows(struct rudekpi_slot *slot, struct rudekpi_row *out, size_t r
 uint32_t rudekpi_drive(struct rudekpi_slot *slot, uint64_t seed, uint32_t count, struct rudekpi_told *told);
 uint32_t rudekpi_scramble(struct rudekpi_slot *slot, uint64_t seed, uint32_t count, struct rudekpi_told *told);
 
-/* `checkpoint`: appends the lines of a base, from which an audit can begin, to the text; they are no entry.
+/* `checkpoint`: appends the lines of a base, where an audit can begin, to the text; they are no entry.
  * DONE; NO_MEMORY: nothing changed; NO_SESSION. A look at all names and edges. */
 uint32_t rudekpi_checkpoint(struct rudekpi_slot *slot, struct rudekpi_told *told);
 

@@ -288,7 +288,7 @@ class Network {
         detail::check(status);
     }
 
-    /* Adds the lines of a base, from which an audit can begin, to the transcript. Returns the last entry's
+    /* Adds the lines of a base, where an audit can begin, to the transcript. Returns the last entry's
      * number. */
     Entry checkpoint() {
         return done([&](auto told) { return rudekpi_checkpoint(slot(), told); });

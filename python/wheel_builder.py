@@ -1,9 +1,8 @@
 """Makes the wheel of the package `rudekpi` beside it, with the program and the library of release/ in it.
 
-pip calls it by pyproject.toml. It needs the standard library alone, so `pip install ./python` needs no index:
-setuptools would have to be fetched, since a fresh environment has none. The same files make the same wheel to the byte.
-The program is for Linux on x86-64 with glibc 2.34 or later; where pip runs elsewhere the package is made without it.
-"""
+pip calls it by pyproject.toml. It needs only the standard library, so `pip install ./python` needs no
+index: a fresh environment has no setuptools. The same files make the same wheel to the byte. The program is
+for Linux on x86-64 with glibc 2.34 or later; elsewhere pip makes the package without it."""
 
 from __future__ import annotations
 
@@ -85,7 +84,7 @@ def program() -> bytes:
 
 
 def recorded_library(name: str, record: str) -> dict[str, bytes]:
-    """A shared library of release/, whole, by its name in the package. Raises `ValueError` if a record of release/ has
+    """A shared library of release/ by its name in the package. Raises `ValueError` if a record of release/ has
     other bytes of it."""
     found, lines = beside(f"release/{name}").read_bytes(), beside(f"release/{record}").read_text()
     if not re.search(rf"^{re.escape(name)}\.\d+ {hashlib.sha256(found).hexdigest()}$", lines, re.MULTILINE):
@@ -192,7 +191,7 @@ def build_editable(
 
 @in_one_line()
 def build_sdist(sdist_directory: str, config_settings: Optional[Mapping[str, object]] = None) -> str:
-    """Writes an archive of the sources with the program, from which a wheel can be made anywhere."""
+    """Writes an archive of the sources with the program, to make a wheel of anywhere."""
     top = f"rudekpi-{version()}"
     files = {**sources(), "PKG-INFO": METADATA.format(version=version()).encode()}
     files.update({name: (HERE / name).read_bytes() for name in ("pyproject.toml", "wheel_builder.py")})

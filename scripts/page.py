@@ -58,7 +58,7 @@ def embedded(value: object) -> str:
 
 
 def allowed(text: str) -> str:
-    """The digest of a text, by which a page's policy names allowed scripts and styles."""
+    """The digest of a text, which names allowed scripts and styles in a page's policy."""
     return f"'sha256-{base64.b64encode(hashlib.sha256(text.encode()).digest()).decode()}'"
 
 

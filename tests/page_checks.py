@@ -1,5 +1,5 @@
-"""Compares the pages with the repository, apart from examples and links: their form, what PROMISES.md names,
-definitions."""
+"""Compares the pages with the repository, apart from examples and links: their length, what PROMISES.md
+names, definitions and their names."""
 
 from __future__ import annotations
 
@@ -8,8 +8,6 @@ import pathlib
 import re
 from typing import Iterable, Iterator
 
-CELL = 300
-LINE = 160
 PAGES = {
     "README.md": 140,
     "docs/PROMISES.md": 150,
@@ -21,6 +19,12 @@ CLAUSE = re.compile(r"^\s*ensures (?:(\w+) )?\{", re.M)
 GHOST = re.compile(r"^\s*ghost (\w+)[:=, ]", re.M)
 TYPE = re.compile(r"^\s*pub (?:trait|struct|enum) (\w+)", re.M)
 QUOTED = re.compile(r"`([^`]+)`")
+# A public name of specs/: a definition or a lemma.
+PUBLIC = re.compile(
+    r"^(?: *(?:abbrev|record|data) pub| *(?:unfoldable )?pub (?:abbrev|record|data)|(?:unfoldable )?pub)"
+    r" (?!(?:abbrev|record|data|mod|use) )([^\s:({]+)",
+    re.M,
+)
 # Whether something agrees, and what to print if it does not.
 Told = tuple[bool, str]
 
@@ -32,17 +36,8 @@ def rows(page: pathlib.Path) -> Iterator[tuple[int, list[str]]]:
             yield number, [cell.strip() for cell in line[1:-1].replace("\\|", "\0").split("|")]
 
 
-def forms(top: pathlib.Path, pages: Iterable[pathlib.Path]) -> Iterator[Told]:
-    """Checks the form of each page: no wide cell, no long line outside code and tables, no long page."""
-    for page in pages:
-        wide = [number for number, cells in rows(page) if any(len(cell) > CELL for cell in cells)]
-        yield not wide, f"{page.name}: a cell of more than {CELL} characters in line {wide[:3]}"
-        long, code = [], False
-        for number, line in enumerate(page.read_text().splitlines(), 1):
-            code ^= line.startswith("```")
-            if len(line) > LINE and not code and not line.startswith("|"):
-                long.append(number)
-        yield not long, f"{page.name}: more than {LINE} characters in line {long[:3]}"
+def lengths(top: pathlib.Path) -> Iterator[Told]:
+    """Checks that no page is too long."""
     for name, most in PAGES.items():
         count = len((top / name).read_text().splitlines())
         yield count <= most, f"{name} has {count} lines, and not {most} at most"
@@ -202,4 +197,14 @@ def points(top: pathlib.Path) -> Iterator[Told]:
         yield point.count("\n") < 3, f"DECISIONS.md: more than three lines: {point[:60]}"
 
 
-OF_PAGES = (calls, definitions, figures, help_lines, quotes, points)
+def one_crate_a_name(top: pathlib.Path) -> Iterator[Told]:
+    """Checks that each public name of specs/ belongs to one crate."""
+    crates: dict[str, set[str]] = {}
+    for path in sorted(top.glob("crates/*/specs/**/*.antt")):
+        for name in PUBLIC.findall(path.read_text()):
+            crates.setdefault(name, set()).add(path.relative_to(top).parts[1])
+    for name, owners in sorted(crates.items()):
+        yield len(owners) == 1, f"specs/: {name} is public in {', '.join(sorted(owners))}"
+
+
+OF_PAGES = (lengths, calls, definitions, figures, help_lines, quotes, points, one_crate_a_name)

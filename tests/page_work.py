@@ -133,7 +133,7 @@ def keys(pages: Pages, browser: Browser) -> None:
 
 
 def looks(pages: Pages, browser: Browser) -> None:
-    """Nothing is wider than a window of 200 pixels; all pictures have names; the page says its name and leads
+    """All is within a window of 200 pixels; all pictures have names; the page says its name and leads
     to the project."""
     browser.window(200, 500)
     begin(browser)

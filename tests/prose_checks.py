@@ -8,11 +8,11 @@ import re
 import tokenize
 from typing import Iterable, Iterator
 
-# In words, and in characters.
+# A sentence is counted in words, a line and a cell in characters.
 SENTENCE = 35
 LINE = 110
 CELL = 200
-# Words that English of this kind rarely needs, and how often they may stand in all prose: `where` is for a place.
+# Words that plain English rarely needs, and how often all prose may have them: `where` is for a place.
 MOST = {
     r"where": 99,
     r"(?:of|at|in|by|with|for|from|to|on|above|below) (?:which|whom)": 25,
@@ -101,7 +101,7 @@ def lines_of(path: pathlib.Path) -> Iterator[Line]:
 
 
 def sentences(lines: Iterable[Line]) -> Iterator[tuple[int, str]]:
-    """The sentences, each with the line on which its paragraph begins; code in backticks is one word."""
+    """The sentences, each with the first line of its paragraph; code in backticks is one word."""
     part: list[str] = []
     begun = 0
     for number, line, table in [*lines, (0, "", False)]:
@@ -130,7 +130,7 @@ def plain_prose(top: pathlib.Path) -> Iterator[Told]:
         yield not wide, f"{name}: more than {LINE} characters of prose in line {wide[:3]}"
         cells = [at for at, line, table in lines if table and any(len(cell.strip()) > CELL for cell in line.split("|"))]
         yield not cells, f"{name}: a cell of more than {CELL} characters in line {cells[:3]}"
-        text = "\n".join(line for _, line, _ in lines)
+        text = CODE.sub("x", "\n".join(line for _, line, _ in lines))
         for word in MOST:
             counts[word] += len(re.findall(rf"\b(?:{word})\b", text, re.IGNORECASE))
     for word, most in MOST.items():

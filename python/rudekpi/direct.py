@@ -104,7 +104,7 @@ class Direct:
         """Ends the session. If it was cut short, call it again."""
         with self.lock:
             self.ended = self.ended or why
-            # nothing is asked from here on, so nothing is written that is not collected
+            # no question follows, so all that is written is collected
             self.at = ctypes.byref(self.empty)
             self.text_kept.collect()
             self.library.session_free(ctypes.byref(self.slot))

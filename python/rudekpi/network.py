@@ -253,7 +253,7 @@ class Network:
         """The cost in moves of an edit or a fault if it came now: `net.cost_of("unlink", "ann", "bob")`.
 
         The words are `link`, `unlink`, `join`, `leave`, `point` and `flag`. The charge would grow by at most
-        this much. Nothing is done, and no entry is added. Raises `ValueError` for an event that would be
+        this much. It changes nothing and adds no entry. Raises `ValueError` for an event that would be
         refused, such as the unlinking of unlinked nodes, `TypeError` for a wrong number of words, and
         `NoSuchCommand` with a program.
         """
@@ -266,7 +266,7 @@ class Network:
 
         The words are those of `cost_of`. Under `hh` it is at most `cost_of`, as it counts unpaired neighbours
         alone. Under `manne` it may exceed that by 2 for a pair that may come, and by 1 for a node that leaves.
-        Nothing is done, and no entry is added. Raises what `cost_of` raises.
+        It changes nothing and adds no entry. Raises what `cost_of` raises.
         """
         return self._asked_cost(self._session.silent_cost_of, word, given)
 

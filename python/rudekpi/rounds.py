@@ -1,6 +1,6 @@
 """Rounds, steps and moves of a run, counted along its entries, with the enabled nodes after each.
 
-A round is the shortest part of a run in which each node that was enabled at its start moved or stopped being
+A round is the shortest part of a run such that each node that was enabled at its start moved or stopped being
 enabled: Dolev, "Self-Stabilization", 2000. Rounds are measured here, not proved; the machine's own replies
 are compared.
 """

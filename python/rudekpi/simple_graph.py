@@ -21,7 +21,7 @@ def check_sizes(title: str, nodes: int, edges: int) -> None:
 
 @dataclass(frozen=True)
 class Disk:
-    """The points of a unit disk graph's nodes, in order, and the distance up to which they are linked."""
+    """The points of a unit disk graph's nodes, in order, and the distance of the farthest linked ones."""
 
     radius: float
     points: tuple[tuple[float, float], ...]

@@ -262,7 +262,7 @@ def first_of(given: Iterable[Any]) -> Sequence[Any]:
 
 
 def check_titles(graphs: Sequence[Any]) -> None:
-    """Raises `ValueError` if two different graphs share a title, by which rows and plots know them."""
+    """Raises `ValueError` if two different graphs share a title: rows and plots need it."""
     known: dict[str, Graph] = {}
     for graph in graphs:
         if isinstance(graph, Graph) and known.setdefault(graph.title, graph) != graph:
@@ -350,7 +350,7 @@ def rows_of(todo: list[Experiment], given: Union[Executor, int]) -> Iterator[Row
 
 
 def natural(word: str) -> list[tuple[int, str]]:
-    """The key by which a word is sorted, so that 5 comes before 10."""
+    """The sort key of a word: 5 comes before 10."""
     parts = re.split("([0-9]+)", word)
     return [(int(part), "") if place % 2 else (0, part) for place, part in enumerate(parts)]
 

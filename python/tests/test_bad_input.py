@@ -228,7 +228,7 @@ class Children(Timed):
 
 
 class ShortOfMemory(Timed):
-    """A reply for which memory runs out, by either engine."""
+    """Memory runs out for a reply, by either engine."""
 
     engines = ("program", "library")
 

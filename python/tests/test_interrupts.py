@@ -69,7 +69,7 @@ class EachInstruction(Timed):
     ) -> int:
         """Cuts a call short before each `step`th instruction until it ends, and checks what is left.
 
-        Returns the number of the instruction at which the call was not cut.
+        Returns the number of the first instruction that did not cut the call.
         """
         for number in range(0, 1_000_000, step):
             net = made()

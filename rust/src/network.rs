@@ -13,7 +13,7 @@ pub enum Rules {
     Manne = 1,
 }
 
-/// The rule by which a node moves.
+/// The rule of a move.
 #[derive(Clone, Copy, Debug, PartialEq, Eq)]
 pub enum Rule {
     Update,
@@ -160,7 +160,7 @@ impl Network {
         drive, rudekpi_drive, (seed: u64, count: u32);
         /// Makes `count` seeded faults of registers.
         scramble, rudekpi_scramble, (seed: u64, count: u32);
-        /// Adds the lines of a base, from which an audit can begin, to the transcript.
+        /// Adds the lines of a base, where an audit can begin, to the transcript.
         checkpoint, rudekpi_checkpoint, ();
     }
 

@@ -5,7 +5,7 @@ from __future__ import annotations
 import sys
 from typing import Sequence, TextIO
 
-# The length at which a printed value is cut.
+# A longer value is cut when it is printed.
 SHOWN = 600
 INDENT = "    "
 

@@ -14,7 +14,7 @@ function isSame(one, other) {
 export class Inspector {
   /**
    * `machine()` is the state that is shown. `stage` marks a thing (`pick`) and gives its place on the screen
-   * (`pixelOf`), or null if nothing is drawn.
+   * (`pixelOf`), or null without a drawing.
    * @param {() => import("./machine.mjs").Machine} machine
    * @param {import("./stage.mjs").Stage | null} stage
    */

@@ -233,7 +233,7 @@ class Page {
   }
 
   /**
-   * Shows what is wrong with the input, and the line; null if nothing is wrong.
+   * Shows what is wrong with the input, and the line; null without a mistake.
    * @param {Wrong | null} wrong
    */
   refuse(wrong) {

@@ -13,7 +13,7 @@ export class Zoom {
    * @param {number} width
    * @param {number} height
    * @param {(pixels: number) => number} changed called with the pixels of a unit when another part comes
-   *   into view; returns the factor by which nodes are enlarged
+   *   into view; returns how much nodes are enlarged
    * @param {number} leastName names of fewer pixels are left out
    */
   constructor(svg, width, height, changed, leastName = LEAST_NAME) {

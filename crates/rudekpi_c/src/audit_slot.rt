@@ -1,4 +1,4 @@
-//! The slot in which C keeps an audit; C's types have no type parameters, so sessions have another.
+//! C's slot for an audit; C's types have no type parameters, so sessions have another.
 
 ghost use Rattle.std.specs.Prelude.{◌≡◌, ◌↔◌, None, Some, Option, IsTrue, IsNone, IfSome};
 ghost use Rattle.auditor.specs.declared.pieces.PieceAudit.{PieceAudit};

@@ -16,7 +16,7 @@ use std::alloc::Global;
 /// | 3 | out of order |
 /// | 4 | not the machine's reply |
 /// | 5 | bad base |
-/// | 6 | memory ran out; nothing is known of the bytes |
+/// | 6 | memory ran out; the bytes are not judged |
 ///
 /// For kinds 1 to 5, `line` is the first damaged line, from 1.
 #[repr(C)]

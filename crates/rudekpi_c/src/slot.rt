@@ -1,4 +1,4 @@
-//! The slot in which C keeps a session.
+//! C's slot for a session.
 
 ghost use Rattle.std.specs.Prelude.{◌≡◌, ◌↔◌, None, Some, IsTrue, IsNone, IfSome};
 ghost use Rattle.rudekpi_c.specs.Slot.{IsPutBack};

@@ -16,7 +16,7 @@ pub struct Reading {
 }
 
 impl Reading {
-    /// A script of which nothing was read.
+    /// A script before its first read.
     pub fn new(alloc: Global) -> Reading
         ensures lines { result.lines ≡ 0 }
         ensures begun { result.begun.items ≡ [] }

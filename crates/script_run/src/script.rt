@@ -31,7 +31,7 @@ use std::thread::Threads;
 /// | `BadLine` | at the first line that is neither empty nor a command, such as one above 1,048,576 bytes whose end was not read | the text of all lines before |
 /// | `LogFull` | at a command whose entry is beyond the limit | all text before |
 /// | `Read` | only if a read failed, which is not retried, or 4,294,967,295 were made | the text of all lines before |
-/// | `Write` | only if a write or a flush failed; nothing is written after it | a beginning of the transcript |
+/// | `Write` | only if a write or a flush failed; no further text is written | a beginning of the transcript |
 /// | `Memory` | if memory runs out | a beginning of the transcript |
 ///
 /// No entry is kept. Besides the network it holds 65,536 bytes of the script and the begun line, and the text

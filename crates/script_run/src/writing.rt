@@ -7,7 +7,7 @@ ghost use Rattle.script_run.specs.Halted.{Hands};
 use byte_streams::{OutputFault, Writes};
 use std::io::Write;
 
-/// The length at which a text is handed over.
+/// The length of a text that is handed over.
 const CHUNK: usize = 65_536;
 
 /// Writes and empties the text, if it has reached 65,536 bytes.

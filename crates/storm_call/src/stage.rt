@@ -30,7 +30,7 @@ pub struct Crew {
     ghost few_roamers: { roamers ≤ 64 },
 }
 
-/// The network on which scripts are played, their gate, and the crew.
+/// The network that scripts are played on, their gate, and the crew.
 #[derive(Drop)]
 pub(crate) struct Stage<'a, R: Rules, G: Gate> {
     pub alloc: Global,

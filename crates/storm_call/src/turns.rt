@@ -38,7 +38,7 @@ pub(crate) trait TurnTaker {
     /// That nothing was left to do after these receipts, and the number before them.
     ghost rests: { Scene → ℕ → List Receipt → Type 0 };
 
-    /// Has the clerk take a turn; `None` if there is nothing to do, and then nothing is logged.
+    /// Has the clerk take a turn; `None`, without an entry, if there is nothing to do.
     ///
     /// The clerk's note then shows what was published when the turn ended.
     fn turn<R: Rules, W: Wait>(

@@ -5,7 +5,7 @@
 /** @typedef {import("./tools.mjs").Tools} Tools */
 
 /**
- * All lines by which a node's pointer may be written.
+ * All lines that may write a node's pointer.
  * @param {Seen} seen
  * @param {number} node
  */

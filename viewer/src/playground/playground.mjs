@@ -147,7 +147,7 @@ export class Playground {
   }
 
   /**
-   * The plan from which `open` makes the same.
+   * The plan that `open` makes the same of.
    * @returns {Plan}
    */
   get plan() {

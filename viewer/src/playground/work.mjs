@@ -1,6 +1,6 @@
 // Detects work that would be lost: acts by hand, neither saved nor copied, the first of them a while ago.
 
-/** The unsaved time, in milliseconds, from which on the page asks. */
+/** The page asks after this unsaved time, in milliseconds. */
 export const WORTH = 60_000;
 
 export class Work {

@@ -68,7 +68,7 @@ pub(crate) fn admit<R: Rules>(desk: &Desk<R>, seen: u32) -> Result<(), CallFault
     Ok(())
 }
 
-/// Keeps a receipt, for which there is room, and a note, and returns the reply.
+/// Keeps a receipt and a note, and returns the reply. There is room for the receipt.
 pub(super) fn keep(
     receipts: &mut Vec<Receipt>,
     note: &mut Option<Note>,
