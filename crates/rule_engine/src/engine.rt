@@ -50,7 +50,7 @@ use std::marker::Model;
 #[derive(Drop)]
 pub(crate) struct Engine<R: Rules> {
     alloc: Global,
-    state: IndexedState<R>,
+    pub(crate) state: IndexedState<R>,
     enabled: EnabledSet,
     chosen: Marks,
 }

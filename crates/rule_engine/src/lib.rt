@@ -29,6 +29,7 @@ mod look;
 mod moves;
 mod net;
 mod reach;
+mod silence;
 mod taking;
 
 pub use enabled_set::EnabledSet;
@@ -40,3 +41,4 @@ pub use rule_machine::{
     RuleSet, Verdict, Want,
 };
 pub use rule_set::{BadTarget, Local, Rules};
+pub use silent_cost::SilentCost;

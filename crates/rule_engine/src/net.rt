@@ -40,7 +40,7 @@ use std::marker::Model;
 #[derive(Drop)]
 pub struct Net<R: Rules> {
     alloc: Global,
-    engine: Engine<R>,
+    pub(crate) engine: Engine<R>,
     spent: u32,
 }
 

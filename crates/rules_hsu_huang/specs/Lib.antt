@@ -3,3 +3,4 @@ pub mod Target
 pub mod Quiet
 pub mod Charge
 pub mod NodeBound
+pub mod Silent

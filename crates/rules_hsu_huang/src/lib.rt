@@ -19,5 +19,6 @@
 mod by_nodes;
 mod cost;
 mod hsu_huang;
+mod silent;
 
 pub use hsu_huang::HsuHuang;

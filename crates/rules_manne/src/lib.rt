@@ -20,5 +20,6 @@
 mod by_nodes;
 mod cost;
 mod rules;
+mod silent;
 
 pub use rules::Manne;

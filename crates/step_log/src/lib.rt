@@ -25,6 +25,7 @@ mod left;
 mod prepared;
 mod receipt;
 mod recorder;
+mod silence;
 
 pub use epoch::Epoch;
 pub use fault::{NoEntry, RecordFault};

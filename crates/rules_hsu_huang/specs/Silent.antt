@@ -1,0 +1,15 @@
+-- What one disturbance of a silent network costs is no more than it costs in any network.
+use Rattle.std.proofs.Common.{ℕ, arith}
+use Rattle.rule_machine.specs.declared.event.Event.{Event}
+use Rattle.rule_machine.specs.State.{State}
+use Rattle.rule_machine.specs.HsuHuang.{hsu_huang}
+use Rattle.charge_laws.specs.Costs.{hsu_huang_cost}
+use Rattle.silence_laws.specs.Costs.{silent_cost}
+use Rattle.silence_laws.specs.Less.{silent_cost_is_less}
+use Rattle.silent_cost.specs.FromSilence.{ExceedsAtMost}
+
+abbrev pub no_excess : State → Event → ℕ
+no_excess s event = 0
+
+pub cost_is_less : ExceedsAtMost hsu_huang silent_cost hsu_huang_cost no_excess
+cost_is_less s good stable event = let less = silent_cost_is_less s good stable event in omega (arith, less)

@@ -1,0 +1,110 @@
+//! What one disturbance of a silent network costs.
+
+ghost use Rattle.std.specs.Prelude.{◌≡◌, IsTrue, Some};
+ghost use Rattle.rule_machine.specs.declared.event.Event.TheVariants.{Link, Unlink, Leave};
+ghost use Rattle.rule_machine.specs.Network.{present};
+ghost use Rattle.rule_machine.specs.State.{IsState, pointer};
+ghost use Rattle.silence_laws.specs.Costs.{silent_cost, silent_point_cost};
+
+use crate::HsuHuang;
+use rule_machine::{Event, Node};
+use silent_cost::{SilentCost, SilentView, is_pair, unmarried_neighbours};
+
+/// Of an edge that comes.
+fn link_cost<V: SilentView>(view: &V, a: Node, b: Node) -> u32
+    requires state { IsState (V.state view.now) }
+    requires first { IsTrue (present (V.state view.now).network a) }
+    requires second { IsTrue (present (V.state view.now).network b) }
+    ensures { result ≡ silent_cost (V.state view.now) (Link a b) }
+{
+    if view.is_married(a) || view.is_married(b) {
+        0
+    } else {
+        2
+    }
+}
+
+/// Of an edge that goes.
+fn unlink_cost<V: SilentView>(view: &V, a: Node, b: Node) -> u32
+    requires state { IsState (V.state view.now) }
+    requires first { IsTrue (present (V.state view.now).network a) }
+    requires second { IsTrue (present (V.state view.now).network b) }
+    ensures { result ≡ silent_cost (V.state view.now) (Unlink a b) }
+{
+    if is_pair(view, a, b) {
+        2 * (unmarried_neighbours(view, a) + unmarried_neighbours(view, b))
+    } else {
+        0
+    }
+}
+
+/// Of the pointer of a paired node that is written.
+fn pair_cost<V: SilentView>(view: &V, v: Node, partner: Node, target: Option<Node>) -> u32
+    requires state { IsState (V.state view.now) }
+    requires present { IsTrue (present (V.state view.now).network v) }
+    requires partner { IsTrue (present (V.state view.now).network partner) }
+    ensures { result ≡ silent_point_cost (V.state view.now) v (Some partner) target }
+{
+    let Some(w) = target else {
+        return 2 * (view.unmarried_neighbours_but(v, None) + unmarried_neighbours(view, partner))
+            + 1;
+    };
+    if partner == w {
+        return 0;
+    }
+    2 * (view.unmarried_neighbours_but(v, target) + unmarried_neighbours(view, partner)) + 4
+}
+
+/// Of a pointer that is written.
+#[tactic(auto, using(charge_laws::specs::Present::target_present))]
+fn point_cost<V: SilentView>(view: &V, v: Node, target: Option<Node>) -> u32
+    requires state { IsState (V.state view.now) }
+    requires present { IsTrue (present (V.state view.now).network v) }
+    ensures { let s = V.state view.now in result ≡ silent_point_cost s v (pointer s v) target }
+{
+    match view.pointer(v) {
+        Some(partner) => pair_cost(view, v, partner, target),
+        None if target.is_some() => 1,
+        None => 0,
+    }
+}
+
+/// Of a node that goes.
+#[tactic(auto, using(charge_laws::specs::Present::target_present))]
+fn leave_cost<V: SilentView>(view: &V, v: Node) -> u32
+    requires state { IsState (V.state view.now) }
+    requires present { IsTrue (present (V.state view.now).network v) }
+    ensures { result ≡ silent_cost (V.state view.now) (Leave v) }
+{
+    match view.pointer(v) {
+        Some(u) => 2 * unmarried_neighbours(view, u),
+        None => 0,
+    }
+}
+
+impl SilentCost for HsuHuang {
+    ghost use Rattle.silence_laws.specs.Costs as costs;
+    ghost use Rattle.silence_laws.specs.Pays as pays;
+    ghost use Rattle.rules_hsu_huang.specs.Silent.{no_excess, cost_is_less};
+
+    ghost silent_cost = { costs.silent_cost };
+
+    ghost excess = { no_excess };
+
+    #[tactic(auto, using(silent_cost::specs::Present::lower_present, silent_cost::specs::Present::upper_present, charge_laws::specs::Present::first_present, charge_laws::specs::Present::second_present, charge_laws::specs::Present::pointer_present, charge_laws::specs::Present::leaver_present))]
+    fn silent_cost<V: SilentView>(view: &V, event: &Event) -> u32 {
+        match event {
+            Event::Link(a, b) => link_cost(view, *a, *b),
+            Event::Unlink(a, b) => unlink_cost(view, *a, *b),
+            Event::Point(v, target) => point_cost(view, *v, *target),
+            Event::Leave(v) => leave_cost(view, *v),
+            Event::Flag(_, _) | Event::Join(_) => 0,
+            Event::Step(_) | Event::Show(_) => 0,
+            Event::Enabled | Event::Matching | Event::Status => 0,
+        }
+    }
+
+    ghost silent_cost_pays = { pays.silent_cost_pays };
+
+    ghost silent_cost_is_less = { cost_is_less };
+}

@@ -1,0 +1,17 @@
+-- What one disturbance of a silent network costs exceeds what it costs in any network by 2 for a pair that may
+-- come, and by 1 for a node that goes.
+use Rattle.std.proofs.Common.{ℕ, ◌+◌, ◌*◌, arith}
+use Rattle.rule_machine.specs.declared.event.Event.{Event}
+use Rattle.rule_machine.specs.State.{State}
+use Rattle.rule_machine.specs.Manne.{manne}
+use Rattle.charge_laws.specs.Costs.{manne_cost}
+use Rattle.silence_laws.specs.Changes.{most_gained, nodes_gone}
+use Rattle.silence_laws.specs.Costs.{manne_silent_cost}
+use Rattle.silence_laws.specs.MannePays.{manne_silent_cost_is_less}
+use Rattle.silent_cost.specs.FromSilence.{ExceedsAtMost}
+
+abbrev pub gained_and_gone : State → Event → ℕ
+gained_and_gone s event = 2 * most_gained s event + nodes_gone event
+
+pub cost_is_less : ExceedsAtMost manne manne_silent_cost manne_cost gained_and_gone
+cost_is_less s good stable event = let less = manne_silent_cost_is_less s good stable event in omega (arith, less)

@@ -1,0 +1,118 @@
+//! What one disturbance of a silent network costs.
+
+ghost use Rattle.std.specs.Prelude.{◌≡◌, IsTrue, Some};
+ghost use Rattle.rule_machine.specs.declared.event.Event.TheVariants.{Link, Unlink, Flag, Leave};
+ghost use Rattle.rule_machine.specs.Network.{present};
+ghost use Rattle.rule_machine.specs.State.{IsState, pointer};
+ghost use Rattle.silence_laws.specs.Costs.{manne_silent_cost, manne_silent_point_cost};
+
+use crate::Manne;
+use rule_machine::{Event, Node};
+use silent_cost::{SilentCost, SilentView, is_pair, unmarried_neighbours};
+
+/// Of an edge that comes.
+fn link_cost<V: SilentView>(view: &V, a: Node, b: Node) -> u32
+    requires state { IsState (V.state view.now) }
+    requires first { IsTrue (present (V.state view.now).network a) }
+    requires second { IsTrue (present (V.state view.now).network b) }
+    ensures { result ≡ manne_silent_cost (V.state view.now) (Link a b) }
+{
+    if view.is_married(a) || view.is_married(b) {
+        0
+    } else {
+        4
+    }
+}
+
+/// Of an edge that goes.
+fn unlink_cost<V: SilentView>(view: &V, a: Node, b: Node) -> u32
+    requires state { IsState (V.state view.now) }
+    requires first { IsTrue (present (V.state view.now).network a) }
+    requires second { IsTrue (present (V.state view.now).network b) }
+    ensures { result ≡ manne_silent_cost (V.state view.now) (Unlink a b) }
+{
+    if is_pair(view, a, b) {
+        2 * (unmarried_neighbours(view, a) + unmarried_neighbours(view, b)) + 6
+    } else {
+        0
+    }
+}
+
+/// Of the pointer of a paired node that is written.
+fn pair_cost<V: SilentView>(view: &V, v: Node, partner: Node, target: Option<Node>) -> u32
+    requires state { IsState (V.state view.now) }
+    requires present { IsTrue (present (V.state view.now).network v) }
+    requires partner { IsTrue (present (V.state view.now).network partner) }
+    ensures { result ≡ manne_silent_point_cost (V.state view.now) v (Some partner) target }
+{
+    let Some(w) = target else {
+        return 2 * (unmarried_neighbours(view, v) + unmarried_neighbours(view, partner)) + 9;
+    };
+    if partner == w {
+        return 0;
+    }
+    2 * (unmarried_neighbours(view, v) + unmarried_neighbours(view, partner)) + 10
+}
+
+/// Of a pointer that is written.
+#[tactic(auto, using(charge_laws::specs::Present::target_present))]
+fn point_cost<V: SilentView>(view: &V, v: Node, target: Option<Node>) -> u32
+    requires state { IsState (V.state view.now) }
+    requires present { IsTrue (present (V.state view.now).network v) }
+    ensures { let s = V.state view.now in result ≡ manne_silent_point_cost s v (pointer s v) target }
+{
+    match view.pointer(v) {
+        Some(partner) => pair_cost(view, v, partner, target),
+        None if target.is_some() => 1,
+        None => 0,
+    }
+}
+
+/// Of a flag that is written.
+fn flag_cost<V: SilentView>(view: &V, v: Node, value: bool) -> u32
+    requires state { IsState (V.state view.now) }
+    requires present { IsTrue (present (V.state view.now).network v) }
+    ensures { result ≡ manne_silent_cost (V.state view.now) (Flag v value) }
+{
+    if view.is_married(v) == value { 0 } else { 1 }
+}
+
+/// Of a node that goes.
+#[tactic(auto, using(charge_laws::specs::Present::target_present, machine_laws::specs::Pointers::null_unmarried))]
+fn leave_cost<V: SilentView>(view: &V, v: Node) -> u32
+    requires state { IsState (V.state view.now) }
+    requires present { IsTrue (present (V.state view.now).network v) }
+    ensures { result ≡ manne_silent_cost (V.state view.now) (Leave v) }
+{
+    match view.pointer(v) {
+        Some(u) if view.is_married(v) => 2 * unmarried_neighbours(view, u) + 3,
+        _ => 0,
+    }
+}
+
+impl SilentCost for Manne {
+    ghost use Rattle.silence_laws.specs.Costs.{manne_silent_cost};
+    ghost use Rattle.silence_laws.specs.MannePays.{manne_silent_cost_pays};
+    ghost use Rattle.rules_manne.specs.Silent.{gained_and_gone, cost_is_less};
+
+    ghost silent_cost = { manne_silent_cost };
+
+    ghost excess = { gained_and_gone };
+
+    #[tactic(auto, using(silent_cost::specs::Present::lower_present, silent_cost::specs::Present::upper_present, charge_laws::specs::Present::first_present, charge_laws::specs::Present::second_present, charge_laws::specs::Present::pointer_present, charge_laws::specs::Present::flagged_present, charge_laws::specs::Present::leaver_present))]
+    fn silent_cost<V: SilentView>(view: &V, event: &Event) -> u32 {
+        match event {
+            Event::Link(a, b) => link_cost(view, *a, *b),
+            Event::Unlink(a, b) => unlink_cost(view, *a, *b),
+            Event::Point(v, target) => point_cost(view, *v, *target),
+            Event::Flag(v, value) => flag_cost(view, *v, *value),
+            Event::Leave(v) => leave_cost(view, *v),
+            Event::Join(_) | Event::Step(_) | Event::Show(_) => 0,
+            Event::Enabled | Event::Matching | Event::Status => 0,
+        }
+    }
+
+    ghost silent_cost_pays = { manne_silent_cost_pays };
+
+    ghost silent_cost_is_less = { cost_is_less };
+}

@@ -1,0 +1,3 @@
+pub mod FromSilence
+pub mod Present
+pub mod Unmarried

@@ -1,0 +1,33 @@
+//! The most moves that one disturbance of a silent network can cause.
+
+ghost use Rattle.std.specs.Prelude.{◌≡◌, ℕ, None};
+ghost use Rattle.rule_machine.specs.declared.event.Event.{Event};
+ghost use Rattle.rule_machine.specs.Refuse.{refusal_of};
+ghost use Rattle.rule_machine.specs.State.{State, IsState};
+ghost use Rattle.silent_cost.specs.FromSilence.{ExceedsAtMost, PaysFromSilence};
+
+use crate::SilentView;
+use rule_machine::Event;
+use rule_set::Rules;
+
+/// Rules that bound the moves after one disturbance of a silent network.
+pub trait SilentCost: Rules {
+    /// What an event costs a silent network, in moves.
+    ghost silent_cost: { State → Event → ℕ };
+
+    /// By how much that may exceed `cost`.
+    ghost excess: { State → Event → ℕ };
+
+    /// The most moves that can come after an event that is not refused; 0 if it is no disturbance.
+    /// It takes a look at each neighbour of at most two nodes.
+    fn silent_cost<V: SilentView>(view: &V, event: &Event) -> u32
+        requires state { IsState (V.state view.now) }
+        requires accepted { refusal_of Self.table (V.state view.now) event.now ≡ None }
+        ensures { result ≡ silent_cost (V.state view.now) event.now };
+
+    /// In a silent network no more moves come after the event, until the next disturbance.
+    ghost silent_cost_pays: { PaysFromSilence Self.table silent_cost };
+
+    /// It exceeds `cost` by no more than `excess`.
+    ghost silent_cost_is_less: { ExceedsAtMost Self.table silent_cost Self.cost excess };
+}

@@ -1,0 +1,37 @@
+//! How many neighbours of a node are unmarried.
+
+ghost use Rattle.std.specs.Prelude.{◌≡◌, ◌≤◌, IsTrue};
+ghost use Rattle.rule_machine.specs.Network.{present};
+ghost use Rattle.silence_laws.specs.Costs.{is_single_but, single_neighbours_but};
+
+use net_state::NetState;
+use rule_machine::Node;
+
+/// Whether a node is unmarried and not `but`.
+fn is_unmarried_but(net: &NetState, but: &Option<Node>, w: Node) -> bool
+    requires { IsTrue (present net.now.state.network w) }
+    ensures { result ≡ is_single_but net.now.state but.now w }
+{
+    if net.married(w) {
+        return false;
+    }
+    match but {
+        Some(target) => *target != w,
+        None => true,
+    }
+}
+
+/// How many neighbours of a node are unmarried and not `but`. A look at each.
+pub(crate) fn count_unmarried(net: &NetState, v: Node, but: &Option<Node>) -> u32
+    requires { IsTrue (present net.now.state.network v) }
+    ensures count { result ≡ single_neighbours_but net.now.state v but.now }
+    ensures few { result ≤ 65535 }
+{
+    // By its contract there are at most 65,535 names.
+    let _ = net.capacity();
+    let mut count: u32 = 0;
+    for &w in net.neighbours(v) {
+        count += u32::from(is_unmarried_but(net, but, w));
+    }
+    count
+}

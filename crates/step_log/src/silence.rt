@@ -1,0 +1,42 @@
+//! What one disturbance of a silent network would cost.
+
+ghost use Rattle.std.specs.Prelude.{◌≡◌, ◌≤◌, ◌+◌, ◌↔◌, [], IfSome, IsSome};
+ghost use Rattle.rule_machine.specs.RuleTable.{enabled_names};
+ghost use Rattle.rule_engine.specs.Costs.{cost_of};
+ghost use Rattle.silent_cost.specs.FromSilence.{BoundsMovesAfter};
+
+use crate::{Journal, Recorder};
+use rule_engine::{Event, SilentCost};
+
+impl<R: SilentCost> Recorder<R> {
+    /// The most moves that an event can cause in a silent network; `None` if a rule is enabled.
+    /// They are the moves until the network is silent again, if no other disturbance comes.
+    /// 0 for an event that would be refused, for a step and for a question.
+    /// Under the rules of Manne and others it may exceed what the event costs by `Net::cost_of`.
+    /// Nothing is recorded. It takes the looks of `Net::silent_cost_of`.
+    pub fn silent_cost_of(&self, event: &Event) -> Option<u32>
+        ensures silent { IsSome result ↔ (enabled_names R.table self.now.state ≡ []) }
+        ensures cost { IfSome result (λ most. most ≡ cost_of R.table R.silent_cost self.now.state event.now) }
+        ensures pays { IfSome result (λ most. BoundsMovesAfter R.table self.now.state self.now.spent event.now most) }
+        ensures less { IfSome result (λ most. most ≤ cost_of R.table R.cost self.now.state event.now + cost_of R.table R.excess self.now.state event.now) }
+    {
+        self.net.silent_cost_of(event)
+    }
+}
+
+impl<R: SilentCost> Journal<R> {
+    /// The most moves that an event can cause in a silent network; `None` if a rule is enabled.
+    /// They are the moves until the network is silent again, if no other disturbance comes.
+    /// 0 for an event that would be refused, for a step and for a question.
+    /// Under Hsu and Huang's rules it is at most `cost_of`. Under those of Manne and others it may exceed
+    /// `cost_of` by 2 for a pair that is gained and by 1 for a node that goes.
+    /// Nothing is recorded. It takes the looks of `Net::silent_cost_of`.
+    pub fn silent_cost_of(&self, event: &Event) -> Option<u32>
+        ensures silent { IsSome result ↔ (enabled_names R.table self.now.state ≡ []) }
+        ensures cost { IfSome result (λ most. most ≡ cost_of R.table R.silent_cost self.now.state event.now) }
+        ensures pays { IfSome result (λ most. BoundsMovesAfter R.table self.now.state self.now.spent event.now most) }
+        ensures less { IfSome result (λ most. most ≤ cost_of R.table R.cost self.now.state event.now + cost_of R.table R.excess self.now.state event.now) }
+    {
+        self.net.silent_cost_of(event)
+    }
+}
