@@ -13,3 +13,4 @@ pub mod Slot
 pub mod Told
 pub mod Left
 pub mod Silenced
+pub mod SilentCosts

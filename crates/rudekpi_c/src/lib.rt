@@ -35,6 +35,7 @@ mod reach;
 mod row;
 mod session;
 mod sessions;
+mod silence;
 mod slot;
 mod status;
 mod told;

@@ -23,3 +23,6 @@ pub(crate) const REFUSED: u32 = 6;
 
 /// What an audit was fed is no transcript, whatever follows.
 pub(crate) const DAMAGED: u32 = 7;
+
+/// A rule is enabled, so the network is not silent.
+pub(crate) const NOT_SILENT: u32 = 8;

@@ -1,0 +1,157 @@
+//! The costs of edits and faults in a silent network, without an entry.
+
+ghost use Rattle.std.specs.Prelude.{◌≡◌, ◌↔◌, [], IfSome, IsSome, SomeIff};
+ghost use Rattle.rule_engine.specs.Costs.{cost_of};
+ghost use Rattle.rule_machine.specs.RuleTable.{enabled_names};
+ghost use Rattle.rule_machine.specs.Tables.{table_of};
+ghost use Rattle.rule_machine.specs.declared.event.Event.{Event};
+ghost use Rattle.rule_machine.specs.declared.event.Event.TheVariants.{Link, Unlink, Point, Flag, Join, Leave};
+ghost use Rattle.script_text.specs.declared.command.Command.TheVariants.{Tell};
+ghost use Rattle.script_text.specs.Command.{IsCommand};
+ghost use Rattle.silent_cost.specs.FromSilence.{BoundsMovesAfter};
+ghost use Rattle.rudekpi_c.specs.Called.{named_by};
+ghost use Rattle.rudekpi_c.specs.Session.{stands, rules_of};
+ghost use Rattle.rudekpi_c.specs.SilentCosts.{silent_cost_at, IsSilentAt, PaysFor, AnswersSilentCost};
+
+use crate::asked;
+use crate::session::{Machine, Session};
+use crate::slot::Slot;
+use crate::status::{BAD_ARGUMENT, DONE, NO_SESSION, NOT_SILENT};
+use line_run::Run;
+use rule_machine::Event;
+use script_text::Command;
+use rule_engine::SilentCost;
+use std::alloc::Global;
+
+fn silent_cost_in<R: SilentCost>(run: &Run<R>, event: &Event) -> Option<u32>
+    ensures silent { IsSome result ↔ (enabled_names R.table run.now.recorder.state ≡ []) }
+    ensures cost { IfSome result (λ most. most ≡ cost_of R.table R.silent_cost run.now.recorder.state event.now) }
+    ensures pays { IfSome result (λ most. BoundsMovesAfter R.table run.now.recorder.state run.now.recorder.spent event.now most) }
+{
+    run.recorder.net().silent_cost_of(event)
+}
+
+impl Session {
+    /// The cost of an event, or `None` if a rule is enabled.
+    pub(crate) fn silent_cost_of(&self, event: &Event) -> Option<u32>
+        ensures silent { IsSome result ↔ IsSilentAt self.now }
+        ensures cost { IfSome result (λ most. most ≡ silent_cost_at self.now event.now) }
+        ensures pays { IfSome result (λ most. PaysFor (table_of (rules_of self.now)) (stands self.now).moment event.now most) }
+    {
+        match &self.machine {
+            Machine::Hh(run) => silent_cost_in(run, event),
+            Machine::Manne(run) => silent_cost_in(run, event),
+        }
+    }
+}
+
+fn silent_cost(alloc: Global, slot: &mut Slot, asked: Option<Command>, cost: &mut u32) -> u32
+    ensures answers { (event : Event) → SomeIff asked (IsCommand (Tell event)) (Tell event) → AnswersSilentCost event result cost.new slot.old.handle.value }
+    ensures kept { slot.new.handle.value ≡ slot.old.handle.value }
+{
+    *cost = 0;
+    let Some(Command::Tell(event)) = asked else {
+        return BAD_ARGUMENT;
+    };
+    let Some(session) = slot.take(alloc) else {
+        return NO_SESSION;
+    };
+    let found = session.silent_cost_of(&event);
+    slot.put(session);
+    let Some(most) = found else {
+        return NOT_SILENT;
+    };
+    *cost = most;
+    DONE
+}
+
+/// The cost of linking two nodes of a silent network, in moves: at most this many come until it is silent.
+///
+/// It is 0 for an edge that would be refused. Returns 4 if there is no session, 5 for a name that is 0 or
+/// above 65,535, and 8 if a rule is enabled. So do the other costs.
+#[unsafe(no_mangle)]
+pub extern "C" fn rudekpi_silent_cost_of_link(
+    alloc: Global,
+    slot: &mut Slot,
+    a: u32,
+    b: u32,
+    cost: &mut u32,
+) -> u32
+    ensures answers { AnswersSilentCost (Link a b) result cost.new slot.old.handle.value }
+    ensures kept { slot.new.handle.value ≡ slot.old.handle.value }
+{
+    silent_cost(alloc, slot, asked::link(a, b), cost)
+}
+
+/// The cost of removing an edge.
+#[unsafe(no_mangle)]
+pub extern "C" fn rudekpi_silent_cost_of_unlink(
+    alloc: Global,
+    slot: &mut Slot,
+    a: u32,
+    b: u32,
+    cost: &mut u32,
+) -> u32
+    ensures answers { AnswersSilentCost (Unlink a b) result cost.new slot.old.handle.value }
+    ensures kept { slot.new.handle.value ≡ slot.old.handle.value }
+{
+    silent_cost(alloc, slot, asked::unlink(a, b), cost)
+}
+
+/// The cost of a node that joins.
+#[unsafe(no_mangle)]
+pub extern "C" fn rudekpi_silent_cost_of_join(
+    alloc: Global,
+    slot: &mut Slot,
+    node: u32,
+    cost: &mut u32,
+) -> u32
+    ensures answers { AnswersSilentCost (Join node) result cost.new slot.old.handle.value }
+    ensures kept { slot.new.handle.value ≡ slot.old.handle.value }
+{
+    silent_cost(alloc, slot, asked::join(node), cost)
+}
+
+/// The cost of a node that leaves.
+#[unsafe(no_mangle)]
+pub extern "C" fn rudekpi_silent_cost_of_leave(
+    alloc: Global,
+    slot: &mut Slot,
+    node: u32,
+    cost: &mut u32,
+) -> u32
+    ensures answers { AnswersSilentCost (Leave node) result cost.new slot.old.handle.value }
+    ensures kept { slot.new.handle.value ≡ slot.old.handle.value }
+{
+    silent_cost(alloc, slot, asked::leave(node), cost)
+}
+
+/// The cost of writing a pointer; target 0 is null.
+#[unsafe(no_mangle)]
+pub extern "C" fn rudekpi_silent_cost_of_point(
+    alloc: Global,
+    slot: &mut Slot,
+    node: u32,
+    target: u32,
+    cost: &mut u32,
+) -> u32
+    ensures answers { AnswersSilentCost (Point node (named_by target)) result cost.new slot.old.handle.value }
+    ensures kept { slot.new.handle.value ≡ slot.old.handle.value }
+{
+    silent_cost(alloc, slot, asked::point(node, target), cost)
+}
+
+/// The cost of writing a flag.
+#[unsafe(no_mangle)]
+pub extern "C" fn rudekpi_silent_cost_of_flag(
+    alloc: Global,
+    slot: &mut Slot,
+    node: u32,
+    value: bool,
+    cost: &mut u32,
+) -> u32
+    ensures answers { AnswersSilentCost (Flag node value) result cost.new slot.old.handle.value }
+    ensures kept { slot.new.handle.value ≡ slot.old.handle.value }
+{
+    silent_cost(alloc, slot, asked::flag(node, value), cost)
+}
