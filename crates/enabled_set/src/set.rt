@@ -116,14 +116,13 @@ impl EnabledSet {
 
     /// Removes a name; it need not be a member. At most four writes.
     pub fn remove(&mut self, v: Node)
-        requires { v < length self.old }
         ensures { self.new ≡ slice_set self.old v false }
     {
         let place = v.place();
-        let word = self.words[place / 64];
-        if !bit_is_set(word, place % 64) {
+        if !look(&self.words, place) {
             return;
         }
+        let word = self.words[place / 64];
         self.words[place / 64] = without_bit(word, place % 64);
         self.by_512[place / 512] -= 1;
         self.by_4096[place / 4096] -= 1;
