@@ -1,26 +1,10 @@
 -- What it means that the charge pays for moves, and the definitions for its bounds on runs.
-use Rattle.std.specs.Prelude.{◌≡◌, ◌≢◌, ℕ, ◌+◌, ◌*◌, ◌≤◌, List, length, sum_by, All}
-use Rattle.rule_machine.specs.declared.choice.Item.{Item}
-use Rattle.rule_machine.specs.declared.act.Moved.{Moved}
+use Rattle.std.specs.Prelude.{◌≢◌, ℕ, ◌+◌, ◌≤◌, List, length, sum_by, All}
 use Rattle.rule_machine.specs.declared.reply.Reply.{Reply}
 use Rattle.rule_machine.specs.declared.reply.Reply.TheVariants.{Accepted, Moves}
-use Rattle.rule_machine.specs.Network.{Network, node_count, edge_count}
-use Rattle.rule_machine.specs.State.{State, IsState}
 use Rattle.rule_machine.specs.RuleTable.{RuleTable}
-use Rattle.rule_machine.specs.Step.{IsStep}
-use Rattle.rule_machine.specs.Stable.{IsStable}
 use Rattle.rule_machine.specs.Run.{Entry, Moment}
-
--- twice the edges of a network, and a weight for each of its nodes
-abbrev pub charge_bound : ℕ → Network → ℕ
-charge_bound weight net = 2 * edge_count net + weight * node_count net
-
--- The charge falls by the moves of each step, edges and nodes bound it, and if it is zero the network is
--- stable.
-pub record IsCharged (t : RuleTable) (weight : ℕ) : Type 0 where
-  pub falls : (s : State) (items : List Item) (moves : List Moved) (s' : State) → IsState s → IsStep t s items moves s' → t.charge s' + length moves ≤ t.charge s
-  pub bounded : (s : State) → IsState s → t.charge s ≤ charge_bound weight s.network
-  pub zero_is_stable : (s : State) → IsState s → t.charge s ≡ 0 → IsStable t.flags s
+pub use Rattle.rule_set.specs.Charge.{charge_bound, IsCharged}
 
 -- the moves of a reply
 abbrev pub moves_of : Reply → ℕ

@@ -2,8 +2,9 @@
 use Rattle.std.proofs.Common.{◌≡◌, ◌≢◌, ℕ, ◌+◌, Bool, true, false, cond, not, ◌&&◌, List, length, set, count_by, None, Some, is_some, is_none, option_and_then, refl, sym, ap, subst, ◌∙◌, arith}
 use Rattle.enabled_set.specs.Members.{is_in}
 use Rattle.rule_machine.specs.Network.{neighbours}
-use Rattle.rule_machine.specs.State.{State, IsState, holds_at, pointer, points}
+use Rattle.rule_machine.specs.State.{State, IsState, holds_at, points}
 use Rattle.rule_machine.specs.Stable.{pair_above}
+use Rattle.rule_set.specs.Charge.{AreNear}
 use Rattle.rule_set.specs.Standing.{IsSameStanding}
 use Rattle.machine_laws.specs.Pointers.{points_true}
 use Rattle.charge_laws.specs.Counting.{count_agree}
@@ -12,11 +13,6 @@ use Rattle.graph_store.specs.declared.ends.End.TheVariants.{Shut, Courted, Free}
 use Rattle.net_state.proofs.Rounds.{IsSameRound, round_seated, same_suitors, same_marriage}
 use Rattle.indexed_state.specs.declared.share.Share.{Share}
 use Rattle.indexed_state.specs.Shares.{closing_at, IsToldAt, AreTold}
-
--- what a rule set's closing pointers and additions depend on
-pub record AreNear (closes : State → ℕ → Bool) (adds : State → ℕ → ℕ) : Type 0 where
-  pub closes_by_target : (s u : State) (v w : ℕ) → IsState s → IsState u → pointer s v ≡ Some w → pointer u v ≡ Some w → IsSameStanding s u w → closes s v ≡ closes u v
-  pub adds_by_standing : (s u : State) (v : ℕ) → IsSameStanding s u v → adds s v ≡ adds u v
 
 pub same_standing : (s u : State) (v : ℕ) → IsSameRound s u v → IsSameStanding s u v
 same_standing s u v round = record {

@@ -1,5 +1,5 @@
 -- The moves with the least targets, and that they lead to a state.
-use Rattle.std.proofs.Common.{◌≡◌, ℕ, Bool, true, false, cond, List, [], ◌∷◌, Option, None, Some, IsSome, IsTrue, refl, sym, ap, ◌∙◌, subst, ⊎_elim, find, filter_map, option_and_then}
+use Rattle.std.proofs.Common.{◌≡◌, ℕ, Bool, true, false, cond, List, [], ◌∷◌, Option, None, Some, IsTrue, refl, sym, ap, ◌∙◌, subst, ⊎_elim, find, filter_map, option_and_then}
 use Rattle.std.specs.List.{AllByRecursion, cons_option}
 use Rattle.std.proofs.lemmas.Bool.{cases_Bool, cond-true, cond-false}
 use Rattle.std.proofs.lemmas.Option.{none-some, same_Some, cond_some, option_and_then_some}
@@ -12,15 +12,9 @@ use Rattle.rule_machine.specs.State.{State, IsState}
 use Rattle.rule_machine.specs.RuleTable.{RuleTable, rule_at, least_target}
 use Rattle.rule_machine.specs.Step.{after_moves}
 use Rattle.rule_machine.specs.Least.{outcome_by, outcome_at, outcome_of, move_in, item_of, least_moves}
-use Rattle.rule_set.specs.Target.{target_by, takes_target}
+pub use Rattle.rule_set.specs.Table.{IsTable}
+use Rattle.rule_set.specs.Target.{target_by}
 use Rattle.machine_laws.specs.Keeps.{IsMoveIn, moves_keep}
-
--- what every set of rules guarantees: an allowed target is a neighbour and its rule takes one, and an enabled
--- rule that takes a target has one
-pub record IsTable (t : RuleTable) : Type 0 where
-  pub allowed_is_neighbour : (s : State) (v : ℕ) (act : Act) (w : ℕ) → IsTrue (t.allowed s v act w) → IsTrue (linked s.network v w)
-  pub allowed_takes_target : (s : State) (v : ℕ) (act : Act) (w : ℕ) → IsTrue (t.allowed s v act w) → IsTrue (takes_target act)
-  pub has_target : (s : State) (v : ℕ) (act : Act) → IsState s → IsTrue (t.guard s v act) → IsTrue (takes_target act) → IsSome (least_target t s v act)
 
 -- what `find` finds passes the test
 pub find_passes : {X : Type 0} (p : X → Bool) (xs : List X) (x : X) → find p xs ≡ Some x → p x ≡ true

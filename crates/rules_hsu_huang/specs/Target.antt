@@ -1,30 +1,15 @@
 -- The targets that a node's rule allows.
-use Rattle.std.proofs.Common.{◌≡◌, ℕ, Bool, true, false, cond, not, ◌&&◌, ◌||◌, Option, None, Some, is_some, is_none, IsSome, IsTrue, refl, sym, ap, ◌∙◌, subst}
+use Rattle.std.proofs.Common.{◌≡◌, ℕ, Bool, true, false, cond, not, ◌&&◌, ◌||◌, Option, None, Some, is_some, is_none, IsSome, IsTrue, refl, ap, ◌∙◌, subst}
 use Rattle.std.proofs.lemmas.Bool.{and_parts}
 use Rattle.std.specs.Option.{option_or, option_and_then}
-use Rattle.rule_machine.specs.declared.act.Act.{Act}
-use Rattle.rule_machine.specs.declared.act.Act.TheVariants.{Update, Marry, Seduce, Abandon}
+use Rattle.rule_machine.specs.declared.act.Act.TheVariants.{Marry, Seduce, Abandon}
 use Rattle.rule_machine.specs.Network.{linked}
 use Rattle.rule_machine.specs.State.{State, IsState, pointer, suits, first_suitor, has_suitor}
 use Rattle.rule_machine.specs.RuleTable.{rule_at, least_target, is_open, first_open}
 use Rattle.rule_machine.specs.HsuHuang.{hsu_huang, hsu_huang_opens}
-use Rattle.rule_set.specs.Target.{target_by, target_at, takes_target}
+use Rattle.rule_set.specs.Target.{target_by, target_at}
 use Rattle.machine_laws.specs.Neighbours.{near_found, near_fails, near_agree}
-use Rattle.machine_laws.specs.Pointers.{some_is}
 use Rattle.rules_hsu_huang.specs.Rule.{rule_by, rule_cases, is_taken, has_open}
-
--- an allowed target is a neighbour, of a rule that takes one
-pub allowed_near : (s : State) (v : ℕ) (act : Act) (w : ℕ) → IsTrue (hsu_huang.allowed s v act w) → IsTrue (linked s.network v w)
-allowed_near s v Update w h = absurd cc
-allowed_near s v Marry w h = (and_parts _ _ h).0
-allowed_near s v Seduce w h = (and_parts _ _ h).0
-allowed_near s v Abandon w h = absurd cc
-
-pub allowed_takes : (s : State) (v : ℕ) (act : Act) (w : ℕ) → IsTrue (hsu_huang.allowed s v act w) → IsTrue (takes_target act)
-allowed_takes s v Update w h = h
-allowed_takes s v Marry w h = refl
-allowed_takes s v Seduce w h = refl
-allowed_takes s v Abandon w h = h
 
 -- the least suitor, and the least open neighbour
 pub least_suitor : (s : State) (v : ℕ) → least_target hsu_huang s v Marry ≡ first_suitor s v
@@ -34,23 +19,6 @@ least_suitor s v =
 pub least_open : (s : State) (v : ℕ) → least_target hsu_huang s v Seduce ≡ first_open hsu_huang_opens s v
 least_open s v =
     near_agree s.network (hsu_huang.allowed s v Seduce) (is_open hsu_huang_opens s) v (λ w h. ap (λ b. b && is_open hsu_huang_opens s w) h)
-
--- A node that may marry has a suitor, and one that may seduce has an open neighbour.
-pub target_from_guard : (s : State) (v : ℕ) (act : Act) → IsState s → IsTrue (hsu_huang.guard s v act) → IsTrue (takes_target act) → IsSome (least_target hsu_huang s v act)
-target_from_guard s v Update is_state h takes = absurd cc
-target_from_guard s v Marry is_state h takes =
-    let found = some_is (first_suitor s v) (and_parts _ _ h).1 in
-    subst (λ o. IsSome o) (sym (least_suitor s v ∙ found.1)) refl
-target_from_guard s v Seduce is_state h takes =
-    let reach : IsTrue (has_open s v) = last_part (is_none (pointer s v)) (not (has_suitor s v)) (has_open s v) h in
-    let found = some_is (first_open hsu_huang_opens s v) reach in
-    subst (λ o. IsSome o) (sym (least_open s v ∙ found.1)) refl
-  where
-    last_part : (a b c : Bool) → (a && b && c) ≡ true → c ≡ true
-    last_part true true c k = k
-    last_part true false c k = absurd cc
-    last_part false b c k = absurd cc
-target_from_guard s v Abandon is_state h takes = absurd cc
 
 -- a node that points somewhere abandons, and takes no target
 pub held_target : (s : State) (v w : ℕ) → pointer s v ≡ Some w → IsSome (rule_at hsu_huang s v) → (rule_at hsu_huang s v ≡ Some Abandon) × (target_at hsu_huang s v None ≡ Some None)

@@ -9,17 +9,12 @@ use rule_set::{BadTarget, Local, Rules, Standing, Touched};
 pub struct HsuHuang;
 
 impl Rules for HsuHuang {
-    ghost use Rattle.std.specs.Prelude.{true, false, refl};
+    ghost use Rattle.std.specs.Prelude.{true, false};
     ghost use Rattle.charge_laws.specs.ClosedByPointers.{hsu_huang_closes};
     ghost use Rattle.charge_laws.specs.Costs.{hsu_huang_cost};
-    ghost use Rattle.charge_laws.specs.CostsOfRuns.{hsu_huang_disturbed};
-    ghost use Rattle.charge_laws.specs.Laws.{hsu_huang_charged};
-    ghost use Rattle.charge_laws.specs.Tables.{hsu_huang_flagless};
     ghost use Rattle.rule_machine.specs.HsuHuang.{hsu_huang};
-    ghost use Rattle.rules_hsu_huang.specs.Charge.{nothing, charge_without_nodes, light, null_closes, closes_alike};
-    ghost use Rattle.rules_hsu_huang.specs.Rule.{guard_is_glance, guard_is_local, one_rule_at};
-    ghost use Rattle.rules_hsu_huang.specs.Target.{allowed_near, allowed_takes, target_from_guard};
-    ghost use Rattle.rules_hsu_huang.specs.Quiet.{stable_from_quiet, quiet_from_stable};
+    ghost use Rattle.rules_hsu_huang.specs.Charge.{nothing};
+    ghost use Rattle.rules_hsu_huang.specs.Laws.{hsu_huang_laws};
 
     ghost table = { hsu_huang };
 
@@ -38,6 +33,8 @@ impl Rules for HsuHuang {
     ghost adds = { nothing };
 
     ghost cost = { hsu_huang_cost };
+
+    ghost laws = { hsu_huang_laws };
 
     const CENTRAL: bool = true;
 
@@ -103,44 +100,4 @@ impl Rules for HsuHuang {
             Event::Enabled | Event::Matching | Event::Status => 0,
         }
     }
-
-    ghost is_central = { refl };
-
-    ghost uses_flags = { refl };
-
-    ghost allowed_is_neighbour = { allowed_near };
-
-    ghost allowed_takes_target = { allowed_takes };
-
-    ghost has_target = { target_from_guard };
-
-    ghost is_local = { guard_is_local };
-
-    ghost is_glance = { guard_is_glance };
-
-    ghost one_rule = { one_rule_at };
-
-    ghost no_update = { hsu_huang_flagless };
-
-    ghost quiet_is_stable = { stable_from_quiet };
-
-    ghost stable_is_quiet = { quiet_from_stable };
-
-    ghost charge_counts = { charge_without_nodes };
-
-    ghost adds_by_standing = { λ _ _ _ _. refl };
-
-    ghost null_closes_none = { null_closes };
-
-    ghost closes_by_target = { closes_alike };
-
-    ghost is_light = { light };
-
-    ghost charge_falls = { hsu_huang_charged.falls };
-
-    ghost charge_is_bounded = { hsu_huang_charged.bounded };
-
-    ghost no_charge_is_stable = { hsu_huang_charged.zero_is_stable };
-
-    ghost disturbances_cost = { hsu_huang_disturbed };
 }

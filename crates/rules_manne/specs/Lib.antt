@@ -5,3 +5,4 @@ pub mod Quiet
 pub mod Charge
 pub mod NodeBound
 pub mod Silent
+pub mod Laws

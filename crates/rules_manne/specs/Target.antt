@@ -2,31 +2,17 @@
 use Rattle.std.proofs.Common.{◌≡◌, ℕ, Bool, true, false, cond, not, ◌&&◌, ◌||◌, Option, None, Some, is_some, is_none, IsSome, nat_lt, find, IsTrue, refl, sym, ap, ap₂, ◌∙◌, subst, inl, inr, ⊎_elim, ◌⊎◌, lt-ltb}
 use Rattle.std.proofs.lemmas.Bool.{and_parts, and_from, cases_Bool, cases_order, ltb-true, not-true, false_from_ne_true}
 use Rattle.std.specs.Option.{option_or, option_and_then}
-use Rattle.rule_machine.specs.declared.act.Act.{Act}
 use Rattle.rule_machine.specs.declared.act.Act.TheVariants.{Update, Marry, Seduce, Abandon}
 use Rattle.rule_machine.specs.Network.{linked, neighbours}
 use Rattle.rule_machine.specs.State.{State, IsState, pointer, flag, is_at, suits, first_suitor, has_suitor, is_settled}
 use Rattle.rule_machine.specs.RuleTable.{rule_at, least_target}
 use Rattle.rule_machine.specs.Manne.{manne, may_court}
-use Rattle.rule_set.specs.Target.{target_by, target_at, takes_target}
+use Rattle.rule_set.specs.Target.{target_by, target_at}
 use Rattle.machine_laws.specs.Neighbours.{option_cases, near_none, near_some, near_found, near_fails, near_agree}
 use Rattle.machine_laws.specs.Pointers.{none_is, null_unmarried}
 use Rattle.machine_laws.specs.Writes.{some_from_is_at, is_at_from_some}
-use Rattle.rules_manne.specs.Greatest.{greatest, greatest_none, greatest_some, greatest_reaches}
+use Rattle.rules_manne.specs.Greatest.{greatest, greatest_none, greatest_some}
 use Rattle.rules_manne.specs.Rule.{rule_by, rule_cases, null_rule, is_lost, courts}
-
--- an allowed target is a neighbour, of a rule that takes one
-pub allowed_near : (s : State) (v : ℕ) (act : Act) (w : ℕ) → IsTrue (manne.allowed s v act w) → IsTrue (linked s.network v w)
-allowed_near s v Update w h = absurd cc
-allowed_near s v Marry w h = (and_parts _ _ h).0
-allowed_near s v Seduce w h = (and_parts _ _ (and_parts _ _ h).0).0
-allowed_near s v Abandon w h = absurd cc
-
-pub allowed_takes : (s : State) (v : ℕ) (act : Act) (w : ℕ) → IsTrue (manne.allowed s v act w) → IsTrue (takes_target act)
-allowed_takes s v Update w h = h
-allowed_takes s v Marry w h = refl
-allowed_takes s v Seduce w h = refl
-allowed_takes s v Abandon w h = h
 
 -- the test of the neighbours above w that v may court
 abbrev above : State → ℕ → ℕ → ℕ → Bool
@@ -100,14 +86,6 @@ least_greatest s v is_state =
     found.1 ∙ sym (greatest_allowed s v found.0 is_state passes)
     )
     (option_cases (greatest s v))
-
--- A node that may marry has a suitor, and one that may seduce has a neighbour that it may court.
-pub target_from_guard : (s : State) (v : ℕ) (act : Act) → IsState s → IsTrue (manne.guard s v act) → IsTrue (takes_target act) → IsSome (least_target manne s v act)
-target_from_guard s v Update is_state h takes = absurd cc
-target_from_guard s v Marry is_state h takes = ap is_some (least_suitor s v) ∙ (and_parts _ _ h).1
-target_from_guard s v Seduce is_state h takes =
-    ap is_some (least_greatest s v is_state) ∙ sym (greatest_reaches s v is_state.is_network) ∙ (and_parts _ _ h).1
-target_from_guard s v Abandon is_state h takes = absurd cc
 
 -- whether v points nowhere and is not flagged
 abbrev pub is_free : State → ℕ → Bool

@@ -18,18 +18,12 @@ use rule_set::{BadTarget, Local, Rules, Standing, Touched};
 pub struct Manne;
 
 impl Rules for Manne {
-    ghost use Rattle.std.specs.Prelude.{true, false, refl};
+    ghost use Rattle.std.specs.Prelude.{true, false};
     ghost use Rattle.charge_laws.specs.ClosedByPointers.{manne_closes};
     ghost use Rattle.charge_laws.specs.Costs.{manne_cost};
-    ghost use Rattle.charge_laws.specs.CostsOfRuns.{manne_disturbed};
-    ghost use Rattle.charge_laws.specs.Laws.{manne_charged};
-    ghost use Rattle.charge_laws.specs.Tables.{manne_flagless};
     ghost use Rattle.rule_machine.specs.Manne.{manne};
     ghost use Rattle.rule_machine.specs.Charge.{manne_node_charge};
-    ghost use Rattle.rules_manne.specs.Rule.{guard_is_glance, guard_is_local, one_rule_at};
-    ghost use Rattle.rules_manne.specs.Target.{allowed_near, allowed_takes, target_from_guard};
-    ghost use Rattle.rules_manne.specs.Quiet.{stable_from_quiet, quiet_from_stable};
-    ghost use Rattle.rules_manne.specs.Charge.{adds_alike, closes_alike, counted, light, null_closes};
+    ghost use Rattle.rules_manne.specs.Laws.{manne_laws};
 
     ghost table = { manne };
 
@@ -48,6 +42,8 @@ impl Rules for Manne {
     ghost adds = { manne_node_charge };
 
     ghost cost = { manne_cost };
+
+    ghost laws = { manne_laws };
 
     const CENTRAL: bool = false;
 
@@ -118,46 +114,6 @@ impl Rules for Manne {
             Event::Enabled | Event::Matching | Event::Status => 0,
         }
     }
-
-    ghost is_central = { refl };
-
-    ghost uses_flags = { refl };
-
-    ghost allowed_is_neighbour = { allowed_near };
-
-    ghost allowed_takes_target = { allowed_takes };
-
-    ghost has_target = { target_from_guard };
-
-    ghost is_local = { guard_is_local };
-
-    ghost is_glance = { guard_is_glance };
-
-    ghost one_rule = { one_rule_at };
-
-    ghost no_update = { manne_flagless };
-
-    ghost quiet_is_stable = { stable_from_quiet };
-
-    ghost stable_is_quiet = { quiet_from_stable };
-
-    ghost charge_counts = { counted };
-
-    ghost adds_by_standing = { adds_alike };
-
-    ghost null_closes_none = { null_closes };
-
-    ghost closes_by_target = { closes_alike };
-
-    ghost is_light = { light };
-
-    ghost charge_falls = { manne_charged.falls };
-
-    ghost charge_is_bounded = { manne_charged.bounded };
-
-    ghost no_charge_is_stable = { manne_charged.zero_is_stable };
-
-    ghost disturbances_cost = { manne_disturbed };
 }
 
 // Whether the node may marry or seduce: its pointer is null, so it is unmarried, and its flag agrees.

@@ -1,5 +1,4 @@
 use Rattle.std.proofs.Common.{◌++◌, [], ap, ◌∙◌}
-use Rattle.machine_laws.specs.LeastMoves.{IsTable}
 use Rattle.board.specs.Views.{Standing}
 use Rattle.step_log.specs.declared.receipt.Receipt.{Receipt}
 use Rattle.locked_net.proofs.Publishing.{is_run_posted, desk_after}
@@ -7,17 +6,15 @@ use Rattle.locked_net.proofs.desk.finish.Goals as goal
 
 pub publish-note-requires : goal.publish-note-requires
 publish-note-requires g c =
-    let laws = g.met.R.Rules in
+    let laws = g.R.Rules.laws in
     let t = g.R.Rules.table in
-    let table : IsTable t = record { allowed_is_neighbour = laws.allowed_is_neighbour; allowed_takes_target = laws.allowed_takes_target; has_target = laws.has_target } in
     let next = c.entry.ensures ∙ ap (λ (r : Receipt). (c.args.prepared.event, r.reply)) c.requires.ready.next in
-    is_run_posted t table _ c.args.board.now c.post.new.self c.args.prepared.event c.entry.result.now c.requires.desk c.requires.ready.below next c.in_ok-post.ensures.posted
+    is_run_posted t laws.table _ c.args.board.now c.post.new.self c.args.prepared.event c.entry.result.now c.requires.desk c.requires.ready.below next c.in_ok-post.ensures.posted
 
 pub returns-clause-desk : goal.returns-clause-desk
 returns-clause-desk g c =
-    let laws = g.met.R.Rules in
+    let laws = g.R.Rules.laws in
     let t = g.R.Rules.table in
-    let table : IsTable t = record { allowed_is_neighbour = laws.allowed_is_neighbour; allowed_takes_target = laws.allowed_takes_target; has_target = laws.has_target } in
     let next = c.entry.ensures ∙ ap (λ (r : Receipt). (c.args.prepared.event, r.reply)) c.requires.ready.next in
     let shown = c.publish-note.ensures.published ∙ ap (λ (b : Standing). record b { list = b.list ++ b.posted; posted = [] }) c.in_ok-post.ensures.posted in
-    desk_after t table _ _ c.args.board.now c.publish-note.new.self c.args.prepared.event c.entry.result.now c.requires.desk c.requires.ready.below next c.commit-receipt.ensures.log shown
+    desk_after t laws.table _ _ c.args.board.now c.publish-note.new.self c.args.prepared.event c.entry.result.now c.requires.desk c.requires.ready.below next c.commit-receipt.ensures.log shown

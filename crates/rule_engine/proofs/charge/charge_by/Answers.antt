@@ -8,16 +8,16 @@ pub overflow_sub-result : goal.overflow_sub-result
 overflow_sub-result g c =
     let s = c.args.state.now.state in
     let good = c.registers.ensures.state in
-    let whole = charge_counted g.R.Rules.COURTED_CLOSE (g.R.Rules.closes s) (g.R.Rules.adds s) s (g.R.Rules.table.charge s) c.args.open_edges c.args.added c.args.closing (g.met.R.Rules.charge_counts s good) c.requires.open c.requires.added c.requires.closing in
+    let whole = charge_counted g.R.Rules.COURTED_CLOSE (g.R.Rules.closes s) (g.R.Rules.adds s) s (g.R.Rules.table.charge s) c.args.open_edges c.args.added c.args.closing (g.R.Rules.laws.charge_counts s good) c.requires.open c.requires.added c.requires.closing in
     omega (arith, whole, c.from.ensures, c.from-2.ensures, c.from-3.ensures)
 
 pub overflow_cast-result : goal.overflow_cast-result
 overflow_cast-result g c =
     let s = c.args.state.now.state in
     let good = c.registers.ensures.state in
-    let whole = charge_counted g.R.Rules.COURTED_CLOSE (g.R.Rules.closes s) (g.R.Rules.adds s) s (g.R.Rules.table.charge s) c.args.open_edges c.args.added c.args.closing (g.met.R.Rules.charge_counts s good) c.requires.open c.requires.added c.requires.closing in
-    let laws = g.met.R.Rules in
-    let bounded = laws.charge_is_bounded s good in
+    let whole = charge_counted g.R.Rules.COURTED_CLOSE (g.R.Rules.closes s) (g.R.Rules.adds s) s (g.R.Rules.table.charge s) c.args.open_edges c.args.added c.args.closing (g.R.Rules.laws.charge_counts s good) c.requires.open c.requires.added c.requires.closing in
+    let laws = g.R.Rules.laws in
+    let bounded = laws.charged.bounded s good in
     let few = c.edges.ensures.few in
     let names = few_names s.network in
     let size = c.store.ensures.few in
@@ -29,5 +29,5 @@ pub returns : goal.returns
 returns g c =
     let s = c.args.state.now.state in
     let good = c.registers.ensures.state in
-    let whole = charge_counted g.R.Rules.COURTED_CLOSE (g.R.Rules.closes s) (g.R.Rules.adds s) s (g.R.Rules.table.charge s) c.args.open_edges c.args.added c.args.closing (g.met.R.Rules.charge_counts s good) c.requires.open c.requires.added c.requires.closing in
+    let whole = charge_counted g.R.Rules.COURTED_CLOSE (g.R.Rules.closes s) (g.R.Rules.adds s) s (g.R.Rules.table.charge s) c.args.open_edges c.args.added c.args.closing (g.R.Rules.laws.charge_counts s good) c.requires.open c.requires.added c.requires.closing in
     omega (arith, whole, c.from.ensures, c.from-2.ensures, c.from-3.ensures)

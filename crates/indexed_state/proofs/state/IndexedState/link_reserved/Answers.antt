@@ -29,7 +29,7 @@ invariant_of-self g c =
     let was = c.self.inside.shares in
     let now = c.mark-2.new.self in (
       c.link_reserved.ensures.sound,
-      told_after g.R.Rules.COURTED_CLOSE g.R.Rules.closes g.R.Rules.adds s u.state c.self.inside.index.ends u.ends was.each.items now.each.items was.lower_ends now.lower_ends was.stale now.stale (record { closes_by_target = g.met.R.Rules.closes_by_target; adds_by_standing = g.met.R.Rules.adds_by_standing }) c.self.invariant.0 c.link_reserved.ensures.sound c.link_reserved.ensures.state refl c.link_reserved.ensures.ends (c.mark-2.ensures.kept.0 ∙ c.mark.ensures.kept.0) (c.mark-2.ensures.kept.1 ∙ c.mark.ensures.kept.1) (c.mark-2.ensures.places ∙ c.mark.ensures.places)
+      told_after g.R.Rules.COURTED_CLOSE g.R.Rules.closes g.R.Rules.adds s u.state c.self.inside.index.ends u.ends was.each.items now.each.items was.lower_ends now.lower_ends was.stale now.stale g.R.Rules.laws.near c.self.invariant.0 c.link_reserved.ensures.sound c.link_reserved.ensures.state refl c.link_reserved.ensures.ends (c.mark-2.ensures.kept.0 ∙ c.mark.ensures.kept.0) (c.mark-2.ensures.kept.1 ∙ c.mark.ensures.kept.1) (c.mark-2.ensures.places ∙ c.mark.ensures.places)
           (λ v fresh.
           let second = c.mark-2.ensures.marked v fresh in
           let first = c.mark.ensures.marked v second.0 in

@@ -32,6 +32,6 @@ returns g c =
           ∙ node_sum (λ (it : Share). it.added) (node_part (g.R.Rules.adds s) s) s.network c.self.inside.shares.each.items told.places (λ v. (told.told v (fresh v)).added)
           ∙ ap (λ (t : State). sum_by (node_part (g.R.Rules.adds t) t) (names t.network)) same;
       closing = c.self.inside.shares.summed.closed
-          ∙ closing_summed s c.self.invariant.0 (g.R.Rules.closes s) (g.met.R.Rules.null_closes_none s) c.self.inside.shares.each.items told.places (λ v. (told.told v (fresh v)).closing)
+          ∙ closing_summed s c.self.invariant.0 (g.R.Rules.closes s) (g.R.Rules.laws.null_closes_none s) c.self.inside.shares.each.items told.places (λ v. (told.told v (fresh v)).closing)
           ∙ ap (λ (t : State). count_by (g.R.Rules.closes t) (names t.network)) same;
     }

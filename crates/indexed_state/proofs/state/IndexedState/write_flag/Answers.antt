@@ -21,7 +21,7 @@ invariant_of-self g c =
     let now = c.mark.new.self in
     let u = c.write_flag.new.self in (
       c.write_flag.ensures.sound,
-      told_after g.R.Rules.COURTED_CLOSE g.R.Rules.closes g.R.Rules.adds s u.state c.self.inside.index.ends u.ends was.each.items now.each.items was.lower_ends now.lower_ends was.stale now.stale (record { closes_by_target = g.met.R.Rules.closes_by_target; adds_by_standing = g.met.R.Rules.adds_by_standing }) c.self.invariant.0 c.write_flag.ensures.sound (ap (λ (n : Held). n.state) c.write_flag.ensures.value) refl (ap (λ (n : Held). n.ends) c.write_flag.ensures.value) c.mark.ensures.kept.0 c.mark.ensures.kept.1 c.mark.ensures.places
+      told_after g.R.Rules.COURTED_CLOSE g.R.Rules.closes g.R.Rules.adds s u.state c.self.inside.index.ends u.ends was.each.items now.each.items was.lower_ends now.lower_ends was.stale now.stale g.R.Rules.laws.near c.self.invariant.0 c.write_flag.ensures.sound (ap (λ (n : Held). n.state) c.write_flag.ensures.value) refl (ap (λ (n : Held). n.ends) c.write_flag.ensures.value) c.mark.ensures.kept.0 c.mark.ensures.kept.1 c.mark.ensures.places
           (λ v fresh.
           let fact = c.mark.ensures.marked v fresh in
           (fact.0, round_flagged s c.args.v c.args.value v fact.1))

@@ -20,7 +20,7 @@ invariant_of-self g c =
     let within = present_range s.network c.args.v here in
     let places : c.args.v < length s.registers.pointers = omega (arith, within.1, c.self.invariant.0.pointers_len) in (
       c.write_pointer-change.ensures.sound,
-      told_after g.R.Rules.COURTED_CLOSE g.R.Rules.closes g.R.Rules.adds s u.state c.self.inside.index.ends u.ends was.each.items now.each.items was.lower_ends now.lower_ends was.stale now.stale (record { closes_by_target = g.met.R.Rules.closes_by_target; adds_by_standing = g.met.R.Rules.adds_by_standing }) c.self.invariant.0 c.write_pointer-change.ensures.sound (ap (λ (n : Held). n.state) c.write_pointer-change.ensures.value) refl (ap (λ (n : Held). n.ends) c.write_pointer-change.ensures.value) c.mark_pointer.ensures.kept.0 c.mark_pointer.ensures.kept.1 c.mark_pointer.ensures.places
+      told_after g.R.Rules.COURTED_CLOSE g.R.Rules.closes g.R.Rules.adds s u.state c.self.inside.index.ends u.ends was.each.items now.each.items was.lower_ends now.lower_ends was.stale now.stale g.R.Rules.laws.near c.self.invariant.0 c.write_pointer-change.ensures.sound (ap (λ (n : Held). n.state) c.write_pointer-change.ensures.value) refl (ap (λ (n : Held). n.ends) c.write_pointer-change.ensures.value) c.mark_pointer.ensures.kept.0 c.mark_pointer.ensures.kept.1 c.mark_pointer.ensures.places
           (λ v fresh.
           let fact = c.mark_pointer.ensures.marked v fresh in
           let apart : IsElsewhere c.args.v (pointer s c.args.v) c.args.target v = subst (λ o. IsElsewhere c.args.v o c.args.target v) c.write_pointer-change.ensures.left fact.1 in

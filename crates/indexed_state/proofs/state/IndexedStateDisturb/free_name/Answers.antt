@@ -11,7 +11,7 @@ invariant_of-self g c =
     let was = c.self.inside.shares in
     let now = c.mark.new.self in (
       c.free_name.ensures.sound,
-      told_seated g.R.Rules.COURTED_CLOSE g.R.Rules.closes g.R.Rules.adds c.self.inside.index.state u.state c.args.v false c.self.inside.index.ends u.ends was.each.items now.each.items was.lower_ends now.lower_ends was.stale now.stale (record { closes_by_target = g.met.R.Rules.closes_by_target; adds_by_standing = g.met.R.Rules.adds_by_standing }) c.self.invariant.0 c.free_name.ensures.sound c.free_name.ensures.value c.free_name.ensures.ends c.mark.ensures.kept.0 c.mark.ensures.kept.1 c.mark.ensures.places c.mark.ensures.marked c.self.invariant.1,
+      told_seated g.R.Rules.COURTED_CLOSE g.R.Rules.closes g.R.Rules.adds c.self.inside.index.state u.state c.args.v false c.self.inside.index.ends u.ends was.each.items now.each.items was.lower_ends now.lower_ends was.stale now.stale g.R.Rules.laws.near c.self.invariant.0 c.free_name.ensures.sound c.free_name.ensures.value c.free_name.ensures.ends c.mark.ensures.kept.0 c.mark.ensures.kept.1 c.mark.ensures.places c.mark.ensures.marked c.self.invariant.1,
     )
 
 pub mark-requires : goal.mark-requires

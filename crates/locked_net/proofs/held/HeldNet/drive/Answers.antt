@@ -17,7 +17,7 @@ returns-in_ok-record_on-in-Some-clause-step g c =
     let told = c.in_ok-record_on-in-Some.ensures in
     let same : members c.enabled.result.now ≡ enabled_names t log.state = c.enabled.ensures ∙ ap (enabled_names t) c.net.ensures.state in
     let chosen : IsLawful c.enabled.result.now c.CENTRAL.result c.in-Some.choice = subst (λ o. IfSome o (IsLawful c.enabled.result.now c.CENTRAL.result)) c.in-Some.is c.in_ok-choice.ensures.lawful in
-    let lawful : IsLawful c.enabled.result.now t.central c.in-Some.choice = subst (λ b. IsLawful c.enabled.result.now b c.in-Some.choice) (c.CENTRAL.ensures ∙ sym g.met.R.Rules.is_central) chosen in
+    let lawful : IsLawful c.enabled.result.now t.central c.in-Some.choice = subst (λ b. IsLawful c.enabled.result.now b c.in-Some.choice) (c.CENTRAL.ensures ∙ sym g.R.Rules.laws.is_central) chosen in
     let reply = c.in_ok-record_on-in-Some.field-0 in
     subst (λ (d : DeskView). Drives t d.log c.record_on.new.desk.log c.args.clerk.now.receipts c.record_on.new.self.receipts reply) c.self.view_is
     (drives t log c.record_on.new.desk.log c.args.clerk.now.receipts c.record_on.new.self.receipts reply c.enabled.result.now c.in-Some.choice same lawful
@@ -33,4 +33,4 @@ returns-in_ok-record_on-in-Some-clause-chosen g c =
     let reply = c.in_ok-record_on-in-Some.field-0 in
     subst (λ (d : DeskView). ChoosesOn t d.log (ChoosesStep t (λ names choice. Chooses names t.central choice)) c.args.clerk.now.receipts c.record_on.new.self.receipts (Some reply)) c.self.view_is
     (choice_on t log Chooses (members c.enabled.result.now) c.CENTRAL.result c.in_ok-choice.field-0 c.in-Some.choice c.args.clerk.now.receipts c.record_on.new.self.receipts reply
-    same (c.CENTRAL.ensures ∙ sym g.met.R.Rules.is_central) c.in-Some.is c.in_ok-choice.ensures.chosen told.reply told.receipt)
+    same (c.CENTRAL.ensures ∙ sym g.R.Rules.laws.is_central) c.in-Some.is c.in_ok-choice.ensures.chosen told.reply told.receipt)

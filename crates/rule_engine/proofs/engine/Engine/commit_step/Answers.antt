@@ -1,14 +1,12 @@
 use Rattle.std.proofs.Common.{All, ◌∙◌, sym, subst}
 use Rattle.rule_machine.specs.declared.event.Event.TheVariants.{Step}
 use Rattle.machine_laws.specs.Keeps.{IsMoveIn}
-use Rattle.machine_laws.specs.LeastMoves.{IsTable}
 use Rattle.rule_engine.proofs.Committing.{told_moves_in}
 use Rattle.rule_engine.proofs.engine.Engine.commit_step.Goals as goal
 
 pub make_moves-requires : goal.make_moves-requires
 make_moves-requires g c =
-    let laws = g.met.R.Rules in
-    let table : IsTable g.R.Rules.table = record { allowed_is_neighbour = laws.allowed_is_neighbour; allowed_takes_target = laws.allowed_takes_target; has_target = laws.has_target } in
+    let laws = g.R.Rules.laws in
     let s = c.args.self.now.state in
-    let all = told_moves_in g.R.Rules.table table s c.requires.0 (Step c.args.choice.now) c.in-Moves.moves (sym c.in-Moves.is ∙ c.requires.1) in
+    let all = told_moves_in g.R.Rules.table laws.table s c.requires.0 (Step c.args.choice.now) c.in-Moves.moves (sym c.in-Moves.is ∙ c.requires.1) in
     subst (All (IsMoveIn s.network)) (sym c.as_slice.ensures) all

@@ -9,7 +9,7 @@ use Rattle.rule_engine.proofs.engine.Engine.is_quiet.Goals as goal
 pub returns : goal.returns
 returns g c =
     let t = g.R.Rules.table in
-    let laws = g.met.R.Rules in
+    let laws = g.R.Rules.laws in
     let s = c.args.self.now.state in
     let good : IsState s = subst (λ (n : Indexed). IsState n.state) c.self.view_is c.self.invariant.is_state in
     let on : AreOn t s c.self.inside.enabled = subst (λ (n : Indexed). AreOn t n.state c.self.inside.enabled) c.self.view_is c.self.invariant.enabled in

@@ -17,4 +17,4 @@ look_at-requires-clause-places g c = c.self.invariant.enabled.places ∙ ap (λ 
 
 pub invariant_of-self : goal.invariant_of-self
 invariant_of-self g c =
-    kept_joined g.R.Rules.table g.met.R.Rules.is_local c.self.inside.state.state c.join.new.self.state c.args.v _ _ c.self.invariant (omega (arith, c.name.ensures.named.0, c.name.ensures.same)) c.join.ensures c.look_at.ensures
+    kept_joined g.R.Rules.table g.R.Rules.laws.is_local c.self.inside.state.state c.join.new.self.state c.args.v _ _ c.self.invariant (omega (arith, c.name.ensures.named.0, c.name.ensures.same)) c.join.ensures c.look_at.ensures

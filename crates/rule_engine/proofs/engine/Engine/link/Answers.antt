@@ -5,7 +5,6 @@ use Rattle.rule_machine.specs.Disturbance.{after_link}
 use Rattle.rule_machine.specs.Network.{present, with_edge}
 use Rattle.rule_machine.specs.State.{State, IsState}
 use Rattle.rule_machine.specs.Refuse.{link_refusal}
-use Rattle.machine_laws.specs.LeastMoves.{IsTable}
 use Rattle.machine_laws.specs.Accepted.{accepted_keeps}
 use Rattle.rule_engine.proofs.Again.{kept_ends}
 use Rattle.rule_engine.proofs.Far.{link_far}
@@ -20,9 +19,8 @@ look_at-requires-2-clause-has g c =
 
 pub invariant_of-self : goal.invariant_of-self
 invariant_of-self g c =
-    let laws = g.met.R.Rules in
-    let table : IsTable g.R.Rules.table = record { allowed_is_neighbour = laws.allowed_is_neighbour; allowed_takes_target = laws.allowed_takes_target; has_target = laws.has_target } in
+    let laws = g.R.Rules.laws in
     let s = c.self.inside.state.state in
     let none : link_refusal s.network c.args.a c.args.b ≡ None = ap (λ (n : Indexed). link_refusal n.state.network c.args.a c.args.b) c.self.view_is ∙ c.requires.accepted in
-    let good : IsState c.link_reserved.new.self.state = subst IsState (sym c.link_reserved.ensures) (accepted_keeps g.R.Rules.table table s c.self.invariant.is_state (Link c.args.a c.args.b) none) in
+    let good : IsState c.link_reserved.new.self.state = subst IsState (sym c.link_reserved.ensures) (accepted_keeps g.R.Rules.table laws.table s c.self.invariant.is_state (Link c.args.a c.args.b) none) in
     kept_ends g.R.Rules.table laws.is_local s c.link_reserved.new.self.state (with_edge s.network c.args.a c.args.b) c.args.a c.args.b _ _ _ c.self.invariant good c.link_reserved.ensures refl (λ x. refl) (link_far s c.args.a c.args.b) c.look_at.ensures c.look_at-2.ensures

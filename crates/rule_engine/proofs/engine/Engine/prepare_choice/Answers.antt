@@ -28,7 +28,7 @@ pub returns-in-Some : goal.returns-in-Some
 returns-in-Some g c n =
     let t = g.R.Rules.table in
     let items = c.args.choice.now in
-    let size : c.refused_size.result ≡ size_refusal t.central (length items) = c.refused_size.ensures ∙ ap (λ b. size_refusal b (length c.items-items.result.now)) (c.CENTRAL.ensures ∙ sym g.met.R.Rules.is_central) ∙ ap (λ (l : List Item). size_refusal t.central (length l)) c.items-items.ensures.items in
+    let size : c.refused_size.result ≡ size_refusal t.central (length items) = c.refused_size.ensures ∙ ap (λ b. size_refusal b (length c.items-items.result.now)) (c.CENTRAL.ensures ∙ sym g.R.Rules.laws.is_central) ∙ ap (λ (l : List Item). size_refusal t.central (length l)) c.items-items.ensures.items in
     subst (λ (r : Result Reply AllocError). Prepares {E = AllocError} t c.args.self.now n (Step items) r c.args.self.now) (sym c.put_edit.ensures)
     (sized_prepares t c.args.self.now c.args.self.now n items c.in-Some.refusal (sym size ∙ c.in-Some.is) refl)
 
@@ -37,7 +37,7 @@ returns g c n =
     let t = g.R.Rules.table in
     let s = c.args.self.now.state in
     let items = c.args.choice.now in
-    let size : c.refused_size.result ≡ size_refusal t.central (length items) = c.refused_size.ensures ∙ ap (λ b. size_refusal b (length c.items-items.result.now)) (c.CENTRAL.ensures ∙ sym g.met.R.Rules.is_central) ∙ ap (λ (l : List Item). size_refusal t.central (length l)) c.items-items.ensures.items in
+    let size : c.refused_size.result ≡ size_refusal t.central (length items) = c.refused_size.ensures ∙ ap (λ b. size_refusal b (length c.items-items.result.now)) (c.CENTRAL.ensures ∙ sym g.R.Rules.laws.is_central) ∙ ap (λ (l : List Item). size_refusal t.central (length l)) c.items-items.ensures.items in
     let taken : IsTaken t s items c.take_items-refused.result c.take_items-refused.new.gathered.whole c.take_items-refused.new.gathered.moves.items =
     record {
       size = sym size ∙ c.in_default.is;

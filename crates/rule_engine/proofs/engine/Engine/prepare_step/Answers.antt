@@ -24,7 +24,7 @@ pub returns-in-Some : goal.returns-in-Some
 returns-in-Some g c n =
     let t = g.R.Rules.table in
     let items = c.args.choice.now in
-    let size : c.refused_size.result ≡ size_refusal t.central (length items) = c.refused_size.ensures ∙ ap (λ b. size_refusal b (length c.args.verdicts.now)) (c.CENTRAL.ensures ∙ sym g.met.R.Rules.is_central) ∙ ap (size_refusal t.central) (ap length c.requires ∙ length-verdicts_of t c.args.self.now.state items) in
+    let size : c.refused_size.result ≡ size_refusal t.central (length items) = c.refused_size.ensures ∙ ap (λ b. size_refusal b (length c.args.verdicts.now)) (c.CENTRAL.ensures ∙ sym g.R.Rules.laws.is_central) ∙ ap (size_refusal t.central) (ap length c.requires ∙ length-verdicts_of t c.args.self.now.state items) in
     sized_prepares t c.args.self.now c.args.self.now n items c.in-Some.refusal (sym size ∙ c.in-Some.is) refl
 
 pub returns : goal.returns
@@ -32,7 +32,7 @@ returns g c n =
     let t = g.R.Rules.table in
     let s = c.args.self.now.state in
     let items = c.args.choice.now in
-    let size : c.refused_size.result ≡ size_refusal t.central (length items) = c.refused_size.ensures ∙ ap (λ b. size_refusal b (length c.args.verdicts.now)) (c.CENTRAL.ensures ∙ sym g.met.R.Rules.is_central) ∙ ap (size_refusal t.central) (ap length c.requires ∙ length-verdicts_of t s items) in
+    let size : c.refused_size.result ≡ size_refusal t.central (length items) = c.refused_size.ensures ∙ ap (λ b. size_refusal b (length c.args.verdicts.now)) (c.CENTRAL.ensures ∙ sym g.R.Rules.laws.is_central) ∙ ap (size_refusal t.central) (ap length c.requires ∙ length-verdicts_of t s items) in
     let taken : IsTaken t s items c.take_verdicts-refused.result c.take_verdicts-refused.new.gathered.whole c.take_verdicts-refused.new.gathered.moves.items =
     record {
       size = sym size ∙ c.in_default.is;

@@ -13,5 +13,5 @@ invariant_of-result g c =
     let n = c.args.nodes in
     let p = c.args.present in
     let good = opening_is_state n p in
-    let quiet : enabled_names t (opening_with n p) ≡ [] = g.met.R.Rules.stable_is_quiet (opening_with n p) good (opening_is_stable t.flags n p) in
+    let quiet : enabled_names t (opening_with n p) ≡ [] = g.R.Rules.laws.stable_is_quiet (opening_with n p) good (opening_is_stable t.flags n p) in
     subst (λ (s : State). IsKept t s c.in-Ok.enabled c.in-Ok-new.chosen) (sym c.in_ok-state.ensures.ok) (kept_quiet t (opening_with n p) c.in-Ok.enabled c.in-Ok-new.chosen good quiet c.in-Ok.ensures c.in-Ok-new.ensures c.in_ok-state.ensures.small)

@@ -12,4 +12,4 @@ invariant_of-self g c =
     let has = subst (λ (n : Indexed). IsTrue (present n.state.network c.args.v)) (sym c.self.view_is) c.requires.present in
     let alone = subst (λ (n : Indexed). neighbours n.state.network c.args.v ≡ []) (sym c.self.view_is) c.requires.alone in
     subst (λ (bits : List Bool). IsKept g.R.Rules.table c.free_name.new.self.state bits c.self.inside.chosen) (sym c.remove.ensures)
-    (kept_left g.R.Rules.table g.met.R.Rules.is_local s c.free_name.new.self.state c.args.v c.self.inside.enabled c.self.invariant has alone c.free_name.ensures.sound c.free_name.ensures.value)
+    (kept_left g.R.Rules.table g.R.Rules.laws.is_local s c.free_name.new.self.state c.args.v c.self.inside.enabled c.self.invariant has alone c.free_name.ensures.sound c.free_name.ensures.value)

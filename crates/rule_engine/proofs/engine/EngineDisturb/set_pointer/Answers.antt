@@ -16,6 +16,6 @@ invariant_of-self g c =
     let within = present_range s.network v here in
     let places : v < length s.registers.pointers = omega (arith, within.1, c.self.invariant.is_state.pointers_len) in
     let now : c.args.target ≡ pointer u v = sym (ap (λ (q : State). pointer q v) c.write_pointer-change.ensures.value ∙ pointer-with_pointer_same s.registers v c.args.target places) in
-    kept_pointed g.R.Rules.ABOVE g.R.Rules.table g.met.R.Rules.is_glance s u v c.args.target _ _ _ _ _ _ _ c.self.invariant c.write_pointer-change.ensures.sound c.write_pointer-change.ensures.value c.write_pointer-change.ensures.left now
+    kept_pointed g.R.Rules.ABOVE g.R.Rules.table g.R.Rules.laws.is_glance s u v c.args.target _ _ _ _ _ _ _ c.self.invariant c.write_pointer-change.ensures.sound c.write_pointer-change.ensures.value c.write_pointer-change.ensures.left now
     (λ same. sym (unturned _ _ (sym c.write_pointer-change.ensures.turned ∙ same)))
     c.look_at_target.ensures c.look_at_target-2.ensures c.look_after_write.ensures

@@ -5,20 +5,18 @@ use Rattle.rule_engine.specs.Applied.{moment_after_all}
 use Rattle.rule_engine.specs.Prepared.{NetView, moment_of}
 use Rattle.std.proofs.lemmas.Bool.{true≢false}
 use Rattle.std.proofs.lemmas.List.{drop_all, append-nil}
-use Rattle.machine_laws.specs.LeastMoves.{IsTable}
 use Rattle.rule_engine.proofs.Moments.{moment_after_more, replies_more, rest_more, run_from, stopped_at, stopped_first, on_err}
 use Rattle.rule_engine.proofs.Scanned.{ok_branch}
 use Rattle.rule_engine.proofs.net.Net.apply_all.Goals as goal
 
 pub returns-clause-run : goal.returns-clause-run
 returns-clause-run g c =
-    let laws = g.met.R.Rules in
+    let laws = g.R.Rules.laws in
     let t = g.R.Rules.table in
-    let table : IsTable t = record { allowed_is_neighbour = laws.allowed_is_neighbour; allowed_takes_target = laws.allowed_takes_target; has_target = laws.has_target } in
     let rest = drop_all c.loop-event.event-index c.args.events.now (omega arith) in
     let told : c.from_vec.result ≡ replies_of t c.args.self.now.state c.args.self.now.spent c.args.events.now = c.from_vec.ensures ∙ sym (append-nil c.loop-event.replies.items) ∙ sym (ap (λ l. c.loop-event.replies.items ++ replies_of t c.loop-event.self.state c.loop-event.self.spent l) rest) ∙ c.loop-event.invariant.told in
     let here : moment_of c.loop-event.self ≡ moment_after_all t (moment_of c.args.self.now) c.args.events.now = sym (ap (moment_after_all t (moment_of c.loop-event.self)) rest) ∙ c.loop-event.invariant.rest in
-    run_from t table (moment_of c.args.self.now) (moment_of c.loop-event.self) (subst (λ (n : NetView). IsState n.state) c.self.view_is c.self.invariant.is_state) c.args.events.now c.from_vec.result told here
+    run_from t laws.table (moment_of c.args.self.now) (moment_of c.loop-event.self) (subst (λ (n : NetView). IsState n.state) c.self.view_is c.self.invariant.is_state) c.args.events.now c.from_vec.result told here
 
 pub loop-event-preserved : goal.loop-event-preserved
 loop-event-preserved g c =

@@ -1,7 +1,6 @@
 use Rattle.std.proofs.Common.{◌≡◌, ap, sym, subst, arith}
 use Rattle.rule_machine.specs.Least.{reply_of}
-use Rattle.machine_laws.specs.LeastMoves.{IsTable}
-use Rattle.charge_laws.specs.Charged.{charge_bound, IsCharged}
+use Rattle.charge_laws.specs.Charged.{charge_bound}
 use Rattle.rule_engine.specs.Applied.{IsPaid}
 use Rattle.rule_engine.specs.Kept.{moment}
 use Rattle.rule_engine.specs.Prepared.{NetView}
@@ -11,31 +10,26 @@ use Rattle.rule_engine.proofs.net.Net.commit.Goals as goal
 
 pub spent_after-self-inside-requires : goal.spent_after-self-inside-requires
 spent_after-self-inside-requires g c =
-    let laws = g.met.R.Rules in
+    let laws = g.R.Rules.laws in
     let t = g.R.Rules.table in
     let weight = g.R.Rules.NODE_WEIGHT in
-    let table : IsTable t = record { allowed_is_neighbour = laws.allowed_is_neighbour; allowed_takes_target = laws.allowed_takes_target; has_target = laws.has_target } in
-    let charged : IsCharged t weight = record { falls = laws.charge_falls; bounded = laws.charge_is_bounded; zero_is_stable = laws.no_charge_is_stable } in
-    let within = (prepared_is_paid t weight table charged _ _ c.self.view_is c.self.invariant c.args.event.now c.args.reply.now c.requires c.commit.new.self.state c.commit.ensures).within in
+    let within = (prepared_is_paid t weight laws.table laws.charged _ _ c.self.view_is c.self.invariant c.args.event.now c.args.reply.now c.requires c.commit.new.self.state c.commit.ensures).within in
     let bound = ap (charge_bound weight) c.store.ensures.network in
     omega (arith, within, bound)
 
 pub invariant_of-self : goal.invariant_of-self
 invariant_of-self g c =
-    let laws = g.met.R.Rules in
+    let laws = g.R.Rules.laws in
     let t = g.R.Rules.table in
     let weight = g.R.Rules.NODE_WEIGHT in
-    let table : IsTable t = record { allowed_is_neighbour = laws.allowed_is_neighbour; allowed_takes_target = laws.allowed_takes_target; has_target = laws.has_target } in
-    let charged : IsCharged t weight = record { falls = laws.charge_falls; bounded = laws.charge_is_bounded; zero_is_stable = laws.no_charge_is_stable } in
-    subst (λ n. IsPaid t weight (moment c.commit.new.self.state n)) (sym c.spent_after-self-inside.ensures) (prepared_is_paid t weight table charged _ _ c.self.view_is c.self.invariant c.args.event.now c.args.reply.now c.requires c.commit.new.self.state c.commit.ensures)
+    subst (λ n. IsPaid t weight (moment c.commit.new.self.state n)) (sym c.spent_after-self-inside.ensures) (prepared_is_paid t weight laws.table laws.charged _ _ c.self.view_is c.self.invariant c.args.event.now c.args.reply.now c.requires c.commit.new.self.state c.commit.ensures)
 
 pub returns-clause-machine : goal.returns-clause-machine
 returns-clause-machine g c =
-    let laws = g.met.R.Rules in
+    let laws = g.R.Rules.laws in
     let t = g.R.Rules.table in
     let event = c.args.event.now in
     let reply = c.args.reply.now in
-    let table : IsTable t = record { allowed_is_neighbour = laws.allowed_is_neighbour; allowed_takes_target = laws.allowed_takes_target; has_target = laws.has_target } in
     let told : reply ≡ reply_of t c.self.inside.engine.state c.self.inside.spent event = subst (λ (n : NetView). reply ≡ reply_of t n.state n.spent event) (sym c.self.view_is) c.requires.reply_is in
     subst (λ (n : NetView). Answers t n.state n.spent event reply c.commit.new.self.state) c.self.view_is
-    (turn_answers t table (moment c.self.inside.engine.state c.self.inside.spent) c.self.invariant.is_state event reply c.commit.new.self.state told c.commit.ensures)
+    (turn_answers t laws.table (moment c.self.inside.engine.state c.self.inside.spent) c.self.invariant.is_state event reply c.commit.new.self.state told c.commit.ensures)

@@ -1,6 +1,5 @@
 use Rattle.std.proofs.Common.{ap, sym, subst, arith}
-use Rattle.machine_laws.specs.LeastMoves.{IsTable}
-use Rattle.charge_laws.specs.Charged.{charge_bound, IsCharged}
+use Rattle.charge_laws.specs.Charged.{charge_bound}
 use Rattle.rule_engine.specs.Applied.{IsPaid}
 use Rattle.rule_engine.specs.Kept.{moment}
 use Rattle.rule_machine.specs.declared.event.Event.TheVariants.{Step}
@@ -9,20 +8,16 @@ use Rattle.rule_engine.proofs.net.Net.commit_step.Goals as goal
 
 pub spent_after-self-inside-requires : goal.spent_after-self-inside-requires
 spent_after-self-inside-requires g c =
-    let laws = g.met.R.Rules in
+    let laws = g.R.Rules.laws in
     let t = g.R.Rules.table in
     let weight = g.R.Rules.NODE_WEIGHT in
-    let table : IsTable t = record { allowed_is_neighbour = laws.allowed_is_neighbour; allowed_takes_target = laws.allowed_takes_target; has_target = laws.has_target } in
-    let charged : IsCharged t weight = record { falls = laws.charge_falls; bounded = laws.charge_is_bounded; zero_is_stable = laws.no_charge_is_stable } in
-    let within = (prepared_is_paid t weight table charged _ _ c.self.view_is c.self.invariant (Step c.args.choice.now) c.args.reply.now c.requires c.commit_step.new.self.state c.commit_step.ensures).within in
+    let within = (prepared_is_paid t weight laws.table laws.charged _ _ c.self.view_is c.self.invariant (Step c.args.choice.now) c.args.reply.now c.requires c.commit_step.new.self.state c.commit_step.ensures).within in
     let bound = ap (charge_bound weight) c.store.ensures.network in
     omega (arith, within, bound)
 
 pub invariant_of-self : goal.invariant_of-self
 invariant_of-self g c =
-    let laws = g.met.R.Rules in
+    let laws = g.R.Rules.laws in
     let t = g.R.Rules.table in
     let weight = g.R.Rules.NODE_WEIGHT in
-    let table : IsTable t = record { allowed_is_neighbour = laws.allowed_is_neighbour; allowed_takes_target = laws.allowed_takes_target; has_target = laws.has_target } in
-    let charged : IsCharged t weight = record { falls = laws.charge_falls; bounded = laws.charge_is_bounded; zero_is_stable = laws.no_charge_is_stable } in
-    subst (λ n. IsPaid t weight (moment c.commit_step.new.self.state n)) (sym c.spent_after-self-inside.ensures) (prepared_is_paid t weight table charged _ _ c.self.view_is c.self.invariant (Step c.args.choice.now) c.args.reply.now c.requires c.commit_step.new.self.state c.commit_step.ensures)
+    subst (λ n. IsPaid t weight (moment c.commit_step.new.self.state n)) (sym c.spent_after-self-inside.ensures) (prepared_is_paid t weight laws.table laws.charged _ _ c.self.view_is c.self.invariant (Step c.args.choice.now) c.args.reply.now c.requires c.commit_step.new.self.state c.commit_step.ensures)

@@ -1,7 +1,5 @@
 use Rattle.std.proofs.Common.{◌≡◌, ◌∙◌, ap, sym, subst}
 use Rattle.rule_machine.specs.Network.{node_count}
-use Rattle.machine_laws.specs.LeastMoves.{IsTable}
-use Rattle.charge_laws.specs.Charged.{IsCharged}
 use Rattle.node_bound.specs.MovesLeft.{moves_left, BoundsMoves}
 use Rattle.node_bound.proofs.Smaller.{smaller_bounds}
 use Rattle.rule_engine.specs.Prepared.{NetView}
@@ -9,15 +7,13 @@ use Rattle.rule_engine.proofs.net.Net.moves_left.Goals as goal
 
 pub returns-clause-promise : goal.returns-clause-promise
 returns-clause-promise g c =
-    let laws = g.met.R.Rules in
+    let laws = g.R.Rules.laws in
     let t = g.R.Rules.table in
     let weight = g.R.Rules.NODE_WEIGHT in
     let most = g.R.NodeBound.most in
     let net = c.args.self.now in
-    let table : IsTable t = record { allowed_is_neighbour = laws.allowed_is_neighbour; allowed_takes_target = laws.allowed_takes_target; has_target = laws.has_target } in
-    let charged : IsCharged t weight = record { falls = laws.charge_falls; bounded = laws.charge_is_bounded; zero_is_stable = laws.no_charge_is_stable } in
     let nodes = c.nodes.ensures.count ∙ ap node_count (c.store.ensures.network ∙ ap (λ (n : NetView). n.state.network) c.charge-charge.ensures.kept) in
     let value : c.smaller.result ≡ moves_left (t.charge net.state) (most (node_count net.state.network)) =
     c.smaller.ensures ∙ ap (λ n. moves_left n c.most_moves.result) c.charge-charge.ensures.charge ∙ ap (moves_left (t.charge net.state)) (c.most_moves.ensures ∙ ap most nodes) in
     subst (BoundsMoves t net.state net.spent) (sym value)
-    (smaller_bounds t weight table charged most g.met.R.NodeBound.bounds_moves net.state net.spent c.registers.ensures.state)
+    (smaller_bounds t weight laws.table laws.charged most g.met.R.NodeBound.bounds_moves net.state net.spent c.registers.ensures.state)

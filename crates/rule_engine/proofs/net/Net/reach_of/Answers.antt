@@ -1,6 +1,5 @@
 use Rattle.std.proofs.Common.{IfOk, subst}
 use Rattle.std.proofs.lemmas.Result.{IfOk-weaker}
-use Rattle.machine_laws.specs.LeastMoves.{IsTable}
 use Rattle.rule_engine.specs.Prepared.{NetView}
 use Rattle.rule_engine.specs.Reached.{Spares}
 use Rattle.rule_engine.proofs.Reaching.{spares_others}
@@ -8,10 +7,9 @@ use Rattle.rule_engine.proofs.net.Net.reach_of.Goals as goal
 
 pub returns-clause-spares : goal.returns-clause-spares
 returns-clause-spares g c =
-    let laws = g.met.R.Rules in
+    let laws = g.R.Rules.laws in
     let t = g.R.Rules.table in
-    let table : IsTable t = record { allowed_is_neighbour = laws.allowed_is_neighbour; allowed_takes_target = laws.allowed_takes_target; has_target = laws.has_target } in
     let event = c.args.event.now in
     let inside = c.self.inside in
     subst (λ (n : NetView). IfOk c.reach_of.result (λ list. Spares t n.state n.spent event list.items)) c.self.view_is
-    (IfOk-weaker c.reach_of.result _ _ (λ list is. spares_others t table inside.engine.state c.registers.ensures.state inside.spent event list.items is) c.reach_of.ensures.reach)
+    (IfOk-weaker c.reach_of.result _ _ (λ list is. spares_others t laws.table inside.engine.state c.registers.ensures.state inside.spent event list.items is) c.reach_of.ensures.reach)

@@ -4,8 +4,6 @@ use Rattle.rule_machine.specs.declared.base.Start.{Start}
 use Rattle.rule_machine.specs.declared.base.Start.TheVariants.{Forgotten}
 use Rattle.rule_machine.specs.Run.{Entry}
 use Rattle.rule_machine.specs.Base.{base_of}
-use Rattle.machine_laws.specs.LeastMoves.{IsTable}
-use Rattle.charge_laws.specs.Charged.{IsCharged}
 use Rattle.step_log.specs.Held.{Held, IsJournal, kept_of}
 use Rattle.step_log.specs.Kept.{Kept, IsShort, last_number, moment_in}
 use Rattle.step_log.proofs.Running.{checkpointed_is_journal}
@@ -13,11 +11,9 @@ use Rattle.step_log.proofs.journal.Journal.checkpoint.Goals as goal
 
 pub invariant_of-self : goal.invariant_of-self
 invariant_of-self g c =
-    let laws = g.met.R.Rules in
+    let laws = g.R.Rules.laws in
     let t = g.R.Rules.table in
     let weight = g.R.Rules.NODE_WEIGHT in
-    let table : IsTable t = record { allowed_is_neighbour = laws.allowed_is_neighbour; allowed_takes_target = laws.allowed_takes_target; has_target = laws.has_target } in
-    let charged : IsCharged t weight = record { falls = laws.charge_falls; bounded = laws.charge_is_bounded; zero_is_stable = laws.no_charge_is_stable } in
     let j = c.self.inside in
     let kept : Kept = record { state = j.net.state; spent = j.net.spent; base = j.base; entries = j.entries.items; limit = j.limit; present = j.present } in
     let made = c.in_ok-base.base in
@@ -25,6 +21,6 @@ invariant_of-self g c =
     let is : made ≡ base_of (last_number kept) (moment_in kept) = c.in_ok-base.ensures.base ∙ ap (λ (n : ℕ). base_of n (moment_in kept)) number in
     let short : IsShort (Some (base_of (last_number kept) (moment_in kept))) = subst (λ (b : Base). IsShort (Some b)) is c.in_ok-base.ensures.few in
     let over = c.new-epochs.result.over.items in
-    let there = checkpointed_is_journal t weight table charged laws.no_update kept c.self.invariant.is_kept short over c.new-epochs.ensures.over in
+    let there = checkpointed_is_journal t weight laws.table laws.charged laws.no_update kept c.self.invariant.is_kept short over c.new-epochs.ensures.over in
     subst (λ (s : Start). IsJournal t weight (record { state = j.net.state; spent = j.net.spent; base = Some made; entries = c.new-entries.result.items; limit = j.limit; present = j.present }) over s) (sym c.new-epochs.ensures.begun)
     (subst (λ (k : Kept). IsJournal t weight k over Forgotten) (sym (ap₂ (λ (b : Base) (es : List Entry). record { state = j.net.state; spent = j.net.spent; base = Some b; entries = es; limit = j.limit; present = j.present }) is c.new-entries.ensures.items)) there)

@@ -2,7 +2,6 @@ use Rattle.std.proofs.Common.{◌≡◌, ℕ, [], ◌∷◌, ◌++◌, map, ap, 
 use Rattle.rule_machine.specs.declared.event.Event.{Event}
 use Rattle.rule_machine.specs.declared.reply.Reply.{Reply}
 use Rattle.rule_machine.specs.Run.{Entry, Moment, moment_after, open_at}
-use Rattle.machine_laws.specs.LeastMoves.{IsTable}
 use Rattle.step_log.specs.declared.receipt.Receipt.{Receipt}
 use Rattle.step_log.specs.Epochs.{begun_by, ended_by, of_run}
 use Rattle.step_log.specs.Held.{Held, IsReady}
@@ -18,9 +17,8 @@ turn-requires g c = λ accepted.
 
 pub invariant_of-self : goal.invariant_of-self
 invariant_of-self g c =
-    let laws = g.met.R.Rules in
+    let laws = g.R.Rules.laws in
     let t = g.R.Rules.table in
-    let table : IsTable t = record { allowed_is_neighbour = laws.allowed_is_neighbour; allowed_takes_target = laws.allowed_takes_target; has_target = laws.has_target } in
     let inside = c.self.inside in
     let over = inside.epochs.over.items in
     let begun = inside.epochs.begun in
@@ -36,4 +34,4 @@ invariant_of-self g c =
     let number = ap (λ (r : Receipt). r.seq) (c.parts-entry.ensures.receipt ∙ ready.next) in
     let ended = c.turn.ensures.over ∙ ap (λ (r : Reply). map of_run over ++ ended_by r (open_at begun now)) told in
     let starts = c.turn.ensures.begun ∙ ap₂ (λ (r : Reply) (n : ℕ). begun_by r n begun) told number in
-    next_is_journal t g.R.Rules.NODE_WEIGHT table _ over begun c.self.invariant ready.below event reply after c.push.new.self.items c.turn.new.self.over.items c.turn.new.self.begun ready.net.reply_is moved added ended starts
+    next_is_journal t g.R.Rules.NODE_WEIGHT laws.table _ over begun c.self.invariant ready.below event reply after c.push.new.self.items c.turn.new.self.over.items c.turn.new.self.begun ready.net.reply_is moved added ended starts

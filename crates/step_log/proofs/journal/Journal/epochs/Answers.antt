@@ -1,8 +1,6 @@
 use Rattle.std.proofs.Common.{subst}
 use Rattle.std.specs.Prelude.{IfOk}
 use Rattle.std.proofs.lemmas.Result.{IfOk-weaker}
-use Rattle.machine_laws.specs.LeastMoves.{IsTable}
-use Rattle.charge_laws.specs.Charged.{IsCharged}
 use Rattle.step_log.specs.Epochs.{AreEpochs}
 use Rattle.step_log.specs.Held.{Held, kept_of}
 use Rattle.step_log.proofs.Telling.{told_epochs, told_bounded}
@@ -17,9 +15,7 @@ returns-clause-epochs g c =
 
 pub returns-clause-bound : goal.returns-clause-bound
 returns-clause-bound g c =
-    let laws = g.met.R.Rules in
+    let laws = g.R.Rules.laws in
     let t = g.R.Rules.table in
     let weight = g.R.Rules.NODE_WEIGHT in
-    let table : IsTable t = record { allowed_is_neighbour = laws.allowed_is_neighbour; allowed_takes_target = laws.allowed_takes_target; has_target = laws.has_target } in
-    let charged : IsCharged t weight = record { falls = laws.charge_falls; bounded = laws.charge_is_bounded; zero_is_stable = laws.no_charge_is_stable } in
-    IfOk-weaker c.list.result _ _ (λ epochs are. told_bounded t weight table charged _ _ _ c.self.invariant epochs.items are) c.list.ensures
+    IfOk-weaker c.list.result _ _ (λ epochs are. told_bounded t weight laws.table laws.charged _ _ _ c.self.invariant epochs.items are) c.list.ensures

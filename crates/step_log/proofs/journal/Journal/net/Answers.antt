@@ -1,6 +1,4 @@
 use Rattle.std.proofs.Common.{subst}
-use Rattle.machine_laws.specs.LeastMoves.{IsTable}
-use Rattle.charge_laws.specs.Charged.{IsCharged}
 use Rattle.step_log.specs.Held.{Held, kept_of}
 use Rattle.step_log.specs.Headline.{Upholds}
 use Rattle.step_log.proofs.Wholes.{held_is_log}
@@ -9,12 +7,10 @@ use Rattle.step_log.proofs.journal.Journal.net.Goals as goal
 
 pub returns-clause-upheld : goal.returns-clause-upheld
 returns-clause-upheld g c =
-    let laws = g.met.R.Rules in
+    let laws = g.R.Rules.laws in
     let t = g.R.Rules.table in
     let weight = g.R.Rules.NODE_WEIGHT in
-    let table : IsTable t = record { allowed_is_neighbour = laws.allowed_is_neighbour; allowed_takes_target = laws.allowed_takes_target; has_target = laws.has_target } in
-    let charged : IsCharged t weight = record { falls = laws.charge_falls; bounded = laws.charge_is_bounded; zero_is_stable = laws.no_charge_is_stable } in
-    subst (λ (held : Held). Upholds t weight (kept_of held)) c.self.view_is (upheld t weight table charged laws.quiet_is_stable laws.stable_is_quiet _ c.self.invariant.is_kept)
+    subst (λ (held : Held). Upholds t weight (kept_of held)) c.self.view_is (upheld t weight laws.table laws.charged laws.quiet_is_stable laws.stable_is_quiet _ c.self.invariant.is_kept)
 
 pub returns-clause-log : goal.returns-clause-log
 returns-clause-log g c = held_is_log g.R.Rules.table g.R.Rules.NODE_WEIGHT _ _ c.self.view_is c.self.invariant.is_kept

@@ -2,7 +2,6 @@ use Rattle.std.proofs.Common.{ℕ, ap, ap₂, ◌∙◌}
 use Rattle.rule_machine.specs.declared.reply.Reply.{Reply}
 use Rattle.rule_machine.specs.Least.{reply_of}
 use Rattle.log_entry.specs.Kinds.{fits}
-use Rattle.machine_laws.specs.LeastMoves.{IsTable}
 use Rattle.step_log.specs.Held.{Held}
 use Rattle.step_log.specs.Kept.{Kept}
 use Rattle.step_log.proofs.Running.{next_fits}
@@ -10,9 +9,8 @@ use Rattle.step_log.proofs.journal.Journal.prepare.Goals as goal
 
 pub new-requires : goal.new-requires
 new-requires g c =
-    let laws = g.met.R.Rules in
-    let table : IsTable g.R.Rules.table = record { allowed_is_neighbour = laws.allowed_is_neighbour; allowed_takes_target = laws.allowed_takes_target; has_target = laws.has_target } in
-    ap (fits c.args.event) c.in_ok-reply.ensures.reply ∙ next_fits g.R.Rules.table g.R.Rules.NODE_WEIGHT table _ c.self.invariant.is_kept c.args.event
+    let laws = g.R.Rules.laws in
+    ap (fits c.args.event) c.in_ok-reply.ensures.reply ∙ next_fits g.R.Rules.table g.R.Rules.NODE_WEIGHT laws.table _ c.self.invariant.is_kept c.args.event
 
 pub returns-clause-receipt : goal.returns-clause-receipt
 returns-clause-receipt g c =

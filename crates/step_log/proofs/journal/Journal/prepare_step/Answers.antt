@@ -1,12 +1,10 @@
 use Rattle.std.proofs.Common.{ap, ◌∙◌}
 use Rattle.rule_machine.specs.declared.event.Event.TheVariants.{Step}
 use Rattle.log_entry.specs.Kinds.{fits}
-use Rattle.machine_laws.specs.LeastMoves.{IsTable}
 use Rattle.step_log.proofs.Running.{next_fits}
 use Rattle.step_log.proofs.journal.Journal.prepare_step.Goals as goal
 
 pub new-requires : goal.new-requires
 new-requires g c =
-    let laws = g.met.R.Rules in
-    let table : IsTable g.R.Rules.table = record { allowed_is_neighbour = laws.allowed_is_neighbour; allowed_takes_target = laws.allowed_takes_target; has_target = laws.has_target } in
-    ap (fits (Step c.args.choice)) c.in_ok-reply.ensures.reply ∙ next_fits g.R.Rules.table g.R.Rules.NODE_WEIGHT table _ c.self.invariant.is_kept (Step c.args.choice)
+    let laws = g.R.Rules.laws in
+    ap (fits (Step c.args.choice)) c.in_ok-reply.ensures.reply ∙ next_fits g.R.Rules.table g.R.Rules.NODE_WEIGHT laws.table _ c.self.invariant.is_kept (Step c.args.choice)

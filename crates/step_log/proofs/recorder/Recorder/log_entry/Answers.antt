@@ -2,7 +2,6 @@ use Rattle.std.proofs.Common.{◌≡◌, ◌<◌, ◌+◌, ◌∙◌, ◌++◌, 
 use Rattle.rule_machine.specs.declared.reply.Reply.{Reply}
 use Rattle.rule_machine.specs.Least.{reply_of}
 use Rattle.rule_machine.specs.Run.{Moment, moment_after}
-use Rattle.machine_laws.specs.LeastMoves.{IsTable}
 use Rattle.line_text.specs.EntryText.{entry_line}
 use Rattle.step_log.specs.Recording.{Recording}
 use Rattle.step_log.proofs.Recording.{entered_is_recording}
@@ -10,13 +9,12 @@ use Rattle.step_log.proofs.recorder.Recorder.log_entry.Goals as goal
 
 pub invariant_of-self-2 : goal.invariant_of-self-2
 invariant_of-self-2 g c =
-    let laws = g.met.R.Rules in
+    let laws = g.R.Rules.laws in
     let t = g.R.Rules.table in
-    let table : IsTable t = record { allowed_is_neighbour = laws.allowed_is_neighbour; allowed_takes_target = laws.allowed_takes_target; has_target = laws.has_target } in
     let inside = c.self.inside in
     let after : Moment = record { state = c.commit.new.self.state; spent = c.commit.new.self.spent } in
     let below : inside.len < inside.limit = grind arith in
-    entered_is_recording t table _ c.self.invariant below c.args.event.now after (c.commit.ensures.state ∙ ap (λ (m : Moment). moment_after t m c.args.event.now) c.in_ok-prepare_into.ensures.kept)
+    entered_is_recording t laws.table _ c.self.invariant below c.args.event.now after (c.commit.ensures.state ∙ ap (λ (m : Moment). moment_after t m c.args.event.now) c.in_ok-prepare_into.ensures.kept)
 
 pub returns-clause-text : goal.returns-clause-text
 returns-clause-text g c =

@@ -2,26 +2,23 @@ use Rattle.std.proofs.Common.{◌<◌, subst, arith}
 use Rattle.rule_machine.specs.declared.event.Event.TheVariants.{Step}
 use Rattle.rule_machine.specs.Answer.{Answers}
 use Rattle.rule_machine.specs.Run.{Moment}
-use Rattle.machine_laws.specs.LeastMoves.{IsTable}
 use Rattle.step_log.specs.Recording.{Recording}
 use Rattle.step_log.proofs.Recording.{entered_is_recording, reply_answers}
 use Rattle.step_log.proofs.recorder.Recorder.log_step.Goals as goal
 
 pub invariant_of-self-2 : goal.invariant_of-self-2
 invariant_of-self-2 g c =
-    let laws = g.met.R.Rules in
-    let table : IsTable g.R.Rules.table = record { allowed_is_neighbour = laws.allowed_is_neighbour; allowed_takes_target = laws.allowed_takes_target; has_target = laws.has_target } in
+    let laws = g.R.Rules.laws in
     let inside = c.self.inside in
     let after : Moment = record { state = c.apply_step.new.self.state; spent = c.apply_step.new.self.spent } in
     let below : inside.len < inside.limit = grind arith in
-    entered_is_recording g.R.Rules.table table _ c.self.invariant below (Step c.args.choice.now) after c.in_ok-reply.ensures.state
+    entered_is_recording g.R.Rules.table laws.table _ c.self.invariant below (Step c.args.choice.now) after c.in_ok-reply.ensures.state
 
 pub returns-clause-machine : goal.returns-clause-machine
 returns-clause-machine g c =
-    let laws = g.met.R.Rules in
-    let table : IsTable g.R.Rules.table = record { allowed_is_neighbour = laws.allowed_is_neighbour; allowed_takes_target = laws.allowed_takes_target; has_target = laws.has_target } in
+    let laws = g.R.Rules.laws in
     let inside = c.self.inside in
     let before : Moment = record { state = inside.net.state; spent = inside.net.spent } in
     let after : Moment = record { state = c.apply_step.new.self.state; spent = c.apply_step.new.self.spent } in
     subst (λ (r : Recording). Answers g.R.Rules.table r.state r.spent (Step c.args.choice.now) c.in_ok-reply.reply c.apply_step.new.self.state) c.self.view_is
-    (reply_answers g.R.Rules.table table before after c.self.invariant.is_state (Step c.args.choice.now) c.in_ok-reply.reply c.in_ok-reply.ensures.reply c.in_ok-reply.ensures.state)
+    (reply_answers g.R.Rules.table laws.table before after c.self.invariant.is_state (Step c.args.choice.now) c.in_ok-reply.reply c.in_ok-reply.ensures.reply c.in_ok-reply.ensures.state)

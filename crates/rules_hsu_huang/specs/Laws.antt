@@ -1,0 +1,31 @@
+-- The laws of the rule set, in one record.
+use Rattle.std.specs.Prelude.{true, false, refl}
+use Rattle.rule_machine.specs.HsuHuang.{hsu_huang}
+use Rattle.rule_set.specs.RulesLaws.{RulesLaws}
+use Rattle.charge_laws.specs.ClosedByPointers.{hsu_huang_closes}
+use Rattle.charge_laws.specs.Costs.{hsu_huang_cost}
+use Rattle.charge_laws.specs.CostsOfRuns.{hsu_huang_disturbed}
+use Rattle.charge_laws.specs.Laws.{hsu_huang_charged}
+use Rattle.charge_laws.specs.Tables.{hsu_huang_table, hsu_huang_flagless}
+use Rattle.rules_hsu_huang.specs.Charge.{nothing, charge_without_nodes, light, null_closes, closes_alike}
+use Rattle.rules_hsu_huang.specs.Rule.{guard_is_glance, guard_is_local, one_rule_at}
+use Rattle.rules_hsu_huang.specs.Quiet.{stable_from_quiet, quiet_from_stable}
+
+pub hsu_huang_laws : RulesLaws hsu_huang true false false 1 true hsu_huang_closes nothing hsu_huang_cost
+hsu_huang_laws = record {
+  is_central = refl;
+  uses_flags = refl;
+  table = hsu_huang_table;
+  is_local = guard_is_local;
+  is_glance = guard_is_glance;
+  one_rule = one_rule_at;
+  no_update = hsu_huang_flagless;
+  quiet_is_stable = stable_from_quiet;
+  stable_is_quiet = quiet_from_stable;
+  charge_counts = charge_without_nodes;
+  null_closes_none = null_closes;
+  near = record { closes_by_target = closes_alike; adds_by_standing = λ _ _ _ _. refl };
+  is_light = light;
+  charged = hsu_huang_charged;
+  disturbances_cost = hsu_huang_disturbed;
+}

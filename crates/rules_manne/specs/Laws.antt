@@ -1,0 +1,32 @@
+-- The laws of the rule set, in one record.
+use Rattle.std.specs.Prelude.{true, false, refl}
+use Rattle.rule_machine.specs.Manne.{manne}
+use Rattle.rule_machine.specs.Charge.{manne_node_charge}
+use Rattle.rule_set.specs.RulesLaws.{RulesLaws}
+use Rattle.charge_laws.specs.ClosedByPointers.{manne_closes}
+use Rattle.charge_laws.specs.Costs.{manne_cost}
+use Rattle.charge_laws.specs.CostsOfRuns.{manne_disturbed}
+use Rattle.charge_laws.specs.Laws.{manne_charged}
+use Rattle.charge_laws.specs.Tables.{manne_table, manne_flagless}
+use Rattle.rules_manne.specs.Charge.{adds_alike, closes_alike, counted, light, null_closes}
+use Rattle.rules_manne.specs.Rule.{guard_is_glance, guard_is_local, one_rule_at}
+use Rattle.rules_manne.specs.Quiet.{stable_from_quiet, quiet_from_stable}
+
+pub manne_laws : RulesLaws manne false true true 3 false manne_closes manne_node_charge manne_cost
+manne_laws = record {
+  is_central = refl;
+  uses_flags = refl;
+  table = manne_table;
+  is_local = guard_is_local;
+  is_glance = guard_is_glance;
+  one_rule = one_rule_at;
+  no_update = manne_flagless;
+  quiet_is_stable = stable_from_quiet;
+  stable_is_quiet = quiet_from_stable;
+  charge_counts = counted;
+  null_closes_none = null_closes;
+  near = record { closes_by_target = closes_alike; adds_by_standing = adds_alike };
+  is_light = light;
+  charged = manne_charged;
+  disturbances_cost = manne_disturbed;
+}
