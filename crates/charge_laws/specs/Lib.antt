@@ -11,6 +11,7 @@ pub mod Turns
 pub mod Writes
 pub mod Deeds
 pub mod Inside
+pub mod Asks
 pub mod HsuHuangTurns
 pub mod HsuHuangFalls
 pub mod ManneTurns

@@ -26,7 +26,7 @@ use Rattle.charge_laws.specs.Runs.{Effect, rests, steps, disturbs, effect, step_
 use Rattle.containment_laws.specs.Reach.{is_parted, is_hit, is_in_reach}
 use Rattle.containment_laws.specs.Moved.{moves_at, has_moved, is_reached_by, is_ever_reached, KeepsRegisters}
 use Rattle.containment_laws.specs.AtRest.{IsAtRest, rest_near, absent_rests}
-use Rattle.containment_laws.specs.Idle.{AsksForWork}
+use Rattle.rule_set.specs.Table.{AsksForWork}
 use Rattle.containment_laws.specs.Steps.{rest_carries, step_rests, step_keeps_pair}
 use Rattle.containment_laws.specs.Edits.{IsMild, accepted_mild}
 

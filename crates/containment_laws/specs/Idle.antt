@@ -1,72 +1,21 @@
--- No rule is enabled at a node at rest: each rule needs a wrong flag, or a null pointer with a node to answer
--- or court, or an unanswered pointer.
-use Rattle.std.proofs.Common.{◌≡◌, ◌≢◌, ℕ, Bool, true, false, cond, not, ◌&&◌, ◌||◌, None, Some, is_some, is_none, find, nat_le, IsTrue, refl, sym, ◌∙◌}
-use Rattle.std.proofs.lemmas.Bool.{and_parts, true≢false, not-true, false_from_ne_true}
+-- What follows if each rule asks for work: no rule is enabled at a node at rest, nor at an absent one.
+use Rattle.std.proofs.Common.{◌≡◌, ◌≢◌, ℕ, None, IsTrue, sym, ◌∙◌, ⊎_elim}
+use Rattle.std.proofs.lemmas.Bool.{cases_Bool, false_from_ne_true, true_from_ne_false}
 use Rattle.rule_machine.specs.declared.act.Act.{Act}
 use Rattle.rule_machine.specs.declared.act.Act.TheVariants.{Update, Marry, Seduce, Abandon}
-use Rattle.rule_machine.specs.Network.{linked, neighbours}
-use Rattle.rule_machine.specs.State.{State, IsState, pointer, flag, points, married, has_suitor, is_settled}
-use Rattle.rule_machine.specs.RuleTable.{RuleTable, is_open, rule_at}
-use Rattle.rule_machine.specs.HsuHuang.{hsu_huang, hsu_huang_opens}
-use Rattle.rule_machine.specs.Manne.{manne, manne_opens, may_court}
+use Rattle.rule_machine.specs.Network.{present}
+use Rattle.rule_machine.specs.State.{State, IsState, flag, married}
+use Rattle.rule_machine.specs.RuleTable.{RuleTable, rule_at}
 use Rattle.machine_laws.specs.Enabled.{act_none}
-use Rattle.machine_laws.specs.Neighbours.{near_some}
-use Rattle.machine_laws.specs.Pointers.{some_is, suitor_some, points_from}
-use Rattle.charge_laws.specs.Stances.{null_from}
-use Rattle.charge_laws.specs.Inside.{holds_is}
-use Rattle.containment_laws.specs.AtRest.{IsAtRest, rest_answered, rest_no_null, rest_no_suitor}
+use Rattle.machine_laws.specs.Neighbours.{linked_present}
+use Rattle.machine_laws.specs.Pointers.{married_some, suitor_linked}
+use Rattle.charge_laws.specs.Deeds.{IsInside}
+use Rattle.charge_laws.specs.Inside.{pointer_present}
+use Rattle.rule_set.specs.Table.{IsTable, AsksForWork}
+use Rattle.containment_laws.specs.Rest.{is_at_rest}
+use Rattle.containment_laws.specs.AtRest.{IsAtRest, rest_is, rest_answered, rest_no_null, rest_no_suitor}
 
--- what each rule asks for at a node
-pub record AsksForWork (t : RuleTable) : Type 0 where
-  pub update : (s : State) (v : ℕ) → IsTrue (t.guard s v Update) → IsTrue t.flags × (flag s v ≢ married s v)
-  pub marry : (s : State) (v : ℕ) → IsTrue (t.guard s v Marry) → (pointer s v ≡ None) × ((w : ℕ) × (pointer s w ≡ Some v))
-  pub seduce : (s : State) (v : ℕ) → IsTrue (t.guard s v Seduce) → (pointer s v ≡ None) × ((w : ℕ) × IsTrue (linked s.network v w) × (pointer s w ≡ None))
-  pub abandon : (s : State) (v : ℕ) → IsTrue (t.guard s v Abandon) → (w : ℕ) × (pointer s v ≡ Some w) × (pointer s w ≢ Some v)
-
--- a pointer that is not at v is not Some v
-away : (s : State) (v w : ℕ) → not (points s.registers w v) ≡ true → pointer s w ≢ Some v
-away s v w h at = true≢false (sym (points_from s w v at) ∙ not-true (points s.registers w v) h)
-
-pub hsu_huang_asks : AsksForWork hsu_huang
-hsu_huang_asks = record {
-  update = λ s v h. absurd (true≢false (sym h));
-  marry = λ s v h. let both = and_parts (is_none (pointer s v)) (has_suitor s v) h in (null_from (pointer s v) both.0, suitor_some s v both.1);
-  seduce = λ s v h.
-      let both = and_parts (is_none (pointer s v) && not (has_suitor s v)) (is_some (find (is_open hsu_huang_opens s) (neighbours s.network v))) h in
-      let found = some_is (find (is_open hsu_huang_opens s) (neighbours s.network v)) both.1 in
-      let near = near_some s.network (is_open hsu_huang_opens s) v found.0 found.1 in
-      (null_from (pointer s v) (and_parts (is_none (pointer s v)) (not (has_suitor s v)) both.0).0, (found.0, near.0, null_from (pointer s found.0) near.1));
-  abandon = λ s v h.
-      let aim = holds_is (λ w. is_some (pointer s w) && not (points s.registers w v)) (pointer s v) h in
-      (aim.0, aim.1, away s v aim.0 (and_parts (is_some (pointer s aim.0)) (not (points s.registers aim.0 v)) aim.2).1);
-}
-
-wrong_flag : (m f : Bool) → not (cond m f (not f)) ≡ true → f ≡ m → ⊥
-wrong_flag true true h e = true≢false (sym h)
-wrong_flag true false h e = true≢false (sym e)
-wrong_flag false true h e = true≢false e
-wrong_flag false false h e = true≢false (sym h)
-
-pub manne_asks : AsksForWork manne
-manne_asks = record {
-  update = λ s v h. (refl, wrong_flag (married s v) (flag s v) h);
-  marry = λ s v h.
-      let both = and_parts (is_settled s v && is_none (pointer s v)) (has_suitor s v) h in
-      (null_from (pointer s v) (and_parts (is_settled s v) (is_none (pointer s v)) both.0).1, suitor_some s v both.1);
-  seduce = λ s v h.
-      let outer = and_parts (is_settled s v && is_none (pointer s v) && not (has_suitor s v)) (is_some (find (may_court s v) (neighbours s.network v))) h in
-      let inner = and_parts (is_settled s v && is_none (pointer s v)) (not (has_suitor s v)) outer.0 in
-      let found = some_is (find (may_court s v) (neighbours s.network v)) outer.1 in
-      let near = near_some s.network (may_court s v) v found.0 found.1 in
-      let free = and_parts (is_open manne_opens s found.0) _ near.1 in
-      (null_from (pointer s v) (and_parts (is_settled s v) (is_none (pointer s v)) inner.0).1, (found.0, near.0, null_from (pointer s found.0) (and_parts (is_none (pointer s found.0)) (not (flag s found.0)) free.0).0));
-  abandon = λ s v h.
-      let both = and_parts (is_settled s v) _ h in
-      let aim = holds_is (λ w. not (points s.registers w v) && (flag s w || nat_le w v)) (pointer s v) both.1 in
-      (aim.0, aim.1, away s v aim.0 (and_parts (not (points s.registers aim.0 v)) (flag s aim.0 || nat_le aim.0 v) aim.2).0);
-}
-
--- so none is enabled at a node at rest
+-- no rule is enabled at a node at rest
 pub rest_idles : (t : RuleTable) → AsksForWork t → (s : State) (v : ℕ) → IsState s → IsAtRest t.flags s v → (act : Act) → IsTrue (t.guard s v act) → ⊥
 rest_idles t asks s v good rest Update h = let work = asks.update s v h in work.1 (rest.right work.0)
 rest_idles t asks s v good rest Marry h = let work = asks.marry s v h in rest_no_suitor t.flags s v work.1.0 good rest work.0 work.1.1
@@ -75,3 +24,27 @@ rest_idles t asks s v good rest Abandon h = let work = asks.abandon s v h in wor
 
 pub rest_not_enabled : (t : RuleTable) → AsksForWork t → (s : State) (v : ℕ) → IsState s → IsAtRest t.flags s v → rule_at t s v ≡ None
 rest_not_enabled t asks s v good rest = act_none (t.guard s v) (λ act. false_from_ne_true (t.guard s v act) (rest_idles t asks s v good rest act))
+
+pub at_rest_idle : (t : RuleTable) → AsksForWork t → (s : State) (v : ℕ) → IsState s → IsTrue (is_at_rest t.flags s v) → rule_at t s v ≡ None
+at_rest_idle t asks s v good rest = rest_not_enabled t asks s v good (rest_is t.flags s v good rest)
+
+-- a node with a wrong flag is present: its flag is set, or it is married
+wrong_present : (s : State) (v : ℕ) → IsState s → flag s v ≢ married s v → IsTrue (present s.network v)
+wrong_present s v good wrong =
+    ⊎_elim
+    (λ is. let pair = married_some s v is in pointer_present s v pair.0 good pair.1)
+    (λ alone. good.flagged_present v (true_from_ne_false (flag s v) (λ clear. wrong (clear ∙ sym alone))))
+    (cases_Bool (married s v))
+
+-- so only a present node has an enabled rule
+pub inside_from : (t : RuleTable) → IsTable t → AsksForWork t → IsInside t
+inside_from t table asks = record {
+  has = has;
+  near = table.allowed_is_neighbour;
+}
+  where
+    has : (s : State) (v : ℕ) (act : Act) → IsState s → IsTrue (t.guard s v act) → IsTrue (present s.network v)
+    has s v Update good h = wrong_present s v good (asks.update s v h).1
+    has s v Marry good h = let work = asks.marry s v h in linked_present s.network v work.1.0 good.is_network (suitor_linked s v work.1.0 good work.1.1)
+    has s v Seduce good h = let work = asks.seduce s v h in linked_present s.network v work.1.0 good.is_network work.1.1
+    has s v Abandon good h = let work = asks.abandon s v h in pointer_present s v work.0 good work.1

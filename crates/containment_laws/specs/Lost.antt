@@ -23,7 +23,7 @@ use Rattle.charge_laws.specs.Deeds.{IsInside}
 use Rattle.charge_laws.specs.Epochs.{IsPath}
 use Rattle.charge_laws.specs.Members.{names_without_repeats}
 use Rattle.containment_laws.specs.Reach.{parts_a_pair, partings_of, partings_in, lost_pairs}
-use Rattle.containment_laws.specs.Idle.{AsksForWork}
+use Rattle.rule_set.specs.Table.{AsksForWork}
 use Rattle.containment_laws.specs.Edits.{mutual_from, mutual_is}
 use Rattle.containment_laws.specs.Contained.{calm_keeps_pair}
 use Rattle.containment_laws.specs.Partings.{main_node, share, spared_stays, none_parted, unparted_stays}

@@ -26,7 +26,7 @@ use Rattle.charge_laws.specs.Inside.{pointer_present}
 use Rattle.charge_laws.specs.ManneStableCharge.{married_are_pairs}
 use Rattle.charge_laws.specs.Members.{in_names, names_without_repeats, names_len}
 use Rattle.containment_laws.specs.Reach.{is_parted, parts_a_pair, partings_of, partings_in}
-use Rattle.containment_laws.specs.Idle.{AsksForWork}
+use Rattle.rule_set.specs.Table.{AsksForWork}
 use Rattle.containment_laws.specs.Edits.{mutual_is}
 use Rattle.containment_laws.specs.Contained.{answered_mild, calm_keeps_pair}
 

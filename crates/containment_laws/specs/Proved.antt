@@ -10,14 +10,15 @@ use Rattle.machine_laws.specs.LeastMoves.{IsTable}
 use Rattle.machine_laws.specs.Pairs.{pair_from, pair_listed}
 use Rattle.machine_laws.specs.Runs.{answers_keep}
 use Rattle.charge_laws.specs.Deeds.{IsInside, step_done}
-use Rattle.charge_laws.specs.Inside.{hsu_huang_inside, manne_inside}
 use Rattle.charge_laws.specs.Tables.{hsu_huang_table, manne_table}
 use Rattle.containment_laws.specs.Rest.{is_at_rest}
 use Rattle.containment_laws.specs.Reach.{is_in_reach}
 use Rattle.containment_laws.specs.Moved.{is_ever_reached}
 use Rattle.containment_laws.specs.Laws as law
 use Rattle.containment_laws.specs.AtRest.{rest_is, rest_from, all_rest}
-use Rattle.containment_laws.specs.Idle.{AsksForWork, hsu_huang_asks, manne_asks, rest_not_enabled}
+use Rattle.rule_set.specs.Table.{AsksForWork}
+use Rattle.charge_laws.specs.Asks.{hsu_huang_asks, manne_asks}
+use Rattle.containment_laws.specs.Idle.{inside_from, at_rest_idle}
 use Rattle.containment_laws.specs.Steps.{step_rests, step_keeps_pair}
 use Rattle.containment_laws.specs.Contained.{run_rests, run_keeps_pairs, run_keeps_network, disturbed_rests, path_rests}
 use Rattle.containment_laws.specs.Lost.{path_lost}
@@ -30,15 +31,19 @@ pub record IsContaining (t : RuleTable) : Type 0 where
   pub inside : IsInside t
   pub asks : AsksForWork t
 
+-- any table whose rules ask for work has it
+pub contains_from : (t : RuleTable) → IsTable t → AsksForWork t → IsContaining t
+contains_from t table asks = record { table = table; inside = inside_from t table asks; asks = asks }
+
 pub hsu_huang_contains : IsContaining hsu_huang
-hsu_huang_contains = record { table = hsu_huang_table; inside = hsu_huang_inside; asks = hsu_huang_asks }
+hsu_huang_contains = contains_from hsu_huang hsu_huang_table hsu_huang_asks
 
 pub manne_contains : IsContaining manne
-manne_contains = record { table = manne_table; inside = manne_inside; asks = manne_asks }
+manne_contains = contains_from manne manne_table manne_asks
 
 module _ (t : RuleTable) (is : IsContaining t) where
   pub rest_is_idle : law.RestIsIdle t
-  rest_is_idle s good v rest = rest_not_enabled t is.asks s v good (rest_is t.flags s v good rest)
+  rest_is_idle s good v rest = at_rest_idle t is.asks s v good rest
 
   pub steps_leave_rest : law.StepsLeaveRest t
   steps_leave_rest s good items moves s' step v rest =

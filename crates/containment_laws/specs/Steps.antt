@@ -12,7 +12,8 @@ use Rattle.machine_laws.specs.Pointers.{married_some, married_from, null_unmarri
 use Rattle.charge_laws.specs.Writes.{is_moved}
 use Rattle.charge_laws.specs.Deeds.{Deed, idles, updates, marries, seduces, abandons, IsInside, IsDone, step_done}
 use Rattle.containment_laws.specs.AtRest.{IsAtRest, rest_near}
-use Rattle.containment_laws.specs.Idle.{AsksForWork, rest_idles}
+use Rattle.rule_set.specs.Table.{AsksForWork}
+use Rattle.containment_laws.specs.Idle.{rest_idles}
 
 -- What keeps a node at rest: its flag stays, it stays married if it was, and if its pointer was null it stays
 -- null and its neighbours then are married.

@@ -1,6 +1,7 @@
 -- Looks under a network's lock: nodes at rest, and nodes that an event would reach.
-use Rattle.std.specs.Prelude.{◌≡◌, ℕ, Bool, List}
+use Rattle.std.specs.Prelude.{◌≡◌, ℕ, Bool, List, None, IsTrue}
 use Rattle.rule_machine.specs.declared.event.Event.{Event}
+use Rattle.rule_machine.specs.RuleTable.{rule_at}
 use Rattle.containment_laws.specs.Rest.{is_at_rest}
 use Rattle.rule_engine.specs.Reached.{reach_of, Spares}
 use Rattle.logbook.specs.Pages.{Book}
@@ -8,14 +9,15 @@ use Rattle.board.specs.Views.{Told}
 use Rattle.step_log.specs.Log.{Log}
 use Rattle.locked_net.specs.Settings.{Setting, IsLogIn}
 
--- The log under the lock is exactly the note's, published in this history. After it the node is at rest, or
--- is not.
+-- The log under the lock is exactly the note's, published in this history. After it the node is at rest and
+-- no rule is enabled at it, or it is not at rest.
 pub record IsRestSeen (setting : Setting) (book : Book) (v : ℕ) (rests : Bool) (note : Told) : Type 0 where
   pub log : Log
   pub own : IsLogIn setting log
   pub published : note.log ≡ log.entries
   pub in_book : note.book ≡ book
   pub rests_is : rests ≡ is_at_rest setting.table.flags log.state v
+  pub idle : IsTrue rests → rule_at setting.table log.state v ≡ None
 
 -- After that log the event would reach these nodes; if it is accepted, each node at rest and not among them
 -- stays at rest.

@@ -6,7 +6,7 @@ ghost use Rattle.graph_store.specs.Fault.{nodes_fault, Explains};
 ghost use Rattle.rule_machine.specs.Base.{base_of};
 ghost use Rattle.rule_machine.specs.Network.{node_count, edge_count};
 ghost use Rattle.rule_machine.specs.State.{IsState};
-ghost use Rattle.rule_machine.specs.RuleTable.{enabled_names};
+ghost use Rattle.rule_machine.specs.RuleTable.{enabled_names, rule_at};
 ghost use Rattle.rule_machine.specs.Refuse.{refusal_of};
 ghost use Rattle.rule_machine.specs.Least.{reply_of, replies_of};
 ghost use Rattle.rule_machine.specs.Stable.{IsStable, IsMaximalMatching, mutual_pairs};
@@ -167,13 +167,14 @@ impl<R: Rules> Net<R> {
         self.engine.cost_of(event)
     }
 
-    /// Whether a node is at rest: for any daemon, it stays so and makes no move until a disturbance reaches
-    /// it.
+    /// Whether a node is at rest: no rule is enabled at it, and for any daemon it stays so and makes no move
+    /// until a disturbance reaches it.
     /// Its flag is right, if flags are used, and it is married; or it points nowhere and each neighbour is
     /// married.
     /// It goes through the neighbours only if the node points nowhere.
     pub fn is_at_rest(&self, v: Node) -> bool
-        ensures { result ≡ is_at_rest R.table.flags self.now.state v }
+        ensures rests { result ≡ is_at_rest R.table.flags self.now.state v }
+        ensures idle { IsTrue result → rule_at R.table self.now.state v ≡ None }
     {
         self.engine.is_at_rest(v)
     }

@@ -9,7 +9,7 @@ use Rattle.rule_machine.specs.RuleTable.{RuleTable, enabled_names}
 use Rattle.rule_machine.specs.Stable.{IsStable}
 use Rattle.rule_set.specs.Charge.{CountsCharge, AreNear, AddsAtMost, IsCharged}
 use Rattle.rule_set.specs.Glance.{SameGlance}
-use Rattle.rule_set.specs.Table.{IsTable}
+use Rattle.rule_set.specs.Table.{IsTable, AsksForWork}
 use Rattle.rule_set.specs.Target.{SameAt}
 
 pub record RulesLaws (t : RuleTable) (central flags above : Bool) (weight : ℕ) (courted_close : Bool) (closes : State → ℕ → Bool) (adds : State → ℕ → ℕ) (cost : State → Event → ℕ) : Type 0 where
@@ -19,6 +19,8 @@ pub record RulesLaws (t : RuleTable) (central flags above : Bool) (weight : ℕ)
   pub uses_flags : t.flags ≡ flags
   -- An allowed target is a neighbour, of a rule that takes one; an enabled rule that takes a target has one.
   pub table : IsTable t
+  -- What each rule asks for at its node: no rule is enabled without work.
+  pub asks : AsksForWork t
   -- A guard depends only on what is shown at its node.
   pub is_local : (s u : State) (v : ℕ) (act : Act) → IsState s → IsState u → SameAt s u v → t.guard s v act ≡ t.guard u v act
   -- A guard depends only on a glance: the node's registers, its target's, and whether it is married. For a

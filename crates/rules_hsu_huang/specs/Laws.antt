@@ -2,6 +2,7 @@
 use Rattle.std.specs.Prelude.{true, false, refl}
 use Rattle.rule_machine.specs.HsuHuang.{hsu_huang}
 use Rattle.rule_set.specs.RulesLaws.{RulesLaws}
+use Rattle.charge_laws.specs.Asks.{hsu_huang_asks}
 use Rattle.charge_laws.specs.ClosedByPointers.{hsu_huang_closes}
 use Rattle.charge_laws.specs.Costs.{hsu_huang_cost}
 use Rattle.charge_laws.specs.CostsOfRuns.{hsu_huang_disturbed}
@@ -16,6 +17,7 @@ hsu_huang_laws = record {
   is_central = refl;
   uses_flags = refl;
   table = hsu_huang_table;
+  asks = hsu_huang_asks;
   is_local = guard_is_local;
   is_glance = guard_is_glance;
   one_rule = one_rule_at;

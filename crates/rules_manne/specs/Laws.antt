@@ -3,6 +3,7 @@ use Rattle.std.specs.Prelude.{true, false, refl}
 use Rattle.rule_machine.specs.Manne.{manne}
 use Rattle.rule_machine.specs.Charge.{manne_node_charge}
 use Rattle.rule_set.specs.RulesLaws.{RulesLaws}
+use Rattle.charge_laws.specs.Asks.{manne_asks}
 use Rattle.charge_laws.specs.ClosedByPointers.{manne_closes}
 use Rattle.charge_laws.specs.Costs.{manne_cost}
 use Rattle.charge_laws.specs.CostsOfRuns.{manne_disturbed}
@@ -17,6 +18,7 @@ manne_laws = record {
   is_central = refl;
   uses_flags = refl;
   table = manne_table;
+  asks = manne_asks;
   is_local = guard_is_local;
   is_glance = guard_is_glance;
   one_rule = one_rule_at;

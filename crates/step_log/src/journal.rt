@@ -1,8 +1,9 @@
 //! A network with its log.
 
-ghost use Rattle.std.specs.Prelude.{◌≡◌, ◌<◌, ◌≤◌, ◌+◌, ◌-◌, ◌*◌, ◌⊎◌, ◌↔◌, All, length, min, IfOk, IfErr, OnOk, OnErr, IsErrOf, IsTrue, Some, slice_get, vec_capacity};
+ghost use Rattle.std.specs.Prelude.{◌≡◌, ◌<◌, ◌≤◌, ◌+◌, ◌-◌, ◌*◌, ◌⊎◌, ◌↔◌, All, length, min, IfOk, IfErr, OnOk, OnErr, IsErrOf, IsTrue, None, Some, slice_get, vec_capacity};
 ghost use Rattle.graph_store.specs.Fault.{nodes_fault, Explains};
 ghost use Rattle.rule_machine.specs.declared.event.Event.TheVariants.{Step};
+ghost use Rattle.rule_machine.specs.RuleTable.{rule_at};
 ghost use Rattle.rule_engine.specs.Choosing.{verdicts_of};
 ghost use Rattle.rule_engine.specs.Costs.{cost_of, BoundsGrowth};
 ghost use Rattle.rule_engine.specs.Reached.{reach_of, Spares};
@@ -183,7 +184,8 @@ impl<R: Rules> Journal<R> {
 
     /// Whether a node is at rest. Records nothing. See `Net::is_at_rest`, also for the cost.
     pub fn is_at_rest(&self, v: Node) -> bool
-        ensures { result ≡ is_at_rest R.table.flags self.now.state v }
+        ensures rests { result ≡ is_at_rest R.table.flags self.now.state v }
+        ensures idle { IsTrue result → rule_at R.table self.now.state v ≡ None }
     {
         self.net().is_at_rest(v)
     }

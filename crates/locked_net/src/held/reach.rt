@@ -1,6 +1,7 @@
 //! Nodes at rest and nodes that an event would reach, under a held lock.
 
-ghost use Rattle.std.specs.Prelude.{◌≡◌, IfOk};
+ghost use Rattle.std.specs.Prelude.{◌≡◌, IfOk, IsTrue, None};
+ghost use Rattle.rule_machine.specs.RuleTable.{rule_at};
 ghost use Rattle.containment_laws.specs.Rest.{is_at_rest};
 ghost use Rattle.rule_engine.specs.Reached.{reach_of, Spares};
 
@@ -11,6 +12,7 @@ impl<R: Rules> HeldNet<'_, R> {
     /// Whether a node is at rest, with a note of the log: `LockedNet::is_at_rest` under a held lock.
     pub fn is_at_rest(&self, v: Node) -> SeenRest
         ensures rests { result.rests ≡ is_at_rest R.table.flags self.now.log.state v }
+        ensures idle { IsTrue result.rests → rule_at R.table self.now.log.state v ≡ None }
         ensures note { (result.note.log ≡ self.now.log.entries) × (result.note.book ≡ self.now.name.book) }
     {
         SeenRest {

@@ -11,4 +11,5 @@ returns g c =
       published = told.note.0;
       in_book = told.note.1 ∙ ap (λ (name : Name). name.book) c.hold-held.ensures.name;
       rests_is = told.rests;
+      idle = told.idle;
     }
