@@ -8,10 +8,10 @@ use Rattle.std.proofs.lemmas.List.Folds.{list_any-append}
 use Rattle.rule_machine.specs.Network.{linked, neighbours}
 use Rattle.rule_machine.specs.State.{State, Registers, IsState, pointer, flag, points, is_at, married, has_suitor}
 use Rattle.rule_machine.specs.RuleTable.{is_open}
-use Rattle.rule_set.specs.Glance.{SameGlance, reaches, is_reached, reaches_beside}
+use Rattle.rule_set.specs.Glance.{SameGlance, asks_for, reaches, is_reached, reaches_beside}
 use Rattle.machine_laws.specs.Edges.{linked_comm}
 use Rattle.machine_laws.specs.Writes.{if_some_at, is_at_from_some, some_from_is_at}
-use Rattle.rule_engine.specs.Looked.{is_suitor, may_ask, may_turn, is_touched}
+use Rattle.rule_engine.specs.Looked.{is_suitor, may_turn, is_touched}
 use Rattle.rule_engine.proofs.Far.{not_same}
 use Rattle.rule_engine.proofs.Looked.{found_any, listed_neighbours}
 
@@ -61,7 +61,7 @@ reach_beside above opens s v w good =
     ∙ ap₂ (λ (b c : Bool). b || (c && is_reached above opens s w v)) (sym (found_any (λ x. not (nat_eq x v) && is_reached above opens s w x) (neighbours s.network w))) (listed_neighbours s.network w v good.is_network)
 
 -- a node that is not asked for is not reached
-never_asked : (above : Bool) (opens : Option ℕ → Bool → Bool) (s : State) (v w : ℕ) → may_ask above v w ≡ false → is_reached above opens s w v ≡ false
+never_asked : (above : Bool) (opens : Option ℕ → Bool → Bool) (s : State) (v w : ℕ) → asks_for above w v ≡ false → is_reached above opens s w v ≡ false
 never_asked true opens s v w e = and_right (is_open opens s v) (nat_lt w v) e
 never_asked false opens s v w e = absurd (true≢false e)
 
@@ -106,13 +106,13 @@ module _ (above : Bool) (opens : Option ℕ → Bool → Bool) (s : State) (r : 
       ap (λ b. reaches_beside above opens (with_registers s r) w v || (b && is_reached above opens s w v)) none
       ∙ sym (ap (λ b. reaches_beside above opens (with_registers s r) w v || (b && is_reached above opens (with_registers s r) w v)) none))
       (λ rest. ⊎_elim
-      (λ (no : may_ask above v w ≡ false).
+      (λ (no : asks_for above w v ≡ false).
       ap (λ b. reaches_beside above opens (with_registers s r) w v || (linked s.network w v && b)) (never_asked above opens s v w no ∙ sym (never_asked above opens (with_registers s r) v w no)))
       (λ (yes : reaches_beside above opens (with_registers s r) w v ≡ true).
       ap (λ b. b || (linked s.network w v && is_reached above opens s w v)) yes
       ∙ sym (ap (λ b. b || (linked s.network w v && is_reached above opens (with_registers s r) w v)) yes))
       rest)
-      (settled (linked s.network v w) (may_ask above v w) (is_none (pointer (with_registers s r) w)) (reaches_beside above opens (with_registers s r) w v) (ap is_none null) off)
+      (settled (linked s.network v w) (asks_for above w v) (is_none (pointer (with_registers s r) w)) (reaches_beside above opens (with_registers s r) w v) (ap is_none null) off)
 
   reach_same : (w : ℕ) (turned : Bool) → pointer (with_registers s r) w ≡ None → (turned ≡ false → is_open opens s v ≡ is_open opens (with_registers s r) v) → (turned && may_turn above opens (with_registers s r) v w) ≡ false → reaches above opens s w ≡ reaches above opens (with_registers s r) w
   reach_same w turned null stays off =

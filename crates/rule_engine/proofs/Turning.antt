@@ -11,7 +11,8 @@ use Rattle.rule_machine.specs.Network.{Network, IsNetwork, linked, names, neighb
 use Rattle.rule_machine.specs.State.{State}
 use Rattle.rule_machine.specs.RuleTable.{RuleTable}
 use Rattle.machine_laws.specs.LeastAnswers.{names_increasing}
-use Rattle.rule_engine.specs.Looked.{may_ask, IsLookedAt}
+use Rattle.rule_set.specs.Glance.{asks_for}
+use Rattle.rule_engine.specs.Looked.{IsLookedAt}
 use Rattle.rule_engine.proofs.Looked.{looked_alike, looked_neighbours}
 
 -- if no later item passes, those so far settle the answer
@@ -21,14 +22,14 @@ any_so_far p xs i none =
     sym (ap (list_any p) (sym (take-append-drop i xs)) ∙ list_any-append p (take i xs) (drop i xs) ∙ ap (λ b. list_any p (take i xs) || b) rest ∙ or-false (list_any p (take i xs)))
 
 -- a node that does not ask for v is no lower than v, and so is every higher name
-higher_ask_not : (above : Bool) (v w x : ℕ) → may_ask above v w ≡ false → w ≤ x → may_ask above v x ≡ false
+higher_ask_not : (above : Bool) (v w x : ℕ) → asks_for above w v ≡ false → w ≤ x → asks_for above x v ≡ false
 higher_ask_not true v w x none higher = let low = ltb-false w v none in le-ltb x v (omega arith)
 higher_ask_not false v w x none higher = absurd (let e : true ≡ false = none in cc)
 
 -- from the first neighbour on that does not ask, none does
-ask_no_more : (above : Bool) (net : Network) (v : ℕ) (c : ℕ → Bool) (list : List ℕ) (i w x : ℕ) → list ≡ neighbours net v → i < length list → w ≡ get_or list i w → may_ask above v w ≡ false → list_any (λ y. nat_eq x y && (may_ask above v y && c y)) (take i list) ≡ list_any (λ y. nat_eq x y && (may_ask above v y && c y)) list
+ask_no_more : (above : Bool) (net : Network) (v : ℕ) (c : ℕ → Bool) (list : List ℕ) (i w x : ℕ) → list ≡ neighbours net v → i < length list → w ≡ get_or list i w → asks_for above w v ≡ false → list_any (λ y. nat_eq x y && (asks_for above y v && c y)) (take i list) ≡ list_any (λ y. nat_eq x y && (asks_for above y v && c y)) list
 ask_no_more above net v c list i w x all inside is none =
-    any_so_far (λ y. nat_eq x y && (may_ask above v y && c y)) list i (
+    any_so_far (λ y. nat_eq x y && (asks_for above y v && c y)) list i (
     λ j d later within.
     let y = get_or list j d in
     let there : get_or list i d ≡ get_or list i w = get_or_default list i d w inside in
@@ -36,15 +37,15 @@ ask_no_more above net v c list i w x all inside is none =
     (λ (here : i ≡ j). let e = ap (λ n. get_or list n d) here in omega (arith, e, there, is))
     (λ (apart : i ≢ j). let lt = AllPairs-from_increasing list rising i j d (omega arith) within in omega (arith, lt, there, is))
     (cases_eq i j) in
-    and_right (nat_eq x y) (may_ask above v y && c y) (ap (λ b. b && c y) (higher_ask_not above v w y none higher))
+    and_right (nat_eq x y) (asks_for above y v && c y) (ap (λ b. b && c y) (higher_ask_not above v w y none higher))
     )
   where
     rising : IsStrictlyIncreasing list
     rising = subst IsStrictlyIncreasing (sym all) (IsStrictlyIncreasing-filter (linked net v) (names net) (names_increasing net))
 
 -- so looks at those that ask before it are looks at all that do
-pub looked_below : (t : RuleTable) (s : State) (above : Bool) (v : ℕ) (c : ℕ → Bool) (list : List ℕ) (i w : ℕ) (a b : List Bool) → IsNetwork s.network → list ≡ neighbours s.network v → i < length list → w ≡ get_or list i w → may_ask above v w ≡ false → IsLookedAt t s (λ x. list_any (λ y. nat_eq x y && (may_ask above v y && c y)) (take i list)) a b → IsLookedAt t s (λ x. linked s.network v x && (may_ask above v x && c x)) a b
+pub looked_below : (t : RuleTable) (s : State) (above : Bool) (v : ℕ) (c : ℕ → Bool) (list : List ℕ) (i w : ℕ) (a b : List Bool) → IsNetwork s.network → list ≡ neighbours s.network v → i < length list → w ≡ get_or list i w → asks_for above w v ≡ false → IsLookedAt t s (λ x. list_any (λ y. nat_eq x y && (asks_for above y v && c y)) (take i list)) a b → IsLookedAt t s (λ x. linked s.network v x && (asks_for above x v && c x)) a b
 looked_below t s above v c list i w a b good all inside is none looked =
-    looked_neighbours t s v (λ y. may_ask above v y && c y) list a b good all
-    (looked_alike t s (λ x. list_any (λ y. nat_eq x y && (may_ask above v y && c y)) (take i list)) (λ x. list_any (λ y. nat_eq x y && (may_ask above v y && c y)) list) a b
+    looked_neighbours t s v (λ y. asks_for above y v && c y) list a b good all
+    (looked_alike t s (λ x. list_any (λ y. nat_eq x y && (asks_for above y v && c y)) (take i list)) (λ x. list_any (λ y. nat_eq x y && (asks_for above y v && c y)) list) a b
     (λ x. ask_no_more above s.network v c list i w x all inside is none) looked)

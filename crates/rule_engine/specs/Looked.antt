@@ -4,17 +4,12 @@ use Rattle.enabled_set.specs.Members.{is_in}
 use Rattle.rule_machine.specs.Network.{linked}
 use Rattle.rule_machine.specs.State.{State, pointer, points, is_at}
 use Rattle.rule_machine.specs.RuleTable.{RuleTable}
-use Rattle.rule_set.specs.Glance.{reaches_beside}
+use Rattle.rule_set.specs.Glance.{asks_for, reaches_beside}
 use Rattle.rule_engine.specs.Kept.{is_on}
 
 -- whether w is a neighbour of v that points at it
 abbrev pub is_suitor : State → ℕ → ℕ → Bool
 is_suitor s v w = linked s.network v w && points s.registers w v
-
--- whether v may be among the open nodes that the guard of w asks for: those above w, or any
-abbrev pub may_ask : Bool → ℕ → ℕ → Bool
-may_ask true v w = nat_lt w v
-may_ask false v w = true
 
 -- whether w is the target of a pointer, and points nowhere
 abbrev pub is_null_target : State → Option ℕ → ℕ → Bool
@@ -26,7 +21,7 @@ turns_with above opens s v w = is_none (pointer s w) && not (reaches_beside abov
 
 -- whether w is a neighbour of v that asks for it and turns with it
 abbrev pub may_turn : Bool → (Option ℕ → Bool → Bool) → State → ℕ → ℕ → Bool
-may_turn above opens s v w = linked s.network v w && (may_ask above v w && turns_with above opens s v w)
+may_turn above opens s v w = linked s.network v w && (asks_for above w v && turns_with above opens s v w)
 
 -- whether a write of v's registers may change the guard of w; `turned`: it may have opened or closed v. A
 -- pointer's old and new target count too if they point nowhere: see is_null_target.

@@ -3,13 +3,13 @@
 ghost use Rattle.std.specs.Prelude.{◌≡◌, ◌+◌, ◌&&◌, IfSome, IsTrue, length, nat_eq};
 ghost use Rattle.rule_machine.specs.Network.{linked, present};
 ghost use Rattle.rule_machine.specs.RuleTable as RuleTable;
-ghost use Rattle.rule_engine.specs.Looked.{is_null_target, is_suitor, is_touched, may_ask, may_turn, turns_with, IsLookedAt};
+ghost use Rattle.rule_engine.specs.Looked.{is_null_target, is_suitor, is_touched, may_turn, turns_with, IsLookedAt};
 
 use crate::guard::rule_at;
 use enabled_set::EnabledSet;
 use indexed_state::IndexedState;
 use rule_machine::Node;
-use rule_set::{Local, Rules};
+use rule_set::{Local, Rules, asks_for};
 
 pub(crate) fn look_at<R: Rules>(state: &IndexedState<R>, enabled: &mut EnabledSet, v: Node)
     requires has { IsTrue (present state.now.state.network v) }
@@ -64,13 +64,6 @@ fn look_at_suitors<R: Rules>(state: &IndexedState<R>, enabled: &mut EnabledSet, 
     for &w in neighbours {
         look_if(state, enabled, w, state.registers().points_at(w, v));
     }
-}
-
-/// Whether the guard of `w` asks for open nodes and `v` may be one of them.
-fn asks_for<R: Rules>(w: Node, v: Node) -> bool
-    ensures { result ≡ may_ask R.ABOVE v w }
-{
-    !R::ABOVE || w < v
 }
 
 /// Whether `w` points nowhere and sees an open node exactly if `v` is open.

@@ -10,6 +10,11 @@ abbrev pub reaches : Bool → (Option ℕ → Bool → Bool) → State → ℕ �
 reaches true opens s v = is_some (last_open_above opens s v)
 reaches false opens s v = is_some (first_open opens s v)
 
+-- whether the guard of v asks for open neighbours such as x: those above v, or any
+abbrev pub asks_for : Bool → ℕ → ℕ → Bool
+asks_for true v x = nat_lt v x
+asks_for false v x = true
+
 -- whether x is open, and one that v may court: one above v, or any
 abbrev pub is_reached : Bool → (Option ℕ → Bool → Bool) → State → ℕ → ℕ → Bool
 is_reached true opens s v x = is_open opens s x && nat_lt v x

@@ -21,6 +21,6 @@ mod standing;
 mod touched;
 
 pub use local::Local;
-pub use rules::{BadTarget, Rules};
+pub use rules::{BadTarget, Rules, asks_for};
 pub use standing::Standing;
 pub use touched::{Touched, points_at};

@@ -7,6 +7,7 @@ ghost use Rattle.rule_machine.specs.declared.event.Event.{Event};
 ghost use Rattle.rule_machine.specs.Refuse.{refusal_of};
 ghost use Rattle.rule_machine.specs.State.{State, IsState, pointer};
 ghost use Rattle.rule_machine.specs.RuleTable.{RuleTable, rule_at};
+ghost use Rattle.rule_set.specs.Glance.{asks_for};
 ghost use Rattle.rule_set.specs.RulesLaws.{RulesLaws};
 ghost use Rattle.rule_set.specs.Standing.{IsStanding};
 ghost use Rattle.rule_set.specs.Target.{target_at};
@@ -97,4 +98,12 @@ pub trait Rules {
         requires state { IsState (T.state touched.now) }
         requires accepted { refusal_of table (T.state touched.now) event.now ≡ None }
         ensures { result ≡ cost (T.state touched.now) event.now };
+}
+
+/// Whether the guard of `v` asks for open neighbours such as `w`: any, or only those above `v`.
+#[inline(always)]
+pub fn asks_for<R: Rules>(v: Node, w: Node) -> bool
+    ensures { result ≡ asks_for R.ABOVE v w }
+{
+    !R::ABOVE || v < w
 }

@@ -7,10 +7,8 @@
 -- it came. Those of a worker's clerk are steps of one node, at most as many as it has turns.
 use Rattle.std.specs.Prelude.{◌≡◌, ◌≢◌, ℕ, ◌<◌, ◌⊎◌, List, [], length, map, Option, None, Some, Result, Ok, Err}
 use Rattle.std.specs.Io.KnownBytes.{Appends, Keeps}
-use Rattle.rule_machine.specs.declared.rules.RuleSet.{RuleSet}
-use Rattle.rule_machine.specs.declared.rules.RuleSet.TheVariants.{Hh, Manne}
 use Rattle.rule_machine.specs.RuleTable.{RuleTable}
-use Rattle.rule_machine.specs.Tables.{table_of}
+use Rattle.rule_machine.specs.Tables.{table_of, weight_of}
 use Rattle.byte_streams.specs.Beginning.{AppendsBeginning}
 use Rattle.step_log.specs.Kept.{Kept, IsKept}
 use Rattle.locked_net.specs.declared.call_fault.CallFault.{CallFault}
@@ -67,11 +65,6 @@ Ends t weight asked texts old new (Err TooManyScripts) = (64 < length texts) × 
 Ends t weight asked texts old new (Err (BadLine script line)) = FirstBadScript 1 texts script line × Keeps old new
 Ends t weight asked texts old new (Err Read) = (texts ≢ []) × Keeps old new
 Ends t weight asked texts old new (Err Thread) = ⊥
-
--- the weight of a node in the bound of a rule set
-abbrev pub weight_of : RuleSet → ℕ
-weight_of Hh = 1
-weight_of Manne = 3
 
 -- the storm of some texts, under the rule set that is asked for
 abbrev pub IsOutcome : Asked → List (Option (List ℕ)) → Option (List ℕ) → Option (List ℕ) → Result Unit StormFault → Type 0

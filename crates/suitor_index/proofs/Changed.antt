@@ -12,7 +12,8 @@ use Rattle.machine_laws.specs.Neighbours.{linked_back, linked_present, present_r
 use Rattle.machine_laws.specs.Pointers.{pointer_linked}
 use Rattle.suitor_index.specs.declared.tally.Tally.{Tally}
 use Rattle.net_state.specs.Held.{Held, state_of}
-use Rattle.suitor_index.specs.Tallies.{tally_of, asks_for, IsIndexOf, IsIndexed}
+use Rattle.rule_set.specs.Glance.{asks_for}
+use Rattle.suitor_index.specs.Tallies.{tally_of, IsIndexOf, IsIndexed}
 use Rattle.suitor_index.specs.Told.{IsCourted, IsRepointed, IsTurned, HasSuitor, HasRoomFor, CanTurn}
 use Rattle.suitor_index.proofs.Near.{listed_linked}
 use Rattle.suitor_index.proofs.Turned.{AreAlike, near, has_suitor, has_room, can_turn, index_turned}

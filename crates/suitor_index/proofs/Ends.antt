@@ -6,7 +6,8 @@ use Rattle.rule_machine.specs.Network.{Network, linked, neighbours, present}
 use Rattle.rule_machine.specs.State.{Registers, points, pointer_of, flag_of}
 use Rattle.suitor_index.specs.declared.tally.Tally.{Tally}
 use Rattle.net_state.specs.Held.{state_of}
-use Rattle.suitor_index.specs.Tallies.{tally_of, tally_at, asks_for, IsIndexOf}
+use Rattle.rule_set.specs.Glance.{asks_for}
+use Rattle.suitor_index.specs.Tallies.{tally_of, tally_at, IsIndexOf}
 use Rattle.suitor_index.specs.Told.{one_if, IsOpenTo}
 use Rattle.suitor_index.proofs.Near.{term, near_turn, near_same}
 use Rattle.suitor_index.proofs.Reached.{open_is}

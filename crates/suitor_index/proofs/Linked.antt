@@ -14,7 +14,8 @@ use Rattle.machine_laws.specs.Neighbours.{linked_apart, linked_present, linked_b
 use Rattle.machine_laws.specs.Pointers.{points_true, pointer_linked}
 use Rattle.suitor_index.specs.declared.tally.Tally.{Tally}
 use Rattle.net_state.specs.Held.{Held, state_of}
-use Rattle.suitor_index.specs.Tallies.{tally_of, asks_for, IsIndexOf, IsIndexed}
+use Rattle.rule_set.specs.Glance.{asks_for}
+use Rattle.suitor_index.specs.Tallies.{tally_of, IsIndexOf, IsIndexed}
 use Rattle.suitor_index.specs.Told.{one_if, IsOpenTo}
 use Rattle.suitor_index.proofs.Turned.{tally_small}
 use Rattle.suitor_index.proofs.Ends.{IsEdgeMore, end_of, tally_more}

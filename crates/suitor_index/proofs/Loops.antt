@@ -8,7 +8,8 @@ use Rattle.std.proofs.lemmas.List.{get_or-take, get_or_default, length-take}
 use Rattle.std.proofs.lemmas.List.Folds.{Any-from_list_any, list_any_none, list_any_more, list_any_at}
 use Rattle.std.proofs.lemmas.List.Kept.{AllPairs-from_increasing}
 use Rattle.suitor_index.specs.declared.tally.Tally.{Tally}
-use Rattle.suitor_index.specs.Tallies.{tally_of, asks_for}
+use Rattle.rule_set.specs.Glance.{asks_for}
+use Rattle.suitor_index.specs.Tallies.{tally_of}
 use Rattle.suitor_index.specs.Told.{CanTurn, IsTurned, one_if}
 
 -- two tests that don't both pass are counted one after the other

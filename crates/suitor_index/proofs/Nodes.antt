@@ -11,7 +11,8 @@ use Rattle.machine_laws.specs.Neighbours.{linked_present, neighbours_range, pres
 use Rattle.machine_laws.specs.Keeps.{opening_is_state}
 use Rattle.suitor_index.specs.declared.tally.Tally.{Tally}
 use Rattle.net_state.specs.Held.{state_of}
-use Rattle.suitor_index.specs.Tallies.{nothing, tally_of, tally_at, name_if, asks_for, IsIndexOf, IsIndexed}
+use Rattle.rule_set.specs.Glance.{asks_for}
+use Rattle.suitor_index.specs.Tallies.{nothing, tally_of, tally_at, name_if, IsIndexOf, IsIndexed}
 use Rattle.suitor_index.proofs.Reached.{open_is}
 
 -- what a scan of these nodes counts

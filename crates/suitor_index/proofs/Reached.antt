@@ -4,8 +4,8 @@ use Rattle.std.specs.List.{count_by}
 use Rattle.rule_machine.specs.Network.{neighbours}
 use Rattle.rule_machine.specs.State.{State}
 use Rattle.rule_machine.specs.RuleTable.{is_open}
-use Rattle.rule_set.specs.Glance.{is_reached}
-use Rattle.suitor_index.specs.Tallies.{tally_at, asks_for}
+use Rattle.rule_set.specs.Glance.{asks_for, is_reached}
+use Rattle.suitor_index.specs.Tallies.{tally_at}
 
 swapped : (a b : Bool) → (a && b) ≡ (b && a)
 swapped a b = grind arith

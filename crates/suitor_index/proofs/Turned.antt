@@ -4,13 +4,13 @@ use Rattle.std.specs.List.{sum_by, list_any}
 use Rattle.rule_machine.specs.Network.{Network, IsNetwork, linked, neighbours, present}
 use Rattle.rule_machine.specs.State.{State, Registers, IsState, is_at, points, pointer_of, flag_of}
 use Rattle.rule_machine.specs.RuleTable.{is_open}
-use Rattle.rule_set.specs.Glance.{is_reached}
+use Rattle.rule_set.specs.Glance.{asks_for, is_reached}
 use Rattle.machine_laws.specs.Neighbours.{linked_back}
 use Rattle.machine_laws.specs.Pointers.{points_true, suitor_linked}
 use Rattle.machine_laws.specs.Writes.{is_at_from_some}
 use Rattle.suitor_index.specs.declared.tally.Tally.{Tally}
 use Rattle.net_state.specs.Held.{state_of}
-use Rattle.suitor_index.specs.Tallies.{tally_of, tally_at, asks_for, IsIndexOf}
+use Rattle.suitor_index.specs.Tallies.{tally_of, tally_at, IsIndexOf}
 use Rattle.suitor_index.specs.Told.{one_if, IsCourted, IsRepointed, IsTurned, HasSuitor, HasRoomFor, CanTurn}
 use Rattle.suitor_index.proofs.Near.{near_turn, near_le, near_ones, near_names, listed_is_linked}
 use Rattle.suitor_index.proofs.Reached.{open_is}

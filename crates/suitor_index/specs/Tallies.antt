@@ -17,11 +17,6 @@ tally_of tallies v = slice_index_or tallies v nothing
 abbrev pub name_if : (ℕ → Bool) → ℕ → ℕ
 name_if test w = cond (test w) w 0
 
--- whether the guard of v asks for open neighbours such as w: those above v alone, or any
-abbrev pub asks_for : Bool → ℕ → ℕ → Bool
-asks_for true v w = nat_lt v w
-asks_for false v w = true
-
 -- what a scan of v's neighbours counts: its suitors, the open ones that its guard asks for, and the suitors'
 -- names
 abbrev pub tally_at : Bool → (Option ℕ → Bool → Bool) → State → ℕ → Tally

@@ -9,7 +9,8 @@ ghost use Rattle.rule_machine.specs.Disturbance.{after_link, after_point, after_
 ghost use Rattle.rule_machine.specs.Network.{present, linked};
 ghost use Rattle.rule_machine.specs.RuleTable as RuleTable;
 ghost use Rattle.rule_machine.specs.State.{IsState, pointer, flag};
-ghost use Rattle.suitor_index.specs.Tallies.{asks_for, tally_of};
+ghost use Rattle.rule_set.specs.Glance.{asks_for};
+ghost use Rattle.suitor_index.specs.Tallies.{tally_of};
 ghost use Rattle.suitor_index.specs.Told.{IsOpenTo};
 
 use crate::SuitorIndex;

@@ -14,7 +14,7 @@ use crate::tally::{NOTHING, Tally};
 use graph_store::GraphFault;
 use net_state::NetState;
 use rule_machine::Node;
-use rule_set::Rules;
+use rule_set::{Rules, asks_for};
 use std::alloc::Global;
 use std::marker::{Model, PhantomData};
 
@@ -134,8 +134,7 @@ impl<R: Rules> SuitorIndex<R> {
         requires open { is_open ≡ RuleTable.is_open R.table.opens self.now.state v }
         ensures { result ≡ not (reaches_beside R.ABOVE R.table.opens self.now.state w v) }
     {
-        self.tally(w)
-            .has_none_but(scan::asks_for::<R>(w, v) && is_open)
+        self.tally(w).has_none_but(asks_for::<R>(w, v) && is_open)
     }
 
     /// Returns the first neighbour that points at the node, if any.

@@ -1,13 +1,13 @@
 //! Scans of a node's neighbours.
 
 ghost use Rattle.std.specs.Prelude.{◌≡◌, ◌≤◌, ◌&&◌, All, find, nat_lt, reverse, IsTrue};
-ghost use Rattle.suitor_index.specs.Tallies.{asks_for};
+ghost use Rattle.rule_set.specs.Glance.{asks_for};
 ghost use Rattle.rule_machine.specs.Network.{present};
 ghost use Rattle.rule_machine.specs.State.{points, pointer, flag};
 
 use net_state::NetState;
 use rule_machine::Node;
-use rule_set::Rules;
+use rule_set::{Rules, asks_for};
 
 pub(crate) fn first_pointing_at(nodes: &[Node], net: &NetState, v: Node) -> Option<Node>
     ensures { result ≡ find (λ w. points net.now.state.registers w v) nodes.now }
@@ -25,13 +25,6 @@ pub(crate) fn is_open<R: Rules>(net: &NetState, w: Node) -> bool
     ensures { result ≡ R.table.opens (pointer net.now.state w) (flag net.now.state w) }
 {
     R::opens(net.pointer(w), net.flag(w))
-}
-
-/// Whether the guard of `v` asks for neighbours such as `w`: any, or those above `v` alone.
-pub(crate) fn asks_for<R: Rules>(v: Node, w: Node) -> bool
-    ensures { result ≡ asks_for R.ABOVE v w }
-{
-    !R::ABOVE || v < w
 }
 
 /// Whether `w` is open, and one that the guard of `v` asks for.

@@ -3,13 +3,13 @@
 ghost use Rattle.std.specs.Prelude.{◌≡◌, ℕ, ◌<◌, ◌≤◌, ◌&&◌, true, IfSome, length, nat_eq};
 ghost use Rattle.std.specs.List.{list_any};
 ghost use Rattle.std.specs.List.Sorted.{IsStrictlyIncreasing};
-ghost use Rattle.suitor_index.specs.Tallies.{asks_for, tally_of};
+ghost use Rattle.rule_set.specs.Glance.{asks_for};
+ghost use Rattle.suitor_index.specs.Tallies.{tally_of};
 ghost use Rattle.suitor_index.specs.Told.{IsCourted, IsOpenTo, HasSuitor, HasRoomFor, CanTurn, IsTurned};
 
-use crate::scan::asks_for;
 use crate::tally::Tally;
 use rule_machine::Node;
-use rule_set::Rules;
+use rule_set::{Rules, asks_for};
 
 /// Removes `v` from the suitors of the node that its pointer was at.
 pub(crate) fn leave(tallies: &mut [Tally], pointer: Option<Node>, v: Node)

@@ -2,7 +2,8 @@ use Rattle.std.proofs.Common.{◌≡◌, ◌∙◌, ◌&&◌, List, ℕ, true, f
 use Rattle.std.proofs.lemmas.List.{take_all}
 use Rattle.rule_machine.specs.Network.{neighbours}
 use Rattle.rule_machine.specs.State.{State}
-use Rattle.rule_engine.specs.Looked.{may_ask, turns_with}
+use Rattle.rule_set.specs.Glance.{asks_for}
+use Rattle.rule_engine.specs.Looked.{turns_with}
 use Rattle.rule_engine.proofs.Looked.{looked_alike, looked_more, looked_neighbours, looked_none}
 use Rattle.rule_engine.proofs.Turning.{looked_below}
 use Rattle.rule_engine.proofs.look.look_where_turned.Goals as goal
@@ -17,9 +18,9 @@ loop-w-preserved g c =
     let opens = g.R.Rules.table.opens in
     let v = c.args.v in
     let w = c.w-item.result in
-    let asks : may_ask above v w ≡ true = sym c.asks_for.ensures ∙ c.if-not-asks_for.false in
-    looked_more g.R.Rules.table s (λ x. false) (λ y x. nat_eq x y && (may_ask above v y && turns_with above opens s v y)) c.neighbours-w-items.result.now c.loop-w.w-index w _ _ _ c.loop-w-test.true c.w-item.is c.loop-w.invariant
-    (looked_alike g.R.Rules.table s (λ x. nat_eq x w && c.turns_with.result) (λ x. nat_eq x w && (may_ask above v w && turns_with above opens s v w)) _ _
+    let asks : asks_for above w v ≡ true = sym c.asks_for.ensures ∙ c.if-not-asks_for.false in
+    looked_more g.R.Rules.table s (λ x. false) (λ y x. nat_eq x y && (asks_for above y v && turns_with above opens s v y)) c.neighbours-w-items.result.now c.loop-w.w-index w _ _ _ c.loop-w-test.true c.w-item.is c.loop-w.invariant
+    (looked_alike g.R.Rules.table s (λ x. nat_eq x w && c.turns_with.result) (λ x. nat_eq x w && (asks_for above w v && turns_with above opens s v w)) _ _
     (λ x. ap (λ b. nat_eq x w && b) (c.turns_with.ensures ∙ sym (ap (λ a. a && turns_with above opens s v w) asks)))
     c.look_if.ensures)
 
@@ -41,4 +42,4 @@ returns g c =
     let v = c.args.v in
     let list : List ℕ = c.neighbours-w-items.result.now in
     let every : list ≡ neighbours s.network v = c.neighbours-w-items.ensures.all ∙ ap (λ n. neighbours n v) c.store.ensures.value in
-    looked_neighbours g.R.Rules.table s v (λ y. may_ask above v y && turns_with above opens s v y) (take c.loop-w.w-index list) _ _ c.store.ensures.state.is_network (take_all c.loop-w.w-index list (omega arith) ∙ every) c.loop-w.invariant
+    looked_neighbours g.R.Rules.table s v (λ y. asks_for above y v && turns_with above opens s v y) (take c.loop-w.w-index list) _ _ c.store.ensures.state.is_network (take_all c.loop-w.w-index list (omega arith) ∙ every) c.loop-w.invariant

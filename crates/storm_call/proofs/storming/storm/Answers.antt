@@ -1,8 +1,8 @@
 use Rattle.std.proofs.Common.{map, subst}
 use Rattle.rule_machine.specs.declared.rules.RuleSet.{RuleSet}
-use Rattle.rule_machine.specs.Tables.{table_of}
+use Rattle.rule_machine.specs.Tables.{table_of, weight_of}
 use Rattle.script_run.specs.Asked.{asked_of}
-use Rattle.storm_call.specs.Outcome.{Ends, weight_of}
+use Rattle.storm_call.specs.Outcome.{Ends}
 use Rattle.storm_call.proofs.storming.storm.Goals as goal
 
 pub returns-in-Hh-clause-outcome : goal.returns-in-Hh-clause-outcome

@@ -1,7 +1,6 @@
 use Rattle.std.proofs.Common.{◌≡◌, ◌∙◌, ℕ, Bool, ◌&&◌, nat_le, sym, ap, ap₂}
 use Rattle.rule_machine.specs.State.{State}
-use Rattle.rule_set.specs.Glance.{is_reached}
-use Rattle.suitor_index.specs.Tallies.{asks_for}
+use Rattle.rule_set.specs.Glance.{asks_for, is_reached}
 use Rattle.suitor_index.specs.Told.{one_if}
 use Rattle.suitor_index.proofs.Counts.{others_counted}
 use Rattle.suitor_index.proofs.Reached.{reached_is}
