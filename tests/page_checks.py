@@ -18,6 +18,7 @@ FUNCTION = re.compile(r"^\s*(?:pub(?:\(crate\))? )?(?:const )?(?:extern \"C\" )?
 CLAUSE = re.compile(r"^\s*ensures (?:(\w+) )?\{", re.M)
 GHOST = re.compile(r"^\s*ghost (\w+)[:=, ]", re.M)
 TYPE = re.compile(r"^\s*pub (?:trait|struct|enum) (\w+)", re.M)
+FIELD = re.compile(r"^  pub (\w+) :", re.M)
 QUOTED = re.compile(r"`([^`]+)`")
 # A public name of specs/: a definition or a lemma.
 PUBLIC = re.compile(
@@ -58,6 +59,9 @@ def contracts(top: pathlib.Path) -> tuple[dict[str, set[str]], set[str], set[str
             clauses.setdefault(here[1], set()).update(name or "=" for name in CLAUSE.findall(part))
         ghosts.update(GHOST.findall(text))
         types.update(TYPE.findall(text))
+    for path in top.glob("crates/*/specs/RulesLaws.antt"):
+        ghosts.update(FIELD.findall(path.read_text()))
+        clauses.setdefault("laws", set())
     return clauses, ghosts, types
 
 
