@@ -15,7 +15,7 @@ HEADERS = TOP / "include" / "rudekpi.h", TOP / "include" / "rudekpi.hpp"
 
 def version() -> str:
     """The program's version, which is that of its engine."""
-    for line in (TOP / "crates" / "command_words" / "src" / "command.rt").read_text().splitlines():
+    for line in (TOP / "crates" / "cli_args" / "src" / "command.rt").read_text().splitlines():
         if ".version(" in line:
             return line.split('"')[1]
     return "0"

@@ -160,7 +160,7 @@ def figures(top: pathlib.Path) -> Iterator[Told]:
 
 def help_lines(top: pathlib.Path) -> Iterator[Told]:
     """Checks the help's texts: no line is wider than 80 columns, with clap's own words around them."""
-    text = (top / "crates/command_words/src/help.rt").read_text()
+    text = (top / "crates/cli_args/src/help.rt").read_text()
     around = {"RULES": 29, "WORKERS": 13, "ROAM": 13, "TURNS": 16}
     for name, value in re.findall(r'const (\w+): &str =\s+"((?:[^"\\]|\\.)*)";', text):
         short, kind = name.rpartition("_")[::2]

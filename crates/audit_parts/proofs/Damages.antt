@@ -5,36 +5,36 @@ use Rattle.std.specs.List.{AllByRecursion}
 use Rattle.std.proofs.lemmas.Bool.{cases_lt}
 use Rattle.rule_machine.specs.declared.base.Base.{Base}
 use Rattle.rule_machine.specs.declared.rules.RuleSet.{RuleSet}
-use Rattle.rule_machine.specs.Base.{Part, Stand, base_of}
+use Rattle.rule_machine.specs.Base.{LogPart, NumberedMoment, base_of}
 use Rattle.rule_machine.specs.Run.{Entry}
 use Rattle.rule_machine.specs.Answer.{Answers}
 use Rattle.rule_machine.specs.Tables.{table_of}
-use Rattle.line_text.specs.Words.{ended}
+use Rattle.line_text.specs.Words.{lines_with_ends}
 use Rattle.line_text.specs.BaseText.{base_counts, base_head}
 use Rattle.byte_streams.specs.Lines.{first_line}
-use Rattle.byte_streams.proofs.Cutting.{first_line-splits, no_first_line}
+use Rattle.byte_streams.proofs.FirstLines.{first_line-splits, no_first_line}
 use Rattle.entry_grammar.specs.declared.base_line.BaseLine.{BaseLine}
 use Rattle.entry_grammar.specs.declared.base_line.BaseLine.TheVariants.{Base as Numbers, Head}
-use Rattle.entry_grammar.specs.BaseLines.{IsShort, MayFollow, base_lines}
+use Rattle.entry_grammar.specs.BaseLines.{LacksLines, MayFollow, base_lines}
 use Rattle.entry_grammar.specs.Spelling.{IsBaseLine, base_line_text}
 use Rattle.entry_grammar.proofs.Free.{cons_parts, mark_once}
 use Rattle.entry_grammar.proofs.FirstLines.{line_free}
 use Rattle.auditor.specs.declared.damage.Damage.{Damage}
 use Rattle.auditor.specs.declared.damage.Damage.TheVariants.{BadHeader, NotALine, OutOfOrder, NotTheMachines, BadBase}
 use Rattle.auditor.specs.declared.summary.Summary.{Summary}
-use Rattle.auditor.specs.Accepted.{IsAccepted}
-use Rattle.auditor.specs.Damage.{Beginning, BeginsNowhere, BreaksOff, EntryComes, Follows, HasBadHeader, HasBadStart, HasNoEntry, IsDamage, IsLineBehind, Parting, line_feeds}
+use Rattle.auditor.specs.AcceptedRuns.{IsAccepted}
+use Rattle.auditor.specs.Damage.{TranscriptPrefix, HasImpossibleBase, HasBrokenBase, EntryComes, BeginsWithTranscript, HasBadHeader, HasBadStart, HasNoEntry, IsDamage, IsLineBehind, CommonPrefix, line_feeds}
 use Rattle.auditor.specs.Parts.{Based, Opening, opening_text, parts_text, size_of}
 use Rattle.auditor.specs.Transcript.{IsTranscript}
-use Rattle.auditor.proofs.Ending.{Fails, FailsBehind, FailsFirst, Split, damage_fails, fails_some, first_good, split_of}
+use Rattle.auditor.proofs.TextEnds.{Fails, FailsBehind, FailsFirst, Split, damage_fails, fails_some, first_good, split_of}
 use Rattle.auditor.proofs.Windows.{begins_less, begins_more, breaks_more, feeds_append, feeds_broken, first_line-more}
 use Rattle.audit_parts.specs.Seams.{EndsLine, IsSeam, further}
-use Rattle.audit_parts.proofs.Cut.{cut_reopens, cut_transcript, reopens_end, text_at}
+use Rattle.audit_parts.proofs.CutTranscripts.{cut_reopens, cut_transcript, reopens_end, text_at}
 use Rattle.audit_parts.proofs.Lines.{ends_behind, ends_both, ends_free, follow_inner, skip_base, skip_line, skip_lines}
-use Rattle.audit_parts.proofs.Meeting.{join_follows, seam_other, seam_transcript}
-use Rattle.audit_parts.proofs.Reopened.{ended_lines, no_feeds, seam_behind, seam_ends, seam_first}
+use Rattle.audit_parts.proofs.MeetingTexts.{join_follows, seam_other, seam_transcript}
+use Rattle.audit_parts.proofs.SeamRuns.{ended_lines, no_feeds, seam_behind, seam_ends, seam_first}
 
-behind_damage : (bytes : List ℕ) (at : Beginning bytes) (d : Damage) → Fails (split_of bytes at) d → IsDamage bytes d
+behind_damage : (bytes : List ℕ) (at : TranscriptPrefix bytes) (d : Damage) → Fails (split_of bytes at) d → IsDamage bytes d
 behind_damage bytes at BadHeader x = absurd x
 behind_damage bytes at (NotALine line) x = record { at = at; line_is = x.0; other = x.1; damage = x.2 }
 behind_damage bytes at (OutOfOrder line) (line_is, (number, entry, comes, damage)) =
@@ -101,21 +101,21 @@ module _ (own seam : List ℕ) (lines : EndsLine own) (seamed : IsSeam seam) whe
       subst HasBadHeader (sym (first_line-more (own ++ seam) more found.0 found.1 found.2)) old
 
   -- the lines of a base that are the first of one, but too few, are no text that ends with a seam
-  few_lines : (rules : RuleSet) (size : ℕ) (found : List BaseLine) → size ≤ 65535 → AllByRecursion IsBaseLine found → MayFollow found → IsShort found → base_head rules size ++ 10 ∷ ended base_line_text found ≡ own ++ seam → ⊥
+  few_lines : (rules : RuleSet) (size : ℕ) (found : List BaseLine) → size ≤ 65535 → AllByRecursion IsBaseLine found → MayFollow found → LacksLines found → base_head rules size ++ 10 ∷ lines_with_ends base_line_text found ≡ own ++ seam → ⊥
   few_lines rules size found few fit follow short e = by own lines e
     where
       first : (z : List ℕ) × (seam ≡ 109 ∷ z)
       first = seam_first seam seamed
 
       -- the seam is all of it
-      alone : (found : List BaseLine) → AllByRecursion IsBaseLine found → MayFollow found → IsShort found → base_head rules size ++ 10 ∷ ended base_line_text found ≡ seam → ⊥
+      alone : (found : List BaseLine) → AllByRecursion IsBaseLine found → MayFollow found → LacksLines found → base_head rules size ++ 10 ∷ lines_with_ends base_line_text found ≡ seam → ⊥
       alone [] fit follow short e =
           let cut = mark_once 10 (base_head rules size) seamed.head [] (seamed.numbers ++ 10 ∷ seamed.rest) (line_free (Head rules size) few) seamed.first (e ∙ seamed.is) in
           let l = ap length cut.1 ∙ length-append seamed.numbers (10 ∷ seamed.rest) in
           omega (arith, l)
       alone (Numbers number spent nodes edges ∷ found) fit follow short e =
           let text = base_counts number spent nodes edges in
-          let more = ended base_line_text found in
+          let more = lines_with_ends base_line_text found in
           let cut = mark_once 10 (base_head rules size) seamed.head ((text ++ 10 ∷ []) ++ more) (seamed.numbers ++ 10 ∷ seamed.rest) (line_free (Head rules size) few) seamed.first (e ∙ seamed.is) in
           let second = mark_once 10 text seamed.numbers more seamed.rest (line_free (Numbers number spent nodes edges) fit.0) seamed.second (sym (append_assoc text (10 ∷ []) more) ∙ cut.1) in
           let told = seamed.told number spent nodes edges fit.0 (sym second.0) in
@@ -124,11 +124,11 @@ module _ (own seam : List ℕ) (lines : EndsLine own) (seamed : IsSeam seam) whe
           omega (arith, told, same, all, short)
       alone (line ∷ found) fit follow short e = follow
 
-      by : (x : List ℕ) → EndsLine x → base_head rules size ++ 10 ∷ ended base_line_text found ≡ x ++ seam → ⊥
+      by : (x : List ℕ) → EndsLine x → base_head rules size ++ 10 ∷ lines_with_ends base_line_text found ≡ x ++ seam → ⊥
       by [] ends e = alone found fit follow short e
       by (b ∷ x) ends e =
-          let skipped = skip_line (base_head rules size) (ended base_line_text found) (b ∷ x) seam (line_free (Head rules size) few) ends (no_cons b x) e in
-          let inside = append-nil (ended base_line_text found) ∙ skipped.behind ∙ ap (λ (l : List ℕ). skipped.left ++ l) first.1 in
+          let skipped = skip_line (base_head rules size) (lines_with_ends base_line_text found) (b ∷ x) seam (line_free (Head rules size) few) ends (no_cons b x) e in
+          let inside = append-nil (lines_with_ends base_line_text found) ∙ skipped.behind ∙ ap (λ (l : List ℕ). skipped.left ++ l) first.1 in
           let gone = skip_lines found fit (follow_inner found follow) [] skipped.left first.0 skipped.lines inside in
           let l = ap length gone.behind ∙ length-append gone.left (109 ∷ first.0) in
           omega (arith, l)
@@ -146,16 +146,16 @@ module _ (own seam : List ℕ) (lines : EndsLine own) (seamed : IsSeam seam) whe
       splits : own ++ seam ≡ base_head bad.rules bad.size ++ 10 ∷ bad.rest
       splits = first_line-splits (own ++ seam) (base_head bad.rules bad.size) bad.rest bad.first
 
-      by : BreaksOff bad.rest line ⊎ BeginsNowhere bad.rules bad.size bad.rest line → BreaksOff (bad.rest ++ more) line ⊎ BeginsNowhere bad.rules bad.size (bad.rest ++ more) line
+      by : HasBrokenBase bad.rest line ⊎ HasImpossibleBase bad.rules bad.size bad.rest line → HasBrokenBase (bad.rest ++ more) line ⊎ HasImpossibleBase bad.rules bad.size (bad.rest ++ more) line
       by (inr x) = inr (record { base = x.base; more = x.more ++ more; shaped = x.shaped; is = ap (λ (l : List ℕ). l ++ more) x.is ∙ append_assoc (base_lines x.base) x.more more; nowhere = x.nowhere; line_is = x.line_is })
       by (inl x) =
           ⊎_elim
           (λ (cut : line_feeds bad.rest < x.number).
           let b = x.breaks in
           let all = feeds_broken bad.rest x.number b in
-          let ends = ends_behind (ended base_line_text b.lines) b.rest (subst EndsLine b.is (ends_behind (base_head bad.rules bad.size ++ 10 ∷ []) bad.rest (subst EndsLine (splits ∙ sym (append_assoc (base_head bad.rules bad.size) (10 ∷ []) bad.rest)) text_ends))) in
+          let ends = ends_behind (lines_with_ends base_line_text b.lines) b.rest (subst EndsLine b.is (ends_behind (base_head bad.rules bad.size ++ 10 ∷ []) bad.rest (subst EndsLine (splits ∙ sym (append_assoc (base_head bad.rules bad.size) (10 ∷ []) bad.rest)) text_ends))) in
           let none = no_feeds b.rest ends (omega (arith, all, cut)) in
-          let is : bad.rest ≡ ended base_line_text b.lines = b.is ∙ ap (λ (l : List ℕ). ended base_line_text b.lines ++ l) none ∙ append-nil (ended base_line_text b.lines) in
+          let is : bad.rest ≡ lines_with_ends base_line_text b.lines = b.is ∙ ap (λ (l : List ℕ). lines_with_ends base_line_text b.lines ++ l) none ∙ append-nil (lines_with_ends base_line_text b.lines) in
           absurd (few_lines bad.rules bad.size b.lines bad.few b.fit b.follow b.short (ap (λ (l : List ℕ). base_head bad.rules bad.size ++ 10 ∷ l) (sym is) ∙ sym splits)))
           (λ (whole : x.number ≤ line_feeds bad.rest). inl (record { number = x.number; breaks = breaks_more bad.rest more x.number x.breaks whole; line_is = x.line_is }))
           (cases_lt (line_feeds bad.rest) x.number)
@@ -170,7 +170,7 @@ module _ (own seam : List ℕ) (lines : EndsLine own) (seamed : IsSeam seam) whe
   -- ---- behind a transcript
 
   -- what is left after one is not cut off inside the base that comes there
-  base_cut : (rules : RuleSet) (o : Opening) (log : List Part) (end : Stand) (good rest missing : List ℕ) → IsTranscript good rules o log end → own ++ seam ≡ good ++ rest → rest ≢ [] → missing ≢ [] → text_at rules (size_of o) end ≡ rest ++ missing → ⊥
+  base_cut : (rules : RuleSet) (o : Opening) (log : List LogPart) (end : NumberedMoment) (good rest missing : List ℕ) → IsTranscript good rules o log end → own ++ seam ≡ good ++ rest → rest ≢ [] → missing ≢ [] → text_at rules (size_of o) end ≡ rest ++ missing → ⊥
   base_cut rules o log end good rest missing is splits some lacks wanted = by (apart own seam good rest splits)
     where
       size : ℕ
@@ -219,10 +219,10 @@ module _ (own seam : List ℕ) (lines : EndsLine own) (seamed : IsSeam seam) whe
   comes_more rest more number entry comes = record { line = comes.line; more = comes.more ++ more; is = first_line-more rest more comes.line comes.more comes.is; spells = comes.spells }
 
   -- a text is parted from at the same place in a longer one, if it is at a byte
-  parting_more : (text rest more : List ℕ) (p : Parting text rest) → (p.more ≡ [] → ⊥) → (q : Parting text (rest ++ more)) × (p.common ≡ q.common)
+  parting_more : (text rest more : List ℕ) (p : CommonPrefix text rest) → (p.more ≡ [] → ⊥) → (q : CommonPrefix text (rest ++ more)) × (p.common ≡ q.common)
   parting_more text rest more p some = by p.more p.had p.apart some
     where
-      by : (left : List ℕ) → rest ≡ p.common ++ left → ((b : ℕ) (x y : List ℕ) → p.missing ≡ b ∷ x → left ≡ b ∷ y → ⊥) → (left ≡ [] → ⊥) → (q : Parting text (rest ++ more)) × (p.common ≡ q.common)
+      by : (left : List ℕ) → rest ≡ p.common ++ left → ((b : ℕ) (x y : List ℕ) → p.missing ≡ b ∷ x → left ≡ b ∷ y → ⊥) → (left ≡ [] → ⊥) → (q : CommonPrefix text (rest ++ more)) × (p.common ≡ q.common)
       by [] had apart some = absurd (some refl)
       by (c ∷ left) had apart some = (
         record {
@@ -283,10 +283,10 @@ module _ (own seam : List ℕ) (lines : EndsLine own) (seamed : IsSeam seam) whe
   line_further : (line : ℕ) (good : List ℕ) → IsLineBehind line good → IsLineBehind (line_feeds own + line) (own ++ good)
   line_further line good is = let both = feeds_append own good in omega (arith, both, is)
 
-  abbrev moved : Split → RuleSet → Opening → List Part → Split
+  abbrev moved : Split → RuleSet → Opening → List LogPart → Split
   moved at rules o log = record { rules = rules; opening = o; good = own ++ at.good; log = log; end = at.end; rest = at.rest }
 
-  fails_further : (at : Split) (rules : RuleSet) (o : Opening) (log : List Part) (d : Damage) → at.rules ≡ rules → size_of at.opening ≡ size_of o → Fails at d → Fails (moved at rules o log) (further (line_feeds own) d)
+  fails_further : (at : Split) (rules : RuleSet) (o : Opening) (log : List LogPart) (d : Damage) → at.rules ≡ rules → size_of at.opening ≡ size_of o → Fails at d → Fails (moved at rules o log) (further (line_feeds own) d)
   fails_further at rules o log BadHeader same size x = x
   fails_further at rules o log (NotALine line) same size x = (line_further line at.good x.0, x.1, x.2)
   fails_further at rules o log (OutOfOrder line) same size x = (line_further line at.good x.0, x.1)
@@ -294,7 +294,7 @@ module _ (own seam : List ℕ) (lines : EndsLine own) (seamed : IsSeam seam) whe
       (line_further line at.good line_is, (entry, comes, λ s answers. damage s (subst (λ (r : RuleSet). Answers (table_of r) at.end.moment.state at.end.moment.spent entry.0 entry.1 s) (sym same) answers)))
   fails_further at rules o log (BadBase line) same size (begins, (p, line_is)) =
       let text = ap (λ (r : RuleSet). text_at r (size_of at.opening) at.end) same ∙ ap (λ (n : ℕ). text_at rules n at.end) size in
-      let q : Parting (text_at rules (size_of o) at.end) at.rest = record { common = p.common; missing = p.missing; more = p.more; wanted = sym text ∙ p.wanted; had = p.had; some = p.some; apart = p.apart } in
+      let q : CommonPrefix (text_at rules (size_of o) at.end) at.rest = record { common = p.common; missing = p.missing; more = p.more; wanted = sym text ∙ p.wanted; had = p.had; some = p.some; apart = p.apart } in
       (begins, (q, subst (IsLineBehind (line_feeds own + line)) (sym (append_assoc own at.good p.common)) (line_further line (at.good ++ p.common) line_is)))
 
   pub second_is_the_wholes : (behind : List ℕ) (c : Summary) (d : Damage) → IsAccepted (own ++ seam) c → IsDamage (seam ++ behind) d → IsDamage (own ++ (seam ++ behind)) (further (line_feeds own) d)
@@ -302,7 +302,7 @@ module _ (own seam : List ℕ) (lines : EndsLine own) (seamed : IsSeam seam) whe
     where
       by : FailsFirst (seam ++ behind) d ⊎ FailsBehind (seam ++ behind) d → IsDamage (own ++ (seam ++ behind)) (further (line_feeds own) d)
       by (inl first) =
-          let f : Follows (seam ++ behind) y.rules [] y.end behind = record {
+          let f : BeginsWithTranscript (seam ++ behind) y.rules [] y.end behind = record {
             opening = Based (size_of y.opening) (base_of y.end.count y.end.moment);
             good = seam;
             transcript = seam_transcript own seam lines seamed y.rules y.opening y.log y.end y.transcript;

@@ -1,7 +1,7 @@
 pub mod Lines
 pub mod Shape
-pub mod Reopened
-pub mod Cut
-pub mod Meeting
+pub mod SeamRuns
+pub mod CutTranscripts
+pub mod MeetingTexts
 pub mod Damages
-mod Proved
+mod PartLaws

@@ -3,11 +3,11 @@ use Rattle.std.proofs.Common.{◌≡◌, ◌≢◌, ℕ, ◌≤◌, zero, suc, L
 use Rattle.std.specs.List.{AllByRecursion}
 use Rattle.rule_machine.specs.declared.base.Base.{Base as BaseKept}
 use Rattle.rule_machine.specs.declared.rules.RuleSet.{RuleSet}
-use Rattle.line_text.specs.Words.{ended}
+use Rattle.line_text.specs.Words.{lines_with_ends}
 use Rattle.line_text.specs.BaseText.{base_head, base_text}
 use Rattle.entry_grammar.specs.declared.base_line.BaseLine.{BaseLine}
 use Rattle.entry_grammar.specs.declared.base_line.BaseLine.TheVariants.{Head, Base, Place, Link}
-use Rattle.entry_grammar.specs.Reading.{IsFree}
+use Rattle.entry_grammar.specs.Parsing.{IsFree}
 use Rattle.entry_grammar.specs.Spelling.{IsBaseLine, base_line_text}
 use Rattle.entry_grammar.specs.BaseLines.{IsShaped, base_lines, place_line, lines_of_base, EdgesFollow, NodesFollow, MayFollow}
 use Rattle.entry_grammar.proofs.Free.{cons_parts}
@@ -121,16 +121,16 @@ follow_inner [] h = tt
 follow_inner (Base number spent nodes edges ∷ lines) h = (tt, nodes_inner nodes edges 0 lines h)
 follow_inner (line ∷ lines) h = absurd h
 
-one_line : (line : BaseLine) (lines : List BaseLine) (x : List ℕ) → ended base_line_text (line ∷ lines) ++ x ≡ base_line_text line ++ 10 ∷ (ended base_line_text lines ++ x)
+one_line : (line : BaseLine) (lines : List BaseLine) (x : List ℕ) → lines_with_ends base_line_text (line ∷ lines) ++ x ≡ base_line_text line ++ 10 ∷ (lines_with_ends base_line_text lines ++ x)
 one_line line lines x =
-    append_assoc (base_line_text line ++ 10 ∷ []) (ended base_line_text lines) x ∙ append_assoc (base_line_text line) (10 ∷ []) (ended base_line_text lines ++ x)
+    append_assoc (base_line_text line ++ 10 ∷ []) (lines_with_ends base_line_text lines) x ∙ append_assoc (base_line_text line) (10 ∷ []) (lines_with_ends base_line_text lines ++ x)
 
 -- so what begins as a base comes after them
-pub skip_lines : (lines : List BaseLine) → AllByRecursion IsBaseLine lines → AllByRecursion IsInner lines → (rest x z : List ℕ) → EndsLine x → ended base_line_text lines ++ rest ≡ x ++ 109 ∷ z → Skipped (ended base_line_text lines) rest x (109 ∷ z)
+pub skip_lines : (lines : List BaseLine) → AllByRecursion IsBaseLine lines → AllByRecursion IsInner lines → (rest x z : List ℕ) → EndsLine x → lines_with_ends base_line_text lines ++ rest ≡ x ++ 109 ∷ z → Skipped (lines_with_ends base_line_text lines) rest x (109 ∷ z)
 skip_lines [] fit inner rest x z ends e = record { left = x; is = refl; lines = ends; behind = e }
 skip_lines (line ∷ lines) fit inner rest x z ends e =
     let text = base_line_text line in
-    let more = ended base_line_text lines in
+    let more = lines_with_ends base_line_text lines in
     let first = skip_other text (more ++ rest) x (109 ∷ z) (line_free line fit.0) ends (inner_other line (more ++ rest) z inner.0) (sym (one_line line lines rest) ∙ e) in
     skip_both (text ++ 10 ∷ []) more rest x (109 ∷ z) first (skip_lines lines fit.1 inner.1 rest first.left z first.lines first.behind)
 

@@ -21,18 +21,18 @@ use Rattle.rule_machine.specs.State.{State, IsState, pointer}
 use Rattle.rule_machine.specs.RuleTable.{RuleTable}
 use Rattle.rule_machine.specs.Refuse.{both_present, max_edges, refusal_of}
 use Rattle.rule_machine.specs.Answer.{AnswersBy, Does, spent_after}
-use Rattle.rule_machine.specs.Base.{base_of, place_at}
+use Rattle.rule_machine.specs.Base.{base_of, node_record_at}
 use Rattle.rule_machine.specs.Run.{Entry, Moment, Run}
-use Rattle.machine_laws.specs.Accepted.{cond_none}
+use Rattle.machine_laws.specs.AcceptedEvents.{cond_none}
 use Rattle.machine_laws.specs.Edges.{left_was, pair_total}
 use Rattle.machine_laws.specs.Neighbours.{linked_back, linked_present, present_range}
 use Rattle.machine_laws.specs.Pointers.{pointer_linked}
-use Rattle.charge_laws.specs.Counting.{IsIn, count_all, count_into}
+use Rattle.charge_laws.specs.ListCounts.{IsIn, count_all, count_into}
 use Rattle.charge_laws.specs.EdgesByNodes.{edges_without_repeats}
 use Rattle.charge_laws.specs.Members.{edges_contain, edges_len, in_edges}
 use Rattle.line_text.specs.Words.{IsName}
-use Rattle.line_text.specs.ReplyText.{IsPair}
-use Rattle.entry_grammar.specs.BaseLines.{EdgesRise, IsAbove, IsPlace, IsShaped, NodesRise}
+use Rattle.line_text.specs.ReplyText.{IsOrderedPair}
+use Rattle.entry_grammar.specs.BaseLines.{EdgesRise, IsEdgeAbove, IsPlace, IsShaped, NodesRise}
 
 -- ---- no run has more edges than there may be
 
@@ -113,8 +113,8 @@ module _ (s : State) (good : IsState s) (size : ℕ) (same : s.network.size ≡ 
   target_is v (Some w) e = name_is w (linked_present s.network w v good.is_network (linked_back s.network w v ∙ pointer_linked s v w good e))
 
   record Listed (last : ℕ) (vs : List ℕ) : Type 0 where
-    rise : NodesRise last (map (place_at s) vs)
-    fit : AllByRecursion IsPlace (map (place_at s) vs)
+    rise : NodesRise last (map (node_record_at s) vs)
+    fit : AllByRecursion IsPlace (map (node_record_at s) vs)
 
   none_listed : (last : ℕ) → Listed last []
   none_listed last = record { rise = tt; fit = tt }
@@ -136,26 +136,26 @@ module _ (s : State) (good : IsState s) (size : ℕ) (same : s.network.size ≡ 
 
   -- ---- and its edges
 
-  edge_is : (e : ℕ × ℕ) → IsIn e (edge_list s.network) → IsPair e
+  edge_is : (e : ℕ × ℕ) → IsIn e (edge_list s.network) → IsOrderedPair e
   edge_is e there =
       let has = edges_contain s.network e there in
       (name_is e.0 (good.is_network.low_present e.0 e.1 has), name_is e.1 (good.is_network.high_present e.0 e.1 has), good.is_network.low_first e.0 e.1 has)
 
-  all_in : (es : List (ℕ × ℕ)) → ((e : ℕ × ℕ) → IsIn e es → IsPair e) → AllByRecursion IsPair es
+  all_in : (es : List (ℕ × ℕ)) → ((e : ℕ × ℕ) → IsIn e es → IsOrderedPair e) → AllByRecursion IsOrderedPair es
   all_in [] all = tt
   all_in (e ∷ es) all = (all e (inl refl), all_in es (λ f there. all f (inr there)))
 
-  links_fit : AllByRecursion IsPair (edge_list s.network)
+  links_fit : AllByRecursion IsOrderedPair (edge_list s.network)
   links_fit = all_in (edge_list s.network) edge_is
 
 holds : (b : Bool) → T b → IsTrue b
 holds true h = refl
 holds false h = absurd h
 
-less_above : (a b : ℕ × ℕ) → IsTrue (is_lt (pair_cmp a b)) → IsAbove a b
+less_above : (a b : ℕ × ℕ) → IsTrue (is_lt (pair_cmp a b)) → IsEdgeAbove a b
 less_above a b h = go (nat_cmp a.0 b.0) (nat_cmp a.1 b.1) refl refl h
   where
-    go : (r q : Ordering) → nat_cmp a.0 b.0 ≡ r → nat_cmp a.1 b.1 ≡ q → IsTrue (is_lt (ordering_then r q)) → IsAbove a b
+    go : (r q : Ordering) → nat_cmp a.0 b.0 ≡ r → nat_cmp a.1 b.1 ≡ q → IsTrue (is_lt (ordering_then r q)) → IsEdgeAbove a b
     go Less q e f h = inl (ranked a.0 b.0 Less (sym e))
     go Equal Less e f h = inr (ranked a.0 b.0 Equal (sym e), ranked a.1 b.1 Less (sym f))
     go Equal q e f h = absurd cc
@@ -168,7 +168,7 @@ keys_rise last (e ∷ es) below sorted =
     let more = and_parts (below_all pair_cmp e.0 es) (is_sorted pair_cmp es) sorted in
     (less_above last e.0 first.0, keys_rise e.0 es more.0 more.1)
 
-first_rise : (es : List ((ℕ × ℕ) × Unit {0})) → AllByRecursion IsPair (map (λ e. e.0) es) → IsTrue (is_sorted pair_cmp es) → EdgesRise (0, 0) (map (λ e. e.0) es)
+first_rise : (es : List ((ℕ × ℕ) × Unit {0})) → AllByRecursion IsOrderedPair (map (λ e. e.0) es) → IsTrue (is_sorted pair_cmp es) → EdgesRise (0, 0) (map (λ e. e.0) es)
 first_rise [] fit sorted = tt
 first_rise (e ∷ es) fit sorted =
     let more = and_parts (below_all pair_cmp e.0 es) (is_sorted pair_cmp es) sorted in
@@ -191,7 +191,7 @@ nodes_few net =
 pub base_shaped : (number size : ℕ) (m : Moment) → IsState m.state → m.state.network.size ≡ size → size ≤ 65535 → number ≤ 16777216 → edge_count m.state.network ≤ 1048576 → m.spent ≤ 2 * edge_count m.state.network + 3 * node_count m.state.network → IsShaped (base_of number m)
 base_shaped number size m good same small low few bounded =
     let s = m.state in
-    let nodes = length-map (names s.network) (place_at s) in
+    let nodes = length-map (names s.network) (node_record_at s) in
     let some = nodes_few s.network in
     let edges = edges_len s.network in
     let links = links_fit s good size same small in

@@ -7,10 +7,10 @@ use Rattle.line_text.specs.BaseText.{base_text}
 use Rattle.entry_grammar.specs.BaseLines.{IsShaped}
 use Rattle.auditor.specs.declared.damage.Damage.{Damage}
 use Rattle.auditor.specs.declared.summary.Summary.{Summary}
-use Rattle.auditor.specs.Accepted.{IsAccepted}
+use Rattle.auditor.specs.AcceptedRuns.{IsAccepted}
 use Rattle.auditor.specs.Damage.{IsDamage, line_feeds}
 use Rattle.auditor.specs.Verdict.{IsJudged}
-use Rattle.audit_parts.specs.Seams.{IsSeam, Meets, Verdict, counted_both, further, joined}
+use Rattle.audit_parts.specs.Seams.{IsSeam, Meets, Verdict, counted_both, further, joined_verdict}
 
 -- ---- two texts that meet
 
@@ -20,12 +20,12 @@ JoinedIsAccepted =
     (first second : List ℕ) (m : Meets first second) (c d : Summary) → IsAccepted first c → IsAccepted second d → IsAccepted (m.own ++ second) (counted_both c d)
 
 -- a text is accepted, with some counts
-abbrev pub IsFine : List ℕ → Type 0
-IsFine text = (c : Summary) × IsAccepted text c
+abbrev pub IsAcceptedText : List ℕ → Type 0
+IsAcceptedText text = (c : Summary) × IsAccepted text c
 
 -- If the joined text is accepted, so are both.
 abbrev pub PartsAreAccepted : Type 0
-PartsAreAccepted = (first second : List ℕ) (m : Meets first second) → IsFine (m.own ++ second) → IsFine first × IsFine second
+PartsAreAccepted = (first second : List ℕ) (m : Meets first second) → IsAcceptedText (m.own ++ second) → IsAcceptedText first × IsAcceptedText second
 
 -- The damage of the first is that of the joined text.
 abbrev pub FirstDamageStays : Type 0
@@ -47,13 +47,13 @@ AreParts first (next ∷ others) whole = (m : Meets first next) × (rest : List 
 -- If the whole is accepted, so is each part.
 abbrev pub AllPartsAreAccepted : Type 0
 AllPartsAreAccepted =
-    (first : List ℕ) (others : List (List ℕ)) (whole : List ℕ) → AreParts first others whole → IsFine whole → IsFine first × AllByRecursion IsFine others
+    (first : List ℕ) (others : List (List ℕ)) (whole : List ℕ) → AreParts first others whole → IsAcceptedText whole → IsAcceptedText first × AllByRecursion IsAcceptedText others
 
 -- the whole and its verdict: that of the first part, joined with that of all later parts
 abbrev pub HasVerdict : List ℕ → Verdict → List (List ℕ × Verdict) → List ℕ → Verdict → Type 0
 HasVerdict first v [] whole all = (whole ≡ first) × (all ≡ v)
 HasVerdict first v (next ∷ others) whole all =
-    (m : Meets first next.0) × (rest : List ℕ) × (sum : Verdict) × HasVerdict next.0 next.1 others rest sum × (whole ≡ m.own ++ rest) × (all ≡ joined v (line_feeds m.own) sum)
+    (m : Meets first next.0) × (rest : List ℕ) × (sum : Verdict) × HasVerdict next.0 next.1 others rest sum × (whole ≡ m.own ++ rest) × (all ≡ joined_verdict v (line_feeds m.own) sum)
 
 -- The joined verdicts of all parts are the verdict of the whole: accepted with the sums, or the first damage
 -- of the first damaged part, moved on by the lines before that part.

@@ -1,3 +1,3 @@
 pub mod Seams
-pub mod Fits
+pub mod FieldRanges
 pub mod Laws

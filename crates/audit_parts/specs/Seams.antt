@@ -2,7 +2,7 @@
 use Rattle.std.specs.Prelude.{◌≡◌, ℕ, ◌+◌, ◌-◌, List, [], ◌∷◌, ◌++◌, Result, Ok, Err}
 use Rattle.byte_streams.specs.Lines.{IsLine}
 use Rattle.line_text.specs.BaseText.{base_counts}
-use Rattle.entry_grammar.specs.Reading.{AreCounts}
+use Rattle.entry_grammar.specs.Parsing.{AreCounts}
 use Rattle.auditor.specs.declared.damage.Damage.{Damage}
 use Rattle.auditor.specs.declared.damage.Damage.TheVariants.{BadHeader, NotALine, OutOfOrder, NotTheMachines, BadBase}
 use Rattle.auditor.specs.declared.damage.JudgeFault.{JudgeFault}
@@ -59,8 +59,8 @@ further lines (NotTheMachines line) = NotTheMachines (lines + line)
 further lines (BadBase line) = BadBase (lines + line)
 
 -- the verdict of two texts as one, if the first has this many lines before the seam
-abbrev pub joined : Verdict → ℕ → Verdict → Verdict
-joined (Err fault) lines second = Err fault
-joined (Ok c) lines (Ok d) = Ok (counted_both c d)
-joined (Ok c) lines (Err (Damaged d)) = Err (Damaged (further lines d))
-joined (Ok c) lines (Err Memory) = Err Memory
+abbrev pub joined_verdict : Verdict → ℕ → Verdict → Verdict
+joined_verdict (Err fault) lines second = Err fault
+joined_verdict (Ok c) lines (Ok d) = Ok (counted_both c d)
+joined_verdict (Ok c) lines (Err (Damaged d)) = Err (Damaged (further lines d))
+joined_verdict (Ok c) lines (Err Memory) = Err Memory

@@ -3,15 +3,15 @@
 ghost use Rattle.std.specs.Prelude.{◌≡◌, ◌++◌, ℕ, List, IfSome, IsNone, Ok, Err};
 ghost use Rattle.auditor.specs.declared.damage.JudgeFault.TheVariants.{Damaged};
 ghost use Rattle.auditor.specs.Verdict.{IsJudged};
-ghost use Rattle.audit_parts.specs.Seams.{Meets, counted_both, further, joined};
-ghost use Rattle.audit_parts.specs.Fits.{AreLinesBefore, Fits};
+ghost use Rattle.audit_parts.specs.Seams.{Meets, counted_both, further, joined_verdict};
+ghost use Rattle.audit_parts.specs.FieldRanges.{AreLinesBefore, FitsFields};
 
 use auditor::{Damage, JudgeFault, Summary};
 
 // The sums of both, if each fits its field.
 fn count_both(first: Summary, second: Summary) -> Option<Summary>
     ensures both { IfSome result (λ both. both ≡ counted_both first second) }
-    ensures fits { IsNone result → Fits (Ok (counted_both first second)) → ⊥ }
+    ensures fits { IsNone result → FitsFields (Ok (counted_both first second)) → ⊥ }
 {
     let epochs = u64::from(first.epochs) + u64::from(second.epochs);
     Some(Summary {
@@ -24,7 +24,7 @@ fn count_both(first: Summary, second: Summary) -> Option<Summary>
 // The damage moved on by `lines` lines, if its line fits.
 fn move_on(lines: u64, damage: Damage) -> Option<Damage>
     ensures moved { IfSome result (λ moved. moved ≡ further lines damage) }
-    ensures fits { IsNone result → Fits (Err (Damaged (further lines damage))) → ⊥ }
+    ensures fits { IsNone result → FitsFields (Err (Damaged (further lines damage))) → ⊥ }
 {
     match damage {
         Damage::BadHeader => Some(Damage::BadHeader),
@@ -48,8 +48,8 @@ fn join_numbers(
     lines: u64,
     second: Result<Summary, JudgeFault>,
 ) -> Option<Result<Summary, JudgeFault>>
-    ensures joined { IfSome result (λ whole. whole ≡ joined first lines second) }
-    ensures fits { IsNone result → Fits (joined first lines second) → ⊥ }
+    ensures joined { IfSome result (λ whole. whole ≡ joined_verdict first lines second) }
+    ensures fits { IsNone result → FitsFields (joined_verdict first lines second) → ⊥ }
 {
     match (first, second) {
         (Ok(counted), Ok(more)) => Some(Ok(count_both(counted, more)?)),
@@ -76,8 +76,8 @@ pub fn join(
 ) -> Option<Result<Summary, JudgeFault>>
     ensures judged { (former latter : List ℕ) (m : Meets former latter) → AreLinesBefore lines m.own first second → IsJudged former first → IsJudged latter second
         → IfSome result (IsJudged (m.own ++ latter)) }
-    ensures joined { IfSome result (λ whole. whole ≡ joined first lines second) }
-    ensures fits { IsNone result → Fits (joined first lines second) → ⊥ }
+    ensures joined { IfSome result (λ whole. whole ≡ joined_verdict first lines second) }
+    ensures fits { IsNone result → FitsFields (joined_verdict first lines second) → ⊥ }
 {
     join_numbers(first, lines, second)
 }

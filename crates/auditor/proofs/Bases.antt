@@ -1,12 +1,12 @@
 -- Bytes begin with the lines of a base, or these break off at some line.
 use Rattle.std.proofs.Common.{◌≡◌, ℕ, zero, suc, ◌+◌, ◌<◌, List, [], ◌∷◌, ◌++◌, length, refl, sym, ap, ap₂, subst, ◌∙◌, append_assoc, arith}
-use Rattle.rule_machine.specs.declared.base.Place.{Place}
+use Rattle.rule_machine.specs.declared.base.NodeRecord.{NodeRecord}
 use Rattle.rule_machine.specs.declared.base.Base.{Base}
-use Rattle.line_text.specs.Words.{ended}
-use Rattle.line_text.specs.BaseText.{base_counts, place_text, link_text}
-use Rattle.entry_grammar.specs.Spelling.{IsPair}
-use Rattle.entry_grammar.specs.Reading.{AreCounts, Starts}
-use Rattle.entry_grammar.specs.BaseLines.{IsAbove, IsPlace, IsShaped, BreaksAt, base_lines}
+use Rattle.line_text.specs.Words.{lines_with_ends}
+use Rattle.line_text.specs.BaseText.{base_counts, node_record_text, link_text}
+use Rattle.entry_grammar.specs.Spelling.{IsOrderedPair}
+use Rattle.entry_grammar.specs.Parsing.{AreCounts, Starts}
+use Rattle.entry_grammar.specs.BaseLines.{IsEdgeAbove, IsPlace, IsShaped, BreaksAt, base_lines}
 use Rattle.entry_grammar.specs.BaseParts.{numbers_text, NodesRead}
 use Rattle.entry_grammar.proofs.BaseLists.{NodesSoFar, EdgesSoFar, no_nodes, one_node_more, nodes_break, no_edges, one_edge_more, edges_break}
 use Rattle.entry_grammar.proofs.BaseBreaks.{first_breaks, node_breaks, edge_breaks}
@@ -19,15 +19,15 @@ record Neither (bytes : List ℕ) : Type 0 where
   no_base : (base : Base) (more : List ℕ) → IsShaped base → bytes ≡ base_lines base ++ more → ⊥
   unbroken : (k : ℕ) → BreaksAt bytes k → ⊥
 
-abbrev base_from : Four → List Place → List (ℕ × ℕ) → Base
+abbrev base_from : Four → List NodeRecord → List (ℕ × ℕ) → Base
 base_from q places edges = record { number = q.0; spent = q.1; nodes = places; edges = edges }
 
 -- all lines were read
-base_is : (bytes : List ℕ) (q : Four) (rest : List ℕ) (places : List Place) (left : List ℕ) (edges : List (ℕ × ℕ)) (behind : List ℕ) → length places ≡ q.2 → length edges ≡ q.3 → bytes ≡ numbers_text q ++ 10 ∷ rest → rest ≡ ended place_text places ++ left → left ≡ ended link_text edges ++ behind → bytes ≡ base_lines (base_from q places edges) ++ behind
+base_is : (bytes : List ℕ) (q : Four) (rest : List ℕ) (places : List NodeRecord) (left : List ℕ) (edges : List (ℕ × ℕ)) (behind : List ℕ) → length places ≡ q.2 → length edges ≡ q.3 → bytes ≡ numbers_text q ++ 10 ∷ rest → rest ≡ lines_with_ends node_record_text places ++ left → left ≡ lines_with_ends link_text edges ++ behind → bytes ≡ base_lines (base_from q places edges) ++ behind
 base_is bytes q rest places left edges behind nodes links first second third =
     let numbers = numbers_text q in
-    let P = ended place_text places in
-    let E = ended link_text edges in
+    let P = lines_with_ends node_record_text places in
+    let E = lines_with_ends link_text edges in
     let counts : numbers ≡ base_counts q.0 q.1 (length places) (length edges) = ap₂ (λ (m n : ℕ). base_counts q.0 q.1 m n) (sym nodes) (sym links) in
     first
     ∙ ap (λ (z : List ℕ). numbers ++ 10 ∷ z) (second ∙ ap (λ (z : List ℕ). P ++ z) third ∙ sym (append_assoc P E behind))
@@ -35,7 +35,7 @@ base_is bytes q rest places left edges behind nodes links first second third =
     ∙ sym (append_assoc (numbers ++ 10 ∷ []) (P ++ E) behind)
     ∙ ap (λ (z : List ℕ). ((z ++ 10 ∷ []) ++ (P ++ E)) ++ behind) counts
 
-whole_base : (bytes : List ℕ) (q : Four) (rest : List ℕ) (places : List Place) (left : List ℕ) (edges : List (ℕ × ℕ)) (behind : List ℕ) (last : ℕ × ℕ) → Neither bytes → Starts AreCounts numbers_text bytes q rest → NodesRead rest places left → length places ≡ q.2 → EdgesSoFar left edges behind q.3 last → ⊥
+whole_base : (bytes : List ℕ) (q : Four) (rest : List ℕ) (places : List NodeRecord) (left : List ℕ) (edges : List (ℕ × ℕ)) (behind : List ℕ) (last : ℕ × ℕ) → Neither bytes → Starts AreCounts numbers_text bytes q rest → NodesRead rest places left → length places ≡ q.2 → EdgesSoFar left edges behind q.3 last → ⊥
 whole_base bytes q rest places left edges behind last neither starts read all so_far =
     let fits = starts.fits in
     let many = so_far.count_is in
@@ -50,24 +50,24 @@ whole_base bytes q rest places left edges behind last neither starts read all so
       edges_rise = so_far.read.rise;
     }) (base_is bytes q rest places left edges behind all many starts.is read.is so_far.read.is)
 
-walk_edges : (fuel : ℕ) (bytes : List ℕ) (q : Four) (rest : List ℕ) (places : List Place) (left : List ℕ) (edges : List (ℕ × ℕ)) (behind : List ℕ) (count : ℕ) (last : ℕ × ℕ) → Neither bytes → Starts AreCounts numbers_text bytes q rest → NodesRead rest places left → length places ≡ q.2 → EdgesSoFar left edges behind count last → count + fuel ≡ q.3 → ⊥
+walk_edges : (fuel : ℕ) (bytes : List ℕ) (q : Four) (rest : List ℕ) (places : List NodeRecord) (left : List ℕ) (edges : List (ℕ × ℕ)) (behind : List ℕ) (count : ℕ) (last : ℕ × ℕ) → Neither bytes → Starts AreCounts numbers_text bytes q rest → NodesRead rest places left → length places ≡ q.2 → EdgesSoFar left edges behind count last → count + fuel ≡ q.3 → ⊥
 walk_edges zero bytes q rest places left edges behind count last neither starts read all so_far e =
     let whole : count ≡ q.3 = omega (arith, e) in
     whole_base bytes q rest places left edges behind last neither starts read all (subst (λ (n : ℕ). EdgesSoFar left edges behind n last) whole so_far)
 walk_edges (suc fuel) bytes q rest places left edges behind count last neither starts read all so_far e =
     let few : count < q.3 = omega (arith, e) in
-    let none : (edge : ℕ × ℕ) (more : List ℕ) → IsAbove last edge → Starts IsPair link_text behind edge more → ⊥ = λ edge more above found.
+    let none : (edge : ℕ × ℕ) (more : List ℕ) → IsEdgeAbove last edge → Starts IsOrderedPair link_text behind edge more → ⊥ = λ edge more above found.
     walk_edges fuel bytes q rest places left (edges ++ edge ∷ []) more (count + 1) edge neither starts read all (one_edge_more left edges behind count last edge more so_far above found) (omega (arith, e)) in
     let k = q.2 + 2 + count in
     neither.unbroken k (edge_breaks bytes q rest places left k starts read all (edges_break left edges behind count last q.3 (q.2 + 2) k so_far few refl none))
 
-walk_nodes : (fuel : ℕ) (bytes : List ℕ) (q : Four) (rest : List ℕ) (places : List Place) (left : List ℕ) (count last : ℕ) → Neither bytes → Starts AreCounts numbers_text bytes q rest → NodesSoFar rest places left count last → count + fuel ≡ q.2 → ⊥
+walk_nodes : (fuel : ℕ) (bytes : List ℕ) (q : Four) (rest : List ℕ) (places : List NodeRecord) (left : List ℕ) (count last : ℕ) → Neither bytes → Starts AreCounts numbers_text bytes q rest → NodesSoFar rest places left count last → count + fuel ≡ q.2 → ⊥
 walk_nodes zero bytes q rest places left count last neither starts so_far e =
     let all : length places ≡ q.2 = omega (arith, e, so_far.count_is) in
     walk_edges q.3 bytes q rest places left [] left 0 (0, 0) neither starts so_far.read all (no_edges left) (omega arith)
 walk_nodes (suc fuel) bytes q rest places left count last neither starts so_far e =
     let few : count < q.2 = omega (arith, e) in
-    let none : (place : Place) (more : List ℕ) → last < place.node → Starts IsPlace place_text left place more → ⊥ = λ place more above found.
+    let none : (place : NodeRecord) (more : List ℕ) → last < place.node → Starts IsPlace node_record_text left place more → ⊥ = λ place more above found.
     walk_nodes fuel bytes q rest (places ++ place ∷ []) more (count + 1) place.node neither starts (one_node_more rest places left count last place more so_far above found) (omega (arith, e)) in
     let k = count + 2 in
     neither.unbroken k (node_breaks bytes q rest k starts (nodes_break rest places left count last q.2 k so_far few refl none))

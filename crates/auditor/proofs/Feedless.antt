@@ -18,8 +18,8 @@ use Rattle.line_text.specs.Words.{number_text, marked_text, joined_or}
 use Rattle.line_text.specs.EventText.{event_text}
 use Rattle.line_text.specs.ReplyText.{act_word, enabled_text, move_text, mutual_text, refusal_words, field_text, fields_of, counts_text, reply_text, IsCounts}
 use Rattle.line_text.specs.EntryText.{sizes_text, header_text, entry_text}
-use Rattle.entry_grammar.specs.Spelling.{IsMoved, IsEnabled, IsPair, IsReply, SpellsEntry}
-use Rattle.entry_grammar.specs.Reading.{IsFree}
+use Rattle.entry_grammar.specs.Spelling.{IsMoved, IsEnabled, IsOrderedPair, IsReply, SpellsEntry}
+use Rattle.entry_grammar.specs.Parsing.{IsFree}
 use Rattle.entry_grammar.proofs.FirstLines.{IsField, field_free, rules_free}
 use Rattle.entry_grammar.proofs.Free.{free_by}
 use Rattle.entry_grammar.proofs.Marks.{feed, apart_lack, both_lack, event_lacks, joined_lack, marked_lacks, name_lacks, number_lacks, target_lacks}
@@ -43,7 +43,7 @@ move_free : (m : Moved) → IsMoved m → IsFree 10 (move_text m)
 move_free m f =
     both_lack feed (number_text m.node ++ codes ":" ++ act_word m.act) (marked_text (codes ">") m.target) (enabled_free (m.node, m.act) f.0) (marked_lacks feed m.target f.1)
 
-mutual_free : (p : ℕ × ℕ) → IsPair p → IsFree 10 (mutual_text p)
+mutual_free : (p : ℕ × ℕ) → IsOrderedPair p → IsFree 10 (mutual_text p)
 mutual_free p f =
     both_lack feed (number_text p.0 ++ codes "-") (number_text p.1) (both_lack feed (number_text p.0) (codes "-") (name_lacks feed p.0 f.0) (free_by 10 (codes "-") refl)) (name_lacks feed p.1 f.1)
 
@@ -66,7 +66,7 @@ reply_free (Refused refusal) f = both_lack feed (codes "refused ") (refusal_word
 reply_free (Moves moves) f = joined_lack feed IsMoved move_text move_free moves f
 reply_free (Shown target) f = target_lacks feed target f
 reply_free (EnabledAre nodes) f = joined_or_free (codes "none") IsEnabled enabled_text (free_by 10 (codes "none") refl) enabled_free nodes f
-reply_free (Pairs pairs) f = joined_or_free (codes "none") IsPair mutual_text (free_by 10 (codes "none") refl) mutual_free pairs f
+reply_free (Pairs pairs) f = joined_or_free (codes "none") IsOrderedPair mutual_text (free_by 10 (codes "none") refl) mutual_free pairs f
 reply_free (Counts counts) f = counts_free counts f
 
 -- ---- lines

@@ -2,22 +2,22 @@ pub mod Steps
 pub mod Feedless
 pub mod Chains
 pub mod Openings
-pub mod Ending
-pub mod Exact
-pub mod Level
-pub mod Apart
+pub mod TextEnds
+pub mod VerdictUniqueness
+pub mod EqualPrefixes
+pub mod SingleVerdicts
 pub mod Bases
-pub mod Undamaged
-pub mod Counted
+pub mod DamageAbsence
+pub mod LineCounts
 pub mod Windows
-pub mod Reaching
-pub mod Opened
+pub mod AuditPositions
+pub mod ReadOpenings
 pub mod Spent
-pub mod Going
-pub mod Passing
-pub mod Reading
-pub mod Arriving
-pub mod Turning
-mod Ahead
-mod Paying
-pub mod Tried
+pub mod WholeTranscripts
+pub mod NextParts
+pub mod PieceReading
+pub mod CursorPositions
+pub mod EpochSteps
+mod NextCosts
+mod EpochCosts
+pub mod IncrementalAudits

@@ -4,22 +4,22 @@ use Rattle.std.proofs.lemmas.Option.{same_Some}
 use Rattle.rule_machine.specs.declared.base.Base.{Base}
 use Rattle.rule_machine.specs.declared.rules.RuleSet.{RuleSet}
 use Rattle.rule_machine.specs.Run.{Moment}
-use Rattle.rule_machine.specs.Base.{Part, Stand}
+use Rattle.rule_machine.specs.Base.{LogPart, NumberedMoment}
 use Rattle.rule_machine.specs.Tables.{table_of, weight_of}
-use Rattle.charge_laws.specs.Begun.{begins_once}
-use Rattle.charge_laws.specs.Charged.{charge_bound}
+use Rattle.charge_laws.specs.RunsFromBases.{begins_once}
+use Rattle.charge_laws.specs.ChargeWords.{charge_bound}
 use Rattle.line_text.specs.EntryText.{header_text}
 use Rattle.line_text.specs.BaseText.{base_head}
 use Rattle.entry_grammar.specs.declared.base_line.BaseLine.TheVariants.{Head}
 use Rattle.byte_streams.specs.Lines.{first_line}
 use Rattle.entry_grammar.specs.BaseLines.{base_lines}
-use Rattle.byte_streams.proofs.Cutting.{first_line-ended}
+use Rattle.byte_streams.proofs.FirstLines.{first_line-ended}
 use Rattle.entry_grammar.proofs.Headers.{spells_header_once}
 use Rattle.entry_grammar.proofs.BaseLines.{spells_base_line_once}
 use Rattle.entry_grammar.proofs.FirstLines.{line_free}
 use Rattle.entry_grammar.proofs.BaseOnce.{base_text_is, base_once, base_unbroken, breaks_once}
 use Rattle.auditor.specs.Parts.{Opening, Named, Based, IsOpening, Opens, size_of, present_of, base_in, opening_text, parts_text}
-use Rattle.auditor.specs.Damage.{Follows, HasBadHeader, HasBadStart, BreaksOff, BeginsNowhere}
+use Rattle.auditor.specs.Damage.{BeginsWithTranscript, HasBadHeader, HasBadStart, HasBrokenBase, HasImpossibleBase}
 use Rattle.auditor.proofs.Feedless.{header_free}
 
 -- ---- the first line
@@ -76,24 +76,24 @@ text_once r q (Based m a) (Based n b) x y f g line behind =
     record { rules = head.0; openings = ap₂ (λ (z : ℕ) (base : Base). Based z base) head.1 lines.0; rests = lines.1 }
 
 -- with the beginning of its run
-pub record SameOpening (r q : RuleSet) (o u : Opening) (start begin : Stand) (x y : List ℕ) : Type 0 where
+pub record SameOpening (r q : RuleSet) (o u : Opening) (start begin : NumberedMoment) (x y : List ℕ) : Type 0 where
   pub rules : r ≡ q
   pub openings : o ≡ u
   pub starts : start ≡ begin
   pub rests : x ≡ y
 
-abbrev stand : Moment → ℕ → Stand
+abbrev stand : Moment → ℕ → NumberedMoment
 stand m n = record { moment = m; count = n }
 
-start_once : (rules : RuleSet) (o : Opening) (start begin : Stand) → Opens rules o start → Opens rules o begin → start ≡ begin
+start_once : (rules : RuleSet) (o : Opening) (start begin : NumberedMoment) → Opens rules o start → Opens rules o begin → start ≡ begin
 start_once rules o start begin x y =
     ap₂ (λ (m : Moment) (n : ℕ). stand m n) (begins_once (table_of rules) (charge_bound (weight_of rules)) (size_of o) (present_of o) (base_in o) start.moment begin.moment x.begins y.begins) (x.count ∙ sym y.count)
 
-opens_same : (r q : RuleSet) (o u : Opening) (start : Stand) → r ≡ q → o ≡ u → Opens q u start → Opens r o start
+opens_same : (r q : RuleSet) (o u : Opening) (start : NumberedMoment) → r ≡ q → o ≡ u → Opens q u start → Opens r o start
 opens_same r q o u start rules openings x =
     subst (λ (z : RuleSet). Opens z o start) (sym rules) (subst (λ (z : Opening). Opens q z start) (sym openings) x)
 
-pub opening_once : (r q : RuleSet) (o u : Opening) (start begin : Stand) (x y : List ℕ) → Opens r o start → Opens q u begin → opening_text r o ++ x ≡ opening_text q u ++ y → SameOpening r q o u start begin x y
+pub opening_once : (r q : RuleSet) (o u : Opening) (start begin : NumberedMoment) (x y : List ℕ) → Opens r o start → Opens q u begin → opening_text r o ++ x ≡ opening_text q u ++ y → SameOpening r q o u start begin x y
 opening_once r q o u start begin x y opens opened e =
     let first : (line_in r o, behind_in o x) ≡ (line_in q u, behind_in u y) =
     same_Some (line_in r o, behind_in o x) (line_in q u, behind_in u y) (sym (opening_first r o x opens.fits) ∙ ap first_line e ∙ opening_first q u y opened.fits) in
@@ -108,14 +108,14 @@ opening_once r q o u start begin x y opens opened e =
 -- ---- a text that begins with none
 
 -- the parts, and what is left
-abbrev pub parts_behind : (bytes : List ℕ) (rules : RuleSet) (log : List Part) (end : Stand) (rest : List ℕ) → Follows bytes rules log end rest → List ℕ
+abbrev pub parts_behind : (bytes : List ℕ) (rules : RuleSet) (log : List LogPart) (end : NumberedMoment) (rest : List ℕ) → BeginsWithTranscript bytes rules log end rest → List ℕ
 parts_behind bytes rules log end rest f = parts_text rules (size_of f.opening) f.transcript.start.count log ++ rest
 
-pub follows_text : (bytes : List ℕ) (rules : RuleSet) (log : List Part) (end : Stand) (rest : List ℕ) (f : Follows bytes rules log end rest) → bytes ≡ opening_text rules f.opening ++ parts_behind bytes rules log end rest f
+pub follows_text : (bytes : List ℕ) (rules : RuleSet) (log : List LogPart) (end : NumberedMoment) (rest : List ℕ) (f : BeginsWithTranscript bytes rules log end rest) → bytes ≡ opening_text rules f.opening ++ parts_behind bytes rules log end rest f
 follows_text bytes rules log end rest f =
     f.splits ∙ ap (λ (z : List ℕ). z ++ rest) f.transcript.text ∙ append_assoc (opening_text rules f.opening) (parts_text rules (size_of f.opening) f.transcript.start.count log) rest
 
-pub follows_first : (bytes : List ℕ) (rules : RuleSet) (log : List Part) (end : Stand) (rest : List ℕ) (f : Follows bytes rules log end rest) → first_line bytes ≡ Some (line_in rules f.opening, behind_in f.opening (parts_behind bytes rules log end rest f))
+pub follows_first : (bytes : List ℕ) (rules : RuleSet) (log : List LogPart) (end : NumberedMoment) (rest : List ℕ) (f : BeginsWithTranscript bytes rules log end rest) → first_line bytes ≡ Some (line_in rules f.opening, behind_in f.opening (parts_behind bytes rules log end rest f))
 follows_first bytes rules log end rest f =
     ap first_line (follows_text bytes rules log end rest f) ∙ opening_first rules f.opening (parts_behind bytes rules log end rest f) f.transcript.opens.fits
 
@@ -123,12 +123,12 @@ line_good : (rules : RuleSet) (opening : Opening) (behind : List ℕ) → IsOpen
 line_good rules (Named size count) behind is bad = bad.0 rules size count (record { few = is.few; within = is.within; is = refl })
 line_good rules (Based size base) behind is bad = bad.1 rules size is.few refl
 
-pub header_good : (bytes : List ℕ) (rules : RuleSet) (log : List Part) (end : Stand) (rest : List ℕ) → HasBadHeader (first_line bytes) → Follows bytes rules log end rest → ⊥
+pub header_good : (bytes : List ℕ) (rules : RuleSet) (log : List LogPart) (end : NumberedMoment) (rest : List ℕ) → HasBadHeader (first_line bytes) → BeginsWithTranscript bytes rules log end rest → ⊥
 header_good bytes rules log end rest bad f =
     line_good rules f.opening (behind_in f.opening (parts_behind bytes rules log end rest f)) f.transcript.opens.fits (subst HasBadHeader (follows_first bytes rules log end rest f) bad)
 
 -- the lines of a base are whole, and a run begins there
-lines_good : (r : RuleSet) (m : ℕ) (behind : List ℕ) (line : ℕ) (q : RuleSet) (opening : Opening) (start : Stand) (more : List ℕ) → m ≤ 65535 → BreaksOff behind line ⊎ BeginsNowhere r m behind line → Opens q opening start → base_head r m ≡ line_in q opening → behind ≡ behind_in opening more → ⊥
+lines_good : (r : RuleSet) (m : ℕ) (behind : List ℕ) (line : ℕ) (q : RuleSet) (opening : Opening) (start : NumberedMoment) (more : List ℕ) → m ≤ 65535 → HasBrokenBase behind line ⊎ HasImpossibleBase r m behind line → Opens q opening start → base_head r m ≡ line_in q opening → behind ≡ behind_in opening more → ⊥
 lines_good r m behind line q (Named size count) start more few bad opens head lines = header_no_head q r size count m (sym head)
 lines_good r m behind line q (Based size base) start more few (inl breaks) opens head lines =
     base_unbroken behind base more breaks.number opens.fits.shaped lines breaks.breaks
@@ -137,7 +137,7 @@ lines_good r m behind line q (Based size base) start more few (inr nowhere) open
     let once = base_once behind nowhere.base base nowhere.more more nowhere.shaped opens.fits.shaped nowhere.is lines in
     nowhere.nowhere start (opens_same r q (Based m nowhere.base) (Based size base) start same.0 (ap₂ (λ (z : ℕ) (b : Base). Based z b) same.1 once.0) opens)
 
-pub start_good : (bytes : List ℕ) (line : ℕ) (rules : RuleSet) (log : List Part) (end : Stand) (rest : List ℕ) → HasBadStart bytes line → Follows bytes rules log end rest → ⊥
+pub start_good : (bytes : List ℕ) (line : ℕ) (rules : RuleSet) (log : List LogPart) (end : NumberedMoment) (rest : List ℕ) → HasBadStart bytes line → BeginsWithTranscript bytes rules log end rest → ⊥
 start_good bytes line rules log end rest bad f =
     let more = parts_behind bytes rules log end rest f in
     let same : (base_head bad.rules bad.size, bad.rest) ≡ (line_in rules f.opening, behind_in f.opening more) =
@@ -150,7 +150,7 @@ start_good bytes line rules log end rest bad f =
 pub header_no_start : (bytes : List ℕ) (line : ℕ) → HasBadHeader (first_line bytes) → HasBadStart bytes line → ⊥
 header_no_start bytes line none bad = (subst HasBadHeader bad.first none).1 bad.rules bad.size bad.few refl
 
-start_line : (r q : RuleSet) (m n : ℕ) (rest : List ℕ) (k l : ℕ) → BreaksOff rest k ⊎ BeginsNowhere r m rest k → BreaksOff rest l ⊎ BeginsNowhere q n rest l → k ≡ l
+start_line : (r q : RuleSet) (m n : ℕ) (rest : List ℕ) (k l : ℕ) → HasBrokenBase rest k ⊎ HasImpossibleBase r m rest k → HasBrokenBase rest l ⊎ HasImpossibleBase q n rest l → k ≡ l
 start_line r q m n rest k l (inl x) (inl y) =
     x.line_is ∙ ap (λ (z : ℕ). z + 1) (breaks_once rest x.number y.number x.breaks y.breaks) ∙ sym y.line_is
 start_line r q m n rest k l (inl x) (inr y) = absurd (base_unbroken rest y.base y.more x.number y.shaped y.is x.breaks)
@@ -162,4 +162,4 @@ start_once_bad bytes k l x y =
     let same : (base_head x.rules x.size, x.rest) ≡ (base_head y.rules y.size, y.rest) =
     same_Some (base_head x.rules x.size, x.rest) (base_head y.rules y.size, y.rest) (sym x.first ∙ y.first) in
     let rests = ap (λ (p : List ℕ × List ℕ). p.1) same in
-    start_line x.rules y.rules x.size y.size y.rest k l (subst (λ (z : List ℕ). BreaksOff z k ⊎ BeginsNowhere x.rules x.size z k) rests x.bad) y.bad
+    start_line x.rules y.rules x.size y.size y.rest k l (subst (λ (z : List ℕ). HasBrokenBase z k ⊎ HasImpossibleBase x.rules x.size z k) rests x.bad) y.bad

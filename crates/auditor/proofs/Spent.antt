@@ -7,17 +7,17 @@ use Rattle.rule_machine.specs.declared.rules.RuleSet.{RuleSet}
 use Rattle.rule_machine.specs.declared.rules.RuleSet.TheVariants.{Hh, Manne}
 use Rattle.rule_machine.specs.Network.{edge_count, names, node_count}
 use Rattle.rule_machine.specs.State.{IsState}
-use Rattle.rule_machine.specs.Base.{Stand, base_of, entries_in, place_at}
+use Rattle.rule_machine.specs.Base.{NumberedMoment, base_of, entries_in, node_record_at}
 use Rattle.rule_machine.specs.Run.{Moment}
 use Rattle.rule_machine.specs.Tables.{table_of, weight_of}
 use Rattle.machine_laws.specs.Bases.{passes_run}
 use Rattle.machine_laws.specs.LeastMoves.{IsTable}
-use Rattle.charge_laws.specs.Begun.{begins_in_state, begins_within}
-use Rattle.charge_laws.specs.Charged.{IsCharged, IsWithinBound, charge_bound}
+use Rattle.charge_laws.specs.RunsFromBases.{begins_in_state, begins_within}
+use Rattle.charge_laws.specs.ChargeWords.{IsCharged, IsWithinBound, charge_bound}
 use Rattle.charge_laws.specs.Laws.{hsu_huang_charged, manne_charged}
 use Rattle.charge_laws.specs.Runs.{run_within}
 use Rattle.charge_laws.specs.Tables.{hsu_huang_table, manne_table}
-use Rattle.auditor.specs.Accepted.{IsReached}
+use Rattle.auditor.specs.AcceptedRuns.{IsPositionAfter}
 use Rattle.auditor.specs.Parts.{Opens, Opening, base_in, present_of, size_of}
 use Rattle.auditor.specs.Position.{Position, stand_of}
 
@@ -29,11 +29,11 @@ pub is_charged : (rules : RuleSet) → IsCharged (table_of rules) (weight_of rul
 is_charged Hh = hsu_huang_charged
 is_charged Manne = manne_charged
 
-pub opens_in_state : (rules : RuleSet) (o : Opening) (start : Stand) → Opens rules o start → IsState start.moment.state
+pub opens_in_state : (rules : RuleSet) (o : Opening) (start : NumberedMoment) → Opens rules o start → IsState start.moment.state
 opens_in_state rules o start opens =
     begins_in_state (table_of rules) (charge_bound (weight_of rules)) (size_of o) (present_of o) (base_in o) start.moment opens.begins
 
-pub opens_within : (rules : RuleSet) (o : Opening) (start : Stand) → Opens rules o start → IsWithinBound (table_of rules) (weight_of rules) start.moment
+pub opens_within : (rules : RuleSet) (o : Opening) (start : NumberedMoment) → Opens rules o start → IsWithinBound (table_of rules) (weight_of rules) start.moment
 opens_within rules o start opens =
     begins_within (table_of rules) (weight_of rules) (is_charged rules) (size_of o) (present_of o) (base_in o) start.moment opens.begins
 
@@ -42,7 +42,7 @@ light Hh spent charge edges nodes within = omega (arith, within)
 light Manne spent charge edges nodes within = omega (arith, within)
 
 -- what an audit has come to keeps within the bound
-pub reached_within : (bytes : List ℕ) (rules : RuleSet) (size : ℕ) (p : Position) (rest : List ℕ) → IsReached bytes rules size p rest → p.spent ≤ 2 * edge_count p.state.network + 3 * node_count p.state.network
+pub reached_within : (bytes : List ℕ) (rules : RuleSet) (size : ℕ) (p : Position) (rest : List ℕ) → IsPositionAfter bytes rules size p rest → p.spent ≤ 2 * edge_count p.state.network + 3 * node_count p.state.network
 reached_within bytes rules size p rest r =
     let is = r.follows.transcript in
     let run = (passes_run (table_of rules) is.start (stand_of p) r.log is.passes).0 in
@@ -55,5 +55,5 @@ pub spent_fits : (b : Base) (n spent : ℕ) (m : Moment) → b ≡ base_of n m �
 spent_fits b n spent m is few bounded =
     let net = m.state.network in
     let edges : length b.edges ≡ edge_count net = ap (λ (x : Base). length x.edges) is ∙ length-map (finmap.entries net.edges) (λ e. e.0) ∙ sym (finmap.len-entries net.edges) in
-    let nodes : length b.nodes ≡ node_count net = ap (λ (x : Base). length x.nodes) is ∙ length-map (names net) (place_at m.state) in
+    let nodes : length b.nodes ≡ node_count net = ap (λ (x : Base). length x.nodes) is ∙ length-map (names net) (node_record_at m.state) in
     omega (arith, edges, nodes, few.0, few.1, bounded)

@@ -3,41 +3,41 @@ use Rattle.std.proofs.Common.{◌≡◌, ℕ, ◌≤◌, List, [], ◌∷◌, �
 use Rattle.std.specs.List.{AllByRecursion}
 use Rattle.rule_machine.specs.declared.rules.RuleSet.{RuleSet}
 use Rattle.rule_machine.specs.RuleTable.{RuleTable}
-use Rattle.rule_machine.specs.Base.{Part, Told, Kept, Stand, Passes}
+use Rattle.rule_machine.specs.Base.{LogPart, EntryPart, BasePart, NumberedMoment, Passes}
 use Rattle.rule_machine.specs.Tables.{table_of}
 use Rattle.auditor.specs.Parts.{StepsTo, count_after, opening_text, part_text, parts_text, size_of}
-use Rattle.auditor.specs.Transcript.{Comes, IsPart}
-use Rattle.auditor.specs.Damage.{Follows}
+use Rattle.auditor.specs.Transcript.{NextPart, IsLogPart}
+use Rattle.auditor.specs.Damage.{BeginsWithTranscript}
 
 -- the first part, and the later ones
-pub passes_first : (t : RuleTable) (at end : Stand) (part : Part) (log : List Part) → Passes t at (part ∷ log) end → (next : Stand) × StepsTo t at part next × Passes t next log end
-passes_first t at end (Told entry) log (s, answers, rest) = (_, (s, answers, refl), rest)
-passes_first t at end (Kept base) log (is, rest) = (at, (is, refl), rest)
+pub passes_first : (t : RuleTable) (at end : NumberedMoment) (part : LogPart) (log : List LogPart) → Passes t at (part ∷ log) end → (next : NumberedMoment) × StepsTo t at part next × Passes t next log end
+passes_first t at end (EntryPart entry) log (s, answers, rest) = (_, (s, answers, refl), rest)
+passes_first t at end (BasePart base) log (is, rest) = (at, (is, refl), rest)
 
-pub passes_onto : (t : RuleTable) (at next end : Stand) (part : Part) (log : List Part) → StepsTo t at part next → Passes t next log end → Passes t at (part ∷ log) end
-passes_onto t at next end (Told entry) log (s, answers, is) rest = (s, answers, subst (λ (x : Stand). Passes t x log end) is rest)
-passes_onto t at next end (Kept base) log (is, same) rest = (is, subst (λ (x : Stand). Passes t x log end) same rest)
+pub passes_onto : (t : RuleTable) (at next end : NumberedMoment) (part : LogPart) (log : List LogPart) → StepsTo t at part next → Passes t next log end → Passes t at (part ∷ log) end
+passes_onto t at next end (EntryPart entry) log (s, answers, is) rest = (s, answers, subst (λ (x : NumberedMoment). Passes t x log end) is rest)
+passes_onto t at next end (BasePart base) log (is, same) rest = (is, subst (λ (x : NumberedMoment). Passes t x log end) same rest)
 
 -- one part more at the end
-pub passes_add : (t : RuleTable) (at end next : Stand) (log : List Part) (part : Part) → Passes t at log end → StepsTo t end part next → Passes t at (log ++ part ∷ []) next
+pub passes_add : (t : RuleTable) (at end next : NumberedMoment) (log : List LogPart) (part : LogPart) → Passes t at log end → StepsTo t end part next → Passes t at (log ++ part ∷ []) next
 passes_add t at end next [] part is step =
-    passes_onto t at next next part [] (subst (λ (x : Stand). StepsTo t x part next) is step) refl
+    passes_onto t at next next part [] (subst (λ (x : NumberedMoment). StepsTo t x part next) is step) refl
 passes_add t at end next (first ∷ log) part passes step =
     let split = passes_first t at end first log passes in
     passes_onto t at split.0 next first (log ++ part ∷ []) split.1 (passes_add t split.0 end next log part split.2 step)
 
 -- a part counts its entry
-pub step_count : (t : RuleTable) (at next : Stand) (part : Part) → StepsTo t at part next → next.count ≡ count_after at.count part
-step_count t at next (Told entry) (s, answers, is) = ap (λ (x : Stand). x.count) is
-step_count t at next (Kept base) (is, same) = ap (λ (x : Stand). x.count) same
+pub step_count : (t : RuleTable) (at next : NumberedMoment) (part : LogPart) → StepsTo t at part next → next.count ≡ count_after at.count part
+step_count t at next (EntryPart entry) (s, answers, is) = ap (λ (x : NumberedMoment). x.count) is
+step_count t at next (BasePart base) (is, same) = ap (λ (x : NumberedMoment). x.count) same
 
-pub count_rises : (count : ℕ) (part : Part) → count ≤ count_after count part
-count_rises count (Told entry) = omega arith
-count_rises count (Kept base) = omega arith
+pub count_rises : (count : ℕ) (part : LogPart) → count ≤ count_after count part
+count_rises count (EntryPart entry) = omega arith
+count_rises count (BasePart base) = omega arith
 
 -- no part takes an entry back
-pub passes_rise : (t : RuleTable) (at end : Stand) (log : List Part) → Passes t at log end → at.count ≤ end.count
-passes_rise t at end [] is = let same = ap (λ (x : Stand). x.count) is in omega (arith, same)
+pub passes_rise : (t : RuleTable) (at end : NumberedMoment) (log : List LogPart) → Passes t at log end → at.count ≤ end.count
+passes_rise t at end [] is = let same = ap (λ (x : NumberedMoment). x.count) is in omega (arith, same)
 passes_rise t at end (part ∷ log) passes =
     let split = passes_first t at end part log passes in
     let count = step_count t at split.0 part split.1 in
@@ -46,9 +46,9 @@ passes_rise t at end (part ∷ log) passes =
     omega (arith, count, rises, rest)
 
 -- the text of one part more
-pub parts_text_add : (rules : RuleSet) (size : ℕ) (t : RuleTable) (at end : Stand) (log : List Part) (part : Part) → Passes t at log end → parts_text rules size at.count (log ++ part ∷ []) ≡ parts_text rules size at.count log ++ part_text rules size end.count part
+pub parts_text_add : (rules : RuleSet) (size : ℕ) (t : RuleTable) (at end : NumberedMoment) (log : List LogPart) (part : LogPart) → Passes t at log end → parts_text rules size at.count (log ++ part ∷ []) ≡ parts_text rules size at.count log ++ part_text rules size end.count part
 parts_text_add rules size t at end [] part is =
-    append-nil (part_text rules size at.count part) ∙ ap (λ (x : Stand). part_text rules size x.count part) (sym is)
+    append-nil (part_text rules size at.count part) ∙ ap (λ (x : NumberedMoment). part_text rules size x.count part) (sym is)
 parts_text_add rules size t at end (first ∷ log) part passes =
     let split = passes_first t at end first log passes in
     let front = part_text rules size at.count first in
@@ -58,12 +58,12 @@ parts_text_add rules size t at end (first ∷ log) part passes =
     ∙ ap (λ (n : ℕ). front ++ (parts_text rules size n log ++ part_text rules size end.count part)) count
     ∙ sym (append_assoc front (parts_text rules size (count_after at.count first) log) (part_text rules size end.count part))
 
-pub parts_add : (log : List Part) (part : Part) → AllByRecursion IsPart log → IsPart part → AllByRecursion IsPart (log ++ part ∷ [])
+pub parts_add : (log : List LogPart) (part : LogPart) → AllByRecursion IsLogPart log → IsLogPart part → AllByRecursion IsLogPart (log ++ part ∷ [])
 parts_add [] part all is = (is, tt)
 parts_add (first ∷ log) part all is = (all.0, parts_add log part all.1 is)
 
 -- one part further after a transcript
-abbrev pub follows_more : (bytes rest behind : List ℕ) (rules : RuleSet) (log : List Part) (end next : Stand) (part : Part) (f : Follows bytes rules log end rest) → Comes rules (size_of f.opening) end rest part next behind → Follows bytes rules (log ++ part ∷ []) next behind
+abbrev pub follows_more : (bytes rest behind : List ℕ) (rules : RuleSet) (log : List LogPart) (end next : NumberedMoment) (part : LogPart) (f : BeginsWithTranscript bytes rules log end rest) → NextPart rules (size_of f.opening) end rest part next behind → BeginsWithTranscript bytes rules (log ++ part ∷ []) next behind
 follows_more bytes rest behind rules log end next part f comes =
     let is = f.transcript in
     let size = size_of f.opening in

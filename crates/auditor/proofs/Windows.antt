@@ -5,18 +5,18 @@ use Rattle.std.specs.Prelude.{codes}
 use Rattle.std.specs.List.{AllByRecursion}
 use Rattle.std.proofs.lemmas.List.{append_cancel_right, get_or_append_left, length-append, take-append-drop, take-append-le, take_all}
 use Rattle.std.proofs.lemmas.Option.{same_Some}
-use Rattle.line_text.specs.Words.{ended}
+use Rattle.line_text.specs.Words.{lines_with_ends}
 use Rattle.entry_grammar.specs.declared.base_line.BaseLine.{BaseLine}
 use Rattle.byte_streams.specs.Lines.{first_line}
-use Rattle.entry_grammar.specs.Reading.{IsFree}
+use Rattle.entry_grammar.specs.Parsing.{IsFree}
 use Rattle.entry_grammar.specs.Spelling.{IsBaseLine, base_line_text}
 use Rattle.entry_grammar.specs.BaseLines.{BreaksAt, MayFollow}
-use Rattle.byte_streams.proofs.Cutting.{first_line-ended, first_line-is, first_line-splits, first_line-then, no_first_line}
+use Rattle.byte_streams.proofs.FirstLines.{first_line-ended, first_line-is, first_line-splits, first_line-then, no_first_line}
 use Rattle.entry_grammar.proofs.FirstLines.{line_free}
 use Rattle.entry_grammar.proofs.Free.{cons_parts, free_by}
 use Rattle.auditor.specs.Damage.{BeginsBase, line_feeds}
-use Rattle.auditor.specs.Replays.{AreSameUpTo, ArePartedAt}
-use Rattle.auditor.proofs.Counted.{PartAt, feeds_few, feeds_first, part_inside}
+use Rattle.auditor.specs.TranscriptCursors.{AreSameUpTo, ArePartedAt}
+use Rattle.auditor.proofs.LineCounts.{PartAt, feeds_few, feeds_first, part_inside}
 
 -- ---- line feeds
 
@@ -91,11 +91,11 @@ begins_less rest more line behind cut (m, is) =
 
 -- ---- the lines of a base that break off
 
-feeds_ended : (lines : List BaseLine) → AllByRecursion IsBaseLine lines → line_feeds (ended base_line_text lines) ≡ length lines
+feeds_ended : (lines : List BaseLine) → AllByRecursion IsBaseLine lines → line_feeds (lines_with_ends base_line_text lines) ≡ length lines
 feeds_ended [] fit = refl
 feeds_ended (line ∷ lines) fit =
     let text = base_line_text line in
-    let both = feeds_append (text ++ 10 ∷ []) (ended base_line_text lines) in
+    let both = feeds_append (text ++ 10 ∷ []) (lines_with_ends base_line_text lines) in
     let own = feeds_append text (10 ∷ []) in
     let none = free_feeds text (line_free line fit.0) in
     let rest = feeds_ended lines fit.1 in
@@ -104,7 +104,7 @@ feeds_ended (line ∷ lines) fit =
 -- as many lines end as come before the break, and those after it
 pub feeds_broken : (bytes : List ℕ) (k : ℕ) (b : BreaksAt bytes k) → line_feeds bytes + 1 ≡ k + line_feeds b.rest
 feeds_broken bytes k b =
-    let both = ap line_feeds b.is ∙ feeds_append (ended base_line_text b.lines) b.rest in
+    let both = ap line_feeds b.is ∙ feeds_append (lines_with_ends base_line_text b.lines) b.rest in
     let own = feeds_ended b.lines b.fit in
     omega (arith, both, own, b.number)
 
@@ -112,7 +112,7 @@ broken_more : (bytes more line behind : List ℕ) (k : ℕ) (b : BreaksAt bytes 
 broken_more bytes more line behind k b cut = record {
   lines = b.lines;
   rest = b.rest ++ more;
-  is = ap (λ (l : List ℕ). l ++ more) b.is ∙ append_assoc (ended base_line_text b.lines) b.rest more;
+  is = ap (λ (l : List ℕ). l ++ more) b.is ∙ append_assoc (lines_with_ends base_line_text b.lines) b.rest more;
   fit = b.fit;
   follow = b.follow;
   short = b.short;

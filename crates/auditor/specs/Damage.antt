@@ -3,7 +3,7 @@ use Rattle.std.specs.Prelude.{◌≡◌, ◌≢◌, ℕ, ◌+◌, ◌⊎◌, ◌
 use Rattle.rule_machine.specs.declared.base.Base.{Base}
 use Rattle.rule_machine.specs.declared.rules.RuleSet.{RuleSet}
 use Rattle.rule_machine.specs.State.{State}
-use Rattle.rule_machine.specs.Base.{Part, Stand, base_of}
+use Rattle.rule_machine.specs.Base.{LogPart, NumberedMoment, base_of}
 use Rattle.rule_machine.specs.Run.{Entry}
 use Rattle.rule_machine.specs.Answer.{Answers}
 use Rattle.rule_machine.specs.Tables.{table_of}
@@ -45,19 +45,19 @@ abbrev pub BeginsBase : List ℕ → Type 0
 BeginsBase rest = (more : List ℕ) × (rest ≡ codes "matching2" ++ more)
 
 -- The bytes begin with a transcript, and the rest follows.
-pub record Follows (bytes : List ℕ) (rules : RuleSet) (log : List Part) (end : Stand) (rest : List ℕ) : Type 0 where
+pub record BeginsWithTranscript (bytes : List ℕ) (rules : RuleSet) (log : List LogPart) (end : NumberedMoment) (rest : List ℕ) : Type 0 where
   pub opening : Opening
   pub good : List ℕ
   pub transcript : IsTranscript good rules opening log end
   pub splits : bytes ≡ good ++ rest
 
 -- a transcript that the bytes begin with, and the rest after it
-pub record Beginning (bytes : List ℕ) : Type 0 where
+pub record TranscriptPrefix (bytes : List ℕ) : Type 0 where
   pub rules : RuleSet
-  pub log : List Part
-  pub end : Stand
+  pub log : List LogPart
+  pub end : NumberedMoment
   pub rest : List ℕ
-  pub follows : Follows bytes rules log end rest
+  pub follows : BeginsWithTranscript bytes rules log end rest
 
 -- the first line after a transcript is the entry with this number
 pub record EntryComes (rest : List ℕ) (number : ℕ) (entry : Entry) : Type 0 where
@@ -72,14 +72,14 @@ IsLineBehind line good = line ≡ line_feeds good + 1
 
 -- the first line after a transcript is no entry, and no base begins there
 pub record EndsInNoLine (bytes : List ℕ) (line : ℕ) : Type 0 where
-  pub at : Beginning bytes
+  pub at : TranscriptPrefix bytes
   pub line_is : IsLineBehind line at.follows.good
   pub other : BeginsBase at.rest → ⊥
   pub damage : HasNoEntry at.rest (first_line at.rest)
 
 -- it is an entry, but its number is not the next
 pub record EndsOutOfOrder (bytes : List ℕ) (line : ℕ) : Type 0 where
-  pub at : Beginning bytes
+  pub at : TranscriptPrefix bytes
   pub line_is : IsLineBehind line at.follows.good
   pub number : ℕ
   pub entry : Entry
@@ -88,14 +88,14 @@ pub record EndsOutOfOrder (bytes : List ℕ) (line : ℕ) : Type 0 where
 
 -- it is the next entry, but the machine may not give its reply
 pub record EndsNotTheMachines (bytes : List ℕ) (line : ℕ) : Type 0 where
-  pub at : Beginning bytes
+  pub at : TranscriptPrefix bytes
   pub line_is : IsLineBehind line at.follows.good
   pub entry : Entry
   pub comes : EntryComes at.rest (at.end.count + 1) entry
   pub damage : (s : State) → Answers (table_of at.rules) at.end.moment.state at.end.moment.spent entry.0 entry.1 s → ⊥
 
 -- how far two texts agree, if the bytes do not begin with the text
-pub record Parting (text bytes : List ℕ) : Type 0 where
+pub record CommonPrefix (text bytes : List ℕ) : Type 0 where
   pub common : List ℕ
   pub missing : List ℕ
   pub more : List ℕ
@@ -106,24 +106,24 @@ pub record Parting (text bytes : List ℕ) : Type 0 where
 
 -- after a transcript comes a base that is not that of the state reached: the line is the first that differs
 pub record EndsInBadBase (bytes : List ℕ) (line : ℕ) : Type 0 where
-  pub at : Beginning bytes
+  pub at : TranscriptPrefix bytes
   pub begins : BeginsBase at.rest
-  pub parting : Parting (base_text at.rules (size_of at.follows.opening) (base_of at.end.count at.end.moment)) at.rest
+  pub parting : CommonPrefix (base_text at.rules (size_of at.follows.opening) (base_of at.end.count at.end.moment)) at.rest
   pub line_is : IsLineBehind line (at.follows.good ++ parting.common)
 
 -- from this line on, the lines after the first are no base's
-pub record BreaksOff (rest : List ℕ) (line : ℕ) : Type 0 where
+pub record HasBrokenBase (rest : List ℕ) (line : ℕ) : Type 0 where
   pub number : ℕ
   pub breaks : BreaksAt rest number
   pub line_is : line ≡ number + 1
 
 -- they are a base's, but no run may begin there: the line is that of its numbers
-pub record BeginsNowhere (rules : RuleSet) (size : ℕ) (rest : List ℕ) (line : ℕ) : Type 0 where
+pub record HasImpossibleBase (rules : RuleSet) (size : ℕ) (rest : List ℕ) (line : ℕ) : Type 0 where
   pub base : Base
   pub more : List ℕ
   pub shaped : IsShaped base
   pub is : rest ≡ base_lines base ++ more
-  pub nowhere : (start : Stand) → Opens rules (Based size base) start → ⊥
+  pub nowhere : (start : NumberedMoment) → Opens rules (Based size base) start → ⊥
   pub line_is : line ≡ 2
 
 -- the first line is that of a base, but the others are not, or no run may begin there
@@ -133,7 +133,7 @@ pub record HasBadStart (bytes : List ℕ) (line : ℕ) : Type 0 where
   pub rest : List ℕ
   pub few : size ≤ 65535
   pub first : first_line bytes ≡ Some (base_head rules size, rest)
-  pub bad : BreaksOff rest line ⊎ BeginsNowhere rules size rest line
+  pub bad : HasBrokenBase rest line ⊎ HasImpossibleBase rules size rest line
 
 -- The bytes have this damage: what comes before the line is a transcript, and this is the first check that
 -- the line fails.

@@ -5,11 +5,11 @@ use Rattle.rule_machine.specs.declared.reply.Reply.{Reply}
 use Rattle.rule_machine.specs.declared.reply.Reply.TheVariants.{Accepted}
 use Rattle.rule_machine.specs.declared.rules.RuleSet.{RuleSet}
 use Rattle.rule_machine.specs.State.{State}
-use Rattle.rule_machine.specs.Base.{Part, Told, Kept, Stand, begun_at, entries_in}
+use Rattle.rule_machine.specs.Base.{LogPart, EntryPart, BasePart, NumberedMoment, begun_at, entries_in}
 use Rattle.rule_machine.specs.Run.{Entry, Epoch, Moment, epoch_at, epochs_by, epochs_from, open_at}
 use Rattle.rule_machine.specs.Tables.{table_of, weight_of}
 use Rattle.charge_laws.specs.Epochs.{IsPath}
-use Rattle.judge.specs.Judging.{cost_by}
+use Rattle.reply_checker.specs.ReplyVerdicts.{cost_by}
 use Rattle.auditor.specs.declared.epoch.CostedEpoch.{CostedEpoch}
 use Rattle.auditor.specs.Damage.{EntryComes}
 use Rattle.auditor.specs.Parts.{Opening, base_in}
@@ -23,14 +23,14 @@ abbrev pub IsWithinItsBound : RuleSet → Epoch → Type 0
 IsWithinItsBound rules epoch = epoch.moves ≤ bound_of rules epoch
 
 -- the first epoch, as the opening determines it
-abbrev pub first_epoch : Opening → Stand → Epoch
+abbrev pub first_epoch : Opening → NumberedMoment → Epoch
 first_epoch opening start = open_at (begun_at (base_in opening)) start.moment
 
 -- The bytes are the transcript of a run under these rules, with this opening, and its entries lead through
 -- these states.
 pub record GoesThrough (bytes : List ℕ) (rules : RuleSet) (opening : Opening) (path : List (Entry × State)) : Type 0 where
-  pub log : List Part
-  pub end : Stand
+  pub log : List LogPart
+  pub end : NumberedMoment
   pub transcript : IsTranscript bytes rules opening log end
   pub entries : entries_in log ≡ map (λ step. step.0) path
   pub is_path : IsPath (table_of rules) transcript.start.moment path
@@ -55,7 +55,7 @@ costs_in rows = map (λ row. row.cost) rows
 
 -- The epochs are those of the run whose transcript the bytes are; each but the first has its disturbance's
 -- cost.
-pub record AreEpochs (bytes : List ℕ) (rules : RuleSet) (rows : List CostedEpoch) : Type 0 where
+pub record AreCostedEpochs (bytes : List ℕ) (rules : RuleSet) (rows : List CostedEpoch) : Type 0 where
   pub opening : Opening
   pub path : List (Entry × State)
   pub run : GoesThrough bytes rules opening path
@@ -85,6 +85,6 @@ rows_by Accepted number s cost row = (row ∷ [], record { epoch = epoch_at numb
 rows_by reply number s cost row = ([], record row { epoch = (epochs_by reply number s row.epoch).1 })
 
 -- what a part makes of an epoch; a base does nothing
-abbrev pub rows_at : Part → ℕ → State → Option ℕ → CostedEpoch → List CostedEpoch × CostedEpoch
-rows_at (Told entry) number s cost row = rows_by entry.1 number s cost row
-rows_at (Kept base) number s cost row = ([], row)
+abbrev pub rows_at : LogPart → ℕ → State → Option ℕ → CostedEpoch → List CostedEpoch × CostedEpoch
+rows_at (EntryPart entry) number s cost row = rows_by entry.1 number s cost row
+rows_at (BasePart base) number s cost row = ([], row)

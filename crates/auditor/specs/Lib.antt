@@ -2,9 +2,9 @@ pub mod Parts
 pub mod Transcript
 pub mod Damage
 pub mod Position
-pub mod Accepted
+pub mod AcceptedRuns
 pub mod Verdict
-pub mod Reached
-pub mod Replays
+pub mod EntryWindows
+pub mod TranscriptCursors
 pub mod Epochs
-pub mod Fed
+pub mod AuditPieces

@@ -5,9 +5,9 @@ use Rattle.rule_machine.specs.declared.rules.RuleSet.{RuleSet}
 use Rattle.rule_machine.specs.State.{State}
 use Rattle.rule_machine.specs.RuleTable.{RuleTable}
 use Rattle.rule_machine.specs.Answer.{Answers, spent_after}
-use Rattle.rule_machine.specs.Base.{BeginsAt, Part, Told, Kept, Stand, base_of, dropped}
+use Rattle.rule_machine.specs.Base.{BeginsAt, LogPart, EntryPart, BasePart, NumberedMoment, base_of, dropped}
 use Rattle.rule_machine.specs.Tables.{table_of, weight_of}
-use Rattle.charge_laws.specs.Charged.{charge_bound}
+use Rattle.charge_laws.specs.ChargeWords.{charge_bound}
 use Rattle.line_text.specs.EntryText.{header_line, entry_line}
 use Rattle.line_text.specs.BaseText.{base_text}
 use Rattle.entry_grammar.specs.Spelling.{AreSizes, max_entries}
@@ -49,27 +49,27 @@ IsOpening (Based size base) = IsFirstBase size base
 
 -- the beginning of a transcript's run: the opening state, or that of its base, with the base's entries
 -- counted
-pub record Opens (rules : RuleSet) (opening : Opening) (start : Stand) : Type 0 where
+pub record Opens (rules : RuleSet) (opening : Opening) (start : NumberedMoment) : Type 0 where
   pub fits : IsOpening opening
   pub begins : BeginsAt (table_of rules) (charge_bound (weight_of rules)) (size_of opening) (present_of opening) (base_in opening) start.moment
   pub count : start.count ≡ dropped (base_in opening)
 
 -- how many entries there are after a part
-abbrev pub count_after : ℕ → Part → ℕ
-count_after count (Told entry) = count + 1
-count_after count (Kept base) = count
+abbrev pub count_after : ℕ → LogPart → ℕ
+count_after count (EntryPart entry) = count + 1
+count_after count (BasePart base) = count
 
 -- the text of a part after this many entries, for this many names
-abbrev pub part_text : RuleSet → ℕ → ℕ → Part → List ℕ
-part_text rules size count (Told entry) = entry_line (count + 1) entry.0 entry.1
-part_text rules size count (Kept base) = base_text rules size base
+abbrev pub part_text : RuleSet → ℕ → ℕ → LogPart → List ℕ
+part_text rules size count (EntryPart entry) = entry_line (count + 1) entry.0 entry.1
+part_text rules size count (BasePart base) = base_text rules size base
 
-abbrev pub parts_text : RuleSet → ℕ → ℕ → List Part → List ℕ
+abbrev pub parts_text : RuleSet → ℕ → ℕ → List LogPart → List ℕ
 parts_text rules size count [] = []
 parts_text rules size count (part ∷ log) = part_text rules size count part ++ parts_text rules size (count_after count part) log
 
 -- from one state to the next: the machine may reply so to the event, or the base is that of the state
-abbrev pub StepsTo : RuleTable → Stand → Part → Stand → Type 0
-StepsTo t at (Told entry) next =
+abbrev pub StepsTo : RuleTable → NumberedMoment → LogPart → NumberedMoment → Type 0
+StepsTo t at (EntryPart entry) next =
     (s : State) × Answers t at.moment.state at.moment.spent entry.0 entry.1 s × (next ≡ record { moment = record { state = s; spent = spent_after at.moment.spent entry.1 }; count = at.count + 1 })
-StepsTo t at (Kept base) next = (base ≡ base_of at.count at.moment) × (next ≡ at)
+StepsTo t at (BasePart base) next = (base ≡ base_of at.count at.moment) × (next ≡ at)

@@ -4,7 +4,7 @@ use Rattle.rule_machine.specs.declared.reply.Reply.{Reply}
 use Rattle.rule_machine.specs.declared.rules.RuleSet.{RuleSet}
 use Rattle.rule_machine.specs.State.{State}
 use Rattle.rule_machine.specs.RuleTable.{RuleTable}
-use Rattle.rule_machine.specs.Base.{Part, Told, Kept, Stand}
+use Rattle.rule_machine.specs.Base.{LogPart, EntryPart, BasePart, NumberedMoment}
 use Rattle.rule_machine.specs.Run.{Entry}
 use Rattle.rule_machine.specs.Answer.{Answers, spent_after}
 use Rattle.entry_grammar.specs.Spelling.{SpellsEntry, max_entries}
@@ -13,7 +13,7 @@ use Rattle.auditor.specs.declared.damage.Damage.TheVariants.{BadHeader, NotALine
 use Rattle.auditor.specs.declared.damage.JudgeFault.{JudgeFault}
 use Rattle.auditor.specs.declared.damage.JudgeFault.TheVariants.{Damaged, Memory}
 use Rattle.auditor.specs.declared.summary.Summary.{Summary}
-use Rattle.auditor.specs.Transcript.{Comes, disturbances_in, moves_in}
+use Rattle.auditor.specs.Transcript.{NextPart, disturbances_in, reply_moves}
 use Rattle.auditor.specs.Damage.{SpellsNoEntry}
 
 -- the state reached, the moves spent, the number of the last entry, and the counts
@@ -24,33 +24,33 @@ pub record Position : Type 0 where
   pub counted : Summary
 
 -- the numbered moment of a position
-abbrev pub stand_of : Position → Stand
+abbrev pub stand_of : Position → NumberedMoment
 stand_of p = record { moment = record { state = p.state; spent = p.spent }; count = p.number }
 
 -- the position before any entry of the transcript
-abbrev pub position_at : Stand → Position
+abbrev pub position_at : NumberedMoment → Position
 position_at at =
     record { state = at.moment.state; spent = at.moment.spent; number = at.count; counted = record { entries = 0; epochs = 1; moves = 0 } }
 
 -- the counts with one more entry
 abbrev pub counted_more : Summary → Reply → Summary
 counted_more c reply =
-    record { entries = c.entries + 1; epochs = c.epochs + disturbances_in reply; moves = c.moves + moves_in reply }
+    record { entries = c.entries + 1; epochs = c.epochs + disturbances_in reply; moves = c.moves + reply_moves reply }
 
 -- a base adds nothing to the counts
-abbrev pub counted_part : Summary → Part → Summary
-counted_part c (Told entry) = counted_more c entry.1
-counted_part c (Kept base) = c
+abbrev pub counted_part : Summary → LogPart → Summary
+counted_part c (EntryPart entry) = counted_more c entry.1
+counted_part c (BasePart base) = c
 
 -- the limits of the counts
-pub record IsCounted (c : Summary) : Type 0 where
+pub record IsPossibleSummary (c : Summary) : Type 0 where
   pub entries : c.entries ≤ max_entries
   pub epochs : c.epochs ≤ c.entries + 1
   pub moves : c.moves ≤ c.entries * 65535
 
 -- the counts of an audit: besides a base's, at most the moves made are spent
-pub record AreCounted (spent number : ℕ) (c : Summary) : Type 0 where
-  pub counted : IsCounted c
+pub record AreAuditCounts (spent number : ℕ) (c : Summary) : Type 0 where
+  pub counted : IsPossibleSummary c
   pub numbered : number ≤ max_entries
   pub entries : c.entries ≤ number
   pub made : spent ≤ c.moves + 4294967295
@@ -93,6 +93,6 @@ LineJudged t text line before after (Err Memory) = Unit {0}
 
 -- the next part comes, leads from one position to the next, and is counted; the rest follows
 pub record IsFurther (rules : RuleSet) (size : ℕ) (before : Position) (rest : List ℕ) (after : Position) (behind : List ℕ) : Type 0 where
-  pub part : Part
-  pub comes : Comes rules size (stand_of before) rest part (stand_of after) behind
+  pub part : LogPart
+  pub comes : NextPart rules size (stand_of before) rest part (stand_of after) behind
   pub counted : after.counted ≡ counted_part before.counted part

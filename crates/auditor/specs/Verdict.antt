@@ -9,7 +9,7 @@ use Rattle.auditor.specs.declared.damage.JudgeFault.TheVariants as judge
 use Rattle.auditor.specs.declared.fault.AuditFault.{AuditFault}
 use Rattle.auditor.specs.declared.fault.AuditFault.TheVariants.{BadHeader, NotALine, OutOfOrder, NotTheMachines, BadBase, Read, Memory}
 use Rattle.auditor.specs.declared.summary.Summary.{Summary}
-use Rattle.auditor.specs.Accepted.{IsAccepted}
+use Rattle.auditor.specs.AcceptedRuns.{IsAccepted}
 use Rattle.auditor.specs.Damage.{IsDamage}
 
 -- the names that an audit gives to a damage, a judge's fault and an input's fault
@@ -49,26 +49,26 @@ abbrev pub JudgesDamage : List ℕ → Result Summary JudgeFault → Type 0
 JudgesDamage bytes result = (d : Damage) → IsDamage bytes d → (result ≡ Err (judge.Damaged d)) ⊎ (result ≡ Err judge.Memory)
 
 -- the judge's result as that of an audit; it is never a failed read
-abbrev pub told : Result Summary JudgeFault → Result Summary AuditFault
-told (Ok counted) = Ok counted
-told (Err fault) = Err (of_judge fault)
+abbrev pub audit_result : Result Summary JudgeFault → Result Summary AuditFault
+audit_result (Ok counted) = Ok counted
+audit_result (Err fault) = Err (of_judge fault)
 
 abbrev pub IsAudited : List ℕ → Result Summary AuditFault → Type 0
-IsAudited bytes result = (judged : Result Summary JudgeFault) × IsJudged bytes judged × (result ≡ told judged)
+IsAudited bytes result = (judged : Result Summary JudgeFault) × IsJudged bytes judged × (result ≡ audit_result judged)
 
 -- the bytes were judged, or reading them failed
-abbrev pub IsHeard : List ℕ → Result Summary AuditFault → Type 0
-IsHeard bytes result = IsAudited bytes result ⊎ ((fault : InputFault) × (result ≡ Err (of_input fault)))
+abbrev pub IsAuditResult : List ℕ → Result Summary AuditFault → Type 0
+IsAuditResult bytes result = IsAudited bytes result ⊎ ((fault : InputFault) × (result ≡ Err (of_input fault)))
 
 -- the bytes have the damage that the fault names; nothing is said of a failed read or if memory ran out
-abbrev pub IsFault : List ℕ → AuditFault → Type 0
-IsFault bytes BadHeader = IsDamage bytes damage.BadHeader
-IsFault bytes (NotALine line) = IsDamage bytes (damage.NotALine line)
-IsFault bytes (OutOfOrder line) = IsDamage bytes (damage.OutOfOrder line)
-IsFault bytes (NotTheMachines line) = IsDamage bytes (damage.NotTheMachines line)
-IsFault bytes (BadBase line) = IsDamage bytes (damage.BadBase line)
-IsFault bytes Read = Unit {0}
-IsFault bytes Memory = Unit {0}
+abbrev pub IsAuditFault : List ℕ → AuditFault → Type 0
+IsAuditFault bytes BadHeader = IsDamage bytes damage.BadHeader
+IsAuditFault bytes (NotALine line) = IsDamage bytes (damage.NotALine line)
+IsAuditFault bytes (OutOfOrder line) = IsDamage bytes (damage.OutOfOrder line)
+IsAuditFault bytes (NotTheMachines line) = IsDamage bytes (damage.NotTheMachines line)
+IsAuditFault bytes (BadBase line) = IsDamage bytes (damage.BadBase line)
+IsAuditFault bytes Read = Unit {0}
+IsAuditFault bytes Memory = Unit {0}
 
 -- a transcript is accepted with its counts, unless a read fails or memory runs out
 abbrev pub AcceptsRuns : List ℕ → Result Summary AuditFault → Type 0

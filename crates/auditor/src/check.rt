@@ -9,7 +9,7 @@ ghost use Rattle.auditor.specs.Position.{LineJudged, position_at, stand_of};
 use crate::summary::spent_after;
 use crate::{Damage, JudgeFault, Summary};
 use entry_grammar::{EntryFault, read_entry};
-use judge::Judge;
+use reply_checker::Judge;
 use rule_machine::{Base, RuleSet, Want};
 use std::alloc::Global;
 use std::marker::Model;
@@ -28,7 +28,7 @@ pub(crate) struct Audit {
 impl Model for Audit {
     ghost use Rattle.std.specs.Coded.{codes};
     ghost use Rattle.rule_machine.specs.State.{state_code};
-    ghost use Rattle.auditor.specs.Position.{Position, AreCounted};
+    ghost use Rattle.auditor.specs.Position.{Position, AreAuditCounts};
 
     ghost Value = { Position };
 
@@ -36,7 +36,7 @@ impl Model for Audit {
 
     ghost view = { λ a. record { state = a.judge; spent = a.spent; number = a.number; counted = a.counted } };
 
-    ghost invariant = { λ a. AreCounted a.spent a.number a.counted };
+    ghost invariant = { λ a. AreAuditCounts a.spent a.number a.counted };
 }
 
 impl Audit {

@@ -3,13 +3,13 @@
 ghost use Rattle.std.specs.Prelude.{◌≡◌, ◌+◌, ◌*◌, ◌<◌, ◌^◌};
 ghost use Rattle.auditor.specs.Epochs.{bound_of};
 
-use rule_machine::{RuleSet, Start};
+use rule_machine::{EpochStart, RuleSet};
 use std::marker::Model;
 
 /// An epoch: the entries from an accepted disturbance, or the start, up to the next one or the end.
 #[derive(Clone, Copy, Debug, PartialEq, Eq)]
 pub struct Epoch {
-    start: Start,
+    start: EpochStart,
     moves: u64,
     edges: u32,
     nodes: u32,
@@ -37,7 +37,7 @@ impl Model for Epoch {
 }
 
 impl Epoch {
-    pub(crate) fn new(start: Start, moves: u64, edges: u32, nodes: u32) -> Epoch
+    pub(crate) fn new(start: EpochStart, moves: u64, edges: u32, nodes: u32) -> Epoch
         ensures { result ≡ record { start = start; moves = moves; edges = edges; nodes = nodes } }
     {
         Epoch {
@@ -61,7 +61,7 @@ impl Epoch {
     /// The number of the accepted disturbance that began it, 0 for the start of the run.
     ///
     /// `Forgotten` if it began before the base at the transcript's start.
-    pub fn start(self) -> Start
+    pub fn start(self) -> EpochStart
         ensures { result ≡ self.start }
     {
         self.start

@@ -1,19 +1,19 @@
 //! The list of a transcript's epochs.
 
 ghost use Rattle.std.specs.Prelude.{◌≡◌, ◌≤◌, ◌+◌, ◌++◌, ◌∷◌, [], All, Err, IfErr, IfOk, OnOk};
-ghost use Rattle.rule_machine.specs.Base.{Part};
+ghost use Rattle.rule_machine.specs.Base.{LogPart};
 ghost use Rattle.rule_machine.specs.Run.{epoch_at, open_at};
-ghost use Rattle.judge.specs.Judging.{cost_by};
-ghost use Rattle.auditor.specs.Epochs.{AreEpochs, ArePaid, IsNextCost, IsWithinItsBound, epochs_in, rows_at};
+ghost use Rattle.reply_checker.specs.ReplyVerdicts.{cost_by};
+ghost use Rattle.auditor.specs.Epochs.{AreCostedEpochs, ArePaid, IsNextCost, IsWithinItsBound, epochs_in, rows_at};
 ghost use Rattle.auditor.specs.Position.{counted_part, stand_of};
 ghost use Rattle.auditor.specs.Verdict.{IsJudged};
 
 use crate::check::Audit;
-use crate::replay::Replay;
+use crate::replay::TranscriptCursor;
 use crate::{CostedEpoch, Epoch, JudgeFault, Summary};
 use byte_streams::split_line;
 use entry_grammar::{EntryFault, read_entry};
-use rule_machine::{Event, RuleSet, Start, Want};
+use rule_machine::{EpochStart, Event, RuleSet, Want};
 use std::alloc::{AllocError, Global};
 
 /// All epochs of a run, in order.
@@ -30,12 +30,12 @@ impl Audit {
     fn new_epoch(&self) -> Epoch
         ensures { result ≡ epoch_at self.now.number self.now.state }
     {
-        let start = Start::At(self.number());
+        let start = EpochStart::At(self.number());
         Epoch::new(start, 0, self.judge.edges(), self.judge.nodes())
     }
 
     /// The epoch that began at `start` and contains the state reached.
-    fn open_epoch(&self, start: Start) -> Epoch
+    fn open_epoch(&self, start: EpochStart) -> Epoch
         ensures epoch { result ≡ open_at start (stand_of self.now).moment }
         ensures few { result.moves ≤ self.now.counted.moves + 4294967295 }
     {
@@ -50,7 +50,7 @@ impl Audit {
     }
 }
 
-impl Replay {
+impl TranscriptCursor {
     /// The cost of the next entry, if its line accepts a disturbance. Other lines are not read.
     fn cost_ahead(&self, alloc: Global, rest: &[u8]) -> Result<Option<u32>, Want>
         ensures { IfOk result (IsNextCost self.now.rules self.now.audit.state rest.now) }
@@ -90,7 +90,7 @@ fn turn(
 ) -> Result<CostedEpoch, Want>
     requires counted { row.epoch.moves ≤ before.moves + 4294967295 }
     requires more { before.moves ≤ audit.now.counted.moves }
-    ensures turn { IfOk result (λ next. (part : Part) → audit.now.counted ≡ counted_part before part
+    ensures turn { IfOk result (λ next. (part : LogPart) → audit.now.counted ≡ counted_part before part
         → (past.new.items ≡ past.old.items ++ (rows_at part audit.now.number audit.now.state cost row).0)
         × (next ≡ (rows_at part audit.now.number audit.now.state cost row).1)) }
     ensures counted { IfOk result (λ next. next.epoch.moves ≤ audit.now.counted.moves + 4294967295) }
@@ -113,13 +113,13 @@ fn turn(
 /// Errors are those of `audit_bytes`: the first damage of other bytes, or `Memory`. Costs what `audit_bytes`
 /// costs, and reads the lines of accepted disturbances twice. Takes 32 bytes an epoch.
 pub fn epochs_of(alloc: Global, bytes: &[u8]) -> Result<Epochs, JudgeFault>
-    ensures epochs { IfOk result (λ epochs. AreEpochs bytes.now epochs.rules epochs.list.items) }
+    ensures epochs { IfOk result (λ epochs. AreCostedEpochs bytes.now epochs.rules epochs.list.items) }
     ensures bounded { IfOk result (λ epochs. All (IsWithinItsBound epochs.rules) (epochs_in epochs.list.items)) }
-    ensures paid { IfOk result (λ epochs. (are : AreEpochs bytes.now epochs.rules epochs.list.items)
+    ensures paid { IfOk result (λ epochs. (are : AreCostedEpochs bytes.now epochs.rules epochs.list.items)
         → ArePaid epochs.rules are.run.transcript.start.moment epochs.list.items) }
     ensures fault { IfErr result (λ fault. IsJudged bytes.now (Err fault)) }
 {
-    let (mut replay, mut rest) = match Replay::open_whole(alloc, bytes) {
+    let (mut replay, mut rest) = match TranscriptCursor::open_whole(alloc, bytes) {
         Ok(begun) => begun,
         Err(fault) => return Err(fault),
     };

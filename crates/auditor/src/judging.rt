@@ -1,10 +1,10 @@
 //! Auditing a transcript, in memory or as it comes.
 
 ghost use Rattle.std.specs.Prelude.{◌≡◌, ◌<◌, ◌≤◌, ◌+◌, ◌^◌, ◌++◌, ℕ, List, [], Err, IfErr, IfOk, None, OnOk, drop, length};
-ghost use Rattle.auditor.specs.Replays.{EndsIn, IsAt, IsCompared, IsRead, IsReadOf, IsSomewhere, IsUnderway};
+ghost use Rattle.auditor.specs.TranscriptCursors.{EndsIn, IsCursorAt, IsCompared, IsRead, IsReadOf, IsReachable, IsUnderway};
 ghost use Rattle.auditor.specs.Verdict.{IsJudged};
 
-use crate::replay::Replay;
+use crate::replay::TranscriptCursor;
 use crate::{JudgeFault, Summary};
 use byte_streams::split_line;
 use std::alloc::Global;
@@ -16,8 +16,8 @@ const MOST_BYTES: u64 = (1 << 63) - 1;
 ///
 /// The opening is tried again once `enough` bytes are held. `len` is the number of bytes read.
 #[derive(Drop)]
-pub(crate) struct Trial {
-    pub(crate) run: Option<Replay>,
+pub(crate) struct IncrementalAudit {
+    pub(crate) run: Option<TranscriptCursor>,
     pub(crate) held: Vec<u8>,
     enough: usize,
     len: u64,
@@ -35,15 +35,15 @@ fn drop_front(bytes: &mut Vec<u8>, count: usize)
     bytes.truncate(len - count);
 }
 
-impl Replay {
+impl TranscriptCursor {
     // Passes the whole parts, and returns what follows.
     fn pass_parts<'a>(&mut self, alloc: Global, held: &'a [u8]) -> Result<&'a [u8], JudgeFault>
-        requires at { IsSomewhere self.old held.now }
+        requires at { IsReachable self.old held.now }
         requires compared { IsCompared self.old held.now }
-        ensures at { IfOk result (λ rest. (bytes : List ℕ) → IsAt bytes self.old held.now → IsAt bytes self.new rest.now) }
+        ensures at { IfOk result (λ rest. (bytes : List ℕ) → IsCursorAt bytes self.old held.now → IsCursorAt bytes self.new rest.now) }
         ensures compared { IfOk result (λ rest. IsCompared self.new rest.now) }
         ensures behind { IfOk result (λ rest. EndsIn held.now rest.now) }
-        ensures fault { IfErr result (λ fault. (bytes more : List ℕ) → IsAt bytes self.old held.now → IsJudged (bytes ++ more) (Err fault)) }
+        ensures fault { IfErr result (λ fault. (bytes more : List ℕ) → IsCursorAt bytes self.old held.now → IsJudged (bytes ++ more) (Err fault)) }
     {
         let mut rest = held;
         while let Some(behind) = self.advance(alloc, rest)? {
@@ -54,9 +54,9 @@ impl Replay {
 
     // Judges the rest as the end of the text.
     fn judge_whole(self, alloc: Global, rest: &[u8]) -> Result<Summary, JudgeFault>
-        requires at { IsSomewhere self rest.now }
+        requires at { IsReachable self rest.now }
         requires compared { IsCompared self rest.now }
-        ensures { (bytes : List ℕ) → IsAt bytes self rest.now → IsJudged bytes result }
+        ensures { (bytes : List ℕ) → IsCursorAt bytes self rest.now → IsJudged bytes result }
     {
         let mut replay = self;
         let mut left = rest;
@@ -74,19 +74,23 @@ impl Replay {
 pub(crate) fn judge_text(alloc: Global, text: &[u8]) -> Result<Summary, JudgeFault>
     ensures { IsJudged text.now result }
 {
-    match Replay::open_whole(alloc, text) {
+    match TranscriptCursor::open_whole(alloc, text) {
         Ok((replay, rest)) => replay.judge_whole(alloc, rest),
         Err(fault) => Err(fault),
     }
 }
 
 // Judges the whole parts that are held, and drops their bytes.
-fn judge_parts(alloc: Global, run: &mut Replay, held: &mut Vec<u8>) -> Result<(), JudgeFault>
-    requires at { IsSomewhere run.old held.old.items }
+fn judge_parts(
+    alloc: Global,
+    run: &mut TranscriptCursor,
+    held: &mut Vec<u8>,
+) -> Result<(), JudgeFault>
+    requires at { IsReachable run.old held.old.items }
     requires compared { IsCompared run.old held.old.items }
-    ensures at { OnOk result ((read : List ℕ) → IsAt read run.old held.old.items → IsAt read run.new held.new.items) }
+    ensures at { OnOk result ((read : List ℕ) → IsCursorAt read run.old held.old.items → IsCursorAt read run.new held.new.items) }
     ensures compared { OnOk result (IsCompared run.new held.new.items) }
-    ensures fault { IfErr result (λ fault. (read more : List ℕ) → IsAt read run.old held.old.items → IsJudged (read ++ more) (Err fault)) }
+    ensures fault { IfErr result (λ fault. (read more : List ℕ) → IsCursorAt read run.old held.old.items → IsJudged (read ++ more) (Err fault)) }
 {
     let left = match run.pass_parts(alloc, held) {
         Ok(rest) => rest.len(),
@@ -101,15 +105,15 @@ fn judge_parts(alloc: Global, run: &mut Replay, held: &mut Vec<u8>) -> Result<()
 // no judged byte is copied.
 fn judge_behind(
     alloc: Global,
-    run: &mut Replay,
+    run: &mut TranscriptCursor,
     held: &mut Vec<u8>,
     bytes: &[u8],
 ) -> Result<(), JudgeFault>
-    requires at { IsSomewhere run.old (held.old.items ++ bytes.now) }
+    requires at { IsReachable run.old (held.old.items ++ bytes.now) }
     requires compared { IsCompared run.old held.old.items }
-    ensures at { OnOk result ((read : List ℕ) → IsAt read run.old (held.old.items ++ bytes.now) → IsAt read run.new held.new.items) }
+    ensures at { OnOk result ((read : List ℕ) → IsCursorAt read run.old (held.old.items ++ bytes.now) → IsCursorAt read run.new held.new.items) }
     ensures compared { OnOk result (IsCompared run.new held.new.items) }
-    ensures fault { IfErr result (λ fault. (read more : List ℕ) → IsAt read run.old (held.old.items ++ bytes.now) → IsJudged (read ++ more) (Err fault)) }
+    ensures fault { IfErr result (λ fault. (read more : List ℕ) → IsCursorAt read run.old (held.old.items ++ bytes.now) → IsJudged (read ++ more) (Err fault)) }
 {
     if !held.is_empty() {
         held.extend_from_slice(bytes)?;
@@ -128,15 +132,15 @@ fn judge_behind(
 // copied.
 fn judge_piece(
     alloc: Global,
-    run: &mut Replay,
+    run: &mut TranscriptCursor,
     held: &mut Vec<u8>,
     piece: &[u8],
 ) -> Result<(), JudgeFault>
-    requires at { IsSomewhere run.old (held.old.items ++ piece.now) }
+    requires at { IsReachable run.old (held.old.items ++ piece.now) }
     requires compared { IsCompared run.old held.old.items }
-    ensures at { OnOk result ((read : List ℕ) → IsAt read run.old (held.old.items ++ piece.now) → IsAt read run.new held.new.items) }
+    ensures at { OnOk result ((read : List ℕ) → IsCursorAt read run.old (held.old.items ++ piece.now) → IsCursorAt read run.new held.new.items) }
     ensures compared { OnOk result (IsCompared run.new held.new.items) }
-    ensures fault { IfErr result (λ fault. (read more : List ℕ) → IsAt read run.old (held.old.items ++ piece.now) → IsJudged (read ++ more) (Err fault)) }
+    ensures fault { IfErr result (λ fault. (read more : List ℕ) → IsCursorAt read run.old (held.old.items ++ piece.now) → IsJudged (read ++ more) (Err fault)) }
 {
     let Some((_, behind)) = split_line(piece) else {
         held.extend_from_slice(piece)?;
@@ -150,12 +154,12 @@ fn judge_piece(
 }
 
 // Reads the opening, if it is whole, and judges the parts after it.
-fn begin(alloc: Global, held: &mut Vec<u8>) -> Result<Option<Replay>, JudgeFault>
+fn begin(alloc: Global, held: &mut Vec<u8>) -> Result<Option<TranscriptCursor>, JudgeFault>
     requires { length held.old.items < 2 ^ 63 }
     ensures on { IfOk result (λ run. IsReadOf held.old.items run held.new.items) }
     ensures fault { IfErr result (λ fault. (more : List ℕ) → IsJudged (held.old.items ++ more) (Err fault)) }
 {
-    let (mut run, rest) = match Replay::open(alloc, held) {
+    let (mut run, rest) = match TranscriptCursor::open(alloc, held) {
         Ok(Some(begun)) => begun,
         Ok(None) => return Ok(None),
         Err(fault) => return Err(fault),
@@ -169,11 +173,11 @@ fn begin(alloc: Global, held: &mut Vec<u8>) -> Result<Option<Replay>, JudgeFault
     Ok(Some(run))
 }
 
-impl Trial {
-    pub(crate) fn new(alloc: Global) -> Trial
+impl IncrementalAudit {
+    pub(crate) fn new(alloc: Global) -> IncrementalAudit
         ensures { IsRead [] result }
     {
-        Trial {
+        IncrementalAudit {
             run: None,
             held: Vec::new(alloc),
             enough: 0,
@@ -225,7 +229,7 @@ impl Trial {
         requires { IsUnderway self }
         ensures { (read : List ℕ) → IsRead read self → IsJudged read result }
     {
-        let Trial { run, held, .. } = self;
+        let IncrementalAudit { run, held, .. } = self;
         match run {
             Some(run) => run.judge_whole(alloc, &held),
             None => judge_text(alloc, &held),

@@ -2,20 +2,20 @@
 
 ghost use Rattle.std.specs.Prelude.{◌≡◌, ℕ, List};
 ghost use Rattle.rule_machine.specs.declared.rules.RuleSet.{RuleSet};
-ghost use Rattle.rule_machine.specs.Base.{Part, Stand};
+ghost use Rattle.rule_machine.specs.Base.{LogPart, NumberedMoment};
 ghost use Rattle.auditor.specs.declared.damage.Damage.{Damage};
 ghost use Rattle.auditor.specs.declared.summary.Summary.{Summary};
 ghost use Rattle.auditor.specs.Parts.{Opening};
 ghost use Rattle.auditor.specs.Transcript.{IsTranscript, SameRun};
 ghost use Rattle.auditor.specs.Damage.{IsDamage};
-ghost use Rattle.auditor.specs.Accepted.{IsAccepted};
+ghost use Rattle.auditor.specs.AcceptedRuns.{IsAccepted};
 
 /// A text is the transcript of at most one run.
 ///
 /// The bytes determine the rule set, the header or opening base, the entries, the bases among them, and the
 /// machine's end state.
 pub fn one_run()
-    ensures { (bytes : List ℕ) (r q : RuleSet) (o p : Opening) (log also : List Part) (end last : Stand)
+    ensures { (bytes : List ℕ) (r q : RuleSet) (o p : Opening) (log also : List LogPart) (end last : NumberedMoment)
         → IsTranscript bytes r o log end → IsTranscript bytes q p also last → SameRun r q o p log also end last }
 {}
 

@@ -1,11 +1,11 @@
 //! The auditor: accepts bytes that are the transcript of a run, and names the first damage of all others.
 //!
-//! It reads a text part by part: an entry through `entry_grammar` and the `judge`, a base by comparing it
-//! with the state reached. It keeps only the part that is not whole yet. It accepts exactly the texts of runs
-//! and counts their entries, epochs and moves. For every other text it names the first line that fails, and
-//! the first check that this line fails. A text is the transcript of at most one run and has at most one
-//! damage (laws). The auditor builds on the definitions and uses no guard of the engine, so it also judges
-//! transcripts of other programs.
+//! It reads a text part by part: an entry through `entry_grammar` and the `reply_checker`, a base by
+//! comparing it with the state reached. It keeps only the part that is not whole yet. It accepts exactly the
+//! texts of runs and counts their entries, epochs and moves. For every other text it names the first line
+//! that fails, and the first check that this line fails. A text is the transcript of at most one run and has
+//! at most one damage (laws). The auditor builds on the definitions and uses no guard of the engine, so it
+//! also judges transcripts of other programs.
 //!
 //! `PieceAudit` is fed a text in pieces, cut anywhere; `audit` reads one itself. `state_after` returns the
 //! state after an entry. `epochs_of` returns the moves after each disturbance, their bound, and what the
@@ -42,6 +42,6 @@ pub use laws::{
     one_count, one_damage, one_run, transcript_has_no_damage, undamaged_is_a_transcript,
 };
 pub use pieces::PieceAudit;
-pub use reach::{Reached, ReplayFault, state_after};
+pub use reach::{ReplayFault, ReplayedRun, state_after};
 pub use summary::Summary;
 pub use transcript::{audit, audit_bytes};

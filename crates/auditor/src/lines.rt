@@ -2,7 +2,7 @@
 
 ghost use Rattle.std.specs.Prelude.{◌≡◌, ◌≤◌, ℕ, List, ◌++◌, length};
 ghost use Rattle.auditor.specs.Damage.{line_feeds};
-ghost use Rattle.auditor.specs.Replays.{AreSameUpTo, ArePartedAt};
+ghost use Rattle.auditor.specs.TranscriptCursors.{AreSameUpTo, ArePartedAt};
 
 /// How many lines end in the bytes. Looks at each byte once.
 pub(crate) fn line_feeds(bytes: &[u8]) -> u64

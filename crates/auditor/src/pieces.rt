@@ -2,10 +2,10 @@
 
 ghost use Rattle.std.specs.Prelude.{◌≡◌, ◌<◌, ◌^◌, ◌++◌, ℕ, List, [], Err, IfErr, None, Some};
 ghost use Rattle.auditor.specs.declared.damage.JudgeFault.{JudgeFault as Fault};
-ghost use Rattle.auditor.specs.Replays.{IsTried};
+ghost use Rattle.auditor.specs.TranscriptCursors.{IsIncrementalAudit};
 ghost use Rattle.auditor.specs.Verdict.{IsJudged, JudgesDamage, JudgesRuns, found_by};
 
-use crate::judging::Trial;
+use crate::judging::IncrementalAudit;
 use crate::{JudgeFault, Summary};
 use std::alloc::Global;
 
@@ -15,22 +15,22 @@ use std::alloc::Global;
 /// further call returns it.
 #[derive(Drop)]
 pub struct PieceAudit {
-    trial: Trial,
+    trial: IncrementalAudit,
     fault: Option<JudgeFault>,
     ghost few: { trial.len < 2 ^ 63 },
-    ghost some: { ∥ ((bytes : List ℕ) × IsTried bytes trial fault) ∥₁ },
+    ghost some: { ∥ ((bytes : List ℕ) × IsIncrementalAudit bytes trial fault) ∥₁ },
 }
 
 impl PieceAudit {
-    ghost use Rattle.auditor.specs.Fed.{IsFed};
+    ghost use Rattle.auditor.specs.AuditPieces.{HasReadPieces};
 
     /// An audit that was fed nothing.
     pub fn new(alloc: Global) -> PieceAudit
-        ensures fed { IsFed [] result }
+        ensures fed { HasReadPieces [] result }
         ensures well { result.fault ≡ None }
     {
         PieceAudit {
-            trial: Trial::new(alloc),
+            trial: IncrementalAudit::new(alloc),
             fault: None,
         }
     }
@@ -41,8 +41,8 @@ impl PieceAudit {
     /// returns it. `Memory` if memory runs out, or if more than 2^63 - 1 bytes were fed. Costs what
     /// `audit_bytes` costs for the lines that end in the piece.
     pub fn feed(&mut self, alloc: Global, piece: &[u8]) -> Result<(), JudgeFault>
-        ensures fed { (bytes : List ℕ) → IsFed bytes self.old → IsFed (bytes ++ piece.now) self.new }
-        ensures fault { IfErr result (λ fault. (bytes more : List ℕ) → IsFed bytes self.old → IsJudged (bytes ++ piece.now ++ more) (Err fault)) }
+        ensures fed { (bytes : List ℕ) → HasReadPieces bytes self.old → HasReadPieces (bytes ++ piece.now) self.new }
+        ensures fault { IfErr result (λ fault. (bytes more : List ℕ) → HasReadPieces bytes self.old → IsJudged (bytes ++ piece.now ++ more) (Err fault)) }
         ensures told { result ≡ found_by self.new.fault }
         ensures for_good { (fault : Fault) → self.old.fault ≡ Some fault → self.new.fault ≡ Some fault }
     {
@@ -60,9 +60,9 @@ impl PieceAudit {
 
     /// Judges all that was fed as a whole text, as `audit_bytes` does.
     pub fn finish(self, alloc: Global) -> Result<Summary, JudgeFault>
-        ensures judged { (bytes : List ℕ) → IsFed bytes self → IsJudged bytes result }
-        ensures accepts_runs { (bytes : List ℕ) → IsFed bytes self → JudgesRuns bytes result }
-        ensures names_damage { (bytes : List ℕ) → IsFed bytes self → JudgesDamage bytes result }
+        ensures judged { (bytes : List ℕ) → HasReadPieces bytes self → IsJudged bytes result }
+        ensures accepts_runs { (bytes : List ℕ) → HasReadPieces bytes self → JudgesRuns bytes result }
+        ensures names_damage { (bytes : List ℕ) → HasReadPieces bytes self → JudgesDamage bytes result }
     {
         match self.fault {
             Some(fault) => Err(fault),

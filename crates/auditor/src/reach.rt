@@ -2,17 +2,17 @@
 
 ghost use Rattle.std.specs.Prelude.{◌≡◌, ◌<◌, ℕ, IfErr, IfOk, MatchOption, Some};
 ghost use Rattle.auditor.specs.declared.reach.ReplayFault.TheVariants.{TooFew};
-ghost use Rattle.auditor.specs.Reached.{IsLongEnough, IsReplayFault, IsStateAfter, IsWithin, falls_short};
+ghost use Rattle.auditor.specs.EntryWindows.{IsLongEnough, IsReplayFault, IsStateAfter, IsAskedWithin, falls_short};
 
 use crate::JudgeFault;
-use crate::replay::Replay;
-use judge::Judge;
+use crate::replay::TranscriptCursor;
+use reply_checker::Judge;
 use rule_machine::RuleSet;
 use std::alloc::Global;
 
 /// The state that a run has reached.
 #[derive(Drop)]
-pub struct Reached {
+pub struct ReplayedRun {
     /// The rules of the run.
     pub rules: RuleSet,
     /// The judge in that state.
@@ -42,7 +42,7 @@ fn falls_short(entries: u32, last: Option<u32>) -> bool
 
 // The number that was asked for, if it is below `entries`.
 fn forgotten(entries: u32, last: Option<u32>) -> Option<u32>
-    ensures { MatchOption result (IsWithin last entries) (λ asked. (last ≡ Some asked) × (asked < entries)) }
+    ensures { MatchOption result (IsAskedWithin last entries) (λ asked. (last ≡ Some asked) × (asked < entries)) }
 {
     match last {
         Some(number) if number < entries => Some(number),
@@ -51,14 +51,14 @@ fn forgotten(entries: u32, last: Option<u32>) -> Option<u32>
 }
 
 // The state reached, or `TooFew`.
-fn finish(replay: Replay, last: Option<u32>) -> Result<Reached, ReplayFault>
+fn finish(replay: TranscriptCursor, last: Option<u32>) -> Result<ReplayedRun, ReplayFault>
     ensures reached { IfOk result (λ reached. (reached.rules ≡ replay.rules) × (reached.judge ≡ replay.audit.state) × IsLongEnough last replay.audit.number) }
     ensures few { IfErr result (λ fault. (asked : ℕ) × (fault ≡ TooFew asked replay.audit.number) × (last ≡ Some asked) × (replay.audit.number < asked)) }
 {
     let entries = replay.number();
     match last {
         Some(asked) if entries < asked => Err(ReplayFault::TooFew { asked, entries }),
-        _ => Ok(Reached {
+        _ => Ok(ReplayedRun {
             rules: replay.rules,
             judge: replay.audit.into_judge(),
         }),
@@ -75,11 +75,15 @@ fn finish(replay: Replay, last: Option<u32>) -> Result<Reached, ReplayFault>
 /// - `Forgotten` if the bytes begin with a base of a greater number.
 ///
 /// Costs what `audit_bytes` costs for these lines.
-pub fn state_after(alloc: Global, bytes: &[u8], last: Option<u32>) -> Result<Reached, ReplayFault>
+pub fn state_after(
+    alloc: Global,
+    bytes: &[u8],
+    last: Option<u32>,
+) -> Result<ReplayedRun, ReplayFault>
     ensures reached { IfOk result (λ reached. IsStateAfter bytes.now last reached.rules reached.judge) }
     ensures fault { IfErr result (IsReplayFault bytes.now last) }
 {
-    let (mut replay, mut rest) = match Replay::open_whole(alloc, bytes) {
+    let (mut replay, mut rest) = match TranscriptCursor::open_whole(alloc, bytes) {
         Ok(begun) => begun,
         Err(fault) => return Err(ReplayFault::Judged(fault)),
     };

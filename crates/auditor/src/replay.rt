@@ -8,28 +8,28 @@ ghost use Rattle.byte_streams.specs.Lines.{first_line};
 ghost use Rattle.entry_grammar.specs.Spelling.{SpellsHeader};
 ghost use Rattle.auditor.specs.declared.damage.JudgeFault.TheVariants.{Damaged};
 ghost use Rattle.auditor.specs.Damage.{BeginsBase, SpellsNoHead};
-ghost use Rattle.auditor.specs.Reached.{IsMetBehind, IsMetFirst};
-ghost use Rattle.auditor.specs.Replays.{Begins, HasCutStart, IsAt, IsCompared, IsMetAt, IsPassed, IsSomewhere, IsUnended, Waits, Wants};
+ghost use Rattle.auditor.specs.EntryWindows.{IsMetBehind, IsMetFirst};
+ghost use Rattle.auditor.specs.TranscriptCursors.{IsCursorAfter, HasCutStart, IsCursorAt, IsCompared, IsMetAt, IsPassed, IsReachable, IsUnended, StaysInPlace, AwaitsBase};
 
 use crate::check::Audit;
 use crate::lines::{common_len, line_feeds, lines_before};
 use crate::{Damage, JudgeFault, Summary};
 use byte_streams::split_line;
 use entry_grammar::{BaseFault, BaseLine, read_base, read_base_line, read_header};
-use judge::Judge;
 use line_text::{after, put_base};
 use log_entry::MAX_ENTRIES;
-use rule_machine::{RuleSet, Start, Want};
+use reply_checker::Judge;
+use rule_machine::{EpochStart, RuleSet, Want};
 use std::alloc::Global;
 
 /// The rules and size of a transcript, the start of its first epoch, and its audit after `lines` lines.
 ///
 /// While a base comes in pieces, `wanted` is its text, and `same` is how many bytes of it have come.
 #[derive(Drop)]
-pub(crate) struct Replay {
+pub(crate) struct TranscriptCursor {
     pub(crate) rules: RuleSet,
     pub(crate) size: u32,
-    pub(crate) begun: Start,
+    pub(crate) begun: EpochStart,
     pub(crate) audit: Audit,
     pub(crate) lines: u64,
     pub(crate) wanted: Vec<u8>,
@@ -76,26 +76,26 @@ impl Audit {
     }
 }
 
-impl Replay {
+impl TranscriptCursor {
     /// Begins after a header, at the opening state.
     fn at_header(
         alloc: Global,
         text: &[u8],
         rest: &[u8],
         header: (RuleSet, u32, u32),
-    ) -> Result<Replay, JudgeFault>
+    ) -> Result<TranscriptCursor, JudgeFault>
         requires few { header.1 ≤ 65535 }
         requires within { header.2 ≤ header.1 }
         requires line { (line : List ℕ) × (first_line text.now ≡ Some (line, rest.now)) × SpellsHeader line header.0 header.1 header.2 }
-        ensures begins { IfOk result (λ replay. Begins text.now replay rest.now) }
+        ensures begins { IfOk result (λ replay. IsCursorAfter text.now replay rest.now) }
         ensures fault { IfErr result (λ fault. (more : List ℕ) → IsMetFirst (text.now ++ more) fault) }
     {
         let (rules, size, count) = header;
         let judge = Judge::with_present(alloc, size, count)?;
-        Ok(Replay {
+        Ok(TranscriptCursor {
             rules,
             size,
-            begun: Start::At(0),
+            begun: EpochStart::At(0),
             audit: Audit::new(judge, 0, 0),
             lines: lines_before(text, rest),
             wanted: Vec::new(alloc),
@@ -110,10 +110,10 @@ impl Replay {
         rest: &'a [u8],
         rules: RuleSet,
         size: u32,
-    ) -> Result<Option<(Replay, &'a [u8])>, JudgeFault>
+    ) -> Result<Option<(TranscriptCursor, &'a [u8])>, JudgeFault>
         requires few { size ≤ 65535 }
         requires first { first_line text.now ≡ Some (base_head rules size, rest.now) }
-        ensures begins { IfOk result (λ found. MatchOption found (HasCutStart text.now) (λ begun. Begins text.now begun.0 begun.1.now)) }
+        ensures begins { IfOk result (λ found. MatchOption found (HasCutStart text.now) (λ begun. IsCursorAfter text.now begun.0 begun.1.now)) }
         ensures fault { IfErr result (λ fault. (more : List ℕ) → IsMetFirst (text.now ++ more) fault) }
     {
         let (base, behind) = match read_base(alloc, rest) {
@@ -132,10 +132,10 @@ impl Replay {
         let Some(judge) = Judge::at_base(alloc, rules, size, &base)? else {
             return Err(JudgeFault::Damaged(Damage::BadBase { line: 2 }));
         };
-        let replay = Replay {
+        let replay = TranscriptCursor {
             rules,
             size,
-            begun: Start::Forgotten,
+            begun: EpochStart::Forgotten,
             audit: Audit::new(judge, base.spent, base.number),
             lines: lines_before(text, behind),
             wanted: Vec::new(alloc),
@@ -147,29 +147,35 @@ impl Replay {
     /// Reads the text's opening, a header or a base, and returns what follows; `None` if it is not whole.
     ///
     /// An error holds whatever follows the text.
-    pub(crate) fn open(alloc: Global, text: &[u8]) -> Result<Option<(Replay, &[u8])>, JudgeFault>
-        ensures begins { IfOk result (λ found. MatchOption found (HasCutStart text.now) (λ begun. Begins text.now begun.0 begun.1.now)) }
+    pub(crate) fn open(
+        alloc: Global,
+        text: &[u8],
+    ) -> Result<Option<(TranscriptCursor, &[u8])>, JudgeFault>
+        ensures begins { IfOk result (λ found. MatchOption found (HasCutStart text.now) (λ begun. IsCursorAfter text.now begun.0 begun.1.now)) }
         ensures fault { IfErr result (λ fault. (more : List ℕ) → IsMetFirst (text.now ++ more) fault) }
     {
         let Some((line, rest)) = split_line(text) else {
             return Ok(None);
         };
         if let Ok(header) = read_header(line) {
-            let replay = Replay::at_header(alloc, text, rest, header)?;
+            let replay = TranscriptCursor::at_header(alloc, text, rest, header)?;
             return Ok(Some((replay, rest)));
         }
         match read_head(line) {
-            Some((rules, size)) => Replay::at_base(alloc, text, rest, rules, size),
+            Some((rules, size)) => TranscriptCursor::at_base(alloc, text, rest, rules, size),
             None => Err(JudgeFault::Damaged(Damage::BadHeader)),
         }
     }
 
     /// Reads the opening of a whole text.
-    pub(crate) fn open_whole(alloc: Global, text: &[u8]) -> Result<(Replay, &[u8]), JudgeFault>
-        ensures begins { IfOk result (λ begun. Begins text.now begun.0 begun.1.now) }
+    pub(crate) fn open_whole(
+        alloc: Global,
+        text: &[u8],
+    ) -> Result<(TranscriptCursor, &[u8]), JudgeFault>
+        ensures begins { IfOk result (λ begun. IsCursorAfter text.now begun.0 begun.1.now) }
         ensures fault { IfErr result (IsMetFirst text.now) }
     {
-        match Replay::open(alloc, text) {
+        match TranscriptCursor::open(alloc, text) {
             Ok(Some(begun)) => Ok(begun),
             Ok(None) => Err(JudgeFault::Damaged(cut_start(text))),
             Err(fault) => Err(fault),
@@ -188,10 +194,10 @@ impl Replay {
         alloc: Global,
         rest: &'a [u8],
     ) -> Result<Option<&'a [u8]>, JudgeFault>
-        requires at { IsSomewhere self.old rest.now }
+        requires at { IsReachable self.old rest.now }
         requires other { BeginsBase rest.now → ⊥ }
         requires compared { IsCompared self.old rest.now }
-        ensures ahead { IfOk result (λ found. MatchOption found (Waits self.old self.new rest.now) (λ behind. IsPassed self.old self.new rest.now behind.now)) }
+        ensures ahead { IfOk result (λ found. MatchOption found (StaysInPlace self.old self.new rest.now) (λ behind. IsPassed self.old self.new rest.now behind.now)) }
         ensures fault { IfErr result (IsMetAt self.old rest.now) }
     {
         let Some((line, behind)) = split_line(rest) else {
@@ -206,9 +212,9 @@ impl Replay {
 
     // Writes the text of the base of the state reached, unless it is already there.
     fn want_base(&mut self, alloc: Global) -> Result<(), Want>
-        requires at { (rest : List ℕ) × IsSomewhere self.old rest }
+        requires at { (rest : List ℕ) × IsReachable self.old rest }
         requires compared { (rest : List ℕ) × IsCompared self.old rest }
-        ensures { OnOk result (Wants self.old self.new) }
+        ensures { OnOk result (AwaitsBase self.old self.new) }
     {
         if !self.wanted.is_empty() {
             return Ok(());
@@ -225,10 +231,10 @@ impl Replay {
         alloc: Global,
         rest: &'a [u8],
     ) -> Result<Option<&'a [u8]>, JudgeFault>
-        requires at { IsSomewhere self.old rest.now }
+        requires at { IsReachable self.old rest.now }
         requires begins { BeginsBase rest.now }
         requires compared { IsCompared self.old rest.now }
-        ensures ahead { IfOk result (λ found. MatchOption found (Waits self.old self.new rest.now) (λ behind. IsPassed self.old self.new rest.now behind.now)) }
+        ensures ahead { IfOk result (λ found. MatchOption found (StaysInPlace self.old self.new rest.now) (λ behind. IsPassed self.old self.new rest.now behind.now)) }
         ensures fault { IfErr result (IsMetAt self.old rest.now) }
     {
         self.want_base(alloc)?;
@@ -255,9 +261,9 @@ impl Replay {
         alloc: Global,
         rest: &'a [u8],
     ) -> Result<Option<&'a [u8]>, JudgeFault>
-        requires at { IsSomewhere self.old rest.now }
+        requires at { IsReachable self.old rest.now }
         requires compared { IsCompared self.old rest.now }
-        ensures ahead { IfOk result (λ found. MatchOption found (Waits self.old self.new rest.now) (λ behind. IsPassed self.old self.new rest.now behind.now)) }
+        ensures ahead { IfOk result (λ found. MatchOption found (StaysInPlace self.old self.new rest.now) (λ behind. IsPassed self.old self.new rest.now behind.now)) }
         ensures fault { IfErr result (IsMetAt self.old rest.now) }
     {
         if after(rest, b"matching2").is_some() {
@@ -268,10 +274,10 @@ impl Replay {
 
     // The damage of a rest that ends before its next part does.
     fn cut_off(&self, rest: &[u8]) -> Damage
-        requires at { IsSomewhere self.now rest.now }
+        requires at { IsReachable self.now rest.now }
         requires some { rest.now ≢ [] }
         requires unended { IsUnended self.now rest.now }
-        ensures { (bytes : List ℕ) → IsAt bytes self.now rest.now → IsMetBehind bytes self.now.audit.number (Damaged result) }
+        ensures { (bytes : List ℕ) → IsCursorAt bytes self.now rest.now → IsMetBehind bytes self.now.audit.number (Damaged result) }
     {
         let line = self.lines + line_feeds(rest) + 1;
         if after(rest, b"matching2").is_some() {
@@ -287,11 +293,11 @@ impl Replay {
         alloc: Global,
         rest: &'a [u8],
     ) -> Result<&'a [u8], JudgeFault>
-        requires at { IsSomewhere self.old rest.now }
+        requires at { IsReachable self.old rest.now }
         requires some { rest.now ≢ [] }
         requires compared { IsCompared self.old rest.now }
         ensures passed { IfOk result (λ behind. IsPassed self.old self.new rest.now behind.now) }
-        ensures fault { IfErr result (λ fault. (bytes : List ℕ) → IsAt bytes self.old rest.now → IsMetBehind bytes self.old.audit.number fault) }
+        ensures fault { IfErr result (λ fault. (bytes : List ℕ) → IsCursorAt bytes self.old rest.now → IsMetBehind bytes self.old.audit.number fault) }
     {
         match self.advance(alloc, rest) {
             Ok(Some(behind)) => Ok(behind),

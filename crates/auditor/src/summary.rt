@@ -2,8 +2,8 @@
 
 ghost use Rattle.std.specs.Prelude.{◌≡◌, ◌<◌, ◌≤◌};
 ghost use Rattle.rule_machine.specs.Answer as answer;
-ghost use Rattle.auditor.specs.Transcript.{disturbances_in, moves_in};
-ghost use Rattle.auditor.specs.Position.{counted_more, IsCounted};
+ghost use Rattle.auditor.specs.Transcript.{disturbances_in, reply_moves};
+ghost use Rattle.auditor.specs.Position.{counted_more, IsPossibleSummary};
 
 use rule_machine::Reply;
 
@@ -22,11 +22,11 @@ pub struct Summary {
 
 impl Summary {
     pub(crate) fn with_reply(self, reply: &Reply) -> Summary
-        requires counted { IsCounted self }
+        requires counted { IsPossibleSummary self }
         requires room { self.entries < 16777216 }
-        requires few { moves_in reply.now ≤ 65535 }
+        requires few { reply_moves reply.now ≤ 65535 }
         ensures value { result ≡ counted_more self reply.now }
-        ensures counted { IsCounted result }
+        ensures counted { IsPossibleSummary result }
     {
         Summary {
             entries: self.entries + 1,
@@ -46,7 +46,7 @@ fn disturbances_in(reply: &Reply) -> u32
 }
 
 fn moves_in(reply: &Reply) -> usize
-    ensures { result ≡ moves_in reply.now }
+    ensures { result ≡ reply_moves reply.now }
 {
     match reply {
         Reply::Moves(moves) => moves.as_slice().len(),
@@ -57,7 +57,7 @@ fn moves_in(reply: &Reply) -> usize
 /// The moves since the last accepted disturbance, after a reply.
 pub(crate) fn spent_after(spent: u64, reply: &Reply) -> u64
     requires room { spent ≤ 1103789817855 }
-    requires few { moves_in reply.now ≤ 65535 }
+    requires few { reply_moves reply.now ≤ 65535 }
     ensures { result ≡ answer.spent_after spent reply.now }
 {
     match reply {

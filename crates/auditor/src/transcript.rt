@@ -2,14 +2,14 @@
 
 ghost use Rattle.std.specs.Prelude.{◌≡◌, IfOk, IfErr, IfSome, IsErrOf, OnOk};
 ghost use Rattle.std.specs.Io.KnownBytes.{IsAtEnd};
-ghost use Rattle.byte_streams.specs.Ended.{IsEnded};
+ghost use Rattle.byte_streams.specs.StreamEnds.{IsEnded};
 ghost use Rattle.auditor.specs.declared.fault.AuditFault.TheVariants.{Read as Unread};
-ghost use Rattle.auditor.specs.Accepted.{IsAccepted};
-ghost use Rattle.auditor.specs.Verdict.{IsHeard, IsJudged, IsFault, AcceptsRuns, JudgesDamage, JudgesRuns, NamesDamage, told};
+ghost use Rattle.auditor.specs.AcceptedRuns.{IsAccepted};
+ghost use Rattle.auditor.specs.Verdict.{IsAuditResult, IsJudged, IsAuditFault, AcceptsRuns, JudgesDamage, JudgesRuns, NamesDamage, audit_result};
 
 use crate::judging::judge_text;
 use crate::{AuditFault, JudgeFault, PieceAudit, Summary};
-use byte_streams::{Reads, chunk_of};
+use byte_streams::{CountingReader, chunk_of};
 use std::alloc::Global;
 use std::io::Read;
 
@@ -17,9 +17,12 @@ use std::io::Read;
 ///
 /// It keeps one read's bytes and the line or base that is not whole yet. A refusal comes at once, and the
 /// reader is read no further. `Read` only if a read of the reader failed, or 4,294,967,295 were made.
-pub fn audit<In: Read>(alloc: Global, reader: &mut Reads<In>) -> Result<Summary, AuditFault>
+pub fn audit<In: Read>(
+    alloc: Global,
+    reader: &mut CountingReader<In>,
+) -> Result<Summary, AuditFault>
     ensures accepted { IfSome (In.remaining reader.old.reader) (λ bytes. IfOk result (IsAccepted bytes)) }
-    ensures damage { IfSome (In.remaining reader.old.reader) (λ bytes. IfErr result (IsFault bytes)) }
+    ensures damage { IfSome (In.remaining reader.old.reader) (λ bytes. IfErr result (IsAuditFault bytes)) }
     ensures accepts_runs { IfSome (In.remaining reader.old.reader) (λ bytes. AcceptsRuns bytes result) }
     ensures names_damage { IfSome (In.remaining reader.old.reader) (λ bytes. NamesDamage bytes result) }
     ensures end { OnOk result (IsAtEnd (In.remaining reader.new.reader)) }
@@ -29,7 +32,7 @@ pub fn audit<In: Read>(alloc: Global, reader: &mut Reads<In>) -> Result<Summary,
 }
 
 fn tell(judged: Result<Summary, JudgeFault>) -> Result<Summary, AuditFault>
-    ensures told { result ≡ told judged }
+    ensures told { result ≡ audit_result judged }
     ensures read { IsErrOf result Unread → ⊥ }
 {
     match judged {
@@ -39,8 +42,11 @@ fn tell(judged: Result<Summary, JudgeFault>) -> Result<Summary, AuditFault>
 }
 
 // Reads to the end, and judges the parts as they come.
-fn judge_read<In: Read>(alloc: Global, reader: &mut Reads<In>) -> Result<Summary, AuditFault>
-    ensures heard { IfSome (In.remaining reader.old.reader) (λ bytes. IsHeard bytes result) }
+fn judge_read<In: Read>(
+    alloc: Global,
+    reader: &mut CountingReader<In>,
+) -> Result<Summary, AuditFault>
+    ensures heard { IfSome (In.remaining reader.old.reader) (λ bytes. IsAuditResult bytes result) }
     ensures end { OnOk result (IsAtEnd (In.remaining reader.new.reader)) }
     ensures unread { IsErrOf result Unread → IsEnded reader.new.failed reader.new.count }
 {

@@ -1,3 +1,3 @@
-pub mod Cutting
-pub mod Handing
-pub mod Telling
+pub mod FirstLines
+pub mod WriterOutput
+pub mod SplitWrites

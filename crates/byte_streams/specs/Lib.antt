@@ -1,3 +1,3 @@
-pub mod Beginning
-pub mod Ended
+pub mod PartialOutput
+pub mod StreamEnds
 pub mod Lines

@@ -3,7 +3,7 @@
 ghost use Rattle.std.specs.Prelude.{◌≡◌, ◌<◌, ◌≤◌, ◌+◌, false, length, take, IfErr, IfOk, OnErr, OnOk};
 ghost use Rattle.std.specs.Io.KnownBytes.{Consumes, IsAtEnd, Keeps};
 ghost use Rattle.byte_streams.specs.declared.input_fault.InputFault.TheVariants.{Read as Unread};
-ghost use Rattle.byte_streams.specs.Ended.{IsEnded};
+ghost use Rattle.byte_streams.specs.StreamEnds.{IsEnded};
 
 use crate::InputFault;
 use std::alloc::{AllocError, Global};
@@ -14,7 +14,7 @@ const CHUNK: usize = 65_536;
 
 /// A reader that counts its reads and stops after a failed one. It never retries.
 #[derive(Drop)]
-pub struct Reads<In> {
+pub struct CountingReader<In> {
     reader: In,
     count: u32,
     failed: bool,
@@ -27,14 +27,14 @@ pub fn chunk_of(alloc: Global) -> Result<Vec<u8>, AllocError>
     Vec::from_elem(alloc, 0, CHUNK)
 }
 
-impl<In: Read> Reads<In> {
+impl<In: Read> CountingReader<In> {
     /// A fresh reader: no read, no failure.
-    pub fn new(reader: In) -> Reads<In>
+    pub fn new(reader: In) -> CountingReader<In>
         ensures reader { result.reader ≡ reader }
         ensures count { result.count ≡ 0 }
         ensures failed { result.failed ≡ false }
     {
-        Reads {
+        CountingReader {
             reader,
             count: 0,
             failed: false,

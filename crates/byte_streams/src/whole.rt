@@ -3,15 +3,18 @@
 ghost use Rattle.std.specs.Prelude.{OnOk, IfOk, IsErrOf};
 ghost use Rattle.std.specs.Io.KnownBytes.{Consumes, IsAtEnd};
 ghost use Rattle.byte_streams.specs.declared.input_fault.InputFault.TheVariants.{Read as Unread};
-ghost use Rattle.byte_streams.specs.Ended.{IsEnded};
+ghost use Rattle.byte_streams.specs.StreamEnds.{IsEnded};
 
-use crate::{InputFault, Reads, chunk_of};
+use crate::{CountingReader, InputFault, chunk_of};
 use std::alloc::Global;
 use std::io::Read;
 
 /// All that the reader has left.
 /// Errors: `Read` if a read failed (no retry) or at 4,294,967,295 reads; `Memory` if memory runs out.
-pub fn read_whole<In: Read>(alloc: Global, reader: &mut Reads<In>) -> Result<Vec<u8>, InputFault>
+pub fn read_whole<In: Read>(
+    alloc: Global,
+    reader: &mut CountingReader<In>,
+) -> Result<Vec<u8>, InputFault>
     ensures bytes { IfOk result (λ bytes. Consumes (In.remaining reader.old.reader) (In.remaining reader.new.reader) bytes.items) }
     ensures end { OnOk result (IsAtEnd (In.remaining reader.new.reader)) }
     ensures unread { IsErrOf result Unread → IsEnded reader.new.failed reader.new.count }

@@ -2,25 +2,25 @@
 
 ghost use Rattle.std.specs.Prelude.{◌≡◌, ◌<◌, ◌≤◌, false, true, length, take, IfOk, OnErr, OnOk};
 ghost use Rattle.std.specs.Io.KnownBytes.{Appends, Keeps};
-ghost use Rattle.byte_streams.specs.Beginning.{AppendsBeginning, AppendsLess};
+ghost use Rattle.byte_streams.specs.PartialOutput.{AppendsBeginning, AppendsLess};
 
 use crate::OutputFault;
 use std::io::Write;
 
 /// A writer that records a failed write or flush, and does not write or flush after one.
 #[derive(Drop)]
-pub struct Writes<Out> {
+pub struct FailStopWriter<Out> {
     writer: Out,
     failed: bool,
 }
 
-impl<Out: Write> Writes<Out> {
+impl<Out: Write> FailStopWriter<Out> {
     /// A fresh writer.
-    pub fn new(writer: Out) -> Writes<Out>
+    pub fn new(writer: Out) -> FailStopWriter<Out>
         ensures writer { result.writer ≡ writer }
         ensures failed { result.failed ≡ false }
     {
-        Writes {
+        FailStopWriter {
             writer,
             failed: false,
         }

@@ -9,8 +9,8 @@ use Rattle.rule_machine.specs.Manne.{manne, manne_opens, may_court}
 use Rattle.machine_laws.specs.Neighbours.{near_some}
 use Rattle.machine_laws.specs.Pointers.{some_is, suitor_some, points_from}
 use Rattle.charge_laws.specs.Stances.{null_from}
-use Rattle.charge_laws.specs.Inside.{holds_is}
-use Rattle.rule_set.specs.Table.{AsksForWork}
+use Rattle.charge_laws.specs.PresentMovers.{holds_is}
+use Rattle.rules_api.specs.Table.{AsksForWork}
 
 -- a pointer that is not at v is not Some v
 away : (s : State) (v w : ℕ) → not (points s.registers w v) ≡ true → pointer s w ≢ Some v

@@ -9,7 +9,7 @@ use Rattle.rule_machine.specs.Charge.{awaits, is_courted, hsu_huang_closed, mann
 use Rattle.machine_laws.specs.Pointers.{points_true, pointer_linked, suitor_linked, null_unmarried, unanswered_unmarried}
 use Rattle.machine_laws.specs.Writes.{if_some_from}
 use Rattle.machine_laws.specs.Neighbours.{linked_present, option_cases}
-use Rattle.charge_laws.specs.Counting.{IsIn, IsWithoutRepeats, sum_add, sum_agree, count_agree}
+use Rattle.charge_laws.specs.ListCounts.{IsIn, IsWithoutRepeats, sum_add, sum_agree, count_agree}
 use Rattle.charge_laws.specs.Members.{in_names, names_without_repeats}
 use Rattle.charge_laws.specs.EdgesByNodes.{zeros, marked_once, count_filter, edges_by_nodes}
 use Rattle.charge_laws.specs.EdgesByEnds.{by_both}

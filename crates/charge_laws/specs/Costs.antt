@@ -58,21 +58,21 @@ manne_cost s (Leave v) = manne_leave_cost s.network (is_unanswered s v) (pointer
 manne_cost s event = 0
 
 -- what an answer adds: only a disturbance is answered by Accepted
-abbrev pub cost_of : ℕ → Reply → ℕ
-cost_of cost Accepted = cost
-cost_of cost reply = 0
+abbrev pub answer_cost : ℕ → Reply → ℕ
+answer_cost cost Accepted = cost
+answer_cost cost reply = 0
 
 -- what the disturbances of a path may add: the path begins at this state, and pairs each entry with the state
 -- after it
-abbrev pub costs_of : (State → Event → ℕ) → State → List (Entry × State) → ℕ
-costs_of cost s [] = 0
-costs_of cost s (step ∷ path) = cost_of (cost s step.0.0) step.0.1 + costs_of cost step.1 path
+abbrev pub path_cost : (State → Event → ℕ) → State → List (Entry × State) → ℕ
+path_cost cost s [] = 0
+path_cost cost s (step ∷ path) = answer_cost (cost s step.0.0) step.0.1 + path_cost cost step.1 path
 
 -- the state after these entries
-abbrev pub end_of : State → List (Entry × State) → State
-end_of s [] = s
-end_of s (step ∷ path) = end_of step.1 path
+abbrev pub end_of_path : State → List (Entry × State) → State
+end_of_path s [] = s
+end_of_path s (step ∷ path) = end_of_path step.1 path
 
 -- the entries alone
-abbrev pub log_of : List (Entry × State) → List Entry
-log_of path = map (λ step. step.0) path
+abbrev pub path_entries : List (Entry × State) → List Entry
+path_entries path = map (λ step. step.0) path

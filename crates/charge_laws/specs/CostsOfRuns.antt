@@ -19,13 +19,13 @@ use Rattle.rule_machine.specs.Refuse.{both_present, refusal_of}
 use Rattle.rule_machine.specs.Stable.{IsStable, mutual_pairs}
 use Rattle.rule_machine.specs.Answer.{Does, AnswersBy, Answers, spent_after}
 use Rattle.rule_machine.specs.Run.{Entry, Moment, Run}
-use Rattle.machine_laws.specs.Accepted.{cond_none, none_cond, true_from_not}
+use Rattle.machine_laws.specs.AcceptedEvents.{cond_none, none_cond, true_from_not}
 use Rattle.machine_laws.specs.LeastMoves.{IsTable}
 use Rattle.machine_laws.specs.Runs.{answers_keep, runs_end_in_states}
-use Rattle.charge_laws.specs.Charged.{IsCharged, IsUndisturbed, moves_of, moves_in}
+use Rattle.charge_laws.specs.ChargeWords.{IsCharged, IsUndisturbed, moves_of, moves_in}
 use Rattle.charge_laws.specs.Runs.{answer_lowers}
 use Rattle.charge_laws.specs.Epochs.{IsPath}
-use Rattle.charge_laws.specs.Costs.{hsu_huang_cost, manne_leave_cost, manne_cost, cost_of, costs_of, end_of, log_of}
+use Rattle.charge_laws.specs.Costs.{hsu_huang_cost, manne_leave_cost, manne_cost, answer_cost, path_cost, end_of_path, path_entries}
 use Rattle.charge_laws.specs.Tables.{hsu_huang_table, manne_table}
 use Rattle.charge_laws.specs.Laws.{hsu_huang_charged, manne_charged, moves_are_paid}
 use Rattle.charge_laws.specs.StableCharge.{hsu_huang_stable_is_zero}
@@ -78,7 +78,7 @@ leave_has t s v e = none_cond (present s.network v) UnknownNode e
 -- ---- one answer
 
 -- the moves of an answer plus the charge left are at most the charge before plus the disturbance's cost
-pub answer_costs : (t : RuleTable) (weight : ℕ) (cost : State → Event → ℕ) → IsCharged t weight → IsCosted t cost → (s : State) → IsState s → (n : ℕ) (event : Event) (reply : Reply) (s' : State) → Answers t s n event reply s' → moves_of reply + t.charge s' ≤ t.charge s + cost_of (cost s event) reply
+pub answer_costs : (t : RuleTable) (weight : ℕ) (cost : State → Event → ℕ) → IsCharged t weight → IsCosted t cost → (s : State) → IsState s → (n : ℕ) (event : Event) (reply : Reply) (s' : State) → Answers t s n event reply s' → moves_of reply + t.charge s' ≤ t.charge s + answer_cost (cost s event) reply
 answer_costs t weight cost charged costed s good n event Accepted s' answers = let more = accepted (refusal_of t s event) refl answers in omega (arith, more)
   where
     accepted : (r : Option Refusal) → refusal_of t s event ≡ r → AnswersBy t s n event r Accepted s' → t.charge s' ≤ t.charge s + cost s event
@@ -95,7 +95,7 @@ answer_costs t weight cost charged costed s good n event (Counts counts) s' answ
 
 -- From any state: a run's moves plus the charge left are at most its first charge plus the disturbances'
 -- costs.
-pub path_costs : (t : RuleTable) (weight : ℕ) (cost : State → Event → ℕ) → IsTable t → IsCharged t weight → IsCosted t cost → (start : Moment) → IsState start.state → (path : List (Entry × State)) → IsPath t start path → moves_in (log_of path) + t.charge (end_of start.state path) ≤ t.charge start.state + costs_of cost start.state path
+pub path_costs : (t : RuleTable) (weight : ℕ) (cost : State → Event → ℕ) → IsTable t → IsCharged t weight → IsCosted t cost → (start : Moment) → IsState start.state → (path : List (Entry × State)) → IsPath t start path → moves_in (path_entries path) + t.charge (end_of_path start.state path) ≤ t.charge start.state + path_cost cost start.state path
 path_costs t weight cost table charged costed start good [] is = omega arith
 path_costs t weight cost table charged costed start good (((event, reply), s) ∷ path) (answers, is) =
     let first = answer_costs t weight cost charged costed start.state good start.spent event reply s answers in
@@ -137,11 +137,11 @@ hsu_huang_costed s good n Enabled s' e does = absurd does
 hsu_huang_costed s good n Matching s' e does = absurd does
 hsu_huang_costed s good n Status s' e does = absurd does
 
-pub hsu_huang_path_costs : (start : Moment) → IsState start.state → (path : List (Entry × State)) → IsPath hsu_huang start path → moves_in (log_of path) + hsu_huang.charge (end_of start.state path) ≤ hsu_huang.charge start.state + costs_of hsu_huang_cost start.state path
+pub hsu_huang_path_costs : (start : Moment) → IsState start.state → (path : List (Entry × State)) → IsPath hsu_huang start path → moves_in (path_entries path) + hsu_huang.charge (end_of_path start.state path) ≤ hsu_huang.charge start.state + path_cost hsu_huang_cost start.state path
 hsu_huang_path_costs start good path is = path_costs hsu_huang 1 hsu_huang_cost hsu_huang_table hsu_huang_charged hsu_huang_costed start good path is
 
 -- From a stable state the disturbances pay for all moves.
-pub hsu_huang_stable_costs : (start : Moment) → IsState start.state → IsStable false start.state → (path : List (Entry × State)) → IsPath hsu_huang start path → moves_in (log_of path) ≤ costs_of hsu_huang_cost start.state path
+pub hsu_huang_stable_costs : (start : Moment) → IsState start.state → IsStable false start.state → (path : List (Entry × State)) → IsPath hsu_huang start path → moves_in (path_entries path) ≤ path_cost hsu_huang_cost start.state path
 hsu_huang_stable_costs start good stable path is =
     let paid = hsu_huang_path_costs start good path is in
     let zero = hsu_huang_stable_is_zero start.state good stable in
@@ -202,24 +202,24 @@ manne_costed s good n Enabled s' e does = absurd does
 manne_costed s good n Matching s' e does = absurd does
 manne_costed s good n Status s' e does = absurd does
 
-pub manne_path_costs : (start : Moment) → IsState start.state → (path : List (Entry × State)) → IsPath manne start path → moves_in (log_of path) + manne.charge (end_of start.state path) ≤ manne.charge start.state + costs_of manne_cost start.state path
+pub manne_path_costs : (start : Moment) → IsState start.state → (path : List (Entry × State)) → IsPath manne start path → moves_in (path_entries path) + manne.charge (end_of_path start.state path) ≤ manne.charge start.state + path_cost manne_cost start.state path
 manne_path_costs start good path is = path_costs manne 3 manne_cost manne_table manne_charged manne_costed start good path is
 
 -- ---- pairs that are gained
 
 -- a run goes from state to state
-pub path_keeps : (t : RuleTable) → IsTable t → (start : Moment) → IsState start.state → (path : List (Entry × State)) → IsPath t start path → IsState (end_of start.state path)
+pub path_keeps : (t : RuleTable) → IsTable t → (start : Moment) → IsState start.state → (path : List (Entry × State)) → IsPath t start path → IsState (end_of_path start.state path)
 path_keeps t table start good [] is = good
 path_keeps t table start good (((event, reply), s) ∷ path) (answers, is) =
     path_keeps t table (record { state = s; spent = spent_after start.spent reply }) (answers_keep t table start.state good start.spent event reply s answers) path is
 
 -- From a stable state disturbances, pairs gained and nodes lost pay for all moves.
-pub manne_stable_costs : (start : Moment) → IsState start.state → IsStable true start.state → (path : List (Entry × State)) → IsPath manne start path → moves_in (log_of path) + 2 * length (mutual_pairs start.state) + node_count (end_of start.state path).network ≤ costs_of manne_cost start.state path + 2 * length (mutual_pairs (end_of start.state path)) + node_count start.state.network
+pub manne_stable_costs : (start : Moment) → IsState start.state → IsStable true start.state → (path : List (Entry × State)) → IsPath manne start path → moves_in (path_entries path) + 2 * length (mutual_pairs start.state) + node_count (end_of_path start.state path).network ≤ path_cost manne_cost start.state path + 2 * length (mutual_pairs (end_of_path start.state path)) + node_count start.state.network
 manne_stable_costs start good stable path is =
     let paid = manne_path_costs start good path is in
     let before = manne_stable_charge start.state good stable in
-    let left = unmarried_charge (end_of start.state path) in
-    let after = married_are_pairs (end_of start.state path) (path_keeps manne manne_table start good path is) in
+    let left = unmarried_charge (end_of_path start.state path) in
+    let after = married_are_pairs (end_of_path start.state path) (path_keeps manne manne_table start good path is) in
     omega (arith, paid, before, left, after)
 
 -- ---- one disturbance

@@ -3,9 +3,9 @@ use Rattle.std.proofs.Common.{◌≡◌, ℕ, ◌+◌, ◌≤◌, Bool, true, fa
 use Rattle.std.proofs.lemmas.Bool.{cases_eq, and_from, or_left, or_right, eq-eqb, eqb-true, ne_eqb, true≢false}
 use Rattle.std.proofs.lemmas.List.Sums.{sum_by-cons}
 use Rattle.rule_machine.specs.Network.{Network, IsNetwork, edge, is_end, linked, neighbours, edge_list}
-use Rattle.charge_laws.specs.Counting.{IsIn, IsWithoutRepeats, count_into, count_none, count_all, count_agree, sum_add, sum_agree, sum_le}
+use Rattle.charge_laws.specs.ListCounts.{IsIn, IsWithoutRepeats, count_into, count_none, count_all, count_agree, sum_add, sum_agree, sum_le}
 use Rattle.charge_laws.specs.Members.{in_edges, edge_either}
-use Rattle.charge_laws.specs.EdgesByEnds.{turned}
+use Rattle.charge_laws.specs.EdgesByEnds.{one_node_changes}
 
 -- how many neighbours a node has
 abbrev pub degree : Network → ℕ → ℕ
@@ -73,7 +73,7 @@ ends_agree v a b = swap (nat_eq a v) (nat_eq b v)
 -- the edges with an end at a node are as many as its neighbours
 pub edges_at : (net : Network) → IsNetwork net → (v : ℕ) → count_by (is_end v) (edge_list net) ≡ degree net v
 edges_at net good v =
-    let whole = turned net good (λ a b. nat_eq a v || nat_eq b v) (λ a b. false) v (ends_agree v) (λ a b. refl) (λ a b not_a not_b. sym (ap (λ t. t || nat_eq b v) (ne_eqb a v not_a) ∙ ne_eqb b v not_b)) in
+    let whole = one_node_changes net good (λ a b. nat_eq a v || nat_eq b v) (λ a b. false) v (ends_agree v) (λ a b. refl) (λ a b not_a not_b. sym (ap (λ t. t || nat_eq b v) (ne_eqb a v not_a) ∙ ne_eqb b v not_b)) in
     let no_edges = none_count (λ (e : ℕ × ℕ). false) (edge_list net) (λ e there. refl) in
     let no_names = none_count (λ (w : ℕ). false) (neighbours net v) (λ w there. refl) in
     let each = count_agree (λ w. nat_eq v v || nat_eq w v) (λ w. true) (λ w. or_left (nat_eq v v) (nat_eq w v) (eq-eqb v v refl)) (neighbours net v) in

@@ -7,11 +7,11 @@ use Rattle.rule_machine.specs.Disturbance.{after_unlink, after_leave}
 use Rattle.machine_laws.specs.Neighbours.{linked_back}
 use Rattle.machine_laws.specs.Pointers.{pointer_linked}
 use Rattle.machine_laws.specs.Edges.{left_was}
-use Rattle.machine_laws.specs.Keeps.{unlink_keeps, leave_keeps}
-use Rattle.charge_laws.specs.Counting.{count_into}
+use Rattle.machine_laws.specs.StatePreservation.{unlink_keeps, leave_keeps}
+use Rattle.charge_laws.specs.ListCounts.{count_into}
 use Rattle.charge_laws.specs.Members.{edges_contain, edge_either}
 use Rattle.charge_laws.specs.EdgesByNodes.{edges_without_repeats}
-use Rattle.charge_laws.specs.EdgesChanged.{count_without}
+use Rattle.charge_laws.specs.EdgeChanges.{count_without}
 use Rattle.charge_laws.specs.Degrees.{degree, degree_at, edges_at, at_one}
 use Rattle.charge_laws.specs.HsuHuangEdits.{leave_within}
 

@@ -4,7 +4,7 @@ use Rattle.std.proofs.lemmas.Bool.{ne_eqb, eqb-false, lt-ltb, le-ltb, ltb-true, 
 use Rattle.std.proofs.lemmas.List.Sums.{sum_by-cons}
 use Rattle.rule_machine.specs.Network.{Network, IsNetwork, edge, names, present, linked, neighbours, edge_list}
 use Rattle.machine_laws.specs.Neighbours.{linked_apart}
-use Rattle.charge_laws.specs.Counting.{IsIn, count_agree, sum_add, sum_agree}
+use Rattle.charge_laws.specs.ListCounts.{IsIn, count_agree, sum_add, sum_agree}
 use Rattle.charge_laws.specs.Members.{in_names, names_without_repeats, edges_contain}
 use Rattle.charge_laws.specs.EdgesByNodes.{by_end, count_filter, at_end, at_node, edges_by_nodes}
 
@@ -101,8 +101,8 @@ around net good p v symmetric =
     omega (arith, leaving, entering, above, below, turn, sides)
 
 -- If two symmetric tests differ only at one node, their counts differ only at its neighbours.
-pub turned : (net : Network) → IsNetwork net → (p q : ℕ → ℕ → Bool) (v : ℕ) → ((a b : ℕ) → p a b ≡ p b a) → ((a b : ℕ) → q a b ≡ q b a) → ((a b : ℕ) → (a ≡ v → ⊥) → (b ≡ v → ⊥) → q a b ≡ p a b) → count_by (λ e. q e.0 e.1) (edge_list net) + count_by (p v) (neighbours net v) ≡ count_by (λ e. p e.0 e.1) (edge_list net) + count_by (q v) (neighbours net v)
-turned net good p q v p_symmetric q_symmetric same =
+pub one_node_changes : (net : Network) → IsNetwork net → (p q : ℕ → ℕ → Bool) (v : ℕ) → ((a b : ℕ) → p a b ≡ p b a) → ((a b : ℕ) → q a b ≡ q b a) → ((a b : ℕ) → (a ≡ v → ⊥) → (b ≡ v → ⊥) → q a b ≡ p a b) → count_by (λ e. q e.0 e.1) (edge_list net) + count_by (p v) (neighbours net v) ≡ count_by (λ e. p e.0 e.1) (edge_list net) + count_by (q v) (neighbours net v)
+one_node_changes net good p q v p_symmetric q_symmetric same =
     let before = around net good p v p_symmetric in
     let after = around net good q v q_symmetric in
     let rest = count_agree (elsewhere v q) (elsewhere v p) (λ e. go e.0 e.1 (nat_eq e.0 v) (nat_eq e.1 v) refl refl) (edge_list net) in

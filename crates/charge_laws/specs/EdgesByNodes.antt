@@ -10,7 +10,7 @@ use Rattle.std.proofs.lemmas.List.Sums.{sum_by-cons}
 use Rattle.std.proofs.lemmas.Cmp.{eq_by_cmp_equiv}
 use Rattle.rule_machine.specs.Network.{Network, IsNetwork, pair_cmp, edge, names, present, linked, neighbours, edge_list}
 use Rattle.machine_laws.specs.Edges.{pair_total}
-use Rattle.charge_laws.specs.Counting.{IsIn, IsWithoutRepeats, count_into, sum_add, sum_agree}
+use Rattle.charge_laws.specs.ListCounts.{IsIn, IsWithoutRepeats, count_into, sum_add, sum_agree}
 use Rattle.charge_laws.specs.Members.{in_names, names_without_repeats, in_edges, edges_contain}
 
 holds : (b : Bool) → T b → IsTrue b

@@ -8,10 +8,10 @@ use Rattle.rule_machine.specs.State.{State, IsState, opening_with}
 use Rattle.rule_machine.specs.RuleTable.{RuleTable}
 use Rattle.rule_machine.specs.Answer.{Answers, spent_after}
 use Rattle.rule_machine.specs.Run.{Entry, Moment, beginning_with, Epoch, epoch_at, epochs_by, epochs_from}
-use Rattle.machine_laws.specs.Keeps.{opening_is_state}
+use Rattle.machine_laws.specs.StatePreservation.{opening_is_state}
 use Rattle.machine_laws.specs.LeastMoves.{IsTable}
 use Rattle.machine_laws.specs.Runs.{answers_keep}
-use Rattle.charge_laws.specs.Charged.{IsCharged, IsWithinBound}
+use Rattle.charge_laws.specs.ChargeWords.{IsCharged, IsWithinBound}
 use Rattle.charge_laws.specs.Runs.{answer_lowers, answer_within}
 use Rattle.charge_laws.specs.Laws.{beginning_is_within}
 
@@ -28,10 +28,10 @@ pub record IsEpochAt (m : Moment) (epoch : Epoch) : Type 0 where
   pub nodes : epoch.nodes ≡ node_count m.state.network
 
 -- an epoch with at most as many moves as its bound
-abbrev pub IsBounded : ℕ → Epoch → Type 0
-IsBounded weight epoch = epoch.moves ≤ 2 * epoch.edges + weight * epoch.nodes
+abbrev pub IsBoundedEpoch : ℕ → Epoch → Type 0
+IsBoundedEpoch weight epoch = epoch.moves ≤ 2 * epoch.edges + weight * epoch.nodes
 
-bounded_at : (t : RuleTable) (weight : ℕ) (m : Moment) (epoch : Epoch) → IsEpochAt m epoch → IsWithinBound t weight m → IsBounded weight epoch
+bounded_at : (t : RuleTable) (weight : ℕ) (m : Moment) (epoch : Epoch) → IsEpochAt m epoch → IsWithinBound t weight m → IsBoundedEpoch weight epoch
 bounded_at t weight m epoch at within =
     let weights = ap (λ n. weight * n) at.nodes in omega (arith, at.moves, at.edges, weights, within)
 
@@ -47,23 +47,23 @@ keeps_on : (m : Moment) (epoch : Epoch) (s : State) → IsEpochAt m epoch → s.
 keeps_on m epoch s at same = record { moves = at.moves; edges = at.edges ∙ sym (ap edge_count same); nodes = at.nodes ∙ sym (ap node_count same) }
 
 -- An answer ends a bounded epoch and begins one, or continues it.
-epoch_turns : (t : RuleTable) (weight : ℕ) (m : Moment) (epoch : Epoch) (number : ℕ) (reply : Reply) (s : State) → IsEpochAt m epoch → IsWithinBound t weight m → (reply ≢ Accepted → s.network ≡ m.state.network) → All (IsBounded weight) (epochs_by reply number s epoch).0 × IsEpochAt (record { state = s; spent = spent_after m.spent reply }) (epochs_by reply number s epoch).1
+epoch_turns : (t : RuleTable) (weight : ℕ) (m : Moment) (epoch : Epoch) (number : ℕ) (reply : Reply) (s : State) → IsEpochAt m epoch → IsWithinBound t weight m → (reply ≢ Accepted → s.network ≡ m.state.network) → All (IsBoundedEpoch weight) (epochs_by reply number s epoch).0 × IsEpochAt (record { state = s; spent = spent_after m.spent reply }) (epochs_by reply number s epoch).1
 epoch_turns t weight m epoch number Accepted s at within same =
-    (All-cons (IsBounded weight) epoch [] (bounded_at t weight m epoch at within) (All-nil (IsBounded weight)), record { moves = refl; edges = refl; nodes = refl })
-epoch_turns t weight m epoch number (Moves moves) s at within same = (All-nil (IsBounded weight), goes_on m epoch s (length moves) at (same (λ e. cc)))
-epoch_turns t weight m epoch number (Refused refusal) s at within same = (All-nil (IsBounded weight), keeps_on m epoch s at (same (λ e. cc)))
-epoch_turns t weight m epoch number (Shown target) s at within same = (All-nil (IsBounded weight), keeps_on m epoch s at (same (λ e. cc)))
-epoch_turns t weight m epoch number (EnabledAre nodes) s at within same = (All-nil (IsBounded weight), keeps_on m epoch s at (same (λ e. cc)))
-epoch_turns t weight m epoch number (Pairs pairs) s at within same = (All-nil (IsBounded weight), keeps_on m epoch s at (same (λ e. cc)))
-epoch_turns t weight m epoch number (Counts counts) s at within same = (All-nil (IsBounded weight), keeps_on m epoch s at (same (λ e. cc)))
+    (All-cons (IsBoundedEpoch weight) epoch [] (bounded_at t weight m epoch at within) (All-nil (IsBoundedEpoch weight)), record { moves = refl; edges = refl; nodes = refl })
+epoch_turns t weight m epoch number (Moves moves) s at within same = (All-nil (IsBoundedEpoch weight), goes_on m epoch s (length moves) at (same (λ e. cc)))
+epoch_turns t weight m epoch number (Refused refusal) s at within same = (All-nil (IsBoundedEpoch weight), keeps_on m epoch s at (same (λ e. cc)))
+epoch_turns t weight m epoch number (Shown target) s at within same = (All-nil (IsBoundedEpoch weight), keeps_on m epoch s at (same (λ e. cc)))
+epoch_turns t weight m epoch number (EnabledAre nodes) s at within same = (All-nil (IsBoundedEpoch weight), keeps_on m epoch s at (same (λ e. cc)))
+epoch_turns t weight m epoch number (Pairs pairs) s at within same = (All-nil (IsBoundedEpoch weight), keeps_on m epoch s at (same (λ e. cc)))
+epoch_turns t weight m epoch number (Counts counts) s at within same = (All-nil (IsBoundedEpoch weight), keeps_on m epoch s at (same (λ e. cc)))
 
 -- From a moment within the bound, each epoch is bounded.
-pub epochs_are_bounded : (t : RuleTable) (weight : ℕ) → IsTable t → IsCharged t weight → (start : Moment) → IsState start.state → IsWithinBound t weight start → (number : ℕ) (epoch : Epoch) → IsEpochAt start epoch → (path : List (Entry × State)) → IsPath t start path → All (IsBounded weight) (epochs_from number epoch path)
+pub epochs_are_bounded : (t : RuleTable) (weight : ℕ) → IsTable t → IsCharged t weight → (start : Moment) → IsState start.state → IsWithinBound t weight start → (number : ℕ) (epoch : Epoch) → IsEpochAt start epoch → (path : List (Entry × State)) → IsPath t start path → All (IsBoundedEpoch weight) (epochs_from number epoch path)
 epochs_are_bounded t weight table charged start good within number epoch at [] path =
-    All-cons (IsBounded weight) epoch [] (bounded_at t weight start epoch at within) (All-nil (IsBounded weight))
+    All-cons (IsBoundedEpoch weight) epoch [] (bounded_at t weight start epoch at within) (All-nil (IsBoundedEpoch weight))
 epochs_are_bounded t weight table charged start good within number epoch at (((event, reply), s) ∷ steps) (answers, path) =
     let turn = epoch_turns t weight start epoch number reply s at within (λ calm. (answer_lowers t weight charged start.state good start.spent event reply s answers calm).1) in
-    All-append (IsBounded weight) (epochs_by reply number s epoch).0 (epochs_from (number + 1) (epochs_by reply number s epoch).1 steps) turn.0
+    All-append (IsBoundedEpoch weight) (epochs_by reply number s epoch).0 (epochs_from (number + 1) (epochs_by reply number s epoch).1 steps) turn.0
     (epochs_are_bounded t weight table charged (record { state = s; spent = spent_after start.spent reply })
     (answers_keep t table start.state good start.spent event reply s answers)
     (answer_within t weight table charged start good within event reply s answers)

@@ -9,15 +9,15 @@ use Rattle.rule_machine.specs.Disturbance.{after_point}
 use Rattle.machine_laws.specs.Neighbours.{linked_apart, linked_present, present_range}
 use Rattle.machine_laws.specs.Pointers.{pointer_linked, no_suitor}
 use Rattle.machine_laws.specs.Writes.{pointer-with_pointer_other, pointer-with_pointer_same}
-use Rattle.machine_laws.specs.Keeps.{point_keeps}
+use Rattle.machine_laws.specs.StatePreservation.{point_keeps}
 use Rattle.charge_laws.specs.Members.{edges_contain, names_without_repeats}
-use Rattle.charge_laws.specs.Stances.{Standing, standing, free, waiting, paired, stance, is_waiting, is_paired, paired_from, waiting_from, paired_is, unanswered_is}
+use Rattle.charge_laws.specs.Stances.{StanceCase, stance_cases, free, waiting, paired, stance, is_waiting, is_paired, paired_from, waiting_from, paired_is, unanswered_is}
 use Rattle.charge_laws.specs.Degrees.{degree, none_count, count_grows, once, edges_at, at_linked, at_one}
 use Rattle.charge_laws.specs.Costs.{hsu_huang_point_cost}
-use Rattle.charge_laws.specs.Touched.{IsTouching, still_paired, still_closed, IsWithin, WaitsOnly, hsu_huang_grows, ends_apart}
+use Rattle.charge_laws.specs.DisturbedPairs.{IsTouching, still_paired, still_closed, IsSubNetwork, WaitsOnly, hsu_huang_grows, ends_apart}
 use Rattle.charge_laws.specs.HsuHuangTurns.{IsClosed, low_paired, high_paired, low_awaits, high_awaits, courted, closed_swap}
 
-pub same_network : (net : Network) → IsWithin net net
+pub same_network : (net : Network) → IsSubNetwork net net
 same_network net = record { edges = λ e there. there; nodes = λ v there. there }
 
 -- ---- a pointer is written
@@ -246,12 +246,12 @@ point_from_waiting s v u target good good' was alone =
     omega (arith, grows, edges, nodes)
 
 pub point_costs : (s : State) (v : ℕ) (target : Option ℕ) → IsState s → IsTrue (present s.network v) → ((x : ℕ) → target ≡ Some x → IsTrue (linked s.network v x)) → hsu_huang_charge (after_point s v target) ≤ hsu_huang_charge s + hsu_huang_point_cost s.network v (is_unanswered s v) (has_suitor s v) (pointer s v)
-point_costs s v target good has near = by_stance target refl (standing (pointer s) v) (cases_Bool (has_suitor s v))
+point_costs s v target good has near = by_stance target refl (stance_cases (pointer s) v) (cases_Bool (has_suitor s v))
   where
     cost : (b c : Bool) (o : Option ℕ) → is_unanswered s v ≡ b → has_suitor s v ≡ c → pointer s v ≡ o → hsu_huang_point_cost s.network v (is_unanswered s v) (has_suitor s v) (pointer s v) ≡ hsu_huang_point_cost s.network v b c o
     cost b c o e f g = ap₂ (λ b c. hsu_huang_point_cost s.network v b c (pointer s v)) e f ∙ ap (hsu_huang_point_cost s.network v b c) g
 
-    by_stance : (t : Option ℕ) → target ≡ t → Standing (pointer s) v → (has_suitor s v ≡ true) ⊎ (has_suitor s v ≡ false) → hsu_huang_charge (after_point s v target) ≤ hsu_huang_charge s + hsu_huang_point_cost s.network v (is_unanswered s v) (has_suitor s v) (pointer s v)
+    by_stance : (t : Option ℕ) → target ≡ t → StanceCase (pointer s) v → (has_suitor s v ≡ true) ⊎ (has_suitor s v ≡ false) → hsu_huang_charge (after_point s v target) ≤ hsu_huang_charge s + hsu_huang_point_cost s.network v (is_unanswered s v) (has_suitor s v) (pointer s v)
     by_stance t e (waiting u was alone is) suited =
         let less = point_from_waiting s v u target good (point_keeps s v target good near) was alone in
         let at = cost true (has_suitor s v) (Some u) (unanswered_is s v ∙ ap is_waiting is) refl was in

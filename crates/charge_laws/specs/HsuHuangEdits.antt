@@ -12,15 +12,15 @@ use Rattle.machine_laws.specs.Pointers.{points_from}
 use Rattle.machine_laws.specs.Edges.{removed_was, left_was, present_other, still_present}
 use Rattle.machine_laws.specs.Writes.{some_from_is_at, without_pointer_was, without_pointer_gone, pointer-with_pointer_other}
 use Rattle.machine_laws.specs.Leaves.{without_pointer_stays, nothing_left}
-use Rattle.machine_laws.specs.Keeps.{link_keeps, unlink_keeps, join_keeps, leave_keeps, left_pointer}
-use Rattle.charge_laws.specs.Counting.{count_into, count_agree}
+use Rattle.machine_laws.specs.StatePreservation.{link_keeps, unlink_keeps, join_keeps, leave_keeps, left_pointer}
+use Rattle.charge_laws.specs.ListCounts.{count_into, count_agree}
 use Rattle.charge_laws.specs.Members.{in_names, names_present, in_edges, edges_contain, names_without_repeats}
 use Rattle.charge_laws.specs.EdgesByNodes.{edges_without_repeats}
-use Rattle.charge_laws.specs.EdgesChanged.{count_with}
+use Rattle.charge_laws.specs.EdgeChanges.{count_with}
 use Rattle.charge_laws.specs.Stances.{is_waiting, unanswered_is, waiting_from, waiting_is}
-use Rattle.charge_laws.specs.Inside.{pointer_present}
+use Rattle.charge_laws.specs.PresentMovers.{pointer_present}
 use Rattle.charge_laws.specs.Degrees.{degree, degree_at, none_count, count_grows, edges_at}
-use Rattle.charge_laws.specs.Touched.{IsTouching, still_closed, IsWithin, WaitsOnly, hsu_huang_grows, ends_apart}
+use Rattle.charge_laws.specs.DisturbedPairs.{IsTouching, still_closed, IsSubNetwork, WaitsOnly, hsu_huang_grows, ends_apart}
 use Rattle.charge_laws.specs.HsuHuangTurns.{IsClosed}
 use Rattle.charge_laws.specs.HsuHuangFalls.{closed_is, closed_from}
 
@@ -116,7 +116,7 @@ module _ (s : State) (a b : ℕ) where
   unlink_waits x w at alone =
       inl (ap is_waiting (waiting_from (pointer s) x w (unlink_was x w at) (λ back. alone (unlink_stays w x back (λ here there. unlink_gone_back x w at (there, here)) (λ here there. unlink_gone x w at (there, here))))))
 
-  pub unlink_within : IsWithin s.network (after_unlink s a b).network
+  pub unlink_within : IsSubNetwork s.network (after_unlink s a b).network
   unlink_within = record {
     edges = λ e there. in_edges s.network e (removed_was s.network.edges (edge a b) e (edges_contain (after_unlink s a b).network e there));
     nodes = λ v there. there;
@@ -218,7 +218,7 @@ module _ (s : State) (v : ℕ) where
       let left = left_pointer s.registers v x w at in
       inl (ap is_waiting (waiting_from (pointer s) x w left.2 (λ back. alone (leave_stays w x back left.1 left.0))))
 
-  pub leave_within : IsState s → IsTrue (present s.network v) → IsWithin s.network (after_leave s v).network
+  pub leave_within : IsState s → IsTrue (present s.network v) → IsSubNetwork s.network (after_leave s v).network
   leave_within good has = record {
     edges = λ e there. in_edges s.network e (left_was s.network.edges v e.0 e.1 (edges_contain (after_leave s v).network e there)).2;
     nodes = λ x there. in_names s.network x (⊎_elim (λ same. subst (λ y. IsTrue (present s.network y)) (sym same) has) (λ apart. sym (present_other s.network v false x apart) ∙ names_present (after_leave s v).network x there) (cases_eq x v));

@@ -10,25 +10,25 @@ use Rattle.rule_machine.specs.HsuHuang.{hsu_huang}
 use Rattle.rule_machine.specs.Step.{IsStep}
 use Rattle.machine_laws.specs.Neighbours.{linked_apart}
 use Rattle.machine_laws.specs.Pointers.{points_true, points_from, pointer_linked, no_suitor, suitor_some, suitor_from}
-use Rattle.charge_laws.specs.Counting.{IsIn, count_into, count_agree, open_falls}
+use Rattle.charge_laws.specs.ListCounts.{IsIn, count_into, count_agree, open_falls}
 use Rattle.charge_laws.specs.Members.{names_without_repeats, in_edges, edge_either}
 use Rattle.charge_laws.specs.Stances.{stance, is_waiting, null_from, null_is, not_null, unanswered_is, married_is}
 use Rattle.charge_laws.specs.Turns.{climbs, bit, IsRound, round_pays, written_by}
-use Rattle.charge_laws.specs.Writes.{is_moved}
-use Rattle.charge_laws.specs.Deeds.{Deed, idles, updates, marries, seduces, abandons, IsDone, step_done}
-use Rattle.charge_laws.specs.Inside.{holds_is, near_names, hsu_huang_inside}
+use Rattle.charge_laws.specs.Writes.{is_mover_in}
+use Rattle.charge_laws.specs.NodeMoves.{Deed, idles, updates, marries, seduces, abandons, IsDone, step_done}
+use Rattle.charge_laws.specs.PresentMovers.{holds_is, near_names, hsu_huang_inside}
 use Rattle.charge_laws.specs.HsuHuangTurns.{SoloTurn, takes, courts, leaves, IsSolo, solo_turn, seductions_not_mutual, IsClosed, low_paired, high_paired, low_awaits, high_awaits, courted, closed_swap, closed_stays, Courts, climber_courts, courting_was_open, courting_closes}
 
 -- ---- the step in pointers
 
 -- one move is of one node
-pub one_mover : (moves : List Moved) → length moves ≡ 1 → (x : ℕ) × ((v : ℕ) → IsTrue (is_moved moves v) → v ≡ x) × IsTrue (is_moved moves x)
+pub one_mover : (moves : List Moved) → length moves ≡ 1 → (x : ℕ) × ((v : ℕ) → IsTrue (is_mover_in moves v) → v ≡ x) × IsTrue (is_mover_in moves x)
 one_mover [] e = absurd (omega (arith, e))
 one_mover (m ∷ []) e =
     (m.node, λ v h. ⊎_elim (λ same. sym (eqb-true m.node v same)) (λ none. absurd (true≢false (sym none))) (or_cases (nat_eq m.node v) false h), or_left (nat_eq m.node m.node) false (eq-eqb m.node m.node refl))
 one_mover (m ∷ n ∷ moves) e = absurd (omega (arith, e))
 
-pub solo_from : (s s' : State) (moves : List Moved) (x : ℕ) → IsState s → IsDone hsu_huang s s' moves → ((v : ℕ) → IsTrue (is_moved moves v) → v ≡ x) → IsTrue (is_moved moves x) → IsSolo (pointer s) (pointer s') x
+pub solo_from : (s s' : State) (moves : List Moved) (x : ℕ) → IsState s → IsDone hsu_huang s s' moves → ((v : ℕ) → IsTrue (is_mover_in moves v) → v ≡ x) → IsTrue (is_mover_in moves x) → IsSolo (pointer s) (pointer s') x
 solo_from s s' moves x good done only here = record { others = λ v apart. other v apart (done.deeds v); turn = own (done.deeds x) }
   where
     other : (v : ℕ) → (v ≡ x → ⊥) → Deed hsu_huang s s' moves v → pointer s' v ≡ pointer s v
@@ -117,7 +117,7 @@ closed_from s a b good closed = by_reason closed
 record IsSoloStep (s s' : State) (moves : List Moved) (x : ℕ) : Type 0 where
   before : IsState s
   done : IsDone hsu_huang s s' moves
-  only : (v : ℕ) → IsTrue (is_moved moves v) → v ≡ x
+  only : (v : ℕ) → IsTrue (is_mover_in moves v) → v ≡ x
   solo : IsSolo (pointer s) (pointer s') x
 
 abbrev solo_round : (s s' : State) (moves : List Moved) (x : ℕ) → IsSoloStep s s' moves x → IsRound (pointer s) (pointer s') (names s.network)
@@ -133,15 +133,15 @@ solo_names : (s s' : State) (moves : List Moved) (x : ℕ) → IsSoloStep s s' m
 solo_names s s' moves x step =
     let after = count_agree (is_unanswered s') (λ v. is_waiting (stance (pointer s') v)) (unanswered_is s') (names s.network) in
     let before = count_agree (is_unanswered s) (λ v. is_waiting (stance (pointer s) v)) (unanswered_is s) (names s.network) in
-    let paid = round_pays (pointer s) (pointer s') (names s.network) (solo_round s s' moves x step) (is_moved moves) (λ v. 0) (λ v. 0) writes in
+    let paid = round_pays (pointer s) (pointer s') (names s.network) (solo_round s s' moves x step) (is_mover_in moves) (λ v. 0) (λ v. 0) writes in
     omega (arith, after, before, paid, step.done.counted)
   where
-    writes : (v : ℕ) → bit (is_moved moves v) + 0 ≤ written_by (solo_turn (pointer s) (pointer s') x step.solo v).turn + 0
+    writes : (v : ℕ) → bit (is_mover_in moves v) + 0 ≤ written_by (solo_turn (pointer s) (pointer s') x step.solo v).turn + 0
     writes v =
         ⊎_elim
-        (λ goes. let one = (solo_turn (pointer s) (pointer s') x step.solo v).writes (step.only v goes) in let bit_is : bit (is_moved moves v) ≡ 1 = ap bit goes in omega (arith, one, bit_is))
-        (λ rests. let bit_is : bit (is_moved moves v) ≡ 0 = ap bit rests in omega (arith, bit_is))
-        (cases_Bool (is_moved moves v))
+        (λ goes. let one = (solo_turn (pointer s) (pointer s') x step.solo v).writes (step.only v goes) in let bit_is : bit (is_mover_in moves v) ≡ 1 = ap bit goes in omega (arith, one, bit_is))
+        (λ rests. let bit_is : bit (is_mover_in moves v) ≡ 0 = ap bit rests in omega (arith, bit_is))
+        (cases_Bool (is_mover_in moves v))
 
 -- each climber closes the edge to its target
 solo_closes : (s s' : State) (moves : List Moved) (x : ℕ) → IsSoloStep s s' moves x → count_by (λ v. climbs (stance (pointer s) v) (stance (pointer s') v)) (names s.network) ≤ count_by (λ e. not (hsu_huang_closed s e) && hsu_huang_closed s' e) (edge_list s.network)

@@ -11,10 +11,10 @@ use Rattle.rule_machine.specs.HsuHuang.{hsu_huang}
 use Rattle.rule_machine.specs.Manne.{manne}
 use Rattle.rule_machine.specs.Stable.{IsStable}
 use Rattle.rule_machine.specs.Run.{Entry, Moment, Run, beginning_with}
-use Rattle.machine_laws.specs.Keeps.{opening_is_state}
+use Rattle.machine_laws.specs.StatePreservation.{opening_is_state}
 use Rattle.machine_laws.specs.LeastMoves.{IsTable}
 use Rattle.machine_laws.specs.Runs.{runs_end_in_states}
-use Rattle.charge_laws.specs.Charged.{IsCharged, moves_in, IsUndisturbed, IsWithinBound}
+use Rattle.charge_laws.specs.ChargeWords.{IsCharged, moves_in, IsUndisturbed, IsWithinBound}
 use Rattle.charge_laws.specs.Bounds.{hsu_huang_bounded, manne_bounded}
 use Rattle.charge_laws.specs.HsuHuangFalls.{hsu_huang_falls}
 use Rattle.charge_laws.specs.ManneFalls.{manne_falls}

@@ -11,8 +11,8 @@ use Rattle.rule_machine.specs.Run.{Entry, Moment, Run}
 use Rattle.machine_laws.specs.Pointers.{null_unmarried}
 use Rattle.machine_laws.specs.Runs.{runs_end_in_states}
 use Rattle.machine_laws.specs.Writes.{if_some_from}
-use Rattle.charge_laws.specs.Charged.{moves_in, IsUndisturbed}
-use Rattle.charge_laws.specs.Counting.{count_none, sum_add, sum_agree, sum_zero}
+use Rattle.charge_laws.specs.ChargeWords.{moves_in, IsUndisturbed}
+use Rattle.charge_laws.specs.ListCounts.{count_none, sum_add, sum_agree, sum_zero}
 use Rattle.charge_laws.specs.Laws.{manne_charged}
 use Rattle.charge_laws.specs.ManneStableCharge.{married_are_pairs, unmarried_charge}
 use Rattle.charge_laws.specs.Members.{in_names, in_edges, edge_either}

@@ -14,16 +14,16 @@ use Rattle.machine_laws.specs.Pointers.{points_true, points_from, pointer_linked
 use Rattle.machine_laws.specs.Edges.{left_was, present_other}
 use Rattle.machine_laws.specs.Leaves.{nothing_left}
 use Rattle.machine_laws.specs.Writes.{flag-with_flag_other, flag-with_flag_same, without_pointer_flags}
-use Rattle.machine_laws.specs.Keeps.{link_keeps, unlink_keeps, point_keeps, flag_keeps, join_keeps, leave_keeps}
-use Rattle.charge_laws.specs.Counting.{IsIn, IsWithoutRepeats, without, in_without, count_into, count_all, count_agree, sum_agree, sum_add, sum_le, sum_twice}
+use Rattle.machine_laws.specs.StatePreservation.{link_keeps, unlink_keeps, point_keeps, flag_keeps, join_keeps, leave_keeps}
+use Rattle.charge_laws.specs.ListCounts.{IsIn, IsWithoutRepeats, without, in_without, count_into, count_all, count_agree, sum_agree, sum_add, sum_le, sum_twice}
 use Rattle.charge_laws.specs.Members.{in_names, names_present, edges_contain, names_without_repeats}
 use Rattle.charge_laws.specs.EdgesByNodes.{edges_without_repeats}
-use Rattle.charge_laws.specs.EdgesChanged.{count_with, taken_out}
-use Rattle.charge_laws.specs.Stances.{Standing, standing, free, waiting, paired, stance, is_waiting, is_paired, paired_from, paired_is, married_is, waiting_is, unanswered_is}
-use Rattle.charge_laws.specs.Inside.{pointer_present}
+use Rattle.charge_laws.specs.EdgeChanges.{count_with, taken_out}
+use Rattle.charge_laws.specs.Stances.{StanceCase, stance_cases, free, waiting, paired, stance, is_waiting, is_paired, paired_from, paired_is, married_is, waiting_is, unanswered_is}
+use Rattle.charge_laws.specs.PresentMovers.{pointer_present}
 use Rattle.charge_laws.specs.Degrees.{degree, none_count, count_grows, once, edges_at, at_either, at_linked}
 use Rattle.charge_laws.specs.Costs.{manne_point_cost}
-use Rattle.charge_laws.specs.Touched.{IsTouching, IsWithin, WaitsOnly, unanswered_grow, ends_apart}
+use Rattle.charge_laws.specs.DisturbedPairs.{IsTouching, IsSubNetwork, WaitsOnly, unanswered_grow, ends_apart}
 use Rattle.charge_laws.specs.HsuHuangCosts.{written_at, either_node, either_apart, apart_either, point_touches, point_waits, null_waits, waiting_waits, two_marked, same_network}
 use Rattle.charge_laws.specs.HsuHuangEdits.{unlink_stays, unlink_waits, unlink_within, leaver_or, apart_leaver, leave_stays, leave_touches, leave_waits, leave_within}
 
@@ -112,7 +112,7 @@ node_grows false false true f' false h = let is = h refl in rw is.1 omega arith
 node_grows false false false f' false h = let is = h refl in rw is.1 omega arith
 
 -- open edges were open, or are touched
-open_grow : (s s' : State) → IsWithin s.network s'.network → (touched : ℕ × ℕ → Bool) → ((a b : ℕ) → IsIn (a, b) (edge_list s'.network) → touched (a, b) ≡ false → IsTrue (manne_closed s (a, b)) → IsTrue (manne_closed s' (a, b))) → count_by (λ e. not (manne_closed s' e)) (edge_list s'.network) ≤ count_by (λ e. not (manne_closed s e)) (edge_list s.network) + count_by touched (edge_list s'.network)
+open_grow : (s s' : State) → IsSubNetwork s.network s'.network → (touched : ℕ × ℕ → Bool) → ((a b : ℕ) → IsIn (a, b) (edge_list s'.network) → touched (a, b) ≡ false → IsTrue (manne_closed s (a, b)) → IsTrue (manne_closed s' (a, b))) → count_by (λ e. not (manne_closed s' e)) (edge_list s'.network) ≤ count_by (λ e. not (manne_closed s e)) (edge_list s.network) + count_by touched (edge_list s'.network)
 open_grow s s' within touched closed =
     count_grows (λ e. not (manne_closed s e)) (λ e. not (manne_closed s' e)) touched (edge_list s.network) (edge_list s'.network) (edges_without_repeats s'.network) within.edges (λ e there h. one e there h (cases_Bool (touched e)) (cases_Bool (manne_closed s e)))
   where
@@ -123,7 +123,7 @@ open_grow s s' within touched closed =
 
 -- If untouched edges stay closed, the charge grows by at most two for each touched edge, one for each node
 -- marked as waiting and two for each marked as changed.
-pub manne_grows : (s s' : State) → IsWithin s.network s'.network → (touched : ℕ × ℕ → Bool) (marked changed : ℕ → Bool) → ((a b : ℕ) → IsIn (a, b) (edge_list s'.network) → touched (a, b) ≡ false → IsTrue (manne_closed s (a, b)) → IsTrue (manne_closed s' (a, b))) → WaitsOnly (pointer s) (pointer s') marked → ((x : ℕ) → IsIn x (names s'.network) → changed x ≡ false → (married s x ≡ true → married s' x ≡ true) × (flag s' x ≡ flag s x)) → manne_charge s' ≤ manne_charge s + 2 * count_by touched (edge_list s'.network) + count_by marked (names s'.network) + 2 * count_by changed (names s'.network)
+pub manne_grows : (s s' : State) → IsSubNetwork s.network s'.network → (touched : ℕ × ℕ → Bool) (marked changed : ℕ → Bool) → ((a b : ℕ) → IsIn (a, b) (edge_list s'.network) → touched (a, b) ≡ false → IsTrue (manne_closed s (a, b)) → IsTrue (manne_closed s' (a, b))) → WaitsOnly (pointer s) (pointer s') marked → ((x : ℕ) → IsIn x (names s'.network) → changed x ≡ false → (married s x ≡ true → married s' x ≡ true) × (flag s' x ≡ flag s x)) → manne_charge s' ≤ manne_charge s + 2 * count_by touched (edge_list s'.network) + count_by marked (names s'.network) + 2 * count_by changed (names s'.network)
 manne_grows s s' within touched marked changed closed waits stays =
     let open_edges = open_grow s s' within touched closed in
     let unanswered = unanswered_grow s s' marked within waits in
@@ -221,12 +221,12 @@ point_from_waiting s v u target good good' was alone =
     omega (arith, grows, edges, nodes)
 
 pub point_costs : (s : State) (v : ℕ) (target : Option ℕ) → IsState s → IsTrue (present s.network v) → ((x : ℕ) → target ≡ Some x → IsTrue (linked s.network v x)) → manne_charge (after_point s v target) ≤ manne_charge s + manne_point_cost s.network v (is_unanswered s v) (pointer s v)
-point_costs s v target good has near = by_stance (standing (pointer s) v)
+point_costs s v target good has near = by_stance (stance_cases (pointer s) v)
   where
     cost : (b : Bool) (o : Option ℕ) → is_unanswered s v ≡ b → pointer s v ≡ o → manne_point_cost s.network v (is_unanswered s v) (pointer s v) ≡ manne_point_cost s.network v b o
     cost b o e f = ap₂ (manne_point_cost s.network v) e f
 
-    by_stance : Standing (pointer s) v → manne_charge (after_point s v target) ≤ manne_charge s + manne_point_cost s.network v (is_unanswered s v) (pointer s v)
+    by_stance : StanceCase (pointer s) v → manne_charge (after_point s v target) ≤ manne_charge s + manne_point_cost s.network v (is_unanswered s v) (pointer s v)
     by_stance (free null is) =
         let less = point_from_null s v target good (point_keeps s v target good near) has null in
         let at = cost false None (unanswered_is s v ∙ ap is_waiting is) null in

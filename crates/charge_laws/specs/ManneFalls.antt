@@ -10,14 +10,14 @@ use Rattle.rule_machine.specs.Manne.{manne, may_court}
 use Rattle.rule_machine.specs.Step.{IsStep}
 use Rattle.machine_laws.specs.Neighbours.{linked_pair}
 use Rattle.machine_laws.specs.Pointers.{points_true, points_from, pointer_linked, null_unmarried, unanswered_unmarried}
-use Rattle.charge_laws.specs.Counting.{IsIn, sum_agree, count_into, count_agree, open_falls}
+use Rattle.charge_laws.specs.ListCounts.{IsIn, sum_agree, count_into, count_agree, open_falls}
 use Rattle.charge_laws.specs.Members.{names_without_repeats, in_edges, edges_contain}
 use Rattle.charge_laws.specs.Stances.{stance, is_waiting, is_paired, null_from, unanswered_is, married_is}
 use Rattle.charge_laws.specs.Turns.{climbs, IsRound, round_pays}
-use Rattle.charge_laws.specs.Writes.{is_moved}
-use Rattle.charge_laws.specs.Deeds.{Deed, idles, updates, marries, seduces, abandons, IsDone, step_done}
-use Rattle.charge_laws.specs.Inside.{holds_is, near_names, manne_inside}
-use Rattle.charge_laws.specs.ManneTurns.{FlagTurn, idles, updates, takes, courts, leaves, pointer_turn, seductions_not_mutual, node_cost, flags_pay, IsClosed, low_paired, high_paired, points_up, closed_stays, Reaches, climber_reaches, reached_was_open, reaching_closes}
+use Rattle.charge_laws.specs.Writes.{is_mover_in}
+use Rattle.charge_laws.specs.NodeMoves.{Deed, idles, updates, marries, seduces, abandons, IsDone, step_done}
+use Rattle.charge_laws.specs.PresentMovers.{holds_is, near_names, manne_inside}
+use Rattle.charge_laws.specs.ManneTurns.{FlagTurn, idles, updates, takes, courts, leaves, pointer_turn, seductions_not_mutual, node_cost, flags_pay, IsClosed, low_paired, high_paired, points_up, closed_stays, CourtsUpward, climber_reaches, reached_was_open, reaching_closes}
 
 -- ---- the step in pointers and flags
 
@@ -31,7 +31,7 @@ wrong_flag false false h = absurd (true≢false (sym h))
 plain_flag : (s : State) (v : ℕ) → married s v ≡ false → IsTrue (is_settled s v) → flag s v ≡ false
 plain_flag s v single settled = not-true (flag s v) (sym (ap (λ m. cond m (flag s v) (not (flag s v))) single) ∙ settled)
 
-own_turn : (s s' : State) (moves : List Moved) (v : ℕ) → IsState s → Deed manne s s' moves v → FlagTurn (pointer s) (pointer s') (flag s) (flag s') (is_moved moves) v
+own_turn : (s s' : State) (moves : List Moved) (v : ℕ) → IsState s → Deed manne s s' moves v → FlagTurn (pointer s) (pointer s') (flag s) (flag s') (is_mover_in moves) v
 own_turn s s' moves v good (idles none e f) = idles none e f
 own_turn s s' moves v good (updates goes guard e f) =
     let is = married_is s v good in
@@ -84,13 +84,13 @@ record IsJointStep (s s' : State) (moves : List Moved) : Type 0 where
   before : IsState s
   done : IsDone manne s s' moves
 
-abbrev turns_of : (s s' : State) (moves : List Moved) → IsJointStep s s' moves → (v : ℕ) → FlagTurn (pointer s) (pointer s') (flag s) (flag s') (is_moved moves) v
+abbrev turns_of : (s s' : State) (moves : List Moved) → IsJointStep s s' moves → (v : ℕ) → FlagTurn (pointer s) (pointer s') (flag s) (flag s') (is_mover_in moves) v
 turns_of s s' moves step v = own_turn s s' moves v step.before (step.done.deeds v)
 
 abbrev joint_round : (s s' : State) (moves : List Moved) → IsJointStep s s' moves → IsRound (pointer s) (pointer s') (names s.network)
 joint_round s s' moves step = record {
   turns = λ v. pointer_turn (turns_of s s' moves step v);
-  no_mutual_seduction = seductions_not_mutual (pointer s) (pointer s') (flag s) (flag s') (is_moved moves) (turns_of s s' moves step);
+  no_mutual_seduction = seductions_not_mutual (pointer s) (pointer s') (flag s) (flag s') (is_mover_in moves) (turns_of s s' moves step);
   near = near_names manne s s' moves step.done;
   single = names_without_repeats s.network;
 }
@@ -105,10 +105,10 @@ joint_names s s' moves step =
     let before = count_agree (is_unanswered s) (λ v. is_waiting (stance (pointer s) v)) (unanswered_is s) (names s.network) in
     let cost_after = sum_agree (manne_node_charge s') (λ v. node_cost (is_paired (stance (pointer s') v)) (flag s' v)) (node_cost_is s' step.done.is_state) (names s.network) in
     let cost_before = sum_agree (manne_node_charge s) (λ v. node_cost (is_paired (stance (pointer s) v)) (flag s v)) (node_cost_is s step.before) (names s.network) in
-    let paid = round_pays (pointer s) (pointer s') (names s.network) (joint_round s s' moves step) (is_moved moves)
+    let paid = round_pays (pointer s) (pointer s') (names s.network) (joint_round s s' moves step) (is_mover_in moves)
     (λ v. node_cost (is_paired (stance (pointer s) v)) (flag s v))
     (λ v. node_cost (is_paired (stance (pointer s') v)) (flag s' v))
-    (flags_pay (pointer s) (pointer s') (flag s) (flag s') (is_moved moves) (turns_of s s' moves step)) in
+    (flags_pay (pointer s) (pointer s') (flag s) (flag s') (is_mover_in moves) (turns_of s s' moves step)) in
     omega (arith, after, before, cost_after, cost_before, paid, step.done.counted)
 
 -- each climber closes the edge to its target, and is the lower end of that edge
@@ -130,10 +130,10 @@ joint_closes s s' moves step =
     crossed_is : (v w : ℕ) → pointer s' v ≡ Some w → crossed v ≡ (v, w)
     crossed_is v w e = ap (λ o. (v, unwrap_or o 0)) e
 
-    climber : (v : ℕ) → IsTrue (climbs (stance (pointer s) v) (stance (pointer s') v)) → (w : ℕ) × Reaches (pointer s) (pointer s') (flag s') v w
-    climber v h = climber_reaches (pointer s) (pointer s') (flag s) (flag s') (is_moved moves) (turns_of s s' moves step) v h
+    climber : (v : ℕ) → IsTrue (climbs (stance (pointer s) v) (stance (pointer s') v)) → (w : ℕ) × CourtsUpward (pointer s) (pointer s') (flag s') v w
+    climber v h = climber_reaches (pointer s) (pointer s') (flag s) (flag s') (is_mover_in moves) (turns_of s s' moves step) v h
 
-    closes : (a b : ℕ) → Reaches (pointer s) (pointer s') (flag s') a b → IsTrue (not (manne_closed s (a, b)) && manne_closed s' (a, b))
+    closes : (a b : ℕ) → CourtsUpward (pointer s) (pointer s') (flag s') a b → IsTrue (not (manne_closed s (a, b)) && manne_closed s' (a, b))
     closes a b it =
         and_from (not (manne_closed s (a, b))) (manne_closed s' (a, b))
         (not_from_false (manne_closed s (a, b)) (false_from_ne_true (manne_closed s (a, b)) (λ h. reached_was_open (pointer s) (pointer s') (flag s) (flag s') a b it (closed_is s a b step.before h))))
@@ -142,7 +142,7 @@ joint_closes s s' moves step =
 joint_stays : (s s' : State) (moves : List Moved) → IsJointStep s s' moves → (e : ℕ × ℕ) → IsIn e (edge_list s.network) → IsTrue (manne_closed s e) → IsTrue (manne_closed s' e)
 joint_stays s s' moves step e there h =
     let up = step.before.is_network.low_first e.0 e.1 (edges_contain s.network e there) in
-    closed_from s' e.0 e.1 step.done.is_state (closed_stays (pointer s) (pointer s') (flag s) (flag s') (is_moved moves) (turns_of s s' moves step) e.0 e.1 up (closed_is s e.0 e.1 step.before h))
+    closed_from s' e.0 e.1 step.done.is_state (closed_stays (pointer s) (pointer s') (flag s) (flag s') (is_mover_in moves) (turns_of s s' moves step) e.0 e.1 up (closed_is s e.0 e.1 step.before h))
 
 joint_falls : (s s' : State) (moves : List Moved) → IsJointStep s s' moves → manne_charge s' + length moves ≤ manne_charge s
 joint_falls s s' moves step =

@@ -10,7 +10,7 @@ use Rattle.rule_machine.specs.Charge.{manne_closed, manne_node_charge, manne_cha
 use Rattle.rule_machine.specs.Stable.{IsStable, pair_above, mutual_pairs}
 use Rattle.machine_laws.specs.Neighbours.{linked_present, linked_apart}
 use Rattle.machine_laws.specs.Pointers.{pointer_linked, partner_some, partner_from, some_is}
-use Rattle.charge_laws.specs.Counting.{IsIn, count_into, count_all, sum_agree, sum_add, sum_le}
+use Rattle.charge_laws.specs.ListCounts.{IsIn, count_into, count_all, sum_agree, sum_add, sum_le}
 use Rattle.charge_laws.specs.Members.{in_names, names_present, names_without_repeats, names_len}
 use Rattle.charge_laws.specs.Stances.{married_is}
 use Rattle.charge_laws.specs.Degrees.{none_count}

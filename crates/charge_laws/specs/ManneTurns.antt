@@ -139,7 +139,7 @@ closed_stays p p' m m' moved turns a b up (points_up at plain) =
     (flag_stays p p' m m' moved b (turns b) plain)
 
 -- v, null before, points up at w, which was in no pair and is not flagged
-pub record Reaches (p p' : ℕ → Option ℕ) (m' : ℕ → Bool) (v w : ℕ) : Type 0 where
+pub record CourtsUpward (p p' : ℕ → Option ℕ) (m' : ℕ → Bool) (v w : ℕ) : Type 0 where
   pub was : p v ≡ None
   pub alone : IsTrue (is_paired (stance p w)) → ⊥
   pub below : v < w
@@ -151,7 +151,7 @@ null_alone p v w null at h = let pair = paired_is p w h in none-some w (sym null
 
 -- A climber reaches up: it courts a node above it, or takes a suitor that leaves it in the same step. A node
 -- leaves only one that is flagged or not above it.
-pub climber_reaches : (p p' : ℕ → Option ℕ) (m m' moved : ℕ → Bool) → ((v : ℕ) → FlagTurn p p' m m' moved v) → (v : ℕ) → IsTrue (climbs (stance p v) (stance p' v)) → (w : ℕ) × Reaches p p' m' v w
+pub climber_reaches : (p p' : ℕ → Option ℕ) (m m' moved : ℕ → Bool) → ((v : ℕ) → FlagTurn p p' m m' moved v) → (v : ℕ) → IsTrue (climbs (stance p v) (stance p' v)) → (w : ℕ) × CourtsUpward p p' m' v w
 climber_reaches p p' m m' moved turns v h = by_turn (turns v)
   where
     null : p v ≡ None
@@ -160,7 +160,7 @@ climber_reaches p p' m m' moved turns v h = by_turn (turns v)
     aim : (w : ℕ) × (p' v ≡ Some w) × (p' w ≢ Some v)
     aim = (climber_aims p p' v h).1
 
-    left : (w : ℕ) → p w ≡ Some v → p' w ≢ Some v → m v ≡ false → p' v ≡ Some w → FlagTurn p p' m m' moved w → Reaches p p' m' v w
+    left : (w : ℕ) → p w ≡ Some v → p' w ≢ Some v → m v ≡ false → p' v ≡ Some w → FlagTurn p p' m m' moved w → CourtsUpward p p' m' v w
     left w at gone unflagged now (idles none same kept) = absurd (gone (same ∙ at))
     left w at gone unflagged now (updates same wrong right) = absurd (gone (same ∙ at))
     left w at gone unflagged now (takes x void suitor then plain kept) = absurd (none-some v (sym void ∙ at))
@@ -176,7 +176,7 @@ climber_reaches p p' m m' moved turns v h = by_turn (turns v)
           plain = kept ∙ plain;
         }
 
-    by_turn : FlagTurn p p' m m' moved v → (w : ℕ) × Reaches p p' m' v w
+    by_turn : FlagTurn p p' m m' moved v → (w : ℕ) × CourtsUpward p p' m' v w
     by_turn (idles none same kept) = absurd (none-some aim.0 (sym null ∙ sym same ∙ aim.1))
     by_turn (updates same wrong right) = absurd (none-some aim.0 (sym null ∙ sym same ∙ aim.1))
     by_turn (takes w void suitor now plain kept) =
@@ -188,10 +188,10 @@ climber_reaches p p' m m' moved turns v h = by_turn (turns v)
     by_turn (leaves w at alone now lost plain kept) = absurd (none-some w (sym null ∙ at))
 
 -- the edge to the node that it reaches was open, and is closed
-pub reached_was_open : (p p' : ℕ → Option ℕ) (m m' : ℕ → Bool) (v w : ℕ) → Reaches p p' m' v w → IsClosed p m v w → ⊥
+pub reached_was_open : (p p' : ℕ → Option ℕ) (m m' : ℕ → Bool) (v w : ℕ) → CourtsUpward p p' m' v w → IsClosed p m v w → ⊥
 reached_was_open p p' m m' v w it (low_paired h) = let pair = paired_is p v h in none-some pair.0 (sym it.was ∙ pair.1)
 reached_was_open p p' m m' v w it (high_paired h) = it.alone h
 reached_was_open p p' m m' v w it (points_up at plain) = none-some w (sym it.was ∙ at)
 
-pub reaching_closes : (p p' : ℕ → Option ℕ) (m' : ℕ → Bool) (v w : ℕ) → Reaches p p' m' v w → IsClosed p' m' v w
+pub reaching_closes : (p p' : ℕ → Option ℕ) (m' : ℕ → Bool) (v w : ℕ) → CourtsUpward p p' m' v w → IsClosed p' m' v w
 reaching_closes p p' m' v w it = points_up it.now it.plain

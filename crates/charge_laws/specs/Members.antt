@@ -10,7 +10,7 @@ use Rattle.std.proofs.lemmas.Cmp.{eq_by_cmp_equiv}
 use Rattle.rule_machine.specs.Network.{Network, pair_cmp, edge, names, present, edge_list, node_count, edge_count}
 use Rattle.machine_laws.specs.Neighbours.{present_range}
 use Rattle.machine_laws.specs.Edges.{pair_total, pair_exact}
-use Rattle.charge_laws.specs.Counting.{IsIn, IsWithoutRepeats}
+use Rattle.charge_laws.specs.ListCounts.{IsIn, IsWithoutRepeats}
 
 in_range : (a n v : ℕ) → a ≤ v → v < a + n → IsIn v (range_with_len a n)
 in_range a zero v low high = absurd (omega arith)

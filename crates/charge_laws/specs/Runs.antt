@@ -17,7 +17,7 @@ use Rattle.rule_machine.specs.Answer.{Does, AnswersBy, Answers, spent_after}
 use Rattle.rule_machine.specs.Run.{Entry, Moment, Run}
 use Rattle.machine_laws.specs.LeastMoves.{IsTable}
 use Rattle.machine_laws.specs.Runs.{answers_keep}
-use Rattle.charge_laws.specs.Charged.{charge_bound, IsCharged, moves_of, moves_in, IsUndisturbed, IsWithinBound}
+use Rattle.charge_laws.specs.ChargeWords.{charge_bound, IsCharged, moves_of, moves_in, IsUndisturbed, IsWithinBound}
 
 -- ---- one answer
 

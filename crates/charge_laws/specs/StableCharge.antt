@@ -7,9 +7,9 @@ use Rattle.rule_machine.specs.Charge.{hsu_huang_closed, hsu_huang_charge}
 use Rattle.rule_machine.specs.Stable.{IsStable}
 use Rattle.machine_laws.specs.Neighbours.{option_cases, linked_pair}
 use Rattle.machine_laws.specs.Writes.{if_some_at}
-use Rattle.charge_laws.specs.Counting.{IsIn}
+use Rattle.charge_laws.specs.ListCounts.{IsIn}
 use Rattle.charge_laws.specs.Members.{edges_contain}
-use Rattle.charge_laws.specs.Stances.{Standing, standing, free, waiting, paired, stance, is_waiting, is_paired, unanswered_is, paired_from}
+use Rattle.charge_laws.specs.Stances.{StanceCase, stance_cases, free, waiting, paired, stance, is_waiting, is_paired, unanswered_is, paired_from}
 use Rattle.charge_laws.specs.Degrees.{none_count}
 use Rattle.charge_laws.specs.HsuHuangTurns.{low_paired, high_paired}
 use Rattle.charge_laws.specs.HsuHuangFalls.{closed_from}
@@ -19,9 +19,9 @@ answer_of uses_flags s stable v w e = if_some_at (pointer s v) (λ x. pointer s 
 
 -- no pointer is unanswered
 pub none_unanswered : (uses_flags : Bool) (s : State) → IsStable uses_flags s → count_by (is_unanswered s) (names s.network) ≡ 0
-none_unanswered uses_flags s stable = none_count (is_unanswered s) (names s.network) (λ v there. unanswered_is s v ∙ by_stance v (standing (pointer s) v))
+none_unanswered uses_flags s stable = none_count (is_unanswered s) (names s.network) (λ v there. unanswered_is s v ∙ by_stance v (stance_cases (pointer s) v))
   where
-    by_stance : (v : ℕ) → Standing (pointer s) v → is_waiting (stance (pointer s) v) ≡ false
+    by_stance : (v : ℕ) → StanceCase (pointer s) v → is_waiting (stance (pointer s) v) ≡ false
     by_stance v (free null is) = ap is_waiting is
     by_stance v (waiting w at alone is) = absurd (alone (answer_of uses_flags s stable v w at))
     by_stance v (paired w at back is) = ap is_waiting is

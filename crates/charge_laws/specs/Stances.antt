@@ -18,10 +18,10 @@ stance_by p v (Some w) = cond (is_at (p w) v) Paired Waiting
 abbrev pub stance : (ℕ → Option ℕ) → ℕ → Stance
 stance p v = stance_by p v (p v)
 
-abbrev pub is_free : Stance → Bool
-is_free Free = true
-is_free Waiting = false
-is_free Paired = false
+abbrev pub is_free_stance : Stance → Bool
+is_free_stance Free = true
+is_free_stance Waiting = false
+is_free_stance Paired = false
 
 abbrev pub is_waiting : Stance → Bool
 is_waiting Free = false
@@ -56,20 +56,20 @@ pub paired_from : (p : ℕ → Option ℕ) (v w : ℕ) → p v ≡ Some w → p 
 paired_from p v w e back = ap (stance_by p v) e ∙ cond-true (is_at (p w) v) Paired Waiting (is_at_from_some (p w) v back)
 
 -- v's pointer, for each stance
-pub data Standing (p : ℕ → Option ℕ) (v : ℕ) : Type 0 where
-  free : p v ≡ None → stance p v ≡ Free → Standing p v
-  waiting : (w : ℕ) → p v ≡ Some w → p w ≢ Some v → stance p v ≡ Waiting → Standing p v
-  paired : (w : ℕ) → p v ≡ Some w → p w ≡ Some v → stance p v ≡ Paired → Standing p v
+pub data StanceCase (p : ℕ → Option ℕ) (v : ℕ) : Type 0 where
+  free : p v ≡ None → stance p v ≡ Free → StanceCase p v
+  waiting : (w : ℕ) → p v ≡ Some w → p w ≢ Some v → stance p v ≡ Waiting → StanceCase p v
+  paired : (w : ℕ) → p v ≡ Some w → p w ≡ Some v → stance p v ≡ Paired → StanceCase p v
 
-pub standing : (p : ℕ → Option ℕ) (v : ℕ) → Standing p v
-standing p v = by_pointer (p v) refl
+pub stance_cases : (p : ℕ → Option ℕ) (v : ℕ) → StanceCase p v
+stance_cases p v = by_pointer (p v) refl
   where
-    by_back : (w : ℕ) → p v ≡ Some w → (b : Bool) → is_at (p w) v ≡ b → Standing p v
+    by_back : (w : ℕ) → p v ≡ Some w → (b : Bool) → is_at (p w) v ≡ b → StanceCase p v
     by_back w e true back = let answer = some_from_is_at (p w) v back in paired w e answer (paired_from p v w e answer)
     by_back w e false back =
         let apart : p w ≢ Some v = λ answer. let at = is_at_from_some (p w) v answer in absurd cc in waiting w e apart (waiting_from p v w e apart)
 
-    by_pointer : (o : Option ℕ) → p v ≡ o → Standing p v
+    by_pointer : (o : Option ℕ) → p v ≡ o → StanceCase p v
     by_pointer None e = free e (free_from p v e)
     by_pointer (Some w) e = by_back w e (is_at (p w) v) refl
 
@@ -87,34 +87,34 @@ unanswered_is s v = by_pointer (pointer s v)
 
 -- in a state the married nodes are the paired ones
 pub married_is : (s : State) (v : ℕ) → IsState s → married s v ≡ is_paired (stance (pointer s) v)
-married_is s v good = by_stance (standing (pointer s) v)
+married_is s v good = by_stance (stance_cases (pointer s) v)
   where
-    by_stance : Standing (pointer s) v → married s v ≡ is_paired (stance (pointer s) v)
+    by_stance : StanceCase (pointer s) v → married s v ≡ is_paired (stance (pointer s) v)
     by_stance (free e is) = null_unmarried s v e ∙ ap is_paired (sym is)
     by_stance (waiting w e apart is) = unanswered_unmarried s v w e apart ∙ ap is_paired (sym is)
     by_stance (paired w e back is) = married_from s v w good e back ∙ ap is_paired (sym is)
 
 -- what a test of a stance implies for the pointers
-pub free_is : (p : ℕ → Option ℕ) (v : ℕ) → IsTrue (is_free (stance p v)) → p v ≡ None
-free_is p v h = by_stance (standing p v)
+pub free_is : (p : ℕ → Option ℕ) (v : ℕ) → IsTrue (is_free_stance (stance p v)) → p v ≡ None
+free_is p v h = by_stance (stance_cases p v)
   where
-    by_stance : Standing p v → p v ≡ None
+    by_stance : StanceCase p v → p v ≡ None
     by_stance (free e is) = e
-    by_stance (waiting w e apart is) = absurd (true≢false (sym h ∙ ap is_free is))
-    by_stance (paired w e back is) = absurd (true≢false (sym h ∙ ap is_free is))
+    by_stance (waiting w e apart is) = absurd (true≢false (sym h ∙ ap is_free_stance is))
+    by_stance (paired w e back is) = absurd (true≢false (sym h ∙ ap is_free_stance is))
 
 pub waiting_is : (p : ℕ → Option ℕ) (v : ℕ) → IsTrue (is_waiting (stance p v)) → (w : ℕ) × (p v ≡ Some w) × (p w ≢ Some v)
-waiting_is p v h = by_stance (standing p v)
+waiting_is p v h = by_stance (stance_cases p v)
   where
-    by_stance : Standing p v → (w : ℕ) × (p v ≡ Some w) × (p w ≢ Some v)
+    by_stance : StanceCase p v → (w : ℕ) × (p v ≡ Some w) × (p w ≢ Some v)
     by_stance (free e is) = absurd (true≢false (sym h ∙ ap is_waiting is))
     by_stance (waiting w e apart is) = (w, e, apart)
     by_stance (paired w e back is) = absurd (true≢false (sym h ∙ ap is_waiting is))
 
 pub paired_is : (p : ℕ → Option ℕ) (v : ℕ) → IsTrue (is_paired (stance p v)) → (w : ℕ) × (p v ≡ Some w) × (p w ≡ Some v)
-paired_is p v h = by_stance (standing p v)
+paired_is p v h = by_stance (stance_cases p v)
   where
-    by_stance : Standing p v → (w : ℕ) × (p v ≡ Some w) × (p w ≡ Some v)
+    by_stance : StanceCase p v → (w : ℕ) × (p v ≡ Some w) × (p w ≡ Some v)
     by_stance (free e is) = absurd (true≢false (sym h ∙ ap is_paired is))
     by_stance (waiting w e apart is) = absurd (true≢false (sym h ∙ ap is_paired is))
     by_stance (paired w e back is) = (w, e, back)

@@ -12,7 +12,7 @@ use Rattle.rule_machine.specs.RuleTable.{RuleTable}
 use Rattle.rule_machine.specs.Refuse.{refusal_of}
 use Rattle.rule_machine.specs.Answer.{Does, AnswersBy, Answers, spent_after}
 use Rattle.rule_machine.specs.Run.{Entry, Moment, Run}
-use Rattle.charge_laws.specs.Charged.{moves_of, moves_in, steps_of, steps_in}
+use Rattle.charge_laws.specs.ChargeWords.{moves_of, moves_in, steps_of, steps_in}
 
 does_moves : (t : RuleTable) (s : State) (n : ℕ) (event : Event) (moves : List Moved) (s' : State) → Does t s n event (Moves moves) s' → moves ≢ []
 does_moves t s n (Step items) moves s' does = does.some

@@ -9,12 +9,12 @@ use Rattle.rule_machine.specs.State.{State, IsState, suits, has_suitor}
 use Rattle.rule_machine.specs.RuleTable.{RuleTable, is_open, least_target}
 use Rattle.rule_machine.specs.HsuHuang.{hsu_huang, hsu_huang_opens}
 use Rattle.rule_machine.specs.Manne.{manne, may_court}
-use Rattle.rule_set.specs.Target.{takes_target}
+use Rattle.rules_api.specs.Target.{takes_target}
 use Rattle.machine_laws.specs.Neighbours.{near_some, near_found, near_fails, present_range, linked_present, linked_back}
 use Rattle.machine_laws.specs.Pointers.{some_is}
 use Rattle.machine_laws.specs.LeastMoves.{IsTable}
-use Rattle.machine_laws.specs.Unflagged.{IsFlagless}
-use Rattle.charge_laws.specs.Inside.{hsu_huang_inside, manne_inside}
+use Rattle.machine_laws.specs.UnusedFlags.{IsFlagless}
+use Rattle.charge_laws.specs.PresentMovers.{hsu_huang_inside, manne_inside}
 
 -- if a neighbour passes a test, and the test is what is allowed, there is a target
 target_found : (t : RuleTable) (s : State) (v : ℕ) (act : Act) (test : ℕ → Bool) → IsState s → IsTrue (is_some (find test (neighbours s.network v))) → ((w : ℕ) → IsTrue (linked s.network v w) → IsTrue (test w) → IsTrue (t.allowed s v act w)) → IsSome (least_target t s v act)

@@ -20,8 +20,8 @@
 use Rattle.std.proofs.Common.{◌≡◌, ◌≢◌, ℕ, ◌+◌, ◌*◌, ◌≤◌, Bool, cond, ◌&&◌, List, Option, None, Some, count_by, sum_by, unwrap_or, IsTrue, sym, ap, ◌∙◌, subst, subst₂, arith}
 use Rattle.std.proofs.lemmas.Bool.{and_parts, and_from}
 use Rattle.std.proofs.lemmas.Option.{none-some, same_Some}
-use Rattle.charge_laws.specs.Counting.{IsIn, IsWithoutRepeats, sum_four_le, sum_twice, count_into}
-use Rattle.charge_laws.specs.Stances.{Stance, Free, Waiting, Paired, stance, is_free, is_waiting, is_paired, Standing, standing, free, waiting, paired, free_from, waiting_from, paired_from, free_is, waiting_is, paired_is}
+use Rattle.charge_laws.specs.ListCounts.{IsIn, IsWithoutRepeats, sum_four_le, sum_twice, count_into}
+use Rattle.charge_laws.specs.Stances.{Stance, Free, Waiting, Paired, stance, is_free_stance, is_waiting, is_paired, StanceCase, stance_cases, free, waiting, paired, free_from, waiting_from, paired_from, free_is, waiting_is, paired_is}
 
 -- What v does when the pointers p become p': nothing, or it takes a suitor, or points from null at a null
 -- one, or gives up a node that does not point back.
@@ -41,10 +41,10 @@ written_by (abandons w at alone now) = 1
 -- the changes of a stance that pay or cost: from null to unanswered, from null to answered, from unanswered
 -- to answered
 abbrev pub climbs : Stance → Stance → Bool
-climbs before after = is_free before && is_waiting after
+climbs before after = is_free_stance before && is_waiting after
 
 abbrev pub answers : Stance → Stance → Bool
-answers before after = is_free before && is_paired after
+answers before after = is_free_stance before && is_paired after
 
 abbrev pub wins : Stance → Stance → Bool
 wins before after = is_waiting before && is_paired after
@@ -52,7 +52,7 @@ wins before after = is_waiting before && is_paired after
 -- a climber was null, and points at one that does not answer
 pub climber_aims : (p p' : ℕ → Option ℕ) (v : ℕ) → IsTrue (climbs (stance p v) (stance p' v)) → (p v ≡ None) × ((w : ℕ) × (p' v ≡ Some w) × (p' w ≢ Some v))
 climber_aims p p' v h =
-    let both = and_parts (is_free (stance p v)) (is_waiting (stance p' v)) h in (free_is p v both.0, waiting_is p' v both.1)
+    let both = and_parts (is_free_stance (stance p v)) (is_waiting (stance p' v)) h in (free_is p v both.0, waiting_is p' v both.1)
 
 abbrev pub bit : Bool → ℕ
 bit b = cond b 1 0
@@ -82,12 +82,12 @@ turn_pays p p' turns v = by_turn (turns v)
     pays : (before after : Stance) (done : ℕ) → stance p v ≡ before → stance p' v ≡ after → Pays before after done → Pays (stance p v) (stance p' v) done
     pays before after done e f h = subst₂ (λ b a. Pays b a done) (sym e) (sym f) h
 
-    points : p v ≡ None → (w : ℕ) → p' v ≡ Some w → Standing p' v → Pays (stance p v) (stance p' v) 1
+    points : p v ≡ None → (w : ℕ) → p' v ≡ Some w → StanceCase p' v → Pays (stance p v) (stance p' v) 1
     points null w now (free e is) = absurd (none-some w (sym e ∙ now))
     points null w now (waiting x e apart is) = pays Free Waiting 1 (free_from p v null) is (omega arith)
     points null w now (paired x e back is) = pays Free Paired 1 (free_from p v null) is (omega arith)
 
-    rests : p' v ≡ p v → Standing p v → Standing p' v → Pays (stance p v) (stance p' v) 0
+    rests : p' v ≡ p v → StanceCase p v → StanceCase p' v → Pays (stance p v) (stance p' v) 0
     rests now (free e is) then = pays Free Free 0 is (free_from p' v (now ∙ e)) (omega arith)
     rests now (waiting w e apart is) (free f was) = absurd (none-some w (sym f ∙ now ∙ e))
     rests now (waiting w e apart is) (waiting x f alone was) = pays Waiting Waiting 0 is was (omega arith)
@@ -95,9 +95,9 @@ turn_pays p p' turns v = by_turn (turns v)
     rests now (paired w e back is) then = pays Paired Paired 0 is (paired_stays p p' turns v (ap is_paired is)) (omega arith)
 
     by_turn : (t : Turn p p' v) → Pays (stance p v) (stance p' v) (written_by t)
-    by_turn (stays now) = rests now (standing p v) (standing p' v)
-    by_turn (marries w null suitor now) = points null w now (standing p' v)
-    by_turn (seduces w null other now) = points null w now (standing p' v)
+    by_turn (stays now) = rests now (stance_cases p v) (stance_cases p' v)
+    by_turn (marries w null suitor now) = points null w now (stance_cases p' v)
+    by_turn (seduces w null other now) = points null w now (stance_cases p' v)
     by_turn (abandons w at alone now) = pays Waiting Free 1 (waiting_from p v w at alone) (free_from p' v now) (omega arith)
 
 -- the turns of one step among these names, if no two seduce each other
@@ -143,7 +143,7 @@ answers_win p p' xs round =
 
     answered : (v : ℕ) → IsTrue (answers (stance p v) (stance p' v)) → (w : ℕ) × (p v ≡ None) × (p' v ≡ Some w) × (p' w ≡ Some v) × (p w ≡ Some v)
     answered v h =
-        let both = and_parts (is_free (stance p v)) (is_paired (stance p' v)) h in
+        let both = and_parts (is_free_stance (stance p v)) (is_paired (stance p' v)) h in
         let null = free_is p v both.0 in
         let pair = paired_is p' v both.1 in
         (pair.0, null, pair.1, pair.2, suitor_answered p p' xs round v pair.0 null pair.1 pair.2)

@@ -14,14 +14,14 @@ use Rattle.rule_machine.specs.declared.act.Moved.{Moved}
 use Rattle.rule_machine.specs.State.{State, Registers, pointer_of, flag_of, married}
 use Rattle.rule_machine.specs.Step.{written, after_move}
 use Rattle.machine_laws.specs.Writes.{pointer-with_pointer_other, pointer-with_pointer_same, flag-with_flag_other, flag-with_flag_same}
-use Rattle.charge_laws.specs.Counting.{IsIn, IsWithoutRepeats, count_into, count_all}
+use Rattle.charge_laws.specs.ListCounts.{IsIn, IsWithoutRepeats, count_into, count_all}
 
 -- what a move leaves in its node's pointer, and in its flag
-abbrev pub pointer_by : Act → Option ℕ → Option ℕ → Option ℕ
-pointer_by Update target old = old
-pointer_by Marry target old = target
-pointer_by Seduce target old = target
-pointer_by Abandon target old = None
+abbrev pub pointer_after_act : Act → Option ℕ → Option ℕ → Option ℕ
+pointer_after_act Update target old = old
+pointer_after_act Marry target old = target
+pointer_after_act Seduce target old = target
+pointer_after_act Abandon target old = None
 
 abbrev pub flag_by : Act → Bool → Bool → Bool
 flag_by Update married old = married
@@ -29,7 +29,7 @@ flag_by Marry married old = old
 flag_by Seduce married old = old
 flag_by Abandon married old = old
 
-pointer_here : (before : State) (r : Registers) (v : ℕ) (act : Act) (target : Option ℕ) → v < length r.pointers → pointer_of (written before r v act target) v ≡ pointer_by act target (pointer_of r v)
+pointer_here : (before : State) (r : Registers) (v : ℕ) (act : Act) (target : Option ℕ) → v < length r.pointers → pointer_of (written before r v act target) v ≡ pointer_after_act act target (pointer_of r v)
 pointer_here before r v Update target below = refl
 pointer_here before r v Marry target below = pointer-with_pointer_same r v target below
 pointer_here before r v Seduce target below = pointer-with_pointer_same r v target below
@@ -66,13 +66,13 @@ flags_kept before r v Seduce target = refl
 flags_kept before r v Abandon target = refl
 
 -- whether one of the moves is v's
-abbrev pub is_moved : List Moved → ℕ → Bool
-is_moved moves v = list_any (λ m. nat_eq m.node v) moves
+abbrev pub is_mover_in : List Moved → ℕ → Bool
+is_mover_in moves v = list_any (λ m. nat_eq m.node v) moves
 
 -- v's registers after the moves: as before if none is v's, else what its move leaves
-pub data Left (before : State) (r r' : Registers) (moves : List Moved) (v : ℕ) : Type 0 where
-  still : is_moved moves v ≡ false → pointer_of r' v ≡ pointer_of r v → flag_of r' v ≡ flag_of r v → Left before r r' moves v
-  moved : (m : Moved) → IsIn m moves → m.node ≡ v → pointer_of r' v ≡ pointer_by m.act m.target (pointer_of r v) → flag_of r' v ≡ flag_by m.act (married before v) (flag_of r v) → Left before r r' moves v
+pub data NodeAfterMoves (before : State) (r r' : Registers) (moves : List Moved) (v : ℕ) : Type 0 where
+  still : is_mover_in moves v ≡ false → pointer_of r' v ≡ pointer_of r v → flag_of r' v ≡ flag_of r v → NodeAfterMoves before r r' moves v
+  moved : (m : Moved) → IsIn m moves → m.node ≡ v → pointer_of r' v ≡ pointer_after_act m.act m.target (pointer_of r v) → flag_of r' v ≡ flag_by m.act (married before v) (flag_of r v) → NodeAfterMoves before r r' moves v
 
 pub in_nodes : (moves : List Moved) (m : Moved) → IsIn m moves → IsIn m.node (map (λ m. m.node) moves)
 in_nodes [] m h = absurd h
@@ -80,7 +80,7 @@ in_nodes (x ∷ moves) m (inl same) = inl (ap (λ m. m.node) same)
 in_nodes (x ∷ moves) m (inr there) = inr (in_nodes moves m there)
 
 -- One move after another: each is of another node, so a later one leaves what an earlier one wrote.
-pub moves_leave : (before : State) (r : Registers) (moves : List Moved) (n v : ℕ) → length r.pointers ≡ n → length r.flags ≡ n → AllByRecursion (λ m. m.node < n) moves → IsWithoutRepeats (map (λ m. m.node) moves) → Left before r (fold (after_move before) r moves) moves v
+pub moves_leave : (before : State) (r : Registers) (moves : List Moved) (n v : ℕ) → length r.pointers ≡ n → length r.flags ≡ n → AllByRecursion (λ m. m.node < n) moves → IsWithoutRepeats (map (λ m. m.node) moves) → NodeAfterMoves before r (fold (after_move before) r moves) moves v
 moves_leave before r [] n v pointers flags within single = still refl refl refl
 moves_leave before r (m ∷ moves) n v pointers flags within single =
     join (cases_eq m.node v)
@@ -92,19 +92,19 @@ moves_leave before r (m ∷ moves) n v pointers flags within single =
     last : Registers
     last = fold (after_move before) r (m ∷ moves)
 
-    join : (m.node ≡ v) ⊎ (m.node ≡ v → ⊥) → Left before first last moves v → Left before r last (m ∷ moves) v
+    join : (m.node ≡ v) ⊎ (m.node ≡ v → ⊥) → NodeAfterMoves before first last moves v → NodeAfterMoves before r last (m ∷ moves) v
     join (inl same) (still none e f) =
         moved m (inl refl) same
-        (e ∙ subst (λ x. pointer_of first x ≡ pointer_by m.act m.target (pointer_of r x)) same (pointer_here before r m.node m.act m.target (omega (arith, within.0, pointers))))
+        (e ∙ subst (λ x. pointer_of first x ≡ pointer_after_act m.act m.target (pointer_of r x)) same (pointer_here before r m.node m.act m.target (omega (arith, within.0, pointers))))
         (f ∙ subst (λ x. flag_of first x ≡ flag_by m.act (married before x) (flag_of r x)) same (flag_here before r m.node m.act m.target (omega (arith, within.0, flags))))
     join (inl same) (moved x there at e f) = absurd (single.0 (subst (λ y. IsIn y (map (λ m. m.node) moves)) (at ∙ sym same) (in_nodes moves x there)))
     join (inr apart) (still none e f) =
-        still (or_from (nat_eq m.node v) (is_moved moves v) (ne_eqb m.node v apart) none)
+        still (or_from (nat_eq m.node v) (is_mover_in moves v) (ne_eqb m.node v apart) none)
         (e ∙ pointer_elsewhere before r m.node m.act m.target v (λ k. apart (sym k)))
         (f ∙ flag_elsewhere before r m.node m.act m.target v (λ k. apart (sym k)))
     join (inr apart) (moved x there at e f) =
         moved x (inr there) at
-        (e ∙ ap (pointer_by x.act x.target) (pointer_elsewhere before r m.node m.act m.target v (λ k. apart (sym k))))
+        (e ∙ ap (pointer_after_act x.act x.target) (pointer_elsewhere before r m.node m.act m.target v (λ k. apart (sym k))))
         (f ∙ ap (flag_by x.act (married before v)) (flag_elsewhere before r m.node m.act m.target v (λ k. apart (sym k))))
 
 -- ---- how many moves there are
@@ -123,18 +123,18 @@ single_from_distinct (k ∷ ks) distinct =
 pub single_from_increasing : (ks : List ℕ) → IsStrictlyIncreasing ks → IsWithoutRepeats ks
 single_from_increasing ks up = single_from_distinct ks (IsDistinct-from_sorted nat_cmp ks (sorted_from_strictly_increasing ks up))
 
-pub node_is_moved : (moves : List Moved) (v : ℕ) → IsIn v (map (λ m. m.node) moves) → IsTrue (is_moved moves v)
+pub node_is_moved : (moves : List Moved) (v : ℕ) → IsIn v (map (λ m. m.node) moves) → IsTrue (is_mover_in moves v)
 node_is_moved [] v h = absurd h
-node_is_moved (m ∷ moves) v (inl same) = or_left (nat_eq m.node v) (is_moved moves v) (eq-eqb m.node v same)
-node_is_moved (m ∷ moves) v (inr there) = or_right (nat_eq m.node v) (is_moved moves v) (node_is_moved moves v there)
+node_is_moved (m ∷ moves) v (inl same) = or_left (nat_eq m.node v) (is_mover_in moves v) (eq-eqb m.node v same)
+node_is_moved (m ∷ moves) v (inr there) = or_right (nat_eq m.node v) (is_mover_in moves v) (node_is_moved moves v there)
 
 -- there are at most as many moves as names that move
-pub moves_counted : (moves : List Moved) (xs : List ℕ) → IsWithoutRepeats (map (λ m. m.node) moves) → ((v : ℕ) → IsIn v (map (λ m. m.node) moves) → IsIn v xs) → length moves ≤ count_by (is_moved moves) xs
+pub moves_counted : (moves : List Moved) (xs : List ℕ) → IsWithoutRepeats (map (λ m. m.node) moves) → ((v : ℕ) → IsIn v (map (λ m. m.node) moves) → IsIn v xs) → length moves ≤ count_by (is_mover_in moves) xs
 moves_counted moves xs single within =
     let nodes = map (λ (m : Moved). m.node) moves in
     let all = count_all nodes in
     let len = length-map moves (λ (m : Moved). m.node) in
-    let into = count_into (λ v. true) nodes (λ v. v) (is_moved moves) xs single (record {
+    let into = count_into (λ v. true) nodes (λ v. v) (is_mover_in moves) xs single (record {
       lands = λ v there h. within v there;
       passes = λ v there h. node_is_moved moves v there;
       apart = λ v w there also h k same. same;

@@ -9,21 +9,21 @@ use Rattle.rule_machine.specs.Stable.{IsStable}
 use Rattle.machine_laws.specs.Neighbours.{linked_present}
 use Rattle.machine_laws.specs.Pointers.{null_unmarried}
 use Rattle.machine_laws.specs.Writes.{if_some_from}
-use Rattle.charge_laws.specs.Counting.{count_none, sum_zero}
+use Rattle.charge_laws.specs.ListCounts.{count_none, sum_zero}
 use Rattle.charge_laws.specs.Members.{in_names, in_edges, edge_either}
-use Rattle.charge_laws.specs.Stances.{Standing, standing, free, waiting, paired, stance, is_waiting, unanswered_is, paired_is}
-use Rattle.charge_laws.specs.Inside.{pointer_present}
+use Rattle.charge_laws.specs.Stances.{StanceCase, stance_cases, free, waiting, paired, stance, is_waiting, unanswered_is, paired_is}
+use Rattle.charge_laws.specs.PresentMovers.{pointer_present}
 use Rattle.charge_laws.specs.HsuHuangTurns.{IsClosed, low_paired, high_paired, low_awaits, high_awaits, courted}
 use Rattle.charge_laws.specs.HsuHuangFalls.{closed_is}
 
 -- with no unanswered pointer among the names there is none
 pub all_answered : (s : State) → IsState s → count_by (is_unanswered s) (names s.network) ≡ 0 → (v w : ℕ) → pointer s v ≡ Some w → pointer s w ≡ Some v
-all_answered s good none v w e = by_stance (standing (pointer s) v)
+all_answered s good none v w e = by_stance (stance_cases (pointer s) v)
   where
     answered : is_waiting (stance (pointer s) v) ≡ false
     answered = sym (unanswered_is s v) ∙ count_none (is_unanswered s) (names s.network) none v (in_names s.network v (pointer_present s v w good e))
 
-    by_stance : Standing (pointer s) v → pointer s w ≡ Some v
+    by_stance : StanceCase (pointer s) v → pointer s w ≡ Some v
     by_stance (free null is) = absurd (none-some w (sym null ∙ e))
     by_stance (waiting x at alone is) = absurd (true≢false (ap is_waiting (sym is) ∙ answered))
     by_stance (paired x at back is) = ap (pointer s) (same_Some w x (sym e ∙ at)) ∙ back

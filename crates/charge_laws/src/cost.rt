@@ -10,9 +10,9 @@ ghost use Rattle.rule_machine.specs.Manne.{manne};
 ghost use Rattle.rule_machine.specs.Stable.{IsStable, mutual_pairs};
 ghost use Rattle.rule_machine.specs.Answer.{Answers};
 ghost use Rattle.rule_machine.specs.Run.{Entry, Moment, Run};
-ghost use Rattle.charge_laws.specs.Charged.{moves_in, IsUndisturbed};
+ghost use Rattle.charge_laws.specs.ChargeWords.{moves_in, IsUndisturbed};
 ghost use Rattle.charge_laws.specs.Epochs.{IsPath};
-ghost use Rattle.charge_laws.specs.Costs.{hsu_huang_cost, manne_cost, costs_of, end_of, log_of};
+ghost use Rattle.charge_laws.specs.Costs.{hsu_huang_cost, manne_cost, path_cost, end_of_path, path_entries};
 
 /// The charge of a stable network is 0 (Hsu and Huang) or its number of unmarried nodes (Manne).
 pub fn stable_charge()
@@ -35,9 +35,9 @@ pub fn disturbances_cost()
 /// Holds from any state, whatever the daemon chooses.
 pub fn disturbed_moves_are_paid()
     ensures hsu_huang { (start : Moment) → IsState start.state → (path : List (Entry × State)) → IsPath hsu_huang start path
-        → moves_in (log_of path) + hsu_huang.charge (end_of start.state path) ≤ hsu_huang.charge start.state + costs_of hsu_huang_cost start.state path }
+        → moves_in (path_entries path) + hsu_huang.charge (end_of_path start.state path) ≤ hsu_huang.charge start.state + path_cost hsu_huang_cost start.state path }
     ensures manne { (start : Moment) → IsState start.state → (path : List (Entry × State)) → IsPath manne start path
-        → moves_in (log_of path) + manne.charge (end_of start.state path) ≤ manne.charge start.state + costs_of manne_cost start.state path }
+        → moves_in (path_entries path) + manne.charge (end_of_path start.state path) ≤ manne.charge start.state + path_cost manne_cost start.state path }
 {}
 
 /// From a stable state the costs of the disturbances alone bound all moves.
@@ -46,10 +46,10 @@ pub fn disturbed_moves_are_paid()
 /// mutual pair that was gained and one for each node that went.
 pub fn stable_moves_are_paid()
     ensures hsu_huang { (start : Moment) → IsState start.state → IsStable false start.state → (path : List (Entry × State)) → IsPath hsu_huang start path
-        → moves_in (log_of path) ≤ costs_of hsu_huang_cost start.state path }
+        → moves_in (path_entries path) ≤ path_cost hsu_huang_cost start.state path }
     ensures manne { (start : Moment) → IsState start.state → IsStable true start.state → (path : List (Entry × State)) → IsPath manne start path
-        → moves_in (log_of path) + 2 * length (mutual_pairs start.state) + node_count (end_of start.state path).network
-        ≤ costs_of manne_cost start.state path + 2 * length (mutual_pairs (end_of start.state path)) + node_count start.state.network }
+        → moves_in (path_entries path) + 2 * length (mutual_pairs start.state) + node_count (end_of_path start.state path).network
+        ≤ path_cost manne_cost start.state path + 2 * length (mutual_pairs (end_of_path start.state path)) + node_count start.state.network }
 {}
 
 /// After one disturbance of a stable state, its cost bounds the moves up to the next disturbance.

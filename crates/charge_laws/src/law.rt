@@ -2,16 +2,16 @@
 
 ghost use Rattle.std.specs.Prelude.{ℕ, ◌+◌, ◌*◌, ◌≤◌, List, length, All, true, false};
 ghost use Rattle.rule_machine.specs.declared.base.Base.{Base};
-ghost use Rattle.rule_machine.specs.Base.{base_of, IsBegun};
+ghost use Rattle.rule_machine.specs.Base.{base_of, IsBaseMoment};
 ghost use Rattle.rule_machine.specs.Network.{node_count, edge_count};
 ghost use Rattle.rule_machine.specs.State.{State, IsState, opening_with};
 ghost use Rattle.rule_machine.specs.HsuHuang.{hsu_huang};
 ghost use Rattle.rule_machine.specs.Manne.{manne};
 ghost use Rattle.rule_machine.specs.Stable.{IsStable, mutual_pairs};
 ghost use Rattle.rule_machine.specs.Run.{Entry, Moment, Run, beginning_with, epoch_at, epochs_from};
-ghost use Rattle.machine_laws.specs.Half.{IsMatching};
-ghost use Rattle.charge_laws.specs.Charged.{charge_bound, moves_in, steps_in, IsUndisturbed};
-ghost use Rattle.charge_laws.specs.Epochs.{IsPath, IsBounded};
+ghost use Rattle.machine_laws.specs.HalfMatchings.{IsMatching};
+ghost use Rattle.charge_laws.specs.ChargeWords.{charge_bound, moves_in, steps_in, IsUndisturbed};
+ghost use Rattle.charge_laws.specs.Epochs.{IsPath, IsBoundedEpoch};
 
 /// Between two disturbances: at most 2m + n moves (Hsu and Huang) or 2m + 3n (Manne and others).
 ///
@@ -80,9 +80,9 @@ pub fn spending_is_bounded()
 /// m and n are the edges and nodes that the epoch began with.
 pub fn epochs_are_bounded()
     ensures hsu_huang { (size count : ℕ) (path : List (Entry × State)) → IsPath hsu_huang (beginning_with size count) path
-        → All (IsBounded 1) (epochs_from 1 (epoch_at 0 (opening_with size count)) path) }
+        → All (IsBoundedEpoch 1) (epochs_from 1 (epoch_at 0 (opening_with size count)) path) }
     ensures manne { (size count : ℕ) (path : List (Entry × State)) → IsPath manne (beginning_with size count) path
-        → All (IsBounded 3) (epochs_from 1 (epoch_at 0 (opening_with size count)) path) }
+        → All (IsBoundedEpoch 3) (epochs_from 1 (epoch_at 0 (opening_with size count)) path) }
 {}
 
 /// Each moment of a run from the opening state is a valid base: a run may begin there.
@@ -91,15 +91,15 @@ pub fn epochs_are_bounded()
 /// within the bound.
 pub fn runs_may_begin()
     ensures hsu_huang { (size count number : ℕ) (log : List Entry) (end : Moment) → Run hsu_huang (beginning_with size count) log end
-        → IsBegun hsu_huang (charge_bound 1) size (base_of number end) end }
+        → IsBaseMoment hsu_huang (charge_bound 1) size (base_of number end) end }
     ensures manne { (size count number : ℕ) (log : List Entry) (end : Moment) → Run manne (beginning_with size count) log end
-        → IsBegun manne (charge_bound 3) size (base_of number end) end }
+        → IsBaseMoment manne (charge_bound 3) size (base_of number end) end }
 {}
 
 /// Each moment of a run that began at a base is a valid base too.
 pub fn runs_may_go_on()
-    ensures hsu_huang { (size number : ℕ) (base : Base) (start : Moment) → IsBegun hsu_huang (charge_bound 1) size base start
-        → (log : List Entry) (end : Moment) → Run hsu_huang start log end → IsBegun hsu_huang (charge_bound 1) size (base_of number end) end }
-    ensures manne { (size number : ℕ) (base : Base) (start : Moment) → IsBegun manne (charge_bound 3) size base start
-        → (log : List Entry) (end : Moment) → Run manne start log end → IsBegun manne (charge_bound 3) size (base_of number end) end }
+    ensures hsu_huang { (size number : ℕ) (base : Base) (start : Moment) → IsBaseMoment hsu_huang (charge_bound 1) size base start
+        → (log : List Entry) (end : Moment) → Run hsu_huang start log end → IsBaseMoment hsu_huang (charge_bound 1) size (base_of number end) end }
+    ensures manne { (size number : ℕ) (base : Base) (start : Moment) → IsBaseMoment manne (charge_bound 3) size base start
+        → (log : List Entry) (end : Moment) → Run manne start log end → IsBaseMoment manne (charge_bound 3) size (base_of number end) end }
 {}

@@ -8,10 +8,10 @@ ghost use Rattle.rule_machine.specs.HsuHuang.{hsu_huang};
 ghost use Rattle.rule_machine.specs.Manne.{manne};
 ghost use Rattle.rule_machine.specs.Stable.{IsStable, mutual_pairs};
 ghost use Rattle.rule_machine.specs.Run.{Entry, Moment, Run};
-ghost use Rattle.charge_laws.specs.Charged.{moves_in, IsUndisturbed};
-ghost use Rattle.charge_laws.specs.Costs.{end_of, log_of};
+ghost use Rattle.charge_laws.specs.ChargeWords.{moves_in, IsUndisturbed};
+ghost use Rattle.charge_laws.specs.Costs.{end_of_path, path_entries};
 ghost use Rattle.charge_laws.specs.Epochs.{IsPath};
-ghost use Rattle.charge_laws.specs.Silent.{IsDriven};
+ghost use Rattle.charge_laws.specs.SilentRuns.{IsDriven};
 
 /// By Manne's rules a network is stable exactly if its charge is the number of its unmarried nodes.
 ///
@@ -33,17 +33,17 @@ pub fn fewer_moves_settle()
 /// A silent network stays silent without a disturbance.
 pub fn silence_lasts()
     ensures hsu_huang { (start : Moment) → IsState start.state → enabled_names hsu_huang start.state ≡ [] → (path : List (Entry × State)) → IsPath hsu_huang start path
-        → IsUndisturbed (log_of path) → enabled_names hsu_huang (end_of start.state path) ≡ [] }
+        → IsUndisturbed (path_entries path) → enabled_names hsu_huang (end_of_path start.state path) ≡ [] }
     ensures manne { (start : Moment) → IsState start.state → enabled_names manne start.state ≡ [] → (path : List (Entry × State)) → IsPath manne start path
-        → IsUndisturbed (log_of path) → enabled_names manne (end_of start.state path) ≡ [] }
+        → IsUndisturbed (path_entries path) → enabled_names manne (end_of_path start.state path) ≡ [] }
 {}
 
 /// A driven run without a disturbance is silent after as many entries as the charge was at its start.
 ///
 /// Driven: each entry moves a node, or comes when no rule is enabled.
 pub fn long_runs_end_silent()
-    ensures hsu_huang { (start : Moment) → IsState start.state → (path : List (Entry × State)) → IsPath hsu_huang start path → IsUndisturbed (log_of path)
-        → IsDriven hsu_huang start.state path → hsu_huang.charge start.state ≤ length path → enabled_names hsu_huang (end_of start.state path) ≡ [] }
-    ensures manne { (start : Moment) → IsState start.state → (path : List (Entry × State)) → IsPath manne start path → IsUndisturbed (log_of path)
-        → IsDriven manne start.state path → manne.charge start.state ≤ length path → enabled_names manne (end_of start.state path) ≡ [] }
+    ensures hsu_huang { (start : Moment) → IsState start.state → (path : List (Entry × State)) → IsPath hsu_huang start path → IsUndisturbed (path_entries path)
+        → IsDriven hsu_huang start.state path → hsu_huang.charge start.state ≤ length path → enabled_names hsu_huang (end_of_path start.state path) ≡ [] }
+    ensures manne { (start : Moment) → IsState start.state → (path : List (Entry × State)) → IsPath manne start path → IsUndisturbed (path_entries path)
+        → IsDriven manne start.state path → manne.charge start.state ≤ length path → enabled_names manne (end_of_path start.state path) ≡ [] }
 {}

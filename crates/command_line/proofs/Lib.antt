@@ -1,5 +1,5 @@
 pub mod OneVerdict
 pub mod Input
-pub mod Missing
+pub mod MissingEntry
 pub mod Storms
-pub mod Shown
+pub mod ShownText

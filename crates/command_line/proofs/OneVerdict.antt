@@ -6,11 +6,11 @@ use Rattle.auditor.specs.declared.fault.AuditFault.{AuditFault}
 use Rattle.auditor.specs.declared.fault.AuditFault.TheVariants.{BadHeader, NotALine, OutOfOrder, NotTheMachines, BadBase, Read, Memory}
 use Rattle.auditor.specs.declared.summary.Summary.{Summary}
 use Rattle.auditor.specs.Damage.{IsDamage}
-use Rattle.auditor.specs.Verdict.{IsFault, of_damage}
-use Rattle.auditor.proofs.Ending.{damage_once, count_once, accepted_no_damage}
+use Rattle.auditor.specs.Verdict.{IsAuditFault, of_damage}
+use Rattle.auditor.proofs.TextEnds.{damage_once, count_once, accepted_no_damage}
 use Rattle.command_line.specs.declared.verdict.CheckEnd.{CheckEnd}
 use Rattle.command_line.specs.declared.verdict.CheckEnd.TheVariants.{Accepted, Refused}
-use Rattle.command_line.specs.Checked.{IsVerdict}
+use Rattle.command_line.specs.CheckResults.{IsVerdict}
 
 -- a refused text has the damage that is named
 record IsRefused (bytes : List ℕ) (fault : AuditFault) : Type 0 where
@@ -18,7 +18,7 @@ record IsRefused (bytes : List ℕ) (fault : AuditFault) : Type 0 where
   is : fault ≡ of_damage damage
   damaged : IsDamage bytes damage
 
-refused : (bytes : List ℕ) (fault : AuditFault) → IsFault bytes fault → fault ≢ Read → fault ≢ Memory → IsRefused bytes fault
+refused : (bytes : List ℕ) (fault : AuditFault) → IsAuditFault bytes fault → fault ≢ Read → fault ≢ Memory → IsRefused bytes fault
 refused bytes BadHeader is read memory = record { damage = damage.BadHeader; is = refl; damaged = is }
 refused bytes (NotALine line) is read memory = record { damage = damage.NotALine line; is = refl; damaged = is }
 refused bytes (OutOfOrder line) is read memory = record { damage = damage.OutOfOrder line; is = refl; damaged = is }

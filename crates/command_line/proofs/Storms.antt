@@ -2,20 +2,20 @@
 use Rattle.std.proofs.Common.{ℕ, List, length, replicate, None, Err, inr, ap, arith}
 use Rattle.std.proofs.KnownBytes.{Keeps-refl}
 use Rattle.std.proofs.lemmas.List.{length-replicate}
-use Rattle.script_run.specs.Asked.{Asked}
-use Rattle.storm_call.specs.declared.fault.StormFault.{StormFault}
-use Rattle.storm_call.specs.declared.fault.StormFault.TheVariants.{TooManyScripts, BadLine, LogFull, Read, Write, Memory, Behind, Thread, Unsettled}
-use Rattle.command_line.specs.Viewed.{Known}
-use Rattle.command_line.specs.Played.{EndsStorm, FailsToOpen}
+use Rattle.script_run.specs.RunOptions.{OptionsView}
+use Rattle.storm_runner.specs.declared.fault.StormFault.{StormFault}
+use Rattle.storm_runner.specs.declared.fault.StormFault.TheVariants.{TooManyScripts, BadLine, LogFull, Read, Write, Memory, Behind, Thread, Unsettled}
+use Rattle.command_line.specs.ViewEnds.{WrittenBytes}
+use Rattle.command_line.specs.StormEnds.{EndsStorm, FailsToOpen}
 
 -- a file that could not be opened counts as one that could not be read
-pub unopened : (asked : Asked) (files : ℕ) (old : Known) (fault : StormFault) → FailsToOpen files fault → EndsStorm asked files old old (Err fault)
+pub unopened : (asked : OptionsView) (files : ℕ) (old : WrittenBytes) (fault : StormFault) → FailsToOpen files fault → EndsStorm asked files old old (Err fault)
 unopened asked files old Read some =
-    let none : Known = None in
+    let none : WrittenBytes = None in
     let count = length-replicate files none in
-    (replicate files none, count, (λ e. omega (arith, some, count, ap (λ (l : List Known). length l) e), Keeps-refl old))
+    (replicate files none, count, (λ e. omega (arith, some, count, ap (λ (l : List WrittenBytes). length l) e), Keeps-refl old))
 unopened asked files old Memory some =
-    let none : Known = None in
+    let none : WrittenBytes = None in
     (replicate files none, length-replicate files none, inr (Keeps-refl old))
 unopened asked files old TooManyScripts some = absurd some
 unopened asked files old (BadLine script line) some = absurd some

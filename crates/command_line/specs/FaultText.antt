@@ -15,22 +15,22 @@ pool_line pool.Thread = codes "! no thread\n"
 pool_line pool.Memory = codes "! out of memory\n"
 
 -- a line of a script that is no command, with its number and the LF
-abbrev pub bad_line : ℕ → List ℕ
-bad_line line = codes "! line " ++ (number_text line ++ codes ": not a command\n")
+abbrev pub run_bad_line : ℕ → List ℕ
+run_bad_line line = codes "! line " ++ (number_text line ++ codes ": not a command\n")
 
 -- the line of a fault of a run, with its LF
-abbrev pub fault_line : RunFault → List ℕ
-fault_line (BadLine line) = bad_line line
-fault_line LogFull = codes "! log full\n"
-fault_line Read = codes "! read failed\n"
-fault_line Write = codes "! write failed\n"
-fault_line Memory = codes "! out of memory\n"
-fault_line (Pool why) = pool_line why
+abbrev pub run_fault_line : RunFault → List ℕ
+run_fault_line (BadLine line) = run_bad_line line
+run_fault_line LogFull = codes "! log full\n"
+run_fault_line Read = codes "! read failed\n"
+run_fault_line Write = codes "! write failed\n"
+run_fault_line Memory = codes "! out of memory\n"
+run_fault_line (Pool why) = pool_line why
 
 -- a fault whose line has no number
-abbrev pub IsPlain : RunFault → Type 0
-IsPlain (BadLine line) = ⊥
-IsPlain fault = Unit {0}
+abbrev pub IsLinelessRunFault : RunFault → Type 0
+IsLinelessRunFault (BadLine line) = ⊥
+IsLinelessRunFault fault = Unit {0}
 
 -- too many nodes for the start
 abbrev pub bad_present_line : List ℕ
@@ -39,4 +39,4 @@ bad_present_line = codes "! bad present\n"
 -- words that could not be read
 abbrev pub no_words_line : io.ErrorKind → List ℕ
 no_words_line InvalidData = codes "! a word is not UTF-8\n"
-no_words_line _ = fault_line Memory
+no_words_line _ = run_fault_line Memory

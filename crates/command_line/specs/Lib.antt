@@ -2,8 +2,8 @@ pub mod Status
 pub mod VerdictText
 pub mod FaultText
 pub mod Network
-pub mod Checked
-pub mod Viewed
-pub mod Played
-pub mod Ended
-pub mod Heard
+pub mod CheckResults
+pub mod ViewEnds
+pub mod StormEnds
+pub mod ProgramEnds
+pub mod WriterStates

@@ -9,13 +9,13 @@ use Rattle.script_run.specs.declared.fault.RunFault.{RunFault}
 use Rattle.script_run.specs.declared.fault.RunFault.TheVariants.{BadLine, LogFull, Read, Write, Memory, Pool}
 
 -- the status of a run's fault
-abbrev pub status_of : RunFault → ℕ
-status_of (BadLine _) = 2
-status_of Read = 3
-status_of Write = 3
-status_of LogFull = 4
-status_of Memory = 4
-status_of (Pool _) = 4
+abbrev pub run_status : RunFault → ℕ
+run_status (BadLine _) = 2
+run_status Read = 3
+run_status Write = 3
+run_status LogFull = 4
+run_status Memory = 4
+run_status (Pool _) = 4
 
 -- the status of bad words
 abbrev pub words_status : ErrorKind → ℕ

@@ -8,25 +8,25 @@ use Rattle.command_line.specs.declared.verdict.CheckEnd.{CheckEnd}
 use Rattle.command_line.specs.declared.verdict.CheckEnd.TheVariants.{Accepted, Refused}
 
 -- the counts
-abbrev pub counts_text : Summary → List ℕ
-counts_text c =
+abbrev pub summary_text : Summary → List ℕ
+summary_text c =
     codes "accepted: " ++ (number_text c.entries ++ codes " entries, ") ++ (number_text c.epochs ++ codes " epochs, ") ++ (number_text c.moves ++ codes " moves")
 
 -- the line that fails, and its failed check
-abbrev pub place_text : ℕ → List ℕ → List ℕ
-place_text line text = codes "line " ++ (number_text line ++ text)
+abbrev pub damage_line : ℕ → List ℕ → List ℕ
+damage_line line text = codes "line " ++ (number_text line ++ text)
 
 abbrev pub fault_text : AuditFault → List ℕ
 fault_text BadHeader = codes "line 1: bad header"
-fault_text (NotALine line) = place_text line (codes ": not a transcript line")
-fault_text (OutOfOrder line) = place_text line (codes ": out of order")
-fault_text (NotTheMachines line) = place_text line (codes ": not the machine's reply")
-fault_text (BadBase line) = place_text line (codes ": bad base")
+fault_text (NotALine line) = damage_line line (codes ": not a transcript line")
+fault_text (OutOfOrder line) = damage_line line (codes ": out of order")
+fault_text (NotTheMachines line) = damage_line line (codes ": not the machine's reply")
+fault_text (BadBase line) = damage_line line (codes ": bad base")
 fault_text Read = codes "read failed"
 fault_text Memory = codes "out of memory"
 
 abbrev pub verdict_text : CheckEnd → List ℕ
-verdict_text (Accepted counted) = counts_text counted
+verdict_text (Accepted counted) = summary_text counted
 verdict_text (Refused fault) = fault_text fault
 
 -- the verdict and its LF

@@ -2,19 +2,22 @@
 
 ghost use Rattle.std.specs.Prelude.{◌≡◌, ◌++◌, codes, true, OnOk, OnErr};
 ghost use Rattle.std.specs.Io.KnownBytes.{Appends};
-ghost use Rattle.byte_streams.specs.Beginning.{AppendsBeginning};
+ghost use Rattle.byte_streams.specs.PartialOutput.{AppendsBeginning};
 ghost use Rattle.line_text.specs.Words.{number_text};
-ghost use Rattle.command_line.specs.FaultText.{bad_line, fault_line, IsPlain};
+ghost use Rattle.command_line.specs.FaultText.{run_bad_line, run_fault_line, IsLinelessRunFault};
 
-use byte_streams::{OutputFault, Writes};
+use byte_streams::{FailStopWriter, OutputFault};
 use itoa::Buffer;
 use script_run::RunFault;
 use std::io::Write;
 use steal_pool::PoolFault;
 
-fn write_bad_line<Faults: Write>(line: u64, faults: &mut Writes<Faults>) -> Result<(), OutputFault>
-    ensures ok { OnOk result (Appends (Faults.contents faults.old.writer) (Faults.contents faults.new.writer) (bad_line line)) }
-    ensures fault { OnErr result (AppendsBeginning (Faults.contents faults.old.writer) (Faults.contents faults.new.writer) (bad_line line)) }
+fn write_bad_line<Faults: Write>(
+    line: u64,
+    faults: &mut FailStopWriter<Faults>,
+) -> Result<(), OutputFault>
+    ensures ok { OnOk result (Appends (Faults.contents faults.old.writer) (Faults.contents faults.new.writer) (run_bad_line line)) }
+    ensures fault { OnErr result (AppendsBeginning (Faults.contents faults.old.writer) (Faults.contents faults.new.writer) (run_bad_line line)) }
     ensures unwritten { OnErr result (faults.new.failed ≡ true) }
 {
     let mut digits = Buffer::new();
@@ -26,10 +29,10 @@ fn write_bad_line<Faults: Write>(line: u64, faults: &mut Writes<Faults>) -> Resu
 /// Writes the line of a fault, and flushes the writer.
 pub fn write_fault<Faults: Write>(
     fault: RunFault,
-    faults: &mut Writes<Faults>,
+    faults: &mut FailStopWriter<Faults>,
 ) -> Result<(), OutputFault>
-    ensures ok { OnOk result (Appends (Faults.contents faults.old.writer) (Faults.contents faults.new.writer) (fault_line fault)) }
-    ensures fault { OnErr result (AppendsBeginning (Faults.contents faults.old.writer) (Faults.contents faults.new.writer) (fault_line fault)) }
+    ensures ok { OnOk result (Appends (Faults.contents faults.old.writer) (Faults.contents faults.new.writer) (run_fault_line fault)) }
+    ensures fault { OnErr result (AppendsBeginning (Faults.contents faults.old.writer) (Faults.contents faults.new.writer) (run_fault_line fault)) }
     ensures unwritten { OnErr result (faults.new.failed ≡ true) }
 {
     match fault {
@@ -40,8 +43,8 @@ pub fn write_fault<Faults: Write>(
 
 // The line of a fault without numbers.
 fn plain_line(fault: RunFault) -> &'static [u8]
-    requires { IsPlain fault }
-    ensures { result.now ≡ fault_line fault }
+    requires { IsLinelessRunFault fault }
+    ensures { result.now ≡ run_fault_line fault }
 {
     match fault {
         RunFault::BadLine { .. } => b"",

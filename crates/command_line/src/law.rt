@@ -2,7 +2,7 @@
 
 ghost use Rattle.std.specs.Prelude.{◌≡◌, ℕ, List};
 ghost use Rattle.command_line.specs.declared.verdict.CheckEnd.{CheckEnd};
-ghost use Rattle.command_line.specs.Checked.{IsVerdict};
+ghost use Rattle.command_line.specs.CheckResults.{IsVerdict};
 
 /// A text has at most one verdict.
 pub fn one_verdict()

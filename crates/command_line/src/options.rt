@@ -1,11 +1,11 @@
 //! The options of a run, from its words.
 
 ghost use Rattle.std.specs.Prelude.{◌≡◌, MatchOption, None, Some};
-ghost use Rattle.command_words.specs.Wanted.{present_at_start};
-ghost use Rattle.script_run.specs.Asked.{asked_of};
+ghost use Rattle.cli_args.specs.TaskWords.{present_at_start};
+ghost use Rattle.script_run.specs.RunOptions.{asked_of};
 ghost use Rattle.command_line.specs.Network.{asked_network};
 
-use command_words::present_at_start;
+use cli_args::present_at_start;
 use rule_machine::RuleSet;
 use script_run::Options;
 

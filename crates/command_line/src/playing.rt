@@ -1,17 +1,17 @@
 //! Playing the scripts of files at once.
 
 ghost use Rattle.std.specs.Prelude.{◌≡◌, length, IfErr, IfOk};
-ghost use Rattle.script_run.specs.Asked.{asked_of};
-ghost use Rattle.command_words.specs.Wanted.{present_at_start, storm_of};
-ghost use Rattle.command_line.specs.Ended.{DoesStorm};
-ghost use Rattle.command_line.specs.Played.{EndsStorm, FailsToOpen};
-ghost use Rattle.command_line.specs.Heard.{heard};
+ghost use Rattle.script_run.specs.RunOptions.{asked_of};
+ghost use Rattle.cli_args.specs.TaskWords.{present_at_start, storm_of};
+ghost use Rattle.command_line.specs.ProgramEnds.{DoesStorm};
+ghost use Rattle.command_line.specs.StormEnds.{EndsStorm, FailsToOpen};
+ghost use Rattle.command_line.specs.WriterStates.{heard};
 ghost use Rattle.command_line.specs.Status.{IsStatus};
 
 use crate::options::network_options;
 use crate::program::tell_bad_present;
-use byte_streams::Writes;
-use command_words::StormWords;
+use byte_streams::FailStopWriter;
+use cli_args::StormWords;
 use script_run::Options;
 use std::alloc::Global;
 use std::fs::File;
@@ -20,7 +20,7 @@ use std::rt::Files;
 use std::sync::Wait;
 use std::thread::Threads;
 use steal_pool::NoGate;
-use storm_call::{StormFault, storm, storm_end};
+use storm_runner::{StormFault, storm, storm_end};
 
 // Opens these files in order: `Read` at the first that cannot be opened.
 fn open_all<T: Files>(rt: &T, alloc: Global, names: &[&str]) -> Result<Vec<T::File>, StormFault>
@@ -44,7 +44,7 @@ fn play_files<Out: Write, T: Threads + Wait + Sync + Files>(
     alloc: Global,
     options: &Options,
     names: &[&str],
-    writer: &mut Writes<Out>,
+    writer: &mut FailStopWriter<Out>,
 ) -> Result<(), StormFault>
     ensures { EndsStorm (asked_of options.now) (length names.now) (Out.contents writer.old.writer) (Out.contents writer.new.writer) result }
 {
@@ -61,8 +61,8 @@ pub fn play_storm<Out: Write, Faults: Write, T: Threads + Wait + Sync + Files>(
     rt: &T,
     alloc: Global,
     asked: StormWords<'_>,
-    writer: &mut Writes<Out>,
-    faults: &mut Writes<Faults>,
+    writer: &mut FailStopWriter<Out>,
+    faults: &mut FailStopWriter<Faults>,
 ) -> u8
     ensures played { DoesStorm (storm_of asked.entry) (present_at_start asked.entry.nodes asked.entry.present)
         (Out.contents writer.old.writer) (Out.contents writer.new.writer) (Faults.contents faults.old.writer) (heard Faults.contents faults.new) result }

@@ -3,28 +3,28 @@
 ghost use Rattle.std.specs.Prelude.{◌≡◌, ◌≢◌, ◌⊎◌, false, true, IfErr, IfOk, IfSome, MatchOption, OnErr, Result, map, string_bytes};
 ghost use Rattle.std.specs.Io.KnownBytes.{Appends};
 ghost use Rattle.clap.specs.declared.error.kind.ErrorKind.TheVariants.{OutOfMemory};
-ghost use Rattle.command_words.specs.declared.task.Task.{Task};
-ghost use Rattle.command_words.specs.declared.storm.StormWords.{StormWords};
-ghost use Rattle.command_words.specs.Wanted.{Answers, Asks, Wants};
+ghost use Rattle.cli_args.specs.declared.task.Task.{Task};
+ghost use Rattle.cli_args.specs.declared.storm.StormWords.{StormWords};
+ghost use Rattle.cli_args.specs.TaskWords.{ParsesTo, Asks, ParsesAsTask};
 ghost use Rattle.clap.specs.declared.error.Error.{Error};
 ghost use Rattle.clap.specs.Words.{kind_of};
-ghost use Rattle.byte_streams.specs.Beginning.{AppendsBeginning};
-ghost use Rattle.byte_streams.specs.Ended.{IsEnded};
-ghost use Rattle.command_line.specs.FaultText.{bad_present_line, fault_line, no_words_line};
-ghost use Rattle.command_line.specs.Ended.{TellsBadPresent, TellsMistake, TellsOutcome, TellsCheck, Does};
-ghost use Rattle.command_line.specs.Heard.{heard};
-ghost use Rattle.command_line.specs.Status.{IsRunStatus, IsStatus, status_of, no_words_status, words_status};
-ghost use Rattle.command_line.specs.Viewed.{ShowsSome, ShowsText, TellsEarly};
+ghost use Rattle.byte_streams.specs.PartialOutput.{AppendsBeginning};
+ghost use Rattle.byte_streams.specs.StreamEnds.{IsEnded};
+ghost use Rattle.command_line.specs.FaultText.{bad_present_line, run_fault_line, no_words_line};
+ghost use Rattle.command_line.specs.ProgramEnds.{TellsBadPresent, TellsMistake, TellsOutcome, TellsCheck, ActsOnWords};
+ghost use Rattle.command_line.specs.WriterStates.{heard};
+ghost use Rattle.command_line.specs.Status.{IsRunStatus, IsStatus, run_status, no_words_status, words_status};
+ghost use Rattle.command_line.specs.ViewEnds.{ShowsSome, ShowsText, TellsEarly};
 
 use crate::fault_line::write_fault;
 use crate::options::network_options;
 use crate::playing::play_storm;
 use crate::verdict::check;
 use crate::viewing::{draw, list_epochs, show_text};
-use byte_streams::{Reads, Writes};
+use byte_streams::{CountingReader, FailStopWriter};
 use clap::Error;
 use clap::error::ErrorKind;
-use command_words::{Task, read_words};
+use cli_args::{Task, read_words};
 use script_run::{Options, RunFault, run};
 use std::alloc::{AllocError, Global};
 use std::convert::AsStr;
@@ -37,7 +37,7 @@ use std::thread::Threads;
 ///
 /// 2 for a bad line; 3 for a failed read or write; 4 for a full log, no memory, or failed workers.
 pub fn status(fault: RunFault) -> u8
-    ensures { result ≡ status_of fault }
+    ensures { result ≡ run_status fault }
 {
     match fault {
         RunFault::BadLine { .. } => 2,
@@ -49,10 +49,10 @@ pub fn status(fault: RunFault) -> u8
 /// Writes why a run ended early, as one line, and returns the exit status.
 ///
 /// If a write fails, only a beginning of the line is written; the status is the same.
-pub fn tell<Faults: Write>(fault: RunFault, faults: &mut Writes<Faults>) -> u8
-    ensures status { result ≡ status_of fault }
-    ensures told { AppendsBeginning (Faults.contents faults.old.writer) (Faults.contents faults.new.writer) (fault_line fault) }
-    ensures whole { faults.new.failed ≡ false → Appends (Faults.contents faults.old.writer) (Faults.contents faults.new.writer) (fault_line fault) }
+pub fn tell<Faults: Write>(fault: RunFault, faults: &mut FailStopWriter<Faults>) -> u8
+    ensures status { result ≡ run_status fault }
+    ensures told { AppendsBeginning (Faults.contents faults.old.writer) (Faults.contents faults.new.writer) (run_fault_line fault) }
+    ensures whole { faults.new.failed ≡ false → Appends (Faults.contents faults.old.writer) (Faults.contents faults.new.writer) (run_fault_line fault) }
 {
     let _ = write_fault(fault, faults);
     status(fault)
@@ -61,7 +61,7 @@ pub fn tell<Faults: Write>(fault: RunFault, faults: &mut Writes<Faults>) -> u8
 /// Writes why the words could not be read, as one line, and returns the exit status.
 ///
 /// 2 for a word that is not UTF-8, else 4.
-pub fn tell_no_words<Faults: Write>(kind: io::ErrorKind, faults: &mut Writes<Faults>) -> u8
+pub fn tell_no_words<Faults: Write>(kind: io::ErrorKind, faults: &mut FailStopWriter<Faults>) -> u8
     ensures status { result ≡ no_words_status kind }
     ensures told { AppendsBeginning (Faults.contents faults.old.writer) (Faults.contents faults.new.writer) (no_words_line kind) }
     ensures whole { faults.new.failed ≡ false → Appends (Faults.contents faults.old.writer) (Faults.contents faults.new.writer) (no_words_line kind) }
@@ -74,7 +74,7 @@ pub fn tell_no_words<Faults: Write>(kind: io::ErrorKind, faults: &mut Writes<Fau
 }
 
 /// Writes that more nodes are to be present than there are names, as one line, and returns 2.
-pub fn tell_bad_present<Faults: Write>(faults: &mut Writes<Faults>) -> u8
+pub fn tell_bad_present<Faults: Write>(faults: &mut FailStopWriter<Faults>) -> u8
     ensures status { result ≡ 2 }
     ensures told { AppendsBeginning (Faults.contents faults.old.writer) (Faults.contents faults.new.writer) bad_present_line }
     ensures whole { faults.new.failed ≡ false → Appends (Faults.contents faults.old.writer) (Faults.contents faults.new.writer) bad_present_line }
@@ -85,7 +85,7 @@ pub fn tell_bad_present<Faults: Write>(faults: &mut Writes<Faults>) -> u8
 
 // Writes clap's text about bad words, and returns 2, or 4 if memory ran out for reading them. If memory runs
 // out for the text, it writes that instead.
-fn refuse<Faults: Write>(alloc: Global, error: Error, faults: &mut Writes<Faults>) -> u8
+fn refuse<Faults: Write>(alloc: Global, error: Error, faults: &mut FailStopWriter<Faults>) -> u8
     ensures status { result ≡ words_status (kind_of error) }
     ensures device { result ≢ 3 }
     ensures told { TellsMistake (kind_of error) (Faults.contents faults.old.writer) (heard Faults.contents faults.new) }
@@ -104,8 +104,8 @@ fn refuse<Faults: Write>(alloc: Global, error: Error, faults: &mut Writes<Faults
 // Writes a text, or that memory ran out for it, and returns the exit status.
 fn show_made<Out: Write, Faults: Write>(
     made: Result<String, AllocError>,
-    writer: &mut Writes<Out>,
-    faults: &mut Writes<Faults>,
+    writer: &mut FailStopWriter<Out>,
+    faults: &mut FailStopWriter<Faults>,
 ) -> u8
     ensures shown { IfOk made (λ text. ShowsText (string_bytes text) 0 (Out.contents writer.old.writer) (Out.contents writer.new.writer)
         (Faults.contents faults.old.writer) (heard Faults.contents faults.new) result) }
@@ -124,8 +124,8 @@ fn show_made<Out: Write, Faults: Write>(
 fn show<Out: Write, Faults: Write>(
     alloc: Global,
     text: Error,
-    writer: &mut Writes<Out>,
-    faults: &mut Writes<Faults>,
+    writer: &mut FailStopWriter<Out>,
+    faults: &mut FailStopWriter<Faults>,
 ) -> u8
     ensures shown { ShowsSome (Out.contents writer.old.writer) (Out.contents writer.new.writer)
         (Faults.contents faults.old.writer) (heard Faults.contents faults.new) result }
@@ -139,9 +139,9 @@ fn run_script<In: Read, Out: Write, Faults: Write, T: Threads + Wait + Sync>(
     rt: &T,
     alloc: Global,
     options: &Options,
-    reader: &mut Reads<In>,
-    writer: &mut Writes<Out>,
-    faults: &mut Writes<Faults>,
+    reader: &mut CountingReader<In>,
+    writer: &mut FailStopWriter<Out>,
+    faults: &mut FailStopWriter<Faults>,
 ) -> u8
     ensures outcome { IfSome (In.remaining reader.old.reader) (λ script.
         TellsOutcome options.now.rules options.now.nodes options.now.present options.now.limit script
@@ -161,9 +161,9 @@ fn run_network<In: Read, Out: Write, Faults: Write, T: Threads + Wait + Sync>(
     rt: &T,
     alloc: Global,
     options: Option<Options>,
-    reader: &mut Reads<In>,
-    writer: &mut Writes<Out>,
-    faults: &mut Writes<Faults>,
+    reader: &mut CountingReader<In>,
+    writer: &mut FailStopWriter<Out>,
+    faults: &mut FailStopWriter<Faults>,
 ) -> u8
     ensures outcome { IfSome (In.remaining reader.old.reader) (λ script. MatchOption options
         (TellsBadPresent (Out.contents writer.old.writer) (Out.contents writer.new.writer)
@@ -182,9 +182,9 @@ fn run_network<In: Read, Out: Write, Faults: Write, T: Threads + Wait + Sync>(
 
 fn check_transcript<In: Read, Out: Write, Faults: Write>(
     alloc: Global,
-    reader: &mut Reads<In>,
-    writer: &mut Writes<Out>,
-    faults: &mut Writes<Faults>,
+    reader: &mut CountingReader<In>,
+    writer: &mut FailStopWriter<Out>,
+    faults: &mut FailStopWriter<Faults>,
 ) -> u8
     ensures verdict { IfSome (In.remaining reader.old.reader) (λ bytes.
         TellsCheck bytes (Out.contents writer.old.writer) (Out.contents writer.new.writer)
@@ -214,14 +214,14 @@ pub fn start<S: AsStr, In: Read, Out: Write, Faults: Write, T: Threads + Wait + 
     rt: &T,
     alloc: Global,
     words: &[S],
-    reader: &mut Reads<In>,
-    writer: &mut Writes<Out>,
-    faults: &mut Writes<Faults>,
+    reader: &mut CountingReader<In>,
+    writer: &mut FailStopWriter<Out>,
+    faults: &mut FailStopWriter<Faults>,
 ) -> u8
     ensures does { IfSome (In.remaining reader.old.reader) (λ input. (asked : Result Task Error)
-        × IfOk asked (Answers (map S.text words.entry.now))
-        × IfErr asked (λ e. (task : Task) → Wants (map S.text words.entry.now) task → kind_of e ≡ OutOfMemory)
-        × Does asked input (Out.contents writer.old.writer) (Out.contents writer.new.writer)
+        × IfOk asked (ParsesTo (map S.text words.entry.now))
+        × IfErr asked (λ e. (task : Task) → ParsesAsTask (map S.text words.entry.now) task → kind_of e ≡ OutOfMemory)
+        × ActsOnWords asked input (Out.contents writer.old.writer) (Out.contents writer.new.writer)
         (Faults.contents faults.old.writer) (heard Faults.contents faults.new) result) }
     ensures status { IsStatus result }
     ensures device { result ≡ 3 → ((storm : StormWords) × Asks (map S.text words.entry.now) (Task.Storm storm))

@@ -1,12 +1,12 @@
 //! The audit of a transcript, reported in one line.
 
 ghost use Rattle.std.specs.Prelude.{◌≡◌, true, IfOk, IfSome, IsErrOf};
-ghost use Rattle.byte_streams.specs.Ended.{IsEnded};
-ghost use Rattle.command_line.specs.Checked.{IsVerdict, TellsVerdict, verdict_of, verdict_status};
+ghost use Rattle.byte_streams.specs.StreamEnds.{IsEnded};
+ghost use Rattle.command_line.specs.CheckResults.{IsVerdict, TellsVerdict, check_result, verdict_status};
 
 use crate::verdict_line::verdict_line;
 use auditor::{AuditFault, Summary, audit};
-use byte_streams::{Reads, Writes};
+use byte_streams::{CountingReader, FailStopWriter};
 use script_run::RunFault;
 use std::alloc::Global;
 use std::io::{Read, Write};
@@ -34,7 +34,7 @@ impl CheckEnd {
 
 // The verdict, or why there is none.
 fn verdict_of(audited: Result<Summary, AuditFault>) -> Result<CheckEnd, RunFault>
-    ensures verdict { result ≡ verdict_of audited }
+    ensures verdict { result ≡ check_result audited }
     ensures unread { IsErrOf result RunFault.Read → IsErrOf audited AuditFault.Read }
     ensures written { IsErrOf result RunFault.Write → ⊥ }
 {
@@ -49,7 +49,7 @@ fn verdict_of(audited: Result<Summary, AuditFault>) -> Result<CheckEnd, RunFault
 fn tell_verdict<Out: Write>(
     alloc: Global,
     end: CheckEnd,
-    writer: &mut Writes<Out>,
+    writer: &mut FailStopWriter<Out>,
 ) -> Result<CheckEnd, RunFault>
     ensures told { TellsVerdict (Out.contents writer.old.writer) (Out.contents writer.new.writer) result }
     ensures same { IfOk result (λ said. said ≡ end) }
@@ -74,8 +74,8 @@ fn tell_verdict<Out: Write>(
 /// After `Read` or `Memory` nothing was written.
 pub fn check<In: Read, Out: Write>(
     alloc: Global,
-    reader: &mut Reads<In>,
-    writer: &mut Writes<Out>,
+    reader: &mut CountingReader<In>,
+    writer: &mut FailStopWriter<Out>,
 ) -> Result<CheckEnd, RunFault>
     ensures verdict { IfSome (In.remaining reader.old.reader) (λ bytes. IfOk result (IsVerdict bytes)) }
     ensures told { TellsVerdict (Out.contents writer.old.writer) (Out.contents writer.new.writer) result }

@@ -2,7 +2,7 @@
 
 ghost use Rattle.std.specs.Prelude.{◌≡◌, ◌++◌, IfOk, OnOk};
 ghost use Rattle.line_text.specs.Words.{number_text};
-ghost use Rattle.command_line.specs.VerdictText.{counts_text, fault_text, place_text, verdict_line};
+ghost use Rattle.command_line.specs.VerdictText.{summary_text, fault_text, damage_line, verdict_line};
 
 use crate::verdict::CheckEnd;
 use auditor::{AuditFault, Summary};
@@ -19,7 +19,7 @@ pub(crate) fn put_number(line: &mut Vec<u8>, number: u64, text: &[u8]) -> Result
 }
 
 fn put_counts(line: &mut Vec<u8>, counted: Summary) -> Result<(), AllocError>
-    ensures { OnOk result (line.new.items ≡ line.old.items ++ counts_text counted) }
+    ensures { OnOk result (line.new.items ≡ line.old.items ++ summary_text counted) }
 {
     line.extend_from_slice(b"accepted: ")?;
     put_number(line, u64::from(counted.entries), b" entries, ")?;
@@ -28,7 +28,7 @@ fn put_counts(line: &mut Vec<u8>, counted: Summary) -> Result<(), AllocError>
 }
 
 fn put_place(line: &mut Vec<u8>, number: u64, text: &[u8]) -> Result<(), AllocError>
-    ensures { OnOk result (line.new.items ≡ line.old.items ++ place_text number text.now) }
+    ensures { OnOk result (line.new.items ≡ line.old.items ++ damage_line number text.now) }
 {
     line.extend_from_slice(b"line ")?;
     put_number(line, number, text)

@@ -1,18 +1,18 @@
 //! Showing views of a transcript.
 
 ghost use Rattle.std.specs.Prelude.{◌≡◌, ◌⊎◌, true, Err, IfErr, IfOk, IfSome, IsErrOf, OnErr};
-ghost use Rattle.byte_streams.specs.Ended.{IsEnded};
-ghost use Rattle.transcript_view.specs.Views.{IsPicture, IsTable};
-ghost use Rattle.command_line.specs.FaultText.{fault_line};
-ghost use Rattle.command_line.specs.Heard.{heard, Tells};
+ghost use Rattle.byte_streams.specs.StreamEnds.{IsEnded};
+ghost use Rattle.transcript_view.specs.Views.{IsPicture, IsEpochTable};
+ghost use Rattle.command_line.specs.FaultText.{run_fault_line};
+ghost use Rattle.command_line.specs.WriterStates.{heard, WritesLine};
 ghost use Rattle.command_line.specs.Status.{IsStatus};
-ghost use Rattle.command_line.specs.Viewed.{ShowsRefusal, ShowsText, TellsView, Views, missing_line};
+ghost use Rattle.command_line.specs.ViewEnds.{ShowsRefusal, ShowsText, TellsView, Views, missing_line};
 
 use crate::program::tell;
 use crate::verdict::CheckEnd;
 use crate::verdict_line::{put_number, verdict_line};
 use auditor::{AuditFault, Damage};
-use byte_streams::{InputFault, Reads, Writes, read_whole};
+use byte_streams::{CountingReader, FailStopWriter, InputFault, read_whole};
 use script_run::RunFault;
 use std::alloc::{AllocError, Global};
 use std::io::{Read, Write};
@@ -39,8 +39,8 @@ fn missing_line(
 pub fn show_text<Out: Write, Faults: Write>(
     text: &[u8],
     good: u8,
-    writer: &mut Writes<Out>,
-    faults: &mut Writes<Faults>,
+    writer: &mut FailStopWriter<Out>,
+    faults: &mut FailStopWriter<Faults>,
 ) -> u8
     requires { IsStatus good }
     ensures shown { ShowsText text.now good (Out.contents writer.old.writer) (Out.contents writer.new.writer)
@@ -58,8 +58,8 @@ pub fn show_text<Out: Write, Faults: Write>(
 fn show_refusal<Out: Write, Faults: Write>(
     alloc: Global,
     damage: Damage,
-    writer: &mut Writes<Out>,
-    faults: &mut Writes<Faults>,
+    writer: &mut FailStopWriter<Out>,
+    faults: &mut FailStopWriter<Faults>,
 ) -> u8
     ensures shown { ShowsRefusal damage (Out.contents writer.old.writer) (Out.contents writer.new.writer)
         (Faults.contents faults.old.writer) (heard Faults.contents faults.new) result }
@@ -73,11 +73,14 @@ fn show_refusal<Out: Write, Faults: Write>(
 }
 
 // Writes the line of a missing entry, or that memory ran out for it, and returns the exit status.
-fn tell_missing<Faults: Write>(line: Result<Vec<u8>, AllocError>, faults: &mut Writes<Faults>) -> u8
-    ensures told { IfOk line (λ text. (result ≡ 2) × Tells (Faults.contents faults.old.writer) (heard Faults.contents faults.new)
+fn tell_missing<Faults: Write>(
+    line: Result<Vec<u8>, AllocError>,
+    faults: &mut FailStopWriter<Faults>,
+) -> u8
+    ensures told { IfOk line (λ text. (result ≡ 2) × WritesLine (Faults.contents faults.old.writer) (heard Faults.contents faults.new)
         text.items) }
-    ensures memory { OnErr line ((result ≡ 4) × Tells (Faults.contents faults.old.writer) (heard Faults.contents faults.new)
-        (fault_line RunFault.Memory)) }
+    ensures memory { OnErr line ((result ≡ 4) × WritesLine (Faults.contents faults.old.writer) (heard Faults.contents faults.new)
+        (run_fault_line RunFault.Memory)) }
 {
     match line {
         Ok(text) => {
@@ -92,8 +95,8 @@ fn tell_missing<Faults: Write>(line: Result<Vec<u8>, AllocError>, faults: &mut W
 fn tell_view<Out: Write, Faults: Write>(
     alloc: Global,
     viewed: Result<View, InputFault>,
-    writer: &mut Writes<Out>,
-    faults: &mut Writes<Faults>,
+    writer: &mut FailStopWriter<Out>,
+    faults: &mut FailStopWriter<Faults>,
 ) -> u8
     ensures told { TellsView viewed (Out.contents writer.old.writer) (Out.contents writer.new.writer)
         (Faults.contents faults.old.writer) (heard Faults.contents faults.new) result }
@@ -138,7 +141,7 @@ fn view_picture_of(
 }
 
 fn view_epochs_of(alloc: Global, read: Result<Vec<u8>, InputFault>) -> Result<View, InputFault>
-    ensures read { IfOk read (λ bytes. IfOk result (IsTable bytes.items)) }
+    ensures read { IfOk read (λ bytes. IfOk result (IsEpochTable bytes.items)) }
     ensures unread { IfErr read (λ fault. result ≡ Err fault) }
     ensures same { IsErrOf result InputFault.Read → IsErrOf read InputFault.Read }
 {
@@ -163,9 +166,9 @@ fn view_epochs_of(alloc: Global, read: Result<Vec<u8>, InputFault>) -> Result<Vi
 pub fn draw<In: Read, Out: Write, Faults: Write>(
     alloc: Global,
     entry: Option<u32>,
-    reader: &mut Reads<In>,
-    writer: &mut Writes<Out>,
-    faults: &mut Writes<Faults>,
+    reader: &mut CountingReader<In>,
+    writer: &mut FailStopWriter<Out>,
+    faults: &mut FailStopWriter<Faults>,
 ) -> u8
     ensures shown { IfSome (In.remaining reader.old.reader) (λ bytes. Views (IsPicture bytes entry)
         (Out.contents writer.old.writer) (Out.contents writer.new.writer) (Faults.contents faults.old.writer) (heard Faults.contents faults.new) result) }
@@ -186,11 +189,11 @@ pub fn draw<In: Read, Out: Write, Faults: Write>(
 /// | 4 | memory ran out |
 pub fn list_epochs<In: Read, Out: Write, Faults: Write>(
     alloc: Global,
-    reader: &mut Reads<In>,
-    writer: &mut Writes<Out>,
-    faults: &mut Writes<Faults>,
+    reader: &mut CountingReader<In>,
+    writer: &mut FailStopWriter<Out>,
+    faults: &mut FailStopWriter<Faults>,
 ) -> u8
-    ensures shown { IfSome (In.remaining reader.old.reader) (λ bytes. Views (IsTable bytes)
+    ensures shown { IfSome (In.remaining reader.old.reader) (λ bytes. Views (IsEpochTable bytes)
         (Out.contents writer.old.writer) (Out.contents writer.new.writer) (Faults.contents faults.old.writer) (heard Faults.contents faults.new) result) }
     ensures status { IsStatus result }
     ensures device { result ≡ 3 → IsEnded reader.new.failed reader.new.count ⊎ (writer.new.failed ≡ true) }

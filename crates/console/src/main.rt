@@ -12,15 +12,15 @@
 //! ```
 #![tactic(auto)]
 
-use byte_streams::{Reads, Writes};
+use byte_streams::{CountingReader, FailStopWriter};
 use command_line::{start, tell_no_words};
 use std::process::ExitCode;
 use std::{env, io};
 
 fn main(rt: HostRuntime) -> ExitCode {
-    let mut reader = Reads::new(rt.reader());
-    let mut writer = Writes::new(io::writer(&rt));
-    let mut faults = Writes::new(rt.stderr());
+    let mut reader = CountingReader::new(rt.reader());
+    let mut writer = FailStopWriter::new(io::writer(&rt));
+    let mut faults = FailStopWriter::new(rt.stderr());
     let given = match env::args(&rt) {
         Ok(words) => words
             .collect::<Vec<String>>(rt.alloc())

@@ -1,3 +1,3 @@
-pub mod Absent
-pub mod Covered
-pub mod Merging
+pub mod AbsentNames
+pub mod CoveredReach
+pub mod MergedLists

@@ -17,8 +17,8 @@ without_head v [] = []
 without_head v (x ∷ xs) = cond (nat_eq x v) xs (x ∷ xs)
 
 -- v is hit or parted, or a pair is parted and v is unmarried: needs no look at v's neighbours
-abbrev pub is_touched : State → Event → ℕ → Bool
-is_touched s event v = is_hit s event v || is_parted s event v || (parts_a_pair s event && not (married s v))
+abbrev pub is_hit_or_parted : State → Event → ℕ → Bool
+is_hit_or_parted s event v = is_hit s event v || is_parted s event v || (parts_a_pair s event && not (married s v))
 
 -- passes one of two tests, and a third
 abbrev pub is_kept : (ℕ → Bool) → (ℕ → Bool) → (ℕ → Bool) → ℕ → Bool

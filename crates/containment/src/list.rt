@@ -79,7 +79,7 @@ fn parts_a_pair(net: &NetState, event: &Event) -> bool
 /// Cost: a few looks, none at the node's neighbours.
 fn is_touched(net: &NetState, event: &Event, parts: bool, v: Node) -> bool
     requires { parts ≡ of.parts_a_pair net.now.state event.now }
-    ensures { result ≡ among.is_touched net.now.state event.now v }
+    ensures { result ≡ among.is_hit_or_parted net.now.state event.now v }
 {
     is_hit(net, event, v) || is_parted(net, event, v) || (parts && !is_married(net, v))
 }
@@ -93,7 +93,7 @@ fn touched(
     ys: &[Node],
 ) -> Result<Vec<Node>, Want>
     ensures { (p q : ℕ → Bool) → xs.now ≡ filter p (names net.now.state.network) → ys.now ≡ filter q (names net.now.state.network)
-        → IfOk result (λ list. list.items ≡ filter (among.is_kept p q (among.is_touched net.now.state event.now)) (names net.now.state.network)) }
+        → IfOk result (λ list. list.items ≡ filter (among.is_kept p q (among.is_hit_or_parted net.now.state event.now)) (names net.now.state.network)) }
 {
     let parts = parts_a_pair(net, event);
     let mut list = Vec::new(alloc);

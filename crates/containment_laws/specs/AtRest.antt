@@ -10,7 +10,7 @@ use Rattle.machine_laws.specs.Neighbours.{option_cases, linked_present, near_non
 use Rattle.machine_laws.specs.Pointers.{suitor_linked, married_some, married_from, null_unmarried}
 use Rattle.machine_laws.specs.Writes.{if_some_from, if_some_at}
 use Rattle.charge_laws.specs.Stances.{null_from, null_is}
-use Rattle.charge_laws.specs.Inside.{pointer_present}
+use Rattle.charge_laws.specs.PresentMovers.{pointer_present}
 use Rattle.containment_laws.specs.Rest.{is_surrounded, is_at_rest}
 
 -- a node at rest, in propositions
@@ -64,15 +64,15 @@ pub restless_is : (uses_flags : Bool) (s : State) (v : ℕ) → is_at_rest uses_
 restless_is uses_flags s v h rest = true≢false (sym (rest_from uses_flags s v rest) ∙ h)
 
 -- the pointer of a married node is answered
-pub married_answered : (s : State) (v w : ℕ) → married s v ≡ true → pointer s v ≡ Some w → pointer s w ≡ Some v
-married_answered s v w is at =
+pub married_is_answered : (s : State) (v w : ℕ) → married s v ≡ true → pointer s v ≡ Some w → pointer s w ≡ Some v
+married_is_answered s v w is at =
     let pair = married_some s v is in
     subst (λ x. pointer s x ≡ Some v) (same_Some pair.0 w (sym pair.1 ∙ at)) pair.2
 
 -- so is that of a node at rest
 pub rest_answered : (uses_flags : Bool) (s : State) (v w : ℕ) → IsAtRest uses_flags s v → pointer s v ≡ Some w → pointer s w ≡ Some v
 rest_answered uses_flags s v w rest at =
-    ⊎_elim (λ is. married_answered s v w is at) (λ alone. absurd (none-some w (sym alone.0 ∙ at))) rest.still
+    ⊎_elim (λ is. married_is_answered s v w is at) (λ alone. absurd (none-some w (sym alone.0 ∙ at))) rest.still
 
 -- one that points nowhere has neighbours that are married, so none of them points nowhere
 pub rest_near : (uses_flags : Bool) (s : State) (v w : ℕ) → IsAtRest uses_flags s v → pointer s v ≡ None → IsTrue (linked s.network v w) → married s w ≡ true
@@ -86,7 +86,7 @@ rest_no_null uses_flags s v w rest null near other = true≢false (sym (rest_nea
 pub rest_no_suitor : (uses_flags : Bool) (s : State) (v w : ℕ) → IsState s → IsAtRest uses_flags s v → pointer s v ≡ None → pointer s w ≢ Some v
 rest_no_suitor uses_flags s v w good rest null at =
     let is = rest_near uses_flags s v w rest null (suitor_linked s v w good at) in
-    none-some w (sym null ∙ married_answered s w v is at)
+    none-some w (sym null ∙ married_is_answered s w v is at)
 
 -- a name that is absent has no flag, no pointer and no neighbour: it is at rest
 pub absent_rests : (uses_flags : Bool) (s : State) (v : ℕ) → IsState s → present s.network v ≡ false → IsAtRest uses_flags s v

@@ -14,16 +14,16 @@ use Rattle.rule_machine.specs.RuleTable.{RuleTable}
 use Rattle.rule_machine.specs.Disturbance.{after_link, after_unlink, after_point, after_flag, after_join, after_leave, without_pointer, without_name, unless_at}
 use Rattle.rule_machine.specs.Refuse.{refusal_of}
 use Rattle.rule_machine.specs.Answer.{Does}
-use Rattle.machine_laws.specs.Accepted.{cond_none, true_from_not}
+use Rattle.machine_laws.specs.AcceptedEvents.{cond_none, true_from_not}
 use Rattle.machine_laws.specs.Edges.{inserted_cases, removed_was, edge_ends, contains-without}
 use Rattle.machine_laws.specs.Neighbours.{present_range}
 use Rattle.machine_laws.specs.Pointers.{points_true, points_from, married_from, null_unmarried}
 use Rattle.machine_laws.specs.Writes.{some_from_is_at, pointer-with_pointer_other, pointer-with_pointer_same, flag-with_flag_other, flag-with_flag_same, without_pointer_was, without_pointer_flags}
-use Rattle.machine_laws.specs.Keeps.{left_pointer}
+use Rattle.machine_laws.specs.StatePreservation.{left_pointer}
 use Rattle.machine_laws.specs.Leaves.{without_pointer_stays, nothing_left}
-use Rattle.machine_laws.specs.Parted.{lowered}
+use Rattle.machine_laws.specs.LeaveSteps.{lowered}
 use Rattle.charge_laws.specs.CostsOfRuns.{point_parts}
-use Rattle.charge_laws.specs.Present.{flagged_present}
+use Rattle.charge_laws.specs.PresentNodes.{flagged_present}
 use Rattle.containment_laws.specs.Reach.{is_parted, is_hit}
 
 -- From one state to another by an event. A node that is not parted stays with its partner. A node that is not

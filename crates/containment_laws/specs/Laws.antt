@@ -11,12 +11,12 @@ use Rattle.rule_machine.specs.Step.{IsStep}
 use Rattle.rule_machine.specs.Stable.{IsStable, mutual_pairs}
 use Rattle.rule_machine.specs.Answer.{Answers}
 use Rattle.rule_machine.specs.Run.{Entry, Moment, Run}
-use Rattle.charge_laws.specs.Charged.{IsUndisturbed}
-use Rattle.charge_laws.specs.Costs.{end_of, log_of}
+use Rattle.charge_laws.specs.ChargeWords.{IsUndisturbed}
+use Rattle.charge_laws.specs.Costs.{end_of_path, path_entries}
 use Rattle.charge_laws.specs.Epochs.{IsPath}
 use Rattle.containment_laws.specs.Rest.{is_surrounded, is_at_rest}
 use Rattle.containment_laws.specs.Reach.{is_parted, is_in_reach, reach_size, lost_pairs, partings_in, named_by}
-use Rattle.containment_laws.specs.Moved.{moves_at, has_moved, is_ever_reached, KeepsRegisters}
+use Rattle.containment_laws.specs.Movers.{moves_at, has_moved, is_ever_reached, KeepsRegisters}
 
 -- ---- steps
 
@@ -128,22 +128,22 @@ abbrev pub AllAreContained : RuleTable → Type 0
 AllAreContained t =
     (start : Moment) → IsState start.state → (path : List (Entry × State)) → IsPath t start path
     → (v : ℕ) → IsTrue (is_at_rest t.flags start.state v) → is_ever_reached start.state path v ≡ false
-    → (has_moved (log_of path) v ≡ false) × IsTrue (is_at_rest t.flags (end_of start.state path) v)
+    → (has_moved (path_entries path) v ≡ false) × IsTrue (is_at_rest t.flags (end_of_path start.state path) v)
 
 -- Each node that moves was not at rest at the start, or is in the reach of one of them.
 abbrev pub MoversAreAccountedFor : RuleTable → Type 0
 MoversAreAccountedFor t =
     (start : Moment) → IsState start.state → (path : List (Entry × State)) → IsPath t start path
-    → (v : ℕ) → IsTrue (has_moved (log_of path) v) → (is_at_rest t.flags start.state v ≡ false) ⊎ IsTrue (is_ever_reached start.state path v)
+    → (v : ℕ) → IsTrue (has_moved (path_entries path) v) → (is_at_rest t.flags start.state v ≡ false) ⊎ IsTrue (is_ever_reached start.state path v)
 
 -- At the end at most as many of the pairs at the start are lost as disturbances part one.
 abbrev pub PairsAreAccountedFor : RuleTable → Type 0
 PairsAreAccountedFor t =
     (start : Moment) → IsState start.state → (path : List (Entry × State)) → IsPath t start path
-    → lost_pairs start.state (end_of start.state path) ≤ partings_in start.state path
+    → lost_pairs start.state (end_of_path start.state path) ≤ partings_in start.state path
 
 -- So the number of pairs falls by at most as many.
 abbrev pub PairsAreLeft : RuleTable → Type 0
 PairsAreLeft t =
     (start : Moment) → IsState start.state → (path : List (Entry × State)) → IsPath t start path
-    → length (mutual_pairs start.state) ≤ length (mutual_pairs (end_of start.state path)) + partings_in start.state path
+    → length (mutual_pairs start.state) ≤ length (mutual_pairs (end_of_path start.state path)) + partings_in start.state path

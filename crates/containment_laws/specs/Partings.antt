@@ -17,18 +17,18 @@ use Rattle.machine_laws.specs.LeastMoves.{IsTable}
 use Rattle.machine_laws.specs.Pairs.{pair_from, pair_listed}
 use Rattle.machine_laws.specs.Pointers.{married_some, married_from}
 use Rattle.machine_laws.specs.Runs.{answers_keep}
-use Rattle.charge_laws.specs.Costs.{end_of}
-use Rattle.charge_laws.specs.Counting.{IsWithoutRepeats, count_into, count_all, sum_le, sum_add, sum_agree}
+use Rattle.charge_laws.specs.Costs.{end_of_path}
+use Rattle.charge_laws.specs.ListCounts.{IsWithoutRepeats, count_into, count_all, sum_le, sum_add, sum_agree}
 use Rattle.charge_laws.specs.Degrees.{once, none_count}
-use Rattle.charge_laws.specs.Deeds.{IsInside}
+use Rattle.charge_laws.specs.NodeMoves.{IsInside}
 use Rattle.charge_laws.specs.Epochs.{IsPath}
-use Rattle.charge_laws.specs.Inside.{pointer_present}
+use Rattle.charge_laws.specs.PresentMovers.{pointer_present}
 use Rattle.charge_laws.specs.ManneStableCharge.{married_are_pairs}
 use Rattle.charge_laws.specs.Members.{in_names, names_without_repeats, names_len}
 use Rattle.containment_laws.specs.Reach.{is_parted, parts_a_pair, partings_of, partings_in}
-use Rattle.rule_set.specs.Table.{AsksForWork}
+use Rattle.rules_api.specs.Table.{AsksForWork}
 use Rattle.containment_laws.specs.Edits.{mutual_is}
-use Rattle.containment_laws.specs.Contained.{answered_mild, calm_keeps_pair}
+use Rattle.containment_laws.specs.Containment.{answered_mild, calm_keeps_pair}
 
 -- the node that an event names first
 abbrev pub main_node : Event → ℕ
@@ -246,7 +246,7 @@ answer_pairs_left t table asks inside s good n event (Pairs pairs) s' answers = 
 answer_pairs_left t table asks inside s good n event (Counts counts) s' answers = let le = calm_pairs_left t table asks inside s good n event (Counts counts) s' answers (λ e. cc) in omega (arith, le)
 
 -- Along any path at most as many pairs are lost as disturbances part one.
-pub path_pairs_left : (t : RuleTable) → IsTable t → AsksForWork t → IsInside t → (start : Moment) → IsState start.state → (path : List (Entry × State)) → IsPath t start path → length (mutual_pairs start.state) ≤ length (mutual_pairs (end_of start.state path)) + partings_in start.state path
+pub path_pairs_left : (t : RuleTable) → IsTable t → AsksForWork t → IsInside t → (start : Moment) → IsState start.state → (path : List (Entry × State)) → IsPath t start path → length (mutual_pairs start.state) ≤ length (mutual_pairs (end_of_path start.state path)) + partings_in start.state path
 path_pairs_left t table asks inside start good [] walk = omega arith
 path_pairs_left t table asks inside start good (((event, reply), s) ∷ path) (answers, walk) =
     let here = answer_pairs_left t table asks inside start.state good start.spent event reply s answers in

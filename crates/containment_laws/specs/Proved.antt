@@ -9,20 +9,20 @@ use Rattle.rule_machine.specs.declared.reply.Reply.TheVariants.{Accepted}
 use Rattle.machine_laws.specs.LeastMoves.{IsTable}
 use Rattle.machine_laws.specs.Pairs.{pair_from, pair_listed}
 use Rattle.machine_laws.specs.Runs.{answers_keep}
-use Rattle.charge_laws.specs.Deeds.{IsInside, step_done}
+use Rattle.charge_laws.specs.NodeMoves.{IsInside, step_done}
 use Rattle.charge_laws.specs.Tables.{hsu_huang_table, manne_table}
 use Rattle.containment_laws.specs.Rest.{is_at_rest}
 use Rattle.containment_laws.specs.Reach.{is_in_reach}
-use Rattle.containment_laws.specs.Moved.{is_ever_reached}
+use Rattle.containment_laws.specs.Movers.{is_ever_reached}
 use Rattle.containment_laws.specs.Laws as law
 use Rattle.containment_laws.specs.AtRest.{rest_is, rest_from, all_rest}
-use Rattle.rule_set.specs.Table.{AsksForWork}
+use Rattle.rules_api.specs.Table.{AsksForWork}
 use Rattle.charge_laws.specs.Asks.{hsu_huang_asks, manne_asks}
-use Rattle.containment_laws.specs.Idle.{inside_from, at_rest_idle}
+use Rattle.containment_laws.specs.IdleNodes.{inside_from, at_rest_idle}
 use Rattle.containment_laws.specs.Steps.{step_rests, step_keeps_pair}
-use Rattle.containment_laws.specs.Contained.{run_rests, run_keeps_pairs, run_keeps_network, disturbed_rests, path_rests}
-use Rattle.containment_laws.specs.Lost.{path_lost}
-use Rattle.containment_laws.specs.Exact as exact
+use Rattle.containment_laws.specs.Containment.{run_rests, run_keeps_pairs, run_keeps_network, disturbed_rests, path_rests}
+use Rattle.containment_laws.specs.LostPairs.{path_lost}
+use Rattle.containment_laws.specs.ExactReach as exact
 use Rattle.containment_laws.specs.Partings.{one_pair_lost, path_pairs_left}
 
 -- what the laws ask of a table

@@ -9,11 +9,11 @@ use Rattle.rule_machine.specs.State.{State, IsState, pointer, flag, married}
 use Rattle.rule_machine.specs.RuleTable.{RuleTable}
 use Rattle.rule_machine.specs.Step.{IsStep}
 use Rattle.machine_laws.specs.Pointers.{married_some, married_from, null_unmarried}
-use Rattle.charge_laws.specs.Writes.{is_moved}
-use Rattle.charge_laws.specs.Deeds.{Deed, idles, updates, marries, seduces, abandons, IsInside, IsDone, step_done}
+use Rattle.charge_laws.specs.Writes.{is_mover_in}
+use Rattle.charge_laws.specs.NodeMoves.{Deed, idles, updates, marries, seduces, abandons, IsInside, IsDone, step_done}
 use Rattle.containment_laws.specs.AtRest.{IsAtRest, rest_near}
-use Rattle.rule_set.specs.Table.{AsksForWork}
-use Rattle.containment_laws.specs.Idle.{rest_idles}
+use Rattle.rules_api.specs.Table.{AsksForWork}
+use Rattle.containment_laws.specs.IdleNodes.{rest_idles}
 
 -- What keeps a node at rest: its flag stays, it stays married if it was, and if its pointer was null it stays
 -- null and its neighbours then are married.
@@ -51,7 +51,7 @@ done_keeps_married t asks s s' moves done v is =
     married_from s' v pair.0 done.is_state kept.0 kept.1
 
 -- a node without an enabled rule idles
-deed_idles : (t : RuleTable) → AsksForWork t → (s s' : State) (moves : List Moved) (v : ℕ) → IsState s → IsAtRest t.flags s v → Deed t s s' moves v → (is_moved moves v ≡ false) × Stays s s' v
+deed_idles : (t : RuleTable) → AsksForWork t → (s s' : State) (moves : List Moved) (v : ℕ) → IsState s → IsAtRest t.flags s v → Deed t s s' moves v → (is_mover_in moves v ≡ false) × Stays s s' v
 deed_idles t asks s s' moves v good rest (idles none e f) = (none, record { pointer_is = e; flag_is = f })
 deed_idles t asks s s' moves v good rest (updates goes guard e f) = absurd (rest_idles t asks s v good rest Update guard)
 deed_idles t asks s s' moves v good rest (marries x goes guard allowed e f) = absurd (rest_idles t asks s v good rest Marry guard)
@@ -60,7 +60,7 @@ deed_idles t asks s s' moves v good rest (abandons goes guard e f) = absurd (res
 
 -- what a step does to a node at rest: it does not move, keeps its registers, and is at rest then
 pub record IsUntouched (t : RuleTable) (s s' : State) (moves : List Moved) (v : ℕ) : Type 0 where
-  pub idle : is_moved moves v ≡ false
+  pub idle : is_mover_in moves v ≡ false
   pub stays : Stays s s' v
   pub rests : IsAtRest t.flags s' v
 

@@ -7,7 +7,7 @@ use Rattle.std.proofs.lemmas.List.{get_or_read}
 use Rattle.std.proofs.lemmas.List.Elements.{All-nil, All-cons}
 use Rattle.rule_machine.specs.declared.choice.Item.{Item}
 use Rattle.enabled_set.specs.Members.{is_in, members}
-use Rattle.daemon.specs.Lawful.{nodes_of, plain, IsLawful}
+use Rattle.daemon.specs.DaemonLaws.{nodes_of, plain, IsLawful}
 
 -- the list climbs from a number on
 abbrev pub Climbs : (ℕ → Bool) → ℕ → List ℕ → Type 0

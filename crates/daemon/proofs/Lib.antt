@@ -1,5 +1,5 @@
 pub mod Climb
 pub mod Odd
-pub mod Play
+pub mod RecordedPlay
 pub mod Marks
-pub mod Rests
+pub mod EmptyDraws

@@ -1,3 +1,3 @@
-pub mod Lawful
-pub mod Drawn
-pub mod Played
+pub mod DaemonLaws
+pub mod DrawnChoices
+pub mod RecordedLists

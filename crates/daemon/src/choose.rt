@@ -3,7 +3,7 @@
 ghost use Rattle.std.specs.Prelude.{◌≡◌, ◌≤◌, ℕ, Bool, List, Option, IfOk, IfSome, OnOk, length};
 ghost use Rattle.enabled_set.specs.Members.{members};
 ghost use Rattle.rule_machine.specs.declared.choice.Item.{Item};
-ghost use Rattle.daemon.specs.Lawful.{IsLawful};
+ghost use Rattle.daemon.specs.DaemonLaws.{IsLawful};
 
 use enabled_set::EnabledSet;
 use rule_machine::{Choice, MAX_NAME, Node, Want};

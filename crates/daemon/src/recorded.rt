@@ -2,9 +2,9 @@
 
 ghost use Rattle.std.specs.Prelude.{◌≡◌, ◌↔◌, ◌≤◌, [], List, map, drop, length, IfOk, IfSome, IsNone, OnErr};
 ghost use Rattle.enabled_set.specs.Members.{members};
-ghost use Rattle.daemon.specs.Lawful.{IsLawful, plain};
+ghost use Rattle.daemon.specs.DaemonLaws.{IsLawful, plain};
 ghost use Rattle.std.specs.List.{All};
-ghost use Rattle.daemon.specs.Played.{IsMarked, named_of, list_choice, played};
+ghost use Rattle.daemon.specs.RecordedLists.{AreMarksOf, named_of, list_choice, played};
 
 use crate::Daemon;
 use crate::choose::list_of;
@@ -15,7 +15,7 @@ use std::marker::Model;
 
 /// A table of 65,536 bytes: `true` for each name that the list has. One write for each node.
 fn marks_of(alloc: Global, list: &[Node]) -> Result<Vec<bool>, Want>
-    ensures { IfOk result (λ marks. IsMarked marks.items list.now) }
+    ensures { IfOk result (λ marks. AreMarksOf marks.items list.now) }
 {
     let mut marks = vec![in alloc; false; MAX_NAME as usize + 1]?;
     for node in list {

@@ -2,8 +2,8 @@
 
 ghost use Rattle.std.specs.Prelude.{◌≡◌, ◌↔◌, ◌≤◌, ◌%◌, nat_eq, [], ◌∷◌, length, vec_capacity, IfOk, IfSome, IsNone, OnErr};
 ghost use Rattle.enabled_set.specs.Members.{members};
-ghost use Rattle.daemon.specs.Lawful.{IsLawful};
-ghost use Rattle.daemon.specs.Drawn.{draw_one, draw_odd, draw_some, drawn, as_choice};
+ghost use Rattle.daemon.specs.DaemonLaws.{IsLawful};
+ghost use Rattle.daemon.specs.DrawnChoices.{draw_one, draw_odd, draw_some, choice_drawn, as_choice};
 
 use crate::Daemon;
 use crate::choose::list_of;
@@ -123,7 +123,7 @@ impl<G: Rng> Seeded<G> {
 }
 
 impl<G: Rng> Daemon for Seeded<G> {
-    ghost chooses = { λ names central old choice new. (choice, G.stream new) ≡ drawn central names (G.stream old) };
+    ghost chooses = { λ names central old choice new. (choice, G.stream new) ≡ choice_drawn central names (G.stream old) };
 
     /// The choice of the generator's next words; `None` if and only if the set is empty.
     /// Error: out of memory; no word has been drawn.
@@ -131,7 +131,7 @@ impl<G: Rng> Daemon for Seeded<G> {
     /// member and at most one more, and takes room for as many nodes and items: at most 65,535.
     fn choose(&mut self, set: &EnabledSet, central: bool) -> Result<Option<Choice>, Want>
         ensures lawful { IfOk result (λ choice. IfSome choice (IsLawful set.now central)) }
-        ensures drawn { IfOk result (λ choice. (choice, G.stream self.new) ≡ drawn central (members set.now) (G.stream self.old)) }
+        ensures drawn { IfOk result (λ choice. (choice, G.stream self.new) ≡ choice_drawn central (members set.now) (G.stream self.old)) }
         ensures none { IfOk result (λ choice. IsNone choice ↔ (members set.now ≡ [])) }
         ensures kept { OnErr result (self.new ≡ self.old) }
     {

@@ -4,7 +4,7 @@ use Rattle.rule_machine.specs.Network.{node_count}
 use Rattle.rule_machine.specs.State.{IsState}
 use Rattle.rule_machine.specs.HsuHuang.{hsu_huang}
 use Rattle.rule_machine.specs.Run.{Entry, Moment, Run}
-use Rattle.charge_laws.specs.Charged.{moves_in, IsUndisturbed}
+use Rattle.charge_laws.specs.ChargeWords.{moves_in, IsUndisturbed}
 use Rattle.dense_laws.specs.Runs.{moves_are_few}
 
 -- n²/2 + n - 2, the half rounded down; 0 for one node or none

@@ -2,7 +2,7 @@
 use Rattle.std.proofs.Common.{◌≡◌, ℕ, ◌+◌, ◌≤◌, Bool, true, false, not, cond, ◌&&◌, List, [], ◌∷◌, length, count_by, nat_eq, IsTrue, refl, sym, ap, ◌∙◌, subst, inl, inr, ⊎_elim, arith}
 use Rattle.std.proofs.lemmas.Bool.{cases_Bool, eqb-true, eq-eqb, true≢false}
 use Rattle.std.proofs.lemmas.List.Sums.{sum_by-cons}
-use Rattle.charge_laws.specs.Counting.{IsIn, IsWithoutRepeats, sum_add, sum_le, sum_agree, count_all}
+use Rattle.charge_laws.specs.ListCounts.{IsIn, IsWithoutRepeats, sum_add, sum_le, sum_agree, count_all}
 use Rattle.charge_laws.specs.EdgesByNodes.{marked_once}
 use Rattle.charge_laws.specs.Turns.{bit}
 

@@ -10,12 +10,12 @@ use Rattle.rule_machine.specs.HsuHuang.{hsu_huang}
 use Rattle.rule_machine.specs.Step.{IsStep}
 use Rattle.machine_laws.specs.Neighbours.{linked_apart, linked_present}
 use Rattle.machine_laws.specs.Pointers.{pointer_linked, suitor_linked, no_suitor, suitor_some}
-use Rattle.charge_laws.specs.Counting.{count_agree}
+use Rattle.charge_laws.specs.ListCounts.{count_agree}
 use Rattle.charge_laws.specs.Members.{in_names, names_without_repeats}
 use Rattle.charge_laws.specs.Stances.{married_is}
-use Rattle.charge_laws.specs.Writes.{is_moved}
-use Rattle.charge_laws.specs.Deeds.{IsDone, step_done}
-use Rattle.charge_laws.specs.Inside.{pointer_present, hsu_huang_inside}
+use Rattle.charge_laws.specs.Writes.{is_mover_in}
+use Rattle.charge_laws.specs.NodeMoves.{IsDone, step_done}
+use Rattle.charge_laws.specs.PresentMovers.{pointer_present, hsu_huang_inside}
 use Rattle.charge_laws.specs.HsuHuangTurns.{IsSolo}
 use Rattle.charge_laws.specs.HsuHuangFalls.{one_mover, solo_from}
 use Rattle.dense_laws.specs.Kinds.{is_single, singles, stucks, idles}
@@ -66,7 +66,7 @@ step_falls s items moves s' good step = record {
     done : IsDone hsu_huang s s' moves
     done = step_done hsu_huang hsu_huang_inside s good items moves s' step
 
-    mover : (x : ℕ) × ((v : ℕ) → IsTrue (is_moved moves v) → v ≡ x) × IsTrue (is_moved moves x)
+    mover : (x : ℕ) × ((v : ℕ) → IsTrue (is_mover_in moves v) → v ≡ x) × IsTrue (is_mover_in moves x)
     mover = one_mover moves (step.alone refl)
 
     solo : IsSolo (pointer s) (pointer s') mover.0

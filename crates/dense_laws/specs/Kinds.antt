@@ -6,9 +6,9 @@ use Rattle.std.proofs.lemmas.Option.{none-some, same_Some}
 use Rattle.rule_machine.specs.State.{is_at, holds_at}
 use Rattle.machine_laws.specs.Neighbours.{option_cases}
 use Rattle.machine_laws.specs.Writes.{some_from_is_at, is_at_from_some}
-use Rattle.charge_laws.specs.Counting.{sum_add, sum_agree}
-use Rattle.charge_laws.specs.Inside.{holds_is}
-use Rattle.charge_laws.specs.Stances.{stance, is_paired, Standing, standing, free, waiting, paired, free_from, waiting_from, paired_from, not_null, null_from}
+use Rattle.charge_laws.specs.ListCounts.{sum_add, sum_agree}
+use Rattle.charge_laws.specs.PresentMovers.{holds_is}
+use Rattle.charge_laws.specs.Stances.{stance, is_paired, StanceCase, stance_cases, free, waiting, paired, free_from, waiting_from, paired_from, not_null, null_from}
 use Rattle.charge_laws.specs.Turns.{bit}
 
 abbrev pub is_single : (ℕ → Option ℕ) → ℕ → Bool
@@ -70,7 +70,7 @@ paired_not_single p v w e back h = true≢false (sym h ∙ ap (λ s. not (is_pai
 -- ---- the kinds are all
 
 kinds_at : (p : ℕ → Option ℕ) (v : ℕ) → bit (is_idle p v) + bit (is_stuck p v) + bit (is_hoping p v) ≡ bit (is_single p v)
-kinds_at p v = by_stance (standing p v)
+kinds_at p v = by_stance (stance_cases p v)
   where
     sums : (i s h k : Bool) → is_idle p v ≡ i → is_stuck p v ≡ s → is_hoping p v ≡ h → is_single p v ≡ k → bit i + bit s + bit h ≡ bit k → bit (is_idle p v) + bit (is_stuck p v) + bit (is_hoping p v) ≡ bit (is_single p v)
     sums i s h k a b c d e =
@@ -80,7 +80,7 @@ kinds_at p v = by_stance (standing p v)
         let d' = ap bit d in
         omega (arith, a', b', c', d', e)
 
-    by_stance : Standing p v → bit (is_idle p v) + bit (is_stuck p v) + bit (is_hoping p v) ≡ bit (is_single p v)
+    by_stance : StanceCase p v → bit (is_idle p v) + bit (is_stuck p v) + bit (is_hoping p v) ≡ bit (is_single p v)
     by_stance (free e is) =
         sums true false false true (ap is_none e) (ap (holds_at (λ w. is_some (p w) && not (is_at (p w) v))) e) (ap (holds_at (λ w. is_none (p w))) e) (single_free p v e) refl
     by_stance (waiting w e apart is) =

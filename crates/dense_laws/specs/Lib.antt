@@ -6,8 +6,8 @@ pub mod Starts
 pub mod Potential
 pub mod Falls
 pub mod Runs
-pub mod Silent
+pub mod SilentRuns
 pub mod Plays
 pub mod Schedule
-pub mod Complete
+pub mod CompleteNetworks
 pub mod Bound

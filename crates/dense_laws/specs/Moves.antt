@@ -12,7 +12,7 @@
 use Rattle.std.proofs.Common.{◌≡◌, ◌≢◌, ℕ, ◌+◌, ◌*◌, ◌≤◌, Bool, not, ◌&&◌, List, Option, None, Some, is_none, IsTrue, nat_eq, sym, ap, ◌∙◌, inl, inr, ⊎_elim, ◌⊎◌, arith}
 use Rattle.std.proofs.lemmas.Bool.{cases_eq, and_parts, and_from, not-true, not_from_false, false_from_ne_true, true≢false, eq-eqb, ne_eqb}
 use Rattle.std.proofs.lemmas.Option.{none-some, same_Some}
-use Rattle.charge_laws.specs.Counting.{IsIn, IsWithoutRepeats}
+use Rattle.charge_laws.specs.ListCounts.{IsIn, IsWithoutRepeats}
 use Rattle.charge_laws.specs.Stances.{stance, is_paired, null_is, null_from, paired_from, paired_is}
 use Rattle.charge_laws.specs.Turns.{paired_stays}
 use Rattle.charge_laws.specs.HsuHuangTurns.{SoloTurn, takes, courts, leaves, IsSolo, solo_turn}

@@ -24,9 +24,9 @@ use Rattle.rule_machine.specs.Run.{Entry, Moment, Run}
 use Rattle.machine_laws.specs.Neighbours.{near_found, present_range}
 use Rattle.machine_laws.specs.Pointers.{points_from, suitor_some, suitor_from}
 use Rattle.machine_laws.specs.Writes.{pointer-with_pointer_same, pointer-with_pointer_other}
-use Rattle.charge_laws.specs.Charged.{moves_of, moves_in, IsUndisturbed}
-use Rattle.charge_laws.specs.Deeds.{step_done}
-use Rattle.charge_laws.specs.Inside.{hsu_huang_inside}
+use Rattle.charge_laws.specs.ChargeWords.{moves_of, moves_in, IsUndisturbed}
+use Rattle.charge_laws.specs.NodeMoves.{step_done}
+use Rattle.charge_laws.specs.PresentMovers.{hsu_huang_inside}
 use Rattle.charge_laws.specs.Stances.{null_is}
 use Rattle.dense_laws.specs.Kinds.{stuck_from}
 
@@ -122,8 +122,8 @@ may_take s good v w has near null suitor =
     allowed : IsTrue (hsu_huang.allowed s v Marry w)
     allowed = and_from (linked s.network v w) (suits s v w) near (points_from s w v suitor)
 
-pub may_court : (s : State) → IsState s → (v w : ℕ) → IsTrue (present s.network v) → IsTrue (linked s.network v w) → pointer s v ≡ None → pointer s w ≡ None → ((u : ℕ) → pointer s u ≡ Some v → ⊥) → IsPlayed s v (Some w)
-may_court s good v w has near null other unsuited =
+pub court_entry : (s : State) → IsState s → (v w : ℕ) → IsTrue (present s.network v) → IsTrue (linked s.network v w) → pointer s v ≡ None → pointer s w ≡ None → ((u : ℕ) → pointer s u ≡ Some v → ⊥) → IsPlayed s v (Some w)
+court_entry s good v w has near null other unsuited =
     played_by s good v Seduce (Some w) has
     (rule_is s v false true (hsu_huang_guard s v Abandon)
     (ap (λ b. is_none (pointer s v) && b) alone ∙ and_none (is_none (pointer s v)))

@@ -14,7 +14,7 @@ use Rattle.rule_machine.specs.HsuHuang.{hsu_huang}
 use Rattle.rule_machine.specs.Answer.{Answers, spent_after}
 use Rattle.rule_machine.specs.Run.{Entry, Moment, Run}
 use Rattle.machine_laws.specs.Runs.{answers_keep, runs_end_in_states}
-use Rattle.charge_laws.specs.Charged.{moves_of, moves_in, IsUndisturbed}
+use Rattle.charge_laws.specs.ChargeWords.{moves_of, moves_in, IsUndisturbed}
 use Rattle.charge_laws.specs.Runs.{Effect, rests, steps, disturbs, effect}
 use Rattle.charge_laws.specs.Tables.{hsu_huang_table}
 use Rattle.dense_laws.specs.Arithmetic.{falls_on}

@@ -6,8 +6,8 @@ use Rattle.std.proofs.lemmas.Option.{none-some, same_Some}
 use Rattle.rule_machine.specs.Network.{Network, linked, present}
 use Rattle.rule_machine.specs.State.{State, IsState, pointer}
 use Rattle.machine_laws.specs.Neighbours.{present_range}
-use Rattle.charge_laws.specs.Inside.{pointer_present}
-use Rattle.dense_laws.specs.Plays.{IsLong, long_at_once, IsPlayed, may_take, may_court, may_leave}
+use Rattle.charge_laws.specs.PresentMovers.{pointer_present}
+use Rattle.dense_laws.specs.Plays.{IsLong, long_at_once, IsPlayed, may_take, court_entry, may_leave}
 
 -- the nodes 1 to n, each two of them linked
 pub record IsComplete (net : Network) (n : ℕ) : Type 0 where
@@ -79,7 +79,7 @@ leave_all n m (suc r) j e q then spent s it =
 -- ---- all but the last court it
 
 -- of 1 to m - 1 the first j hope for m, and so do those from top on; the others are idle
-pub record IsCourted (n m top j : ℕ) (s : State) : Type 0 where
+pub record IsCourtedUpTo (n m top j : ℕ) (s : State) : Type 0 where
   pub on : IsOn n s
   pub low : 1 ≤ m
   pub below : m ≤ n
@@ -90,7 +90,7 @@ pub record IsCourted (n m top j : ℕ) (s : State) : Type 0 where
   pub late : (v : ℕ) → top ≤ v → v < m → pointer s v ≡ Some m
   pub high : (v u : ℕ) → m < v → pointer s v ≡ Some u → m < u
 
-court_one : (n m top j : ℕ) (s : State) → j + 1 < top → IsCourted n m top j s → (p : IsPlayed s (j + 1) (Some m)) × IsCourted n m top (j + 1) p.next
+court_one : (n m top j : ℕ) (s : State) → j + 1 < top → IsCourtedUpTo n m top j s → (p : IsPlayed s (j + 1) (Some m)) × IsCourtedUpTo n m top (j + 1) p.next
 court_one n m top j s more it = (
   p,
   record {
@@ -130,7 +130,7 @@ court_one n m top j s more it = (
         (cases_lt u (j + 1))
 
     p : IsPlayed s (j + 1) (Some m)
-    p = may_court s it.on.good (j + 1) m (it.on.complete.has (j + 1) (omega arith) (omega (arith, more, within, below)))
+    p = court_entry s it.on.good (j + 1) m (it.on.complete.has (j + 1) (omega arith) (omega (arith, more, within, below)))
         (it.on.complete.near (j + 1) m (omega arith) (omega (arith, more, within, below)) it.low it.below (λ e. absurd (omega (arith, e, more, within))))
         (it.idle (j + 1) (omega arith) more) it.middle alone
 
@@ -142,7 +142,7 @@ pub record IsHoped (n m : ℕ) (s : State) : Type 0 where
   pub hopes : (v : ℕ) → 1 ≤ v → v < m → pointer s v ≡ Some m
   pub high : (v u : ℕ) → m < v → pointer s v ≡ Some u → m < u
 
-court_all : (n m top r j : ℕ) → j + r + 1 ≡ top → (q : ℕ) → ((spent : ℕ) (s : State) → IsHoped n m s → IsLong spent s q) → (spent : ℕ) (s : State) → IsCourted n m top j s → IsLong spent s (q + 2 * r)
+court_all : (n m top r j : ℕ) → j + r + 1 ≡ top → (q : ℕ) → ((spent : ℕ) (s : State) → IsHoped n m s → IsLong spent s q) → (spent : ℕ) (s : State) → IsCourtedUpTo n m top j s → IsLong spent s (q + 2 * r)
 court_all n m top zero j e q then spent s it =
     long_less spent s q (q + 2 * zero) (omega arith) (then spent s (record {
       on = it.on;
@@ -191,7 +191,7 @@ take_then n k q then spent s it = let one = take_one n k s it in one.0.goes spen
 
 -- ---- from m stuck nodes
 
-courted_from : (n m : ℕ) (s : State) → 1 ≤ m → IsLeft n m m s → IsCourted n m m 0 s
+courted_from : (n m : ℕ) (s : State) → 1 ≤ m → IsLeft n m m s → IsCourtedUpTo n m m 0 s
 courted_from n m s low it = record {
   on = it.on;
   low = low;
@@ -205,7 +205,7 @@ courted_from n m s low it = record {
 }
 
 -- and from all but the last hoping for it
-hoped_then : (n m top r : ℕ) (k : ℕ) → m ≡ k + 2 → r + 1 ≡ top → (q : ℕ) → ((spent : ℕ) (s : State) → IsLeft n k 0 s → IsLong spent s q) → (spent : ℕ) (s : State) → IsCourted n m top 0 s → IsLong spent s (q + 2 + 2 * r)
+hoped_then : (n m top r : ℕ) (k : ℕ) → m ≡ k + 2 → r + 1 ≡ top → (q : ℕ) → ((spent : ℕ) (s : State) → IsLeft n k 0 s → IsLong spent s q) → (spent : ℕ) (s : State) → IsCourtedUpTo n m top 0 s → IsLong spent s (q + 2 + 2 * r)
 hoped_then n m top r k is e q then spent s it =
     court_all n m top r 0 (omega (arith, e)) (q + 2) (λ spent s hoped. take_then n k q then spent s (subst (λ x. IsHoped n x s) is hoped)) spent s it
 
@@ -244,7 +244,7 @@ cut_one n j s more it = (
     p : IsPlayed s (j + 1) None
     p = may_leave s it.on.good (j + 1) (j + 1 + 1) (j + 1 + 1 + 1) (it.on.complete.has (j + 1) (omega arith) (omega (arith, more))) (it.rest (j + 1) (omega arith) (omega (arith, more))) (it.rest (j + 1 + 1) (omega arith) (omega (arith, more))) (λ e. absurd (omega (arith, e)))
 
-cut_all : (n r j : ℕ) → j + r + 2 ≡ n → (q : ℕ) → ((spent : ℕ) (s : State) → IsCourted n n (j + r + 1) 0 s → IsLong spent s q) → (spent : ℕ) (s : State) → IsCut n j s → IsLong spent s (q + 2 * r)
+cut_all : (n r j : ℕ) → j + r + 2 ≡ n → (q : ℕ) → ((spent : ℕ) (s : State) → IsCourtedUpTo n n (j + r + 1) 0 s → IsLong spent s q) → (spent : ℕ) (s : State) → IsCut n j s → IsLong spent s (q + 2 * r)
 cut_all n zero j e q then spent s it =
     long_less spent s q (q + 2 * zero) (omega arith) (then spent s (record {
       on = it.on;
@@ -260,7 +260,7 @@ cut_all n zero j e q then spent s it =
 cut_all n (suc r) j e q then spent s it =
     let one = cut_one n j s (omega (arith, e)) it in
     long_less spent s (q + 2 * r + 2) (q + 2 * suc r) (omega arith)
-    (one.0.goes spent (q + 2 * r) (cut_all n r (j + 1) (omega (arith, e)) q (λ spent s it. then spent s (subst (λ x. IsCourted n n x 0 s) (let is : j + 1 + r + 1 ≡ j + suc r + 1 = omega arith in is) it)) (spent + 1) one.0.next one.1))
+    (one.0.goes spent (q + 2 * r) (cut_all n r (j + 1) (omega (arith, e)) q (λ spent s it. then spent s (subst (λ x. IsCourtedUpTo n n x 0 s) (let is : j + 1 + r + 1 ≡ j + suc r + 1 = omega arith in is) it)) (spent + 1) one.0.next one.1))
 
 -- all point at the next one, and the last at the first
 pub record IsCycle (n : ℕ) (s : State) : Type 0 where

@@ -4,8 +4,8 @@ use Rattle.std.proofs.Common.{◌≡◌, ◌≢◌, ℕ, refl, true, ◌+◌, �
 use Rattle.std.proofs.lemmas.Bool.{cases_lt, true≢false}
 use Rattle.std.proofs.lemmas.Option.{none-some}
 use Rattle.machine_laws.specs.Neighbours.{option_cases}
-use Rattle.charge_laws.specs.Counting.{IsIn, count_none, count_all}
-use Rattle.charge_laws.specs.Stances.{stance, is_paired, null_is, paired_is, paired_from, Standing, standing, free, waiting, paired}
+use Rattle.charge_laws.specs.ListCounts.{IsIn, count_none, count_all}
+use Rattle.charge_laws.specs.Stances.{stance, is_paired, null_is, paired_is, paired_from, StanceCase, stance_cases, free, waiting, paired}
 use Rattle.dense_laws.specs.Counts.{count_one, count_two, count_exists, count_both}
 use Rattle.dense_laws.specs.Kinds.{is_idle, is_stuck, is_hoping, singles, idles, stucks, hopings, stuck_from, stuck_is, hoping_from, hoping_is, kinds_are_all}
 use Rattle.dense_laws.specs.Arithmetic.{most_at_all, most_with_pair, most_with_hope, most_idle, most_alone, least, least_stuck}
@@ -55,10 +55,10 @@ trap_of_stuck p xs among unmarried hopeless y stuck = record {
   inside = is_stuck p;
   first = y;
   there = stuck;
-  leads = λ v h. let aim = stuck_is p v h in (aim.0, aim.1, next aim.0 (among.ends v aim.0 aim.1).1 aim.2 (standing p aim.0), aim.3);
+  leads = λ v h. let aim = stuck_is p v h in (aim.0, aim.1, next aim.0 (among.ends v aim.0 aim.1).1 aim.2 (stance_cases p aim.0), aim.3);
 }
   where
-    next : (w : ℕ) → IsIn w xs → p w ≢ None → Standing p w → IsTrue (is_stuck p w)
+    next : (w : ℕ) → IsIn w xs → p w ≢ None → StanceCase p w → IsTrue (is_stuck p w)
     next w there busy (free e is) = absurd (busy e)
     next w there busy (waiting u e apart is) =
         ⊎_elim

@@ -9,12 +9,12 @@ ghost use Rattle.rule_machine.specs.RuleTable.{enabled_names};
 ghost use Rattle.rule_machine.specs.HsuHuang.{hsu_huang};
 ghost use Rattle.rule_machine.specs.Step.{IsStep};
 ghost use Rattle.rule_machine.specs.Run.{Entry, Moment, Run};
-ghost use Rattle.charge_laws.specs.Charged.{moves_in, IsUndisturbed};
-ghost use Rattle.charge_laws.specs.Costs.{end_of, log_of};
+ghost use Rattle.charge_laws.specs.ChargeWords.{moves_in, IsUndisturbed};
+ghost use Rattle.charge_laws.specs.Costs.{end_of_path, path_entries};
 ghost use Rattle.charge_laws.specs.Epochs.{IsPath};
-ghost use Rattle.charge_laws.specs.Silent.{IsDriven};
+ghost use Rattle.charge_laws.specs.SilentRuns.{IsDriven};
 ghost use Rattle.dense_laws.specs.Bound.{dense_bound};
-ghost use Rattle.dense_laws.specs.Complete.{IsReached};
+ghost use Rattle.dense_laws.specs.CompleteNetworks.{HasLongRun};
 ghost use Rattle.dense_laws.specs.Potential.{dense_charge};
 
 /// Each move lowers the dense charge by at least two, whatever the edges; it is at most n² + 2n.
@@ -44,17 +44,17 @@ pub fn moves_are_few()
 ///
 /// Driven: each entry moves a node, or comes when no rule is enabled.
 pub fn enough_turns_end_silent()
-    ensures { (start : Moment) → IsState start.state → (path : List (Entry × State)) → IsPath hsu_huang start path → IsUndisturbed (log_of path)
+    ensures { (start : Moment) → IsState start.state → (path : List (Entry × State)) → IsPath hsu_huang start path → IsUndisturbed (path_entries path)
         → IsDriven hsu_huang start.state path
         → node_count start.state.network * node_count start.state.network + 2 * node_count start.state.network ≤ 2 * length path + 5
-        → enabled_names hsu_huang (end_of start.state path) ≡ [] }
+        → enabled_names hsu_huang (end_of_path start.state path) ≡ [] }
 {}
 
 /// The bound is reached: for n of 2 or more there is a run with n²/2 + n - 2 moves, rounded down.
 ///
 /// The run has no disturbance.
 pub fn bound_is_reached()
-    ensures { (n : ℕ) → 2 ≤ n → IsReached n }
+    ensures { (n : ℕ) → 2 ≤ n → HasLongRun n }
 {}
 
 /// The bound of `moves_are_few` as one number: n²/2 + n - 2 rounded down, and 0 if n is 0 or 1.

@@ -17,12 +17,12 @@ use Rattle.machine_laws.specs.LeastAnswers.{least_answers}
 use Rattle.machine_laws.specs.LeastMoves.{IsTable}
 use Rattle.machine_laws.specs.Neighbours.{option_cases}
 use Rattle.machine_laws.specs.Runs.{answers_keep}
-use Rattle.charge_laws.specs.Charged.{IsCharged}
-use Rattle.charge_laws.specs.Silent.{charge_budget, spent_is_quiet}
-use Rattle.daemon.specs.Drawn.{drawn, draw}
-use Rattle.daemon.specs.Lawful.{plain}
-use Rattle.drive_laws.specs.Driven.{after_turn, driven}
-use Rattle.drive_laws.proofs.Accepted.{drawn_taken}
+use Rattle.charge_laws.specs.ChargeWords.{IsCharged}
+use Rattle.charge_laws.specs.SilentRuns.{charge_budget, spent_is_quiet}
+use Rattle.daemon.specs.DrawnChoices.{choice_drawn, draw}
+use Rattle.daemon.specs.DaemonLaws.{plain}
+use Rattle.drive_laws.specs.DriveEnds.{after_turn, driven}
+use Rattle.drive_laws.proofs.AcceptedDraws.{drawn_taken}
 
 -- an accepted step spends a move at least
 pub step_pays : (t : RuleTable) (weight : ℕ) → IsTable t → IsCharged t weight → (s : State) → IsState s → (items : List Item) → refusal_of t s (Step items) ≡ None → t.charge (state_after t s (Step items)) + 1 ≤ t.charge s
@@ -45,14 +45,14 @@ pub record IsPaid (t : RuleTable) (s s' : State) : Type 0 where
   pub falls : t.charge s' + 1 ≤ t.charge s
 
 -- if a turn draws none, no rule is enabled
-pub turn_rests : (t : RuleTable) (s : State) (stream : Stream) → (drawn t.central (enabled_names t s) stream).0 ≡ None → enabled_names t s ≡ []
+pub turn_rests : (t : RuleTable) (s : State) (stream : Stream) → (choice_drawn t.central (enabled_names t s) stream).0 ≡ None → enabled_names t s ≡ []
 turn_rests t s stream none = by_names (enabled_names t s) none
   where
-    by_names : (nodes : List ℕ) → (drawn t.central nodes stream).0 ≡ None → nodes ≡ []
+    by_names : (nodes : List ℕ) → (choice_drawn t.central nodes stream).0 ≡ None → nodes ≡ []
     by_names [] h = refl
     by_names (v ∷ nodes) h = absurd (none-some (plain (draw t.central (v ∷ nodes) stream).0) (sym h))
 
-pub turn_pays : (t : RuleTable) (weight : ℕ) → IsTable t → IsCharged t weight → (s : State) → IsState s → (stream : Stream) (items : List Item) → (drawn t.central (enabled_names t s) stream).0 ≡ Some items → IsPaid t s (state_after t s (Step items))
+pub turn_pays : (t : RuleTable) (weight : ℕ) → IsTable t → IsCharged t weight → (s : State) → IsState s → (stream : Stream) (items : List Item) → (choice_drawn t.central (enabled_names t s) stream).0 ≡ Some items → IsPaid t s (state_after t s (Step items))
 turn_pays t weight table charged s good stream items is = record {
   is_state = answers_keep t table s good 0 (Step items) (reply_of t s 0 (Step items)) (state_after t s (Step items)) (least_answers t table s good 0 (Step items));
   falls = step_pays t weight table charged s good items taken;
@@ -61,7 +61,7 @@ turn_pays t weight table charged s good stream items is = record {
     taken : refusal_of t s (Step items) ≡ None
     taken = by_names (enabled_names t s) refl is
       where
-        by_names : (nodes : List ℕ) → nodes ≡ enabled_names t s → (drawn t.central nodes stream).0 ≡ Some items → step_refusal t s items ≡ None
+        by_names : (nodes : List ℕ) → nodes ≡ enabled_names t s → (choice_drawn t.central nodes stream).0 ≡ Some items → step_refusal t s items ≡ None
         by_names [] same h = absurd (none-some items h)
         by_names (v ∷ nodes) same h =
             subst (λ l. step_refusal t s l ≡ None) (same_Some (plain (draw t.central (v ∷ nodes) stream).0) items h)
@@ -77,7 +77,7 @@ zero_is_quiet t weight table charged s good none =
 quiet_driven : (t : RuleTable) (s : State) → enabled_names t s ≡ [] → (turns : ℕ) (stream : Stream) → enabled_names t (driven t turns stream s) ≡ []
 quiet_driven t s quiet zero stream = quiet
 quiet_driven t s quiet (suc turns) stream =
-    subst (λ nodes. enabled_names t (driven t turns (drawn t.central nodes stream).1 (after_turn t s (drawn t.central nodes stream).0)) ≡ []) (sym quiet)
+    subst (λ nodes. enabled_names t (driven t turns (choice_drawn t.central nodes stream).1 (after_turn t s (choice_drawn t.central nodes stream).0)) ≡ []) (sym quiet)
     (quiet_driven t s quiet turns stream)
 
 -- as many as the charge
@@ -86,9 +86,9 @@ driven_is_quiet t weight table charged zero s good few stream = zero_is_quiet t 
 driven_is_quiet t weight table charged (suc turns) s good few stream =
     ⊎_elim
     (λ none. quiet_driven t s (turn_rests t s stream none) (suc turns) stream)
-    (λ (some : (items : List Item) × (drawn t.central (enabled_names t s) stream).0 ≡ Some items).
+    (λ (some : (items : List Item) × (choice_drawn t.central (enabled_names t s) stream).0 ≡ Some items).
     let pays = turn_pays t weight table charged s good stream some.0 some.1 in
     let falls = pays.falls in
-    subst (λ (o : Option (List Item)). enabled_names t (driven t turns (drawn t.central (enabled_names t s) stream).1 (after_turn t s o)) ≡ []) (sym some.1)
-    (driven_is_quiet t weight table charged turns (state_after t s (Step some.0)) pays.is_state (omega (arith, falls, few)) (drawn t.central (enabled_names t s) stream).1))
-    (option_cases (drawn t.central (enabled_names t s) stream).0)
+    subst (λ (o : Option (List Item)). enabled_names t (driven t turns (choice_drawn t.central (enabled_names t s) stream).1 (after_turn t s o)) ≡ []) (sym some.1)
+    (driven_is_quiet t weight table charged turns (state_after t s (Step some.0)) pays.is_state (omega (arith, falls, few)) (choice_drawn t.central (enabled_names t s) stream).1))
+    (option_cases (choice_drawn t.central (enabled_names t s) stream).0)

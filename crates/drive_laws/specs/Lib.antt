@@ -1,1 +1,1 @@
-pub mod Driven
+pub mod DriveEnds

@@ -6,7 +6,7 @@ ghost use Rattle.rule_machine.specs.State.{State, IsState};
 ghost use Rattle.rule_machine.specs.RuleTable.{enabled_names};
 ghost use Rattle.rule_machine.specs.HsuHuang.{hsu_huang};
 ghost use Rattle.rule_machine.specs.Manne.{manne};
-ghost use Rattle.drive_laws.specs.Driven.{driven};
+ghost use Rattle.drive_laws.specs.DriveEnds.{driven};
 
 /// After as many turns of a seeded daemon as the charge was, the network is silent, whatever the seed.
 pub fn long_drives_end_silent()

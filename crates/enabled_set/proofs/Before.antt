@@ -1,7 +1,7 @@
 -- Sums of counts.
 use Rattle.std.proofs.Common.{◌≡◌, ◌≢◌, ℕ, suc, ◌+◌, List, get_or, refl, sym, ◌∙◌}
 use Rattle.enabled_set.specs.Counts.{before}
-use Rattle.enabled_set.proofs.Counting.{past, one_more}
+use Rattle.enabled_set.proofs.PassCounts.{past, one_more}
 
 pub before_none : (counts : List ℕ) → before counts 0 ≡ 0
 unfolding before

@@ -7,7 +7,7 @@ use Rattle.std.proofs.lemmas.Nat.{shr-shr, mod-pow-add, ones_cat, one_shl, and_m
 use Rattle.std.proofs.lemmas.Nat.Bits.{shr_and_one, bit_at-zero, bit_at_set_same, bit_at_set_other, bit_at_clear_same, bit_at_clear_other, bit_at-trailing_zeros, bit_at-lt}
 use Rattle.enabled_set.specs.Members.{has_bit}
 use Rattle.enabled_set.specs.Counts.{tally}
-use Rattle.enabled_set.proofs.Counting.{tally_none, tally_more, tally_shift}
+use Rattle.enabled_set.proofs.PassCounts.{tally_none, tally_more, tally_shift}
 use Rattle.enabled_set.proofs.Steps.{tally_on, tally_off}
 
 pub has_one : (word i : ℕ) → bit_at word i ≡ 1 → has_bit word i ≡ true

@@ -2,21 +2,21 @@
 use Rattle.std.proofs.Common.{◌≡◌, ℕ, zero, suc, ◌+◌, ◌-◌, ◌*◌, ◌/◌, ◌%◌, ◌<◌, ◌≤◌, Bool, true, false, List, length, get_or, set, replicate, sym, ap, subst, ◌∙◌, arith}
 use Rattle.std.specs.Prelude.{◌≢◌}
 use Rattle.std.proofs.lemmas.List.{length-set, length-replicate, get_or_read, set-get_or}
-use Rattle.enabled_set.specs.Members.{is_in, has_bit, is_on, places_of}
-use Rattle.enabled_set.specs.Counts.{tally, before, IsCount, IsCounted}
-use Rattle.enabled_set.proofs.Counting.{tally_add, tally_through, tally_put, tally_flat, tally_none}
+use Rattle.enabled_set.specs.Members.{is_in, has_bit, is_bit_on, first_bits}
+use Rattle.enabled_set.specs.Counts.{tally, before, AreBlockCounts, HasRightCounts}
+use Rattle.enabled_set.proofs.PassCounts.{tally_add, tally_through, tally_put, tally_flat, tally_none}
 use Rattle.enabled_set.proofs.Before.{before_none, before_more}
 use Rattle.enabled_set.proofs.Places.{length-places_of, places_are, put_here, put_there, on_none}
 use Rattle.enabled_set.proofs.Sums.{everywhere}
 use Rattle.enabled_set.proofs.Stretches.{stretch_there, count_more, count_less, on_here, same_there}
 
 -- the count that was read
-pub count_read : (bits : List Bool) (w : ℕ) (counts : List ℕ) (v n : ℕ) → 0 < w → IsCount bits w counts → v < length bits → n ≡ get_or counts (v / w) n → n ≡ get_or counts (v / w) 0
+pub count_read : (bits : List Bool) (w : ℕ) (counts : List ℕ) (v n : ℕ) → 0 < w → AreBlockCounts bits w counts → v < length bits → n ≡ get_or counts (v / w) n → n ≡ get_or counts (v / w) 0
 count_read bits w counts v n some good there read = get_or_read counts (v / w) n (stretch_there bits w counts v some good there) read 0
 
 -- the bit that was read, of a name that has a place
-pub bit_read : (bits : List Bool) (words s l : List ℕ) (total v read : ℕ) → IsCounted bits words s l total → v < length bits → read ≡ get_or words (v / 64) read → is_in bits v ≡ has_bit read (v % 64)
-unfolding is_on
+pub bit_read : (bits : List Bool) (words s l : List ℕ) (total v read : ℕ) → HasRightCounts bits words s l total → v < length bits → read ≡ get_or words (v / 64) read → is_in bits v ≡ has_bit read (v % 64)
+unfolding is_bit_on
 bit_read bits words s l total v read good there is =
     let covered = good.covered in
     good.same v ∙ ap (λ w. has_bit w (v % 64)) (sym (get_or_read words (v / 64) read (omega arith) is 0))
@@ -38,7 +38,7 @@ pub total_some : (bits : List Bool) (v : ℕ) → v < length bits → is_in bits
 total_some bits v there on = let t = tally_through (is_in bits) 0 v (length bits) on (omega arith) there in omega arith
 
 -- the bits of the changed words
-same_put : (bits : List Bool) (words : List ℕ) (v word : ℕ) (b : Bool) → v < length bits → v / 64 < length words → ((u : ℕ) → is_in bits u ≡ is_on words u) → has_bit word (v % 64) ≡ b → ((i : ℕ) → i < 64 → i ≢ (v % 64) → has_bit word i ≡ has_bit (get_or words (v / 64) 0) i) → (u : ℕ) → is_in (set bits v b) u ≡ is_on (set words (v / 64) word) u
+same_put : (bits : List Bool) (words : List ℕ) (v word : ℕ) (b : Bool) → v < length bits → v / 64 < length words → ((u : ℕ) → is_in bits u ≡ is_bit_on words u) → has_bit word (v % 64) ≡ b → ((i : ℕ) → i < 64 → i ≢ (v % 64) → has_bit word i ≡ has_bit (get_or words (v / 64) 0) i) → (u : ℕ) → is_in (set bits v b) u ≡ is_bit_on (set words (v / 64) word) u
 same_put bits words v word b there room same here others u =
     let mine = on_here bits v b there ∙ sym (put_here words v word b room here) in
     let away = same_there bits v b u in
@@ -47,15 +47,15 @@ same_put bits words v word b there room same here others u =
     grind arith
 
 -- one member more or less if its counts were changed by one; the lists count the right places
-counted_put : (len : ℕ) (words s l : List ℕ) (total v read word x y left : ℕ) (b : Bool) → IsCounted (places_of len words) words s l total → v < length (places_of len words) → 1 ≤ v → read ≡ get_or words (v / 64) read → has_bit word (v % 64) ≡ b → ((i : ℕ) → i < 64 → i ≢ (v % 64) → has_bit word i ≡ has_bit read i) → IsCount (set (places_of len words) v b) 512 (set s (v / 512) x) → IsCount (set (places_of len words) v b) 4096 (set l (v / 4096) y) → tally (is_in (set (places_of len words) v b)) (length (places_of len words)) ≡ left → IsCounted (places_of len (set words (v / 64) word)) (set words (v / 64) word) (set s (v / 512) x) (set l (v / 4096) y) left × (places_of len (set words (v / 64) word) ≡ set (places_of len words) v b)
+counted_put : (len : ℕ) (words s l : List ℕ) (total v read word x y left : ℕ) (b : Bool) → HasRightCounts (first_bits len words) words s l total → v < length (first_bits len words) → 1 ≤ v → read ≡ get_or words (v / 64) read → has_bit word (v % 64) ≡ b → ((i : ℕ) → i < 64 → i ≢ (v % 64) → has_bit word i ≡ has_bit read i) → AreBlockCounts (set (first_bits len words) v b) 512 (set s (v / 512) x) → AreBlockCounts (set (first_bits len words) v b) 4096 (set l (v / 4096) y) → tally (is_in (set (first_bits len words) v b)) (length (first_bits len words)) ≡ left → HasRightCounts (first_bits len (set words (v / 64) word)) (set words (v / 64) word) (set s (v / 512) x) (set l (v / 4096) y) left × (first_bits len (set words (v / 64) word) ≡ set (first_bits len words) v b)
 counted_put len words s l total v read word x y left b good there named is here others in_512 in_4096 in_all =
-    let bits = places_of len words in
+    let bits = first_bits len words in
     let size = length-set bits v b in
     let words_len = length-set words (v / 64) word in
     let covered = good.covered in
     let room : v / 64 < length words = omega arith in
     let same = same_put bits words v word b there room good.same here (λ i inside apart. others i inside apart ∙ ap (λ w. has_bit w i) (get_or_read words (v / 64) read room is 0)) in
-    let counted : IsCounted (set bits v b) (set words (v / 64) word) (set s (v / 512) x) (set l (v / 4096) y) left = record {
+    let counted : HasRightCounts (set bits v b) (set words (v / 64) word) (set s (v / 512) x) (set l (v / 4096) y) left = record {
       few = omega (arith, good.few, size);
       covered = omega (arith, good.covered, size, words_len);
       spare = omega (arith, good.spare, size, words_len);
@@ -68,12 +68,12 @@ counted_put len words s l total v read word x y left b good there named is here 
       in_all = ap (tally (is_in (set bits v b))) size ∙ in_all;
     } in
     let places = places_are len (set words (v / 64) word) (set bits v b) (size ∙ length-places_of len words) (λ u inside. same u) in
-    (subst (λ (xs : List Bool). IsCounted xs (set words (v / 64) word) (set s (v / 512) x) (set l (v / 4096) y) left) (sym places) counted, places)
+    (subst (λ (xs : List Bool). HasRightCounts xs (set words (v / 64) word) (set s (v / 512) x) (set l (v / 4096) y) left) (sym places) counted, places)
 
 -- one member more
-pub counted_more : (len : ℕ) (words s l : List ℕ) (total v read word x y : ℕ) → IsCounted (places_of len words) words s l total → v < length (places_of len words) → 1 ≤ v → read ≡ get_or words (v / 64) read → has_bit read (v % 64) ≡ false → has_bit word (v % 64) ≡ true → ((i : ℕ) → i < 64 → i ≢ (v % 64) → has_bit word i ≡ has_bit read i) → x ≡ get_or s (v / 512) x → y ≡ get_or l (v / 4096) y → IsCounted (places_of len (set words (v / 64) word)) (set words (v / 64) word) (set s (v / 512) (x + 1)) (set l (v / 4096) (y + 1)) (total + 1) × (places_of len (set words (v / 64) word) ≡ set (places_of len words) v true)
+pub counted_more : (len : ℕ) (words s l : List ℕ) (total v read word x y : ℕ) → HasRightCounts (first_bits len words) words s l total → v < length (first_bits len words) → 1 ≤ v → read ≡ get_or words (v / 64) read → has_bit read (v % 64) ≡ false → has_bit word (v % 64) ≡ true → ((i : ℕ) → i < 64 → i ≢ (v % 64) → has_bit word i ≡ has_bit read i) → x ≡ get_or s (v / 512) x → y ≡ get_or l (v / 4096) y → HasRightCounts (first_bits len (set words (v / 64) word)) (set words (v / 64) word) (set s (v / 512) (x + 1)) (set l (v / 4096) (y + 1)) (total + 1) × (first_bits len (set words (v / 64) word) ≡ set (first_bits len words) v true)
 counted_more len words s l total v read word x y good there named is off here others read_x read_y =
-    let bits = places_of len words in
+    let bits = first_bits len words in
     let none = bit_read bits words s l total v read good there is ∙ off in
     let put = tally_put (is_in bits) (is_in (set bits v true)) v none (on_here bits v true there) (length bits) (λ k low. same_there bits v true k) in
     let was = good.in_all in
@@ -83,9 +83,9 @@ counted_more len words s l total v read word x y good there named is off here ot
     (omega arith)
 
 -- one member less
-pub counted_less : (len : ℕ) (words s l : List ℕ) (total v read word x y : ℕ) → IsCounted (places_of len words) words s l total → v < length (places_of len words) → read ≡ get_or words (v / 64) read → has_bit read (v % 64) ≡ true → has_bit word (v % 64) ≡ false → ((i : ℕ) → i < 64 → i ≢ (v % 64) → has_bit word i ≡ has_bit read i) → x ≡ get_or s (v / 512) x → y ≡ get_or l (v / 4096) y → IsCounted (places_of len (set words (v / 64) word)) (set words (v / 64) word) (set s (v / 512) (x - 1)) (set l (v / 4096) (y - 1)) (total - 1) × (places_of len (set words (v / 64) word) ≡ set (places_of len words) v false)
+pub counted_less : (len : ℕ) (words s l : List ℕ) (total v read word x y : ℕ) → HasRightCounts (first_bits len words) words s l total → v < length (first_bits len words) → read ≡ get_or words (v / 64) read → has_bit read (v % 64) ≡ true → has_bit word (v % 64) ≡ false → ((i : ℕ) → i < 64 → i ≢ (v % 64) → has_bit word i ≡ has_bit read i) → x ≡ get_or s (v / 512) x → y ≡ get_or l (v / 4096) y → HasRightCounts (first_bits len (set words (v / 64) word)) (set words (v / 64) word) (set s (v / 512) (x - 1)) (set l (v / 4096) (y - 1)) (total - 1) × (first_bits len (set words (v / 64) word) ≡ set (first_bits len words) v false)
 counted_less len words s l total v read word x y good there is on here others read_x read_y =
-    let bits = places_of len words in
+    let bits = first_bits len words in
     let some = bit_read bits words s l total v read good there is ∙ on in
     let put = tally_put (is_in (set bits v false)) (is_in bits) v (on_here bits v false there) some (length bits) (λ k low apart. sym (same_there bits v false k apart)) in
     let was = good.in_all in
@@ -108,7 +108,7 @@ pub tally_nobody : (n i : ℕ) → tally (is_in (replicate n false)) i ≡ 0
 tally_nobody n i = tally_flat (is_in (replicate n false)) 0 i (omega arith) (λ k low high. everywhere n k false) ∙ tally_none (is_in (replicate n false))
 
 -- the counts of the empty set
-pub count_empty : (n w m : ℕ) → n ≤ w * m → IsCount (replicate n false) w (replicate m 0)
+pub count_empty : (n w m : ℕ) → n ≤ w * m → AreBlockCounts (replicate n false) w (replicate m 0)
 count_empty n w m most =
     let len = length-replicate n false in
     let o : ℕ = 0 in
@@ -119,28 +119,28 @@ count_empty n w m most =
     }
 
 -- words without bits have no member
-nobody_on : (n : ℕ) (words : List ℕ) (v : ℕ) → words ≡ replicate (n / 64 + 8) 0 → is_in (replicate n false) v ≡ is_on words v
-nobody_on n words v is = everywhere n v false ∙ sym (ap (λ ws. is_on ws v) is ∙ on_none (n / 64 + 8) v)
+nobody_on : (n : ℕ) (words : List ℕ) (v : ℕ) → words ≡ replicate (n / 64 + 8) 0 → is_in (replicate n false) v ≡ is_bit_on words v
+nobody_on n words v is = everywhere n v false ∙ sym (ap (λ ws. is_bit_on ws v) is ∙ on_none (n / 64 + 8) v)
 
 -- the places of words of no bits
-pub places_empty : (n : ℕ) (words : List ℕ) → words ≡ replicate (n / 64 + 8) 0 → places_of n words ≡ replicate n false
+pub places_empty : (n : ℕ) (words : List ℕ) → words ≡ replicate (n / 64 + 8) 0 → first_bits n words ≡ replicate n false
 places_empty n words is = places_are n words (replicate n false) (length-replicate n false) (λ v there. nobody_on n words v is)
 
 -- the empty set
-pub counted_new : (n : ℕ) (words s l : List ℕ) → n ≤ 65536 → words ≡ replicate (n / 64 + 8) 0 → s ≡ replicate (n / 512 + 8) 0 → l ≡ replicate 16 0 → IsCounted (places_of n words) words s l 0
+pub counted_new : (n : ℕ) (words s l : List ℕ) → n ≤ 65536 → words ≡ replicate (n / 64 + 8) 0 → s ≡ replicate (n / 512 + 8) 0 → l ≡ replicate 16 0 → HasRightCounts (first_bits n words) words s l 0
 counted_new n words s l few is_words is_s is_l =
     let len = length-replicate n false in
     let o : ℕ = 0 in
     let words_len = ap length is_words ∙ length-replicate (n / 64 + 8) o in
     let groups_len = ap length is_s ∙ length-replicate (n / 512 + 8) o in
-    subst (λ (bits : List Bool). IsCounted bits words s l 0) (sym (places_empty n words is_words)) (record {
+    subst (λ (bits : List Bool). HasRightCounts bits words s l 0) (sym (places_empty n words is_words)) (record {
       few = omega (arith, len);
       covered = omega (arith, len, words_len);
       spare = omega (arith, len, words_len);
       nobody = everywhere n 0 false;
       same = λ v. nobody_on n words v is_words;
-      in_512 = subst (IsCount (replicate n false) 512) (sym is_s) (count_empty n 512 (n / 512 + 8) (omega arith));
-      in_4096 = subst (IsCount (replicate n false) 4096) (sym is_l) (count_empty n 4096 16 (omega arith));
+      in_512 = subst (AreBlockCounts (replicate n false) 512) (sym is_s) (count_empty n 512 (n / 512 + 8) (omega arith));
+      in_4096 = subst (AreBlockCounts (replicate n false) 4096) (sym is_l) (count_empty n 4096 16 (omega arith));
       groups = omega (arith, len, groups_len);
       lots = ap length is_l ∙ length-replicate 16 o;
       in_all = tally_nobody n (length (replicate n false));

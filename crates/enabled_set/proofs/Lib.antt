@@ -1,4 +1,4 @@
-pub mod Counting
+pub mod PassCounts
 pub mod Bits
 pub mod Places
 pub mod Before
@@ -10,4 +10,4 @@ pub mod Halves
 pub mod Passes
 pub mod Nth
 pub mod Sums
-pub mod Listed
+pub mod MarkChanges

@@ -7,7 +7,7 @@ use Rattle.std.proofs.lemmas.List.FromFn.{filter_of_map_range_with_len_more}
 use Rattle.std.proofs.lemmas.Option.{slice_get-get_or}
 use Rattle.enabled_set.specs.Members.{is_in, members}
 use Rattle.enabled_set.specs.Counts.{tally, below}
-use Rattle.enabled_set.proofs.Counting.{flat, tally_none, tally_more, tally_through}
+use Rattle.enabled_set.proofs.PassCounts.{flat, tally_none, tally_more, tally_through}
 
 pub below_none : (p : ℕ → Bool) → below p 0 ≡ []
 unfolding below

@@ -4,16 +4,16 @@ use Rattle.std.specs.Prelude.{◌≢◌, slice_get, SomeIff}
 use Rattle.std.proofs.lemmas.Bool.{cases_lt}
 use Rattle.std.proofs.lemmas.List.{get_or_past}
 use Rattle.std.proofs.lemmas.Option.{slice_get_past}
-use Rattle.enabled_set.specs.Members.{is_in, members, has_bit, is_on, AreNames}
-use Rattle.enabled_set.specs.Counts.{tally, below, before, IsCount, IsCounted}
-use Rattle.enabled_set.proofs.Counting.{tally_rise, tally_end, tally_shift, tally_put}
+use Rattle.enabled_set.specs.Members.{is_in, members, has_bit, is_bit_on, HasOnlyNames}
+use Rattle.enabled_set.specs.Counts.{tally, below, before, AreBlockCounts, HasRightCounts}
+use Rattle.enabled_set.proofs.PassCounts.{tally_rise, tally_end, tally_shift, tally_put}
 use Rattle.enabled_set.proofs.Places.{on_word}
 use Rattle.enabled_set.proofs.Members.{below_true, below_flat, members_below, length-members, nth_member, inside}
 use Rattle.enabled_set.proofs.Changes.{somebody}
 use Rattle.enabled_set.proofs.Steps.{before_step}
 
 -- a member is a name
-is_name : (bits : List Bool) (words s l : List ℕ) (total v : ℕ) → IsCounted bits words s l total → is_in bits v ≡ true → (1 ≤ v) × (v ≤ 65535)
+is_name : (bits : List Bool) (words s l : List ℕ) (total v : ℕ) → HasRightCounts bits words s l total → is_in bits v ≡ true → (1 ≤ v) × (v ≤ 65535)
 is_name bits words s l total v good on =
     let there = inside bits v on in
     let few = good.few in
@@ -24,14 +24,14 @@ is_name bits words s l total v good on =
 -- the names of a word's first bits are listed after those before it, and the later bits are left
 pub record IsListed (words : List ℕ) (place rest : ℕ) (list : List ℕ) (n : ℕ) : Type 0 where
   pub within : n ≤ 64
-  pub listed : list ≡ below (is_on words) (64 * place + n)
+  pub listed : list ≡ below (is_bit_on words) (64 * place + n)
   pub gone : (i : ℕ) → i < n → has_bit rest i ≡ false
-  pub left : (i : ℕ) → n ≤ i → i < 64 → has_bit rest i ≡ is_on words (64 * place + i)
+  pub left : (i : ℕ) → n ≤ i → i < 64 → has_bit rest i ≡ is_bit_on words (64 * place + i)
 
-pub listed_none : (words : List ℕ) (place rest : ℕ) (list : List ℕ) → rest ≡ get_or words place 0 → list ≡ below (is_on words) (64 * place) → IsListed words place rest list 0
+pub listed_none : (words : List ℕ) (place rest : ℕ) (list : List ℕ) → rest ≡ get_or words place 0 → list ≡ below (is_bit_on words) (64 * place) → IsListed words place rest list 0
 listed_none words place rest list is so_far = record {
   within = omega arith;
-  listed = so_far ∙ ap (below (is_on words)) (let e : 64 * place ≡ 64 * place + 0 = omega arith in e);
+  listed = so_far ∙ ap (below (is_bit_on words)) (let e : 64 * place ≡ 64 * place + 0 = omega arith in e);
   gone = λ i low. absurd (omega (arith, low));
   left = λ i low inside. ap (λ w. has_bit w i) is ∙ sym (on_word words place i inside);
 }
@@ -41,18 +41,18 @@ bit_behind : (words : List ℕ) (place rest : ℕ) (list : List ℕ) (n at : ℕ
 bit_behind words place rest list n at so_far on =
     let gone = so_far.gone at in grind arith
 
-pub bit_named : (words : List ℕ) (place rest : ℕ) (list : List ℕ) (n at : ℕ) → AreNames words → IsListed words place rest list n → at < 64 → has_bit rest at ≡ true → (1 ≤ 64 * place + at) × (64 * place + at ≤ 65535)
+pub bit_named : (words : List ℕ) (place rest : ℕ) (list : List ℕ) (n at : ℕ) → HasOnlyNames words → IsListed words place rest list n → at < 64 → has_bit rest at ≡ true → (1 ≤ 64 * place + at) × (64 * place + at ≤ 65535)
 bit_named words place rest list n at names so_far inside on =
     names (64 * place + at) (sym (so_far.left at (bit_behind words place rest list n at so_far on) inside) ∙ on)
 
 -- if no bit is left below one, the names below it are listed
-pub listed_up : (words : List ℕ) (place rest : ℕ) (list : List ℕ) (n m : ℕ) → IsListed words place rest list n → n ≤ m → m ≤ 64 → ((i : ℕ) → n ≤ i → i < m → has_bit rest i ≡ false) → list ≡ below (is_on words) (64 * place + m)
+pub listed_up : (words : List ℕ) (place rest : ℕ) (list : List ℕ) (n m : ℕ) → IsListed words place rest list n → n ≤ m → m ≤ 64 → ((i : ℕ) → n ≤ i → i < m → has_bit rest i ≡ false) → list ≡ below (is_bit_on words) (64 * place + m)
 listed_up words place rest list n m so_far up most none =
     so_far.listed
-    ∙ sym (below_flat (is_on words) (64 * place + n) (64 * place + m) (omega arith) (λ k low high.
+    ∙ sym (below_flat (is_bit_on words) (64 * place + n) (64 * place + m) (omega arith) (λ k low high.
     let i : ℕ = k - 64 * place in
     let at : k ≡ 64 * place + i = omega (arith, low) in
-    ap (is_on words) at ∙ sym (so_far.left i (omega (arith, low)) (omega (arith, high, most))) ∙ none i (omega (arith, low)) (omega (arith, high))))
+    ap (is_bit_on words) at ∙ sym (so_far.left i (omega (arith, low)) (omega (arith, high, most))) ∙ none i (omega (arith, low)) (omega (arith, high))))
 
 -- the name of the lowest bit that is left is listed, and the bit taken out
 pub listed_more : (words : List ℕ) (place rest less at v n : ℕ) (list more : List ℕ) → IsListed words place rest list n → at < 64 → has_bit rest at ≡ true → ((i : ℕ) → i < at → has_bit rest i ≡ false) → has_bit less at ≡ false → ((i : ℕ) → i < 64 → i ≢ at → has_bit less i ≡ has_bit rest i) → v ≡ 64 * place + at → more ≡ list ++ v ∷ [] → IsListed words place less more (at + 1)
@@ -61,8 +61,8 @@ listed_more words place rest less at v n list more so_far inside on first off ot
     record {
       within = omega arith;
       listed = new ∙ ap₂ (λ l x. l ++ x ∷ []) (listed_up words place rest list n at so_far behind (omega arith) (λ i low. first i)) name
-          ∙ sym (below_true (is_on words) (64 * place + at) (sym (so_far.left at behind inside) ∙ on))
-          ∙ ap (below (is_on words)) (let e : suc (64 * place + at) ≡ 64 * place + (at + 1) = omega arith in e);
+          ∙ sym (below_true (is_bit_on words) (64 * place + at) (sym (so_far.left at behind inside) ∙ on))
+          ∙ ap (below (is_bit_on words)) (let e : suc (64 * place + at) ≡ 64 * place + (at + 1) = omega arith in e);
       gone = λ i below.
           ⊎_elim
           (λ (before : i < at). others i (omega arith) (λ (e : i ≡ at). omega arith) ∙ first i before)
@@ -77,7 +77,7 @@ bits_fewer rest less at inside on off others =
     let put = tally_put (has_bit less) (has_bit rest) at off on 64 (λ i within apart. sym (others i within apart)) in omega arith
 
 -- all words have all members
-pub below_all : (bits : List Bool) (words s l : List ℕ) (total n : ℕ) → IsCounted bits words s l total → 64 * length words ≤ n → below (is_on words) n ≡ members bits
+pub below_all : (bits : List Bool) (words s l : List ℕ) (total n : ℕ) → HasRightCounts bits words s l total → 64 * length words ≤ n → below (is_bit_on words) n ≡ members bits
 below_all bits words s l total n good most =
     let covered = good.covered in
     sym (λ i. below (λ v. good.same v i) n) ∙ below_flat (is_in bits) (length bits) n (omega arith) (λ k low high. get_or_past bits k false low) ∙ sym (members_below bits)
@@ -85,7 +85,7 @@ below_all bits words s l total n good most =
 -- ---- the k-th member
 
 -- more members are left in all places than are to pass, and there are sixteen counts of them
-pub enough_lots : (bits : List Bool) (words s l ls : List ℕ) (total k : ℕ) → IsCounted bits words s l total → ls ≡ l → k < total → (16 ≤ length ls) × (k < before ls 16)
+pub enough_lots : (bits : List Bool) (words s l ls : List ℕ) (total k : ℕ) → HasRightCounts bits words s l total → ls ≡ l → k < total → (16 ≤ length ls) × (k < before ls 16)
 enough_lots bits words s l ls total k good is less =
     let all : before ls 16 ≡ tally (is_in bits) 65536 = ap (λ xs. before xs 16) is ∙ good.in_4096.counted 16 in
     let most = tally_rise (is_in bits) (length bits) 65536 good.few in
@@ -95,7 +95,7 @@ enough_lots bits words s l ls total k good is less =
 
 -- a block of eight parts with more members than remain to be skipped begins at a place, and the sums over its
 -- parts ascend beyond that
-enough : (bits : List Bool) (width : ℕ) (counts : List ℕ) (f : ℕ → ℕ) (j left : ℕ) → IsCount bits width counts → left < get_or counts j 0 → f (8 * j) ≡ tally (is_in bits) (width * j) → f (8 * j + 8) ≡ tally (is_in bits) (width * (j + 1)) → (width * j < length bits) × (f (8 * j) + left < f (8 * j + 8))
+enough : (bits : List Bool) (width : ℕ) (counts : List ℕ) (f : ℕ → ℕ) (j left : ℕ) → AreBlockCounts bits width counts → left < get_or counts j 0 → f (8 * j) ≡ tally (is_in bits) (width * j) → f (8 * j + 8) ≡ tally (is_in bits) (width * (j + 1)) → (width * j < length bits) × (f (8 * j) + left < f (8 * j + 8))
 enough bits width counts f j left good less from to =
     let low = good.counted j in
     let high = good.counted (j + 1) in
@@ -107,7 +107,7 @@ enough bits width counts f j left good less from to =
     (begins, omega arith)
 
 -- so there are eight counts of a lot that has more members than are to pass, and more are left in them
-pub enough_groups : (bits : List Bool) (words s l ls ss : List ℕ) (total lot left : ℕ) → IsCounted bits words s l total → ls ≡ l → ss ≡ s → left < get_or ls lot 0 → (8 * lot + 8 ≤ length ss) × (before ss (8 * lot) + left < before ss (8 * lot + 8))
+pub enough_groups : (bits : List Bool) (words s l ls ss : List ℕ) (total lot left : ℕ) → HasRightCounts bits words s l total → ls ≡ l → ss ≡ s → left < get_or ls lot 0 → (8 * lot + 8 ≤ length ss) × (before ss (8 * lot) + left < before ss (8 * lot + 8))
 enough_groups bits words s l ls ss total lot left good is_l is_s less =
     let parts : (n : ℕ) → before ss n ≡ tally (is_in bits) (512 * n) = λ n. ap (λ xs. before xs n) is_s ∙ good.in_512.counted n in
     let more = enough bits 4096 l (before ss) lot left good.in_4096 (subst (λ xs. left < get_or xs lot 0) is_l less)
@@ -116,20 +116,20 @@ enough_groups bits words s l ls ss total lot left good is_l is_s less =
     (omega (arith, more.0, good.groups, ap length is_s), more.1)
 
 -- the words have as many below a place as there are members
-words_tally : (bits : List Bool) (words s l ws : List ℕ) (total n : ℕ) → IsCounted bits words s l total → ws ≡ words → tally (is_on ws) n ≡ tally (is_in bits) n
-words_tally bits words s l ws total n good is_w = ap (λ xs. tally (is_on xs) n) is_w ∙ sym (λ i. tally (λ v. good.same v i) n)
+words_tally : (bits : List Bool) (words s l ws : List ℕ) (total n : ℕ) → HasRightCounts bits words s l total → ws ≡ words → tally (is_bit_on ws) n ≡ tally (is_in bits) n
+words_tally bits words s l ws total n good is_w = ap (λ xs. tally (is_bit_on xs) n) is_w ∙ sym (λ i. tally (λ v. good.same v i) n)
 
 -- and eight words of a group
-pub enough_words : (bits : List Bool) (words s l ss ws : List ℕ) (total group left : ℕ) → IsCounted bits words s l total → ss ≡ s → ws ≡ words → left < get_or ss group 0 → (8 * group + 8 ≤ length ws) × (tally (is_on ws) (64 * (8 * group)) + left < tally (is_on ws) (64 * (8 * group + 8)))
+pub enough_words : (bits : List Bool) (words s l ss ws : List ℕ) (total group left : ℕ) → HasRightCounts bits words s l total → ss ≡ s → ws ≡ words → left < get_or ss group 0 → (8 * group + 8 ≤ length ws) × (tally (is_bit_on ws) (64 * (8 * group)) + left < tally (is_bit_on ws) (64 * (8 * group + 8)))
 enough_words bits words s l ss ws total group left good is_s is_w less =
-    let parts : (n : ℕ) → tally (is_on ws) (64 * n) ≡ tally (is_in bits) (64 * n) = λ n. words_tally bits words s l ws total (64 * n) good is_w in
-    let more = enough bits 512 s (λ n. tally (is_on ws) (64 * n)) group left good.in_512 (subst (λ xs. left < get_or xs group 0) is_s less)
+    let parts : (n : ℕ) → tally (is_bit_on ws) (64 * n) ≡ tally (is_in bits) (64 * n) = λ n. words_tally bits words s l ws total (64 * n) good is_w in
+    let more = enough bits 512 s (λ n. tally (is_bit_on ws) (64 * n)) group left good.in_512 (subst (λ xs. left < get_or xs group 0) is_s less)
     (parts (8 * group) ∙ ap (tally (is_in bits)) (let e : 64 * (8 * group) ≡ 512 * group = omega arith in e))
     (parts (8 * group + 8) ∙ ap (tally (is_in bits)) (let e : 64 * (8 * group + 8) ≡ 512 * (group + 1) = omega arith in e)) in
     (omega (arith, more.0, good.covered, ap length is_w), more.1)
 
 -- what three scans over these lists have skipped; each begins at the end of the one before
-pub passed : (bits : List Bool) (words s l ls ss ws : List ℕ) (total k lot lot_left group group_left place left : ℕ) → IsCounted bits words s l total → ls ≡ l → ss ≡ s → ws ≡ words → before ls lot + lot_left ≡ k → before ss group + group_left ≡ before ss (8 * lot) + lot_left → tally (is_on ws) (64 * place) + left ≡ tally (is_on ws) (64 * (8 * group)) + group_left → tally (is_in bits) (64 * place) + left ≡ k
+pub passed : (bits : List Bool) (words s l ls ss ws : List ℕ) (total k lot lot_left group group_left place left : ℕ) → HasRightCounts bits words s l total → ls ≡ l → ss ≡ s → ws ≡ words → before ls lot + lot_left ≡ k → before ss group + group_left ≡ before ss (8 * lot) + lot_left → tally (is_bit_on ws) (64 * place) + left ≡ tally (is_bit_on ws) (64 * (8 * group)) + group_left → tally (is_in bits) (64 * place) + left ≡ k
 passed bits words s l ls ss ws total k lot lot_left group group_left place left good is_l is_s is_w from_l from_s from_w =
     let at_l = ap (λ xs. before xs lot) is_l ∙ good.in_4096.counted lot in
     let in_s = ap (λ xs. before xs (8 * lot)) is_s ∙ good.in_512.counted (8 * lot) in
@@ -141,7 +141,7 @@ passed bits words s l ls ss ws total k lot lot_left group group_left place left 
     omega arith
 
 -- there is no k-th member if k is at least the total
-pub nth_none : (bits : List Bool) (words s l : List ℕ) (total k : ℕ) → IsCounted bits words s l total → total ≤ k → slice_get (members bits) k ≡ None
+pub nth_none : (bits : List Bool) (words s l : List ℕ) (total k : ℕ) → HasRightCounts bits words s l total → total ≤ k → slice_get (members bits) k ≡ None
 nth_none bits words s l total k good most = slice_get_past (members bits) k (let len = length-members bits in let all = good.in_all in omega arith)
 
 -- the node of a name
@@ -150,7 +150,7 @@ named None n h name = absurd (h name)
 named (Some x) n h name = ap (λ (y : ℕ). Some y) h.1
 
 -- the bit with exactly the number to be skipped before it is the k-th member
-pub nth_some : (bits : List Bool) (words s l : List ℕ) (total k word group left at : ℕ) (o : Option ℕ) → IsCounted bits words s l total → word ≡ get_or words group 0 → tally (is_in bits) (64 * group) + left ≡ k → at < 64 → has_bit word at ≡ true → tally (has_bit word) at ≡ left → SomeIff o ((1 ≤ 64 * group + at) × (64 * group + at ≤ 65535)) (64 * group + at) → o ≡ slice_get (members bits) k
+pub nth_some : (bits : List Bool) (words s l : List ℕ) (total k word group left at : ℕ) (o : Option ℕ) → HasRightCounts bits words s l total → word ≡ get_or words group 0 → tally (is_in bits) (64 * group) + left ≡ k → at < 64 → has_bit word at ≡ true → tally (has_bit word) at ≡ left → SomeIff o ((1 ≤ 64 * group + at) × (64 * group + at ≤ 65535)) (64 * group + at) → o ≡ slice_get (members bits) k
 nth_some bits words s l total k word group left at o good is reached within on stands node =
     let in_word : (i : ℕ) → i < 64 → is_in bits (64 * group + i) ≡ has_bit word i = λ i less. good.same (64 * group + i) ∙ on_word words group i less ∙ ap (λ w. has_bit w i) (sym is) in
     let here = in_word at within ∙ on in

@@ -4,40 +4,40 @@ use Rattle.std.specs.Prelude.{◌≢◌}
 use Rattle.std.proofs.lemmas.List.{get_or-set_same, get_or-set_other, ext_get_or}
 use Rattle.std.proofs.lemmas.List.FromFn.{length-map-range_with_len, get_or-map-range_with_len}
 use Rattle.std.proofs.lemmas.Nat.Bits.{bit_at-zero}
-use Rattle.enabled_set.specs.Members.{is_in, has_bit, is_on, places_of}
+use Rattle.enabled_set.specs.Members.{is_in, has_bit, is_bit_on, first_bits}
 use Rattle.enabled_set.proofs.Bits.{has_none}
 use Rattle.enabled_set.proofs.Sums.{everywhere}
 
-pub length-places_of : (len : ℕ) (words : List ℕ) → length (places_of len words) ≡ len
-unfolding places_of
-length-places_of len words = length-map-range_with_len (is_on words) 0 len
+pub length-places_of : (len : ℕ) (words : List ℕ) → length (first_bits len words) ≡ len
+unfolding first_bits
+length-places_of len words = length-map-range_with_len (is_bit_on words) 0 len
 
 -- a place among the first ones is as the words say
-pub in_places : (len : ℕ) (words : List ℕ) (v : ℕ) → v < len → is_in (places_of len words) v ≡ is_on words v
-unfolding places_of
-in_places len words v there = get_or-map-range_with_len (is_on words) 0 len v v false there (omega arith)
+pub in_places : (len : ℕ) (words : List ℕ) (v : ℕ) → v < len → is_in (first_bits len words) v ≡ is_bit_on words v
+unfolding first_bits
+in_places len words v there = get_or-map-range_with_len (is_bit_on words) 0 len v v false there (omega arith)
 
 -- the places of words are these, if they agree
-pub places_are : (len : ℕ) (words : List ℕ) (bits : List Bool) → length bits ≡ len → ((v : ℕ) → v < len → is_in bits v ≡ is_on words v) → places_of len words ≡ bits
+pub places_are : (len : ℕ) (words : List ℕ) (bits : List Bool) → length bits ≡ len → ((v : ℕ) → v < len → is_in bits v ≡ is_bit_on words v) → first_bits len words ≡ bits
 places_are len words bits long same =
     let len_is = length-places_of len words in
-    ext_get_or false (places_of len words) bits (omega arith) (λ v there. in_places len words v (omega arith) ∙ sym (same v (omega arith)))
+    ext_get_or false (first_bits len words) bits (omega arith) (λ v there. in_places len words v (omega arith) ∙ sym (same v (omega arith)))
 
 -- a place is a bit of its word
-pub on_word : (words : List ℕ) (g i : ℕ) → i < 64 → is_on words (64 * g + i) ≡ has_bit (get_or words g 0) i
-unfolding is_on
+pub on_word : (words : List ℕ) (g i : ℕ) → i < 64 → is_bit_on words (64 * g + i) ≡ has_bit (get_or words g 0) i
+unfolding is_bit_on
 on_word words g i inside =
     let q : (64 * g + i) / 64 ≡ g = omega arith in
     let r : (64 * g + i) % 64 ≡ i = omega arith in
     ap (λ n. has_bit (get_or words n 0) ((64 * g + i) % 64)) q ∙ ap (has_bit (get_or words g 0)) r
 
 -- a word that is written
-pub put_here : (words : List ℕ) (v word : ℕ) (b : Bool) → v / 64 < length words → has_bit word (v % 64) ≡ b → is_on (set words (v / 64) word) v ≡ b
-unfolding is_on
+pub put_here : (words : List ℕ) (v word : ℕ) (b : Bool) → v / 64 < length words → has_bit word (v % 64) ≡ b → is_bit_on (set words (v / 64) word) v ≡ b
+unfolding is_bit_on
 put_here words v word b room here = ap (λ w. has_bit w (v % 64)) (get_or-set_same words (v / 64) word 0 room) ∙ here
 
-pub put_there : (words : List ℕ) (v word : ℕ) (u : ℕ) → v / 64 < length words → ((i : ℕ) → i < 64 → i ≢ (v % 64) → has_bit word i ≡ has_bit (get_or words (v / 64) 0) i) → (u ≡ v → ⊥) → is_on (set words (v / 64) word) u ≡ is_on words u
-unfolding is_on
+pub put_there : (words : List ℕ) (v word : ℕ) (u : ℕ) → v / 64 < length words → ((i : ℕ) → i < 64 → i ≢ (v % 64) → has_bit word i ≡ has_bit (get_or words (v / 64) 0) i) → (u ≡ v → ⊥) → is_bit_on (set words (v / 64) word) u ≡ is_bit_on words u
+unfolding is_bit_on
 put_there words v word u room others apart =
     let here = get_or-set_same words (v / 64) word 0 room in
     let away = get_or-set_other words (v / 64) (u / 64) word 0 in
@@ -45,6 +45,6 @@ put_there words v word u room others apart =
     grind arith
 
 -- words of no bits
-pub on_none : (m v : ℕ) → is_on (replicate m 0) v ≡ false
-unfolding is_on
+pub on_none : (m v : ℕ) → is_bit_on (replicate m 0) v ≡ false
+unfolding is_bit_on
 on_none m v = ap (λ w. has_bit w (v % 64)) (everywhere m (v / 64) 0) ∙ has_none 0 (v % 64) (bit_at-zero (v % 64))

@@ -4,8 +4,8 @@ use Rattle.std.proofs.lemmas.Bool.{cases_lt}
 use Rattle.std.proofs.lemmas.List.{length-set, get_or-set_same, get_or-set_other}
 use Rattle.std.proofs.Math.Nat.{div-lt_iff_lt-mul, mul-suc, mul_comm, mul-div-le, le-div_iff_mul-le}
 use Rattle.enabled_set.specs.Members.{is_in}
-use Rattle.enabled_set.specs.Counts.{tally, IsCount}
-use Rattle.enabled_set.proofs.Counting.{past, tally_add, tally_through, tally_put}
+use Rattle.enabled_set.specs.Counts.{tally, AreBlockCounts}
+use Rattle.enabled_set.proofs.PassCounts.{past, tally_add, tally_through, tally_put}
 use Rattle.enabled_set.proofs.Before.{before_more, before_put}
 
 -- a block is counted before a place if it ends there
@@ -19,7 +19,7 @@ past_stretch w v i some =
     (cases_lt (v / w) i)
 
 -- a stretch has no more members than places
-pub count_few : (bits : List Bool) (w : ℕ) (counts : List ℕ) (j : ℕ) → IsCount bits w counts → get_or counts j 0 ≤ w
+pub count_few : (bits : List Bool) (w : ℕ) (counts : List ℕ) (j : ℕ) → AreBlockCounts bits w counts → get_or counts j 0 ≤ w
 count_few bits w counts j good =
     let a = good.counted j in
     let b = good.counted (suc j) in
@@ -28,7 +28,7 @@ count_few bits w counts j good =
     omega arith
 
 -- the stretch of a member has some
-pub count_some : (bits : List Bool) (w : ℕ) (counts : List ℕ) (v : ℕ) → 0 < w → IsCount bits w counts → is_in bits v ≡ true → 1 ≤ get_or counts (v / w) 0
+pub count_some : (bits : List Bool) (w : ℕ) (counts : List ℕ) (v : ℕ) → 0 < w → AreBlockCounts bits w counts → is_in bits v ≡ true → 1 ≤ get_or counts (v / w) 0
 count_some bits w counts v some good on =
     let a = good.counted (v / w) in
     let b = good.counted (suc (v / w)) in
@@ -41,7 +41,7 @@ count_some bits w counts v some good on =
     omega arith
 
 -- the place of a name's stretch
-pub stretch_there : (bits : List Bool) (w : ℕ) (counts : List ℕ) (v : ℕ) → 0 < w → IsCount bits w counts → v < length bits → v / w < length counts
+pub stretch_there : (bits : List Bool) (w : ℕ) (counts : List ℕ) (v : ℕ) → 0 < w → AreBlockCounts bits w counts → v < length bits → v / w < length counts
 stretch_there bits w counts v some good there =
     let turn = mul_comm w (length counts) in
     let most = good.covers in
@@ -55,7 +55,7 @@ pub same_there : (bits : List Bool) (v : ℕ) (b : Bool) (k : ℕ) → (k ≡ v 
 same_there bits v b k apart = get_or-set_other bits v k b false apart
 
 -- one member more
-pub count_more : (bits : List Bool) (w : ℕ) (counts : List ℕ) (v n : ℕ) → 0 < w → IsCount bits w counts → v < length bits → is_in bits v ≡ false → n ≡ get_or counts (v / w) 0 → IsCount (set bits v true) w (set counts (v / w) (n + 1))
+pub count_more : (bits : List Bool) (w : ℕ) (counts : List ℕ) (v n : ℕ) → 0 < w → AreBlockCounts bits w counts → v < length bits → is_in bits v ≡ false → n ≡ get_or counts (v / w) 0 → AreBlockCounts (set bits v true) w (set counts (v / w) (n + 1))
 count_more bits w counts v n some good there off is =
     let len = length-set bits v true in
     let count_len = length-set counts (v / w) (n + 1) in
@@ -70,7 +70,7 @@ count_more bits w counts v n some good there off is =
     }
 
 -- one member less
-pub count_less : (bits : List Bool) (w : ℕ) (counts : List ℕ) (v n : ℕ) → 0 < w → IsCount bits w counts → v < length bits → is_in bits v ≡ true → n ≡ get_or counts (v / w) 0 → IsCount (set bits v false) w (set counts (v / w) (n - 1))
+pub count_less : (bits : List Bool) (w : ℕ) (counts : List ℕ) (v n : ℕ) → 0 < w → AreBlockCounts bits w counts → v < length bits → is_in bits v ≡ true → n ≡ get_or counts (v / w) 0 → AreBlockCounts (set bits v false) w (set counts (v / w) (n - 1))
 count_less bits w counts v n some good there on is =
     let len = length-set bits v false in
     let count_len = length-set counts (v / w) (n - 1) in

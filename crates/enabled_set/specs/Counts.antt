@@ -1,7 +1,7 @@
 -- How many members each block of places has.
 use Rattle.std.specs.Prelude.{◌≡◌, ℕ, zero, suc, ◌+◌, ◌*◌, ◌≤◌, Bool, false, cond, List, length, slice_index}
 use Rattle.std.specs.List.{filter, range_with_len}
-use Rattle.enabled_set.specs.Members.{is_in, is_on}
+use Rattle.enabled_set.specs.Members.{is_in, is_bit_on}
 
 -- how many numbers below the second argument pass
 unfoldable pub tally : (ℕ → Bool) → ℕ → ℕ
@@ -19,21 +19,21 @@ before counts (suc i) = before counts i + slice_index counts i
 
 -- The i-th count is the number of members in the i-th block of `width` places, and the blocks cover all
 -- places.
-pub record IsCount (bits : List Bool) (width : ℕ) (counts : List ℕ) : Type 0 where
+pub record AreBlockCounts (bits : List Bool) (width : ℕ) (counts : List ℕ) : Type 0 where
   pub covers : length bits ≤ width * length counts
   pub counted : (i : ℕ) → before counts i ≡ tally (is_in bits) (width * i)
 
 -- The words have these places and at most eight words more, 0 is not a member, and the counts and the total
 -- are right.
 -- From any place on there are eight words and eight counts of 512; the counts of 4,096 are sixteen.
-pub record IsCounted (bits : List Bool) (words by_512 by_4096 : List ℕ) (total : ℕ) : Type 0 where
+pub record HasRightCounts (bits : List Bool) (words by_512 by_4096 : List ℕ) (total : ℕ) : Type 0 where
   pub few : length bits ≤ 65536
   pub covered : length bits + 448 ≤ 64 * length words
   pub spare : 64 * length words ≤ length bits + 512
   pub nobody : is_in bits 0 ≡ false
-  pub same : (v : ℕ) → is_in bits v ≡ is_on words v
-  pub in_512 : IsCount bits 512 by_512
-  pub in_4096 : IsCount bits 4096 by_4096
+  pub same : (v : ℕ) → is_in bits v ≡ is_bit_on words v
+  pub in_512 : AreBlockCounts bits 512 by_512
+  pub in_4096 : AreBlockCounts bits 4096 by_4096
   pub groups : length bits + 3584 ≤ 512 * length by_512
   pub lots : length by_4096 ≡ 16
   pub in_all : tally (is_in bits) (length bits) ≡ total

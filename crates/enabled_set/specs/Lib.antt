@@ -1,3 +1,3 @@
 pub mod Members
 pub mod Counts
-pub mod Listed
+pub mod MarkedNames

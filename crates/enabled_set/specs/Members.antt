@@ -17,13 +17,13 @@ unfoldable pub has_bit : ℕ → ℕ → Bool
 has_bit word i = nat_eq (bit_at word i) 1
 
 -- whether words have this bit; none past the end
-unfoldable pub is_on : List ℕ → ℕ → Bool
-is_on words v = has_bit (slice_index words (v / 64)) (v % 64)
+unfoldable pub is_bit_on : List ℕ → ℕ → Bool
+is_bit_on words v = has_bit (slice_index words (v / 64)) (v % 64)
 
 -- the first `len` places of words
-unfoldable pub places_of : ℕ → List ℕ → List Bool
-places_of len words = map (is_on words) (range_with_len 0 len)
+unfoldable pub first_bits : ℕ → List ℕ → List Bool
+first_bits len words = map (is_bit_on words) (range_with_len 0 len)
 
 -- all bits are those of names
-abbrev pub AreNames : List ℕ → Type 0
-AreNames words = (v : ℕ) → is_on words v ≡ true → (1 ≤ v) × (v ≤ 65535)
+abbrev pub HasOnlyNames : List ℕ → Type 0
+HasOnlyNames words = (v : ℕ) → is_bit_on words v ≡ true → (1 ≤ v) × (v ≤ 65535)

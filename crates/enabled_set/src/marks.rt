@@ -19,7 +19,7 @@ pub struct Marks {
 
 impl Model for Marks {
     ghost use Rattle.std.specs.Prelude.{Bool, List};
-    ghost use Rattle.enabled_set.specs.Listed.{AreListed};
+    ghost use Rattle.enabled_set.specs.MarkedNames.{AreListed};
 
     ghost Value = { List Bool };
 

@@ -1,7 +1,7 @@
 //! Scans of words and of counts.
 
 ghost use Rattle.std.specs.Prelude.{◌≡◌, ℕ, ◌+◌, ◌*◌, ◌<◌, ◌≤◌, length, slice_index, IfSome, IsNone, OnOk};
-ghost use Rattle.enabled_set.specs.Members.{has_bit, is_on, AreNames};
+ghost use Rattle.enabled_set.specs.Members.{has_bit, is_bit_on, HasOnlyNames};
 ghost use Rattle.enabled_set.specs.Counts.{tally, before, below};
 
 use crate::word::{Spot, bit_is_set, first_bit, spot_behind, without_bit};
@@ -20,7 +20,7 @@ pub fn word_at(words: &[u64], place: usize) -> u64
 
 #[inline(always)]
 pub fn look(words: &[u64], place: usize) -> bool
-    ensures { result ≡ is_on words.now place }
+    ensures { result ≡ is_bit_on words.now place }
 {
     bit_is_set(word_at(words, place / 64), place % 64)
 }
@@ -73,8 +73,8 @@ pub fn pass_in_8(counts: &[u16], from: usize, to_pass: u32) -> Spot
 pub fn pass_words(words: &[u64], from: usize, to_pass: u32) -> Spot
     requires room { from + 8 ≤ length words.now }
     requires near { from ≤ 65528 }
-    requires enough { tally (is_on words.now) (64 * from) + to_pass < tally (is_on words.now) (64 * (from + 8)) }
-    ensures passed { tally (is_on words.now) (64 * result.place) + result.left ≡ tally (is_on words.now) (64 * from) + to_pass }
+    requires enough { tally (is_bit_on words.now) (64 * from) + to_pass < tally (is_bit_on words.now) (64 * (from + 8)) }
+    ensures passed { tally (is_bit_on words.now) (64 * result.place) + result.left ≡ tally (is_bit_on words.now) (64 * from) + to_pass }
     ensures here { result.left < tally (has_bit (slice_index words.now result.place)) 64 }
     ensures near { result.place < from + 8 }
 {
@@ -93,11 +93,11 @@ pub fn pass_words(words: &[u64], from: usize, to_pass: u32) -> Spot
 /// Appends the names in a word to a list of the names before it.
 #[inline(always)]
 pub fn push_word(list: &mut Vec<Node>, words: &[u64], place: usize) -> Result<(), Want>
-    requires named { AreNames words.now }
+    requires named { HasOnlyNames words.now }
     requires there { place < length words.now }
     requires near { place ≤ 65536 }
-    requires so_far { list.old.items ≡ below (is_on words.now) (64 * place) }
-    ensures { OnOk result (list.new.items ≡ below (is_on words.now) (64 * place + 64)) }
+    requires so_far { list.old.items ≡ below (is_bit_on words.now) (64 * place) }
+    ensures { OnOk result (list.new.items ≡ below (is_bit_on words.now) (64 * place + 64)) }
 {
     let mut rest = words[place];
     while let Some(at) = first_bit(rest) {

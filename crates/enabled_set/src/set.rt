@@ -24,14 +24,14 @@ pub struct EnabledSet {
 
 impl Model for EnabledSet {
     ghost use Rattle.std.specs.Prelude.{Bool, List};
-    ghost use Rattle.enabled_set.specs.Members.{places_of};
-    ghost use Rattle.enabled_set.specs.Counts.{IsCounted};
+    ghost use Rattle.enabled_set.specs.Members.{first_bits};
+    ghost use Rattle.enabled_set.specs.Counts.{HasRightCounts};
 
     ghost Value = { List Bool };
 
-    ghost view = { λ s. places_of s.len s.words.items };
+    ghost view = { λ s. first_bits s.len s.words.items };
 
-    ghost invariant = { λ s. IsCounted (places_of s.len s.words.items) s.words.items s.by_512.items s.by_4096.items s.total };
+    ghost invariant = { λ s. HasRightCounts (first_bits s.len s.words.items) s.words.items s.by_512.items s.by_4096.items s.total };
 }
 
 impl EnabledSet {

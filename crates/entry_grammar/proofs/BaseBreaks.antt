@@ -5,14 +5,14 @@ use Rattle.std.specs.Result.{IsErrAnd}
 use Rattle.std.specs.List.{AllByRecursion}
 use Rattle.std.proofs.lemmas.Grind.{flat_map-append}
 use Rattle.std.proofs.lemmas.List.{length-map}
-use Rattle.rule_machine.specs.declared.base.Place.{Place as PlaceKept}
-use Rattle.line_text.specs.Words.{ended}
-use Rattle.line_text.specs.BaseText.{place_text, link_text}
+use Rattle.rule_machine.specs.declared.base.NodeRecord.{NodeRecord as PlaceKept}
+use Rattle.line_text.specs.Words.{lines_with_ends}
+use Rattle.line_text.specs.BaseText.{node_record_text, link_text}
 use Rattle.entry_grammar.specs.declared.base_line.BaseLine.{BaseLine}
 use Rattle.entry_grammar.specs.declared.base_line.BaseLine.TheVariants.{Base, Place, Link}
-use Rattle.entry_grammar.specs.Spelling.{IsPair, IsBaseLine, base_line_text}
-use Rattle.entry_grammar.specs.Reading.{AreCounts, Starts}
-use Rattle.entry_grammar.specs.BaseLines.{IsAbove, NodesRise, EdgesRise, IsPlace, place_line, EdgesFollow, NodesFollow, MayFollow, BreaksAt}
+use Rattle.entry_grammar.specs.Spelling.{IsOrderedPair, IsBaseLine, base_line_text}
+use Rattle.entry_grammar.specs.Parsing.{AreCounts, Starts}
+use Rattle.entry_grammar.specs.BaseLines.{IsEdgeAbove, NodesRise, EdgesRise, IsPlace, place_line, EdgesFollow, NodesFollow, MayFollow, BreaksAt}
 use Rattle.entry_grammar.specs.BaseParts.{numbers_text, last_node, last_edge, NodesRead, NodesBreak, EdgesBreak}
 
 abbrev pub place_lines : List PlaceKept → List BaseLine
@@ -23,11 +23,11 @@ edge_lines edges = map (λ edge. Link edge) edges
 
 -- their texts
 
-pub ended_places : (places : List PlaceKept) → ended base_line_text (place_lines places) ≡ ended place_text places
+pub ended_places : (places : List PlaceKept) → lines_with_ends base_line_text (place_lines places) ≡ lines_with_ends node_record_text places
 ended_places [] = refl
-ended_places (place ∷ places) = ap (λ (z : List ℕ). (place_text place ++ 10 ∷ []) ++ z) (ended_places places)
+ended_places (place ∷ places) = ap (λ (z : List ℕ). (node_record_text place ++ 10 ∷ []) ++ z) (ended_places places)
 
-pub ended_edges : (edges : List (ℕ × ℕ)) → ended base_line_text (edge_lines edges) ≡ ended link_text edges
+pub ended_edges : (edges : List (ℕ × ℕ)) → lines_with_ends base_line_text (edge_lines edges) ≡ lines_with_ends link_text edges
 ended_edges [] = refl
 ended_edges (edge ∷ edges) = ap (λ (z : List ℕ). (link_text edge ++ 10 ∷ []) ++ z) (ended_edges edges)
 
@@ -37,7 +37,7 @@ pub fit_places : (places : List PlaceKept) → AllByRecursion IsPlace places →
 fit_places [] f = tt
 fit_places (place ∷ places) f = (f.0, fit_places places f.1)
 
-pub fit_edges : (edges : List (ℕ × ℕ)) → AllByRecursion IsPair edges → AllByRecursion IsBaseLine (edge_lines edges)
+pub fit_edges : (edges : List (ℕ × ℕ)) → AllByRecursion IsOrderedPair edges → AllByRecursion IsBaseLine (edge_lines edges)
 fit_edges [] f = tt
 fit_edges (edge ∷ edges) f = (f.0, fit_edges edges f.1)
 
@@ -75,7 +75,7 @@ node_comes (suc left) edges last [] (Place node target flagged) h f = (record { 
 node_comes (suc left) edges last [] line h f = absurd f
 node_comes (suc left) edges last (place ∷ places) line h f = node_comes left edges place.node places line (omega (arith, h)) f.1
 
-edge_comes : (left : ℕ) (last : ℕ × ℕ) (edges : List (ℕ × ℕ)) (line : BaseLine) → length edges < left → EdgesFollow left last (edge_lines edges ++ line ∷ []) → (edge : ℕ × ℕ) × (line ≡ Link edge) × IsAbove (last_edge last edges) edge
+edge_comes : (left : ℕ) (last : ℕ × ℕ) (edges : List (ℕ × ℕ)) (line : BaseLine) → length edges < left → EdgesFollow left last (edge_lines edges ++ line ∷ []) → (edge : ℕ × ℕ) × (line ≡ Link edge) × IsEdgeAbove (last_edge last edges) edge
 edge_comes zero last edges line h f = absurd (omega (arith, h))
 edge_comes (suc left) last [] (Link edge) h f = (edge, refl, f.0)
 edge_comes (suc left) last [] line h f = absurd f
@@ -124,7 +124,7 @@ node_breaks bytes q rest k h b =
     record {
       lines = Base q.0 q.1 q.2 q.3 ∷ place_lines b.places;
       rest = b.rest;
-      is = text_behind bytes q rest (ended base_line_text (place_lines b.places)) b.rest h (b.read.is ∙ ap (λ (z : List ℕ). z ++ b.rest) (sym (ended_places b.places)));
+      is = text_behind bytes q rest (lines_with_ends base_line_text (place_lines b.places)) b.rest h (b.read.is ∙ ap (λ (z : List ℕ). z ++ b.rest) (sym (ended_places b.places)));
       fit = (h.fits, fit_places b.places b.read.fit);
       follow = nodes_follow q.2 q.3 0 b.places (omega (arith, few)) b.read.rise;
       short = omega (arith, few, many);
@@ -141,15 +141,15 @@ edge_breaks bytes q rest places left k h read all b =
     let nodes = place_lines places in
     let edges = edge_lines b.edges in
     let many : length (nodes ++ edges) ≡ q.2 + length b.edges = length-append nodes edges ∙ ap₂ (λ (m n : ℕ). m + n) (length-map places place_line ∙ all) (length-map b.edges (λ edge. Link edge)) in
-    let texts : ended base_line_text (nodes ++ edges) ≡ ended place_text places ++ ended link_text b.edges =
+    let texts : lines_with_ends base_line_text (nodes ++ edges) ≡ lines_with_ends node_record_text places ++ lines_with_ends link_text b.edges =
     flat_map-append (λ line. base_line_text line ++ 10 ∷ []) nodes edges ∙ ap₂ (λ (x y : List ℕ). x ++ y) (ended_places places) (ended_edges b.edges)
     in
     record {
       lines = Base q.0 q.1 q.2 q.3 ∷ (nodes ++ edges);
       rest = b.rest;
       is =
-          text_behind bytes q rest (ended base_line_text (nodes ++ edges)) b.rest h
-          (read.is ∙ ap (λ (z : List ℕ). ended place_text places ++ z) b.read.is ∙ sym (append_assoc (ended place_text places) (ended link_text b.edges) b.rest) ∙ ap (λ (z : List ℕ). z ++ b.rest) (sym texts));
+          text_behind bytes q rest (lines_with_ends base_line_text (nodes ++ edges)) b.rest h
+          (read.is ∙ ap (λ (z : List ℕ). lines_with_ends node_record_text places ++ z) b.read.is ∙ sym (append_assoc (lines_with_ends node_record_text places) (lines_with_ends link_text b.edges) b.rest) ∙ ap (λ (z : List ℕ). z ++ b.rest) (sym texts));
       fit = (h.fits, fit_both nodes edges (fit_places places read.fit) (fit_edges b.edges b.read.fit));
       follow = all_follow q.2 q.3 0 places edges all read.rise (edges_follow q.3 (0, 0) b.edges (omega (arith, few)) b.read.rise);
       short = omega (arith, few, many);

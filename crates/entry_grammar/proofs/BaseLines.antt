@@ -7,17 +7,17 @@ use Rattle.rule_machine.specs.declared.rules.RuleSet.{RuleSet}
 use Rattle.rule_machine.specs.Tables.{rules_word}
 use Rattle.line_text.specs.Words.{number_text, IsName}
 use Rattle.line_text.specs.EventText.{bool_text, target_text, pair_text}
-use Rattle.line_text.specs.ReplyText.{IsPair, field_text}
-use Rattle.line_text.specs.Words.{joined}
+use Rattle.line_text.specs.ReplyText.{IsOrderedPair, field_text}
+use Rattle.line_text.specs.Words.{joined_texts}
 use Rattle.line_text.specs.BaseText.{base_fields}
 use Rattle.entry_grammar.specs.declared.base_line.BaseLine.{BaseLine}
 use Rattle.entry_grammar.specs.declared.base_line.BaseLine.TheVariants.{Head, Base, Place, Link}
 use Rattle.entry_grammar.specs.Spelling.{SpellsBaseLine}
-use Rattle.entry_grammar.specs.Reading.{IsFree, CutAt, FieldThen, AreCounts, rules_text, registers_text}
+use Rattle.entry_grammar.specs.Parsing.{IsFree, CutAt, FieldThen, AreCounts, rules_text, registers_text}
 use Rattle.entry_grammar.proofs.Free.{cut_once, free_by, free_name}
 use Rattle.entry_grammar.proofs.Headers.{rules_free, rules_once}
 use Rattle.entry_grammar.proofs.CountsOnce.{behind, field_once}
-use Rattle.entry_grammar.proofs.Marked.{marked_once, name_once}
+use Rattle.entry_grammar.proofs.MarkedNames.{marked_once, name_once}
 use Rattle.line_text.proofs.EventsOnce.{bool_once, target_once}
 
 -- the rules and the names are cut at the space between them
@@ -55,9 +55,9 @@ no_place line rest e none (Place node target flag) h =
     none (node, target, flag) h.fits (append_cancel_left (codes "node ") rest (number_text node ++ codes " " ++ target_text target ++ codes " " ++ bool_text flag) (sym e ∙ h.is) ∙ place_is node target flag)
 no_place line rest e none found h = absurd (omega (arith, ap first_of (sym e ∙ h.is)))
 
-pub no_base : (line rest : List ℕ) → line ≡ codes "base " ++ rest → ((q : ℕ × ℕ × ℕ × ℕ) → AreCounts q → rest ≡ joined field_text (base_fields q.0 q.1 q.2 q.3) → ⊥) → (found : BaseLine) → SpellsBaseLine line found → ⊥
+pub no_base : (line rest : List ℕ) → line ≡ codes "base " ++ rest → ((q : ℕ × ℕ × ℕ × ℕ) → AreCounts q → rest ≡ joined_texts field_text (base_fields q.0 q.1 q.2 q.3) → ⊥) → (found : BaseLine) → SpellsBaseLine line found → ⊥
 no_base line rest e none (Base number spent nodes edges) h =
-    none (number, spent, nodes, edges) h.fits (append_cancel_left (codes "base ") rest (joined field_text (base_fields number spent nodes edges)) (sym e ∙ h.is))
+    none (number, spent, nodes, edges) h.fits (append_cancel_left (codes "base ") rest (joined_texts field_text (base_fields number spent nodes edges)) (sym e ∙ h.is))
 no_base line rest e none found h = absurd (omega (arith, ap first_of (sym e ∙ h.is)))
 
 pub no_head : (line rest : List ℕ) → line ≡ codes "matching2 " ++ rest → ((rules : RuleSet) (size : ℕ) → size ≤ 65535 → rest ≡ rules_text rules size → ⊥) → (found : BaseLine) → SpellsBaseLine line found → ⊥
@@ -68,20 +68,20 @@ no_head line rest e none found h = absurd (omega (arith, ap first_of (sym e ∙ 
 -- and one that begins as none does is of none
 pub no_line : (line : List ℕ) → ((rest : List ℕ) → line ≡ codes "node " ++ rest → ⊥) → ((rest : List ℕ) → line ≡ codes "edge " ++ rest → ⊥) → ((rest : List ℕ) → line ≡ codes "base " ++ rest → ⊥) → ((rest : List ℕ) → line ≡ codes "matching2 " ++ rest → ⊥) → (found : BaseLine) → SpellsBaseLine line found → ⊥
 no_line line node edge base head (Head rules size) h = head (rules_word rules ++ codes " " ++ number_text size) h.is
-no_line line node edge base head (Base number spent nodes edges) h = base (joined field_text (base_fields number spent nodes edges)) h.is
+no_line line node edge base head (Base number spent nodes edges) h = base (joined_texts field_text (base_fields number spent nodes edges)) h.is
 no_line line node edge base head (Place v target flag) h = node (number_text v ++ codes " " ++ target_text target ++ codes " " ++ bool_text flag) h.is
 no_line line node edge base head (Link e) h = edge (pair_text e.0 e.1) h.is
 
 -- what follows each number of a base
-pub behind_number : (bytes : List ℕ) (n : ℕ) (rest : List ℕ) (q : ℕ × ℕ × ℕ × ℕ) → AreCounts q → FieldThen bytes (codes "") n rest → bytes ≡ joined field_text (base_fields q.0 q.1 q.2 q.3) → rest ≡ joined field_text ((codes "spent=", q.1) ∷ (codes "nodes=", q.2) ∷ (codes "edges=", q.3) ∷ [])
+pub behind_number : (bytes : List ℕ) (n : ℕ) (rest : List ℕ) (q : ℕ × ℕ × ℕ × ℕ) → AreCounts q → FieldThen bytes (codes "") n rest → bytes ≡ joined_texts field_text (base_fields q.0 q.1 q.2 q.3) → rest ≡ joined_texts field_text ((codes "spent=", q.1) ∷ (codes "nodes=", q.2) ∷ (codes "edges=", q.3) ∷ [])
 behind_number bytes n rest q f h e =
     (behind bytes (codes "") n q.0 rest (codes "spent=", q.1) ((codes "nodes=", q.2) ∷ (codes "edges=", q.3) ∷ []) tt f.0 h e).1
 
-pub behind_spent : (bytes : List ℕ) (n : ℕ) (rest : List ℕ) (q : ℕ × ℕ × ℕ × ℕ) → AreCounts q → FieldThen bytes (codes "spent=") n rest → bytes ≡ joined field_text ((codes "spent=", q.1) ∷ (codes "nodes=", q.2) ∷ (codes "edges=", q.3) ∷ []) → rest ≡ joined field_text ((codes "nodes=", q.2) ∷ (codes "edges=", q.3) ∷ [])
+pub behind_spent : (bytes : List ℕ) (n : ℕ) (rest : List ℕ) (q : ℕ × ℕ × ℕ × ℕ) → AreCounts q → FieldThen bytes (codes "spent=") n rest → bytes ≡ joined_texts field_text ((codes "spent=", q.1) ∷ (codes "nodes=", q.2) ∷ (codes "edges=", q.3) ∷ []) → rest ≡ joined_texts field_text ((codes "nodes=", q.2) ∷ (codes "edges=", q.3) ∷ [])
 behind_spent bytes n rest q f h e =
     (behind bytes (codes "spent=") n q.1 rest (codes "nodes=", q.2) ((codes "edges=", q.3) ∷ []) (free_by 32 (codes "spent=") refl) f.1 h e).1
 
-pub behind_nodes : (bytes : List ℕ) (n : ℕ) (rest : List ℕ) (q : ℕ × ℕ × ℕ × ℕ) → AreCounts q → FieldThen bytes (codes "nodes=") n rest → bytes ≡ joined field_text ((codes "nodes=", q.2) ∷ (codes "edges=", q.3) ∷ []) → rest ≡ field_text (codes "edges=", q.3)
+pub behind_nodes : (bytes : List ℕ) (n : ℕ) (rest : List ℕ) (q : ℕ × ℕ × ℕ × ℕ) → AreCounts q → FieldThen bytes (codes "nodes=") n rest → bytes ≡ joined_texts field_text ((codes "nodes=", q.2) ∷ (codes "edges=", q.3) ∷ []) → rest ≡ field_text (codes "edges=", q.3)
 behind_nodes bytes n rest q f h e =
     (behind bytes (codes "nodes=") n q.2 rest (codes "edges=", q.3) [] (free_by 32 (codes "nodes=") refl) f.2 h e).1
     ∙ append-nil (field_text (codes "edges=", q.3))
@@ -99,16 +99,16 @@ places_once m n v w f g x y e =
     let p = cut_once 32 (registers_text v f) (target_text v) (target_text w) (bool_text f) (bool_text g) (registers_cut (registers_text v f) v f x.1 refl) (registers_cut (registers_text v f) w g y.1 name.1) in
     ap (λ z. Place z v f) name.0 ∙ ap₂ (λ z b. Place n z b) (target_once v w x.1 y.1 p.0) (bool_once f g p.1)
 
-links_once : (p q : ℕ × ℕ) → IsPair p → IsPair q → number_text p.0 ++ 32 ∷ number_text p.1 ≡ number_text q.0 ++ 32 ∷ number_text q.1 → p ≡ q
+links_once : (p q : ℕ × ℕ) → IsOrderedPair p → IsOrderedPair q → number_text p.0 ++ 32 ∷ number_text p.1 ≡ number_text q.0 ++ 32 ∷ number_text q.1 → p ≡ q
 links_once p q f g e =
     let low = marked_once 32 p.0 q.0 (number_text p.1) (number_text q.1) (λ h. omega (arith, h.0)) f.0 g.0 e in
     ap₂ (λ x y. (x, y)) low.0 (name_once p.1 q.1 f.1 g.1 low.1)
 
-bases_once : (a b c d k l m n : ℕ) → AreCounts (a, b, c, d) → AreCounts (k, l, m, n) → joined field_text (base_fields a b c d) ≡ joined field_text (base_fields k l m n) → Base a b c d ≡ Base k l m n
+bases_once : (a b c d k l m n : ℕ) → AreCounts (a, b, c, d) → AreCounts (k, l, m, n) → joined_texts field_text (base_fields a b c d) ≡ joined_texts field_text (base_fields k l m n) → Base a b c d ≡ Base k l m n
 bases_once a b c d k l m n f g e =
-    let number = behind (joined field_text (base_fields a b c d)) (codes "") a k (joined field_text ((codes "spent=", b) ∷ (codes "nodes=", c) ∷ (codes "edges=", d) ∷ [])) (codes "spent=", l) ((codes "nodes=", m) ∷ (codes "edges=", n) ∷ []) tt g.0 (record { fits = f.0; is = refl }) e in
-    let spent = behind (joined field_text ((codes "spent=", b) ∷ (codes "nodes=", c) ∷ (codes "edges=", d) ∷ [])) (codes "spent=") b l (joined field_text ((codes "nodes=", c) ∷ (codes "edges=", d) ∷ [])) (codes "nodes=", m) ((codes "edges=", n) ∷ []) (free_by 32 (codes "spent=") refl) g.1 (record { fits = f.1; is = refl }) number.1 in
-    let nodes = behind (joined field_text ((codes "nodes=", c) ∷ (codes "edges=", d) ∷ [])) (codes "nodes=") c m (joined field_text ((codes "edges=", d) ∷ [])) (codes "edges=", n) [] (free_by 32 (codes "nodes=") refl) g.2 (record { fits = f.2; is = refl }) spent.1 in
+    let number = behind (joined_texts field_text (base_fields a b c d)) (codes "") a k (joined_texts field_text ((codes "spent=", b) ∷ (codes "nodes=", c) ∷ (codes "edges=", d) ∷ [])) (codes "spent=", l) ((codes "nodes=", m) ∷ (codes "edges=", n) ∷ []) tt g.0 (record { fits = f.0; is = refl }) e in
+    let spent = behind (joined_texts field_text ((codes "spent=", b) ∷ (codes "nodes=", c) ∷ (codes "edges=", d) ∷ [])) (codes "spent=") b l (joined_texts field_text ((codes "nodes=", c) ∷ (codes "edges=", d) ∷ [])) (codes "nodes=", m) ((codes "edges=", n) ∷ []) (free_by 32 (codes "spent=") refl) g.1 (record { fits = f.1; is = refl }) number.1 in
+    let nodes = behind (joined_texts field_text ((codes "nodes=", c) ∷ (codes "edges=", d) ∷ [])) (codes "nodes=") c m (joined_texts field_text ((codes "edges=", d) ∷ [])) (codes "edges=", n) [] (free_by 32 (codes "nodes=") refl) g.2 (record { fits = f.2; is = refl }) spent.1 in
     let edges = field_once (codes "edges=") d n f.3 g.3 (sym (append-nil (field_text (codes "edges=", d))) ∙ nodes.1 ∙ append-nil (field_text (codes "edges=", n))) in
     ap (λ z. Base z b c d) number.0 ∙ ap (λ z. Base k z c d) spent.0 ∙ ap (λ z. Base k l z d) nodes.0 ∙ ap (λ z. Base k l m z) edges
 
@@ -116,7 +116,7 @@ pub spells_base_line_once : (line : List ℕ) (a b : BaseLine) → SpellsBaseLin
 spells_base_line_once line (Head rules size) (Head rules_b size_b) x y =
     heads_once rules rules_b size size_b x.fits y.fits (sym (head_is rules size) ∙ append_cancel_left (codes "matching2 ") (rules_word rules ++ codes " " ++ number_text size) (rules_word rules_b ++ codes " " ++ number_text size_b) (sym x.is ∙ y.is) ∙ head_is rules_b size_b)
 spells_base_line_once line (Base number spent nodes edges) (Base number_b spent_b nodes_b edges_b) x y =
-    bases_once number spent nodes edges number_b spent_b nodes_b edges_b x.fits y.fits (append_cancel_left (codes "base ") (joined field_text (base_fields number spent nodes edges)) (joined field_text (base_fields number_b spent_b nodes_b edges_b)) (sym x.is ∙ y.is))
+    bases_once number spent nodes edges number_b spent_b nodes_b edges_b x.fits y.fits (append_cancel_left (codes "base ") (joined_texts field_text (base_fields number spent nodes edges)) (joined_texts field_text (base_fields number_b spent_b nodes_b edges_b)) (sym x.is ∙ y.is))
 spells_base_line_once line (Place node target flag) (Place node_b target_b flag_b) x y =
     places_once node node_b target target_b flag flag_b x.fits y.fits (sym (place_is node target flag) ∙ append_cancel_left (codes "node ") (number_text node ++ codes " " ++ target_text target ++ codes " " ++ bool_text flag) (number_text node_b ++ codes " " ++ target_text target_b ++ codes " " ++ bool_text flag_b) (sym x.is ∙ y.is) ∙ place_is node_b target_b flag_b)
 spells_base_line_once line (Link edge) (Link edge_b) x y =

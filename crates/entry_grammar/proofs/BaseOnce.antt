@@ -4,14 +4,14 @@ use Rattle.std.specs.List.{AllByRecursion}
 use Rattle.std.proofs.lemmas.Grind.{flat_map-append}
 use Rattle.std.proofs.lemmas.List.{length-append, length-map, append-nil}
 use Rattle.rule_machine.specs.declared.rules.RuleSet.{RuleSet}
-use Rattle.rule_machine.specs.declared.base.Place.{Place as PlaceKept}
+use Rattle.rule_machine.specs.declared.base.NodeRecord.{NodeRecord as PlaceKept}
 use Rattle.rule_machine.specs.declared.base.Base.{Base as BaseKept}
-use Rattle.line_text.specs.Words.{ended}
-use Rattle.line_text.specs.BaseText.{base_head, numbers_line, place_text, link_text, base_text}
+use Rattle.line_text.specs.Words.{lines_with_ends}
+use Rattle.line_text.specs.BaseText.{base_head, numbers_line, node_record_text, link_text, base_text}
 use Rattle.entry_grammar.specs.declared.base_line.BaseLine.{BaseLine}
 use Rattle.entry_grammar.specs.declared.base_line.BaseLine.TheVariants.{Base, Place, Link}
 use Rattle.entry_grammar.specs.Spelling.{IsBaseLine, base_line_text}
-use Rattle.entry_grammar.specs.BaseLines.{IsShaped, base_lines, place_line, lines_of_base, EdgesFollow, NodesFollow, MayFollow, IsShort, BreaksAt}
+use Rattle.entry_grammar.specs.BaseLines.{IsShaped, base_lines, place_line, lines_of_base, EdgesFollow, NodesFollow, MayFollow, LacksLines, BreaksAt}
 use Rattle.entry_grammar.proofs.Free.{mark_once}
 use Rattle.entry_grammar.proofs.BaseBreaks.{all_follow, edges_follow, ended_edges, ended_places, fit_both, fit_edges, fit_places}
 use Rattle.entry_grammar.proofs.BaseLines.{spells_base_line_once}
@@ -20,7 +20,7 @@ use Rattle.entry_grammar.proofs.FirstLines.{line_free}
 -- ---- two lists of lines at the beginning of one text
 
 abbrev text : List BaseLine → List ℕ
-text lines = ended base_line_text lines
+text lines = lines_with_ends base_line_text lines
 
 -- one line and the rest
 one_line : (line : BaseLine) (lines : List BaseLine) (x : List ℕ) → text (line ∷ lines) ++ x ≡ base_line_text line ++ 10 ∷ (text lines ++ x)
@@ -88,8 +88,8 @@ pub base_text_is : (rules : RuleSet) (size : ℕ) (base : BaseKept) → base_tex
 base_text_is rules size base =
     let head = base_head rules size ++ 10 ∷ [] in
     let counts = numbers_line base ++ 10 ∷ [] in
-    append_assoc (head ++ counts) (ended place_text base.nodes) (ended link_text base.edges)
-    ∙ append_assoc head counts (ended place_text base.nodes ++ ended link_text base.edges)
+    append_assoc (head ++ counts) (lines_with_ends node_record_text base.nodes) (lines_with_ends link_text base.edges)
+    ∙ append_assoc head counts (lines_with_ends node_record_text base.nodes ++ lines_with_ends link_text base.edges)
 
 -- the lines after the first
 abbrev tail_of : BaseKept → List BaseLine
@@ -201,7 +201,7 @@ breaks_once bytes k l b c = go (meet b.lines c.lines b.rest c.rest b.fit c.fit (
     go (inr h) = b.number ∙ ap (λ ls. length ls + 1) (not_behind bytes l c b.lines b.rest b.follow h) ∙ sym c.number
 
 -- a whole base is not short, and neither is what continues it
-not_short : (base : BaseKept) (more : List BaseLine) → IsShort (lines_of_base base ++ more) → ⊥
+not_short : (base : BaseKept) (more : List BaseLine) → LacksLines (lines_of_base base ++ more) → ⊥
 not_short base more short =
     let lens = length-append (tail_of base) more in
     let len = tail_len base in
@@ -214,5 +214,5 @@ base_unbroken bytes base rest k shaped e b =
     go : GoesOn b.lines (lines_of_base base) b.rest rest ⊎ GoesOn (lines_of_base base) b.lines rest b.rest → ⊥
     go (inl h) =
         let same = not_behind bytes k b (lines_of_base base) rest (lines_follow base shaped) h in
-        not_short base [] (subst IsShort (sym same ∙ sym (append-nil (lines_of_base base))) b.short)
-    go (inr h) = not_short base h.more (subst IsShort h.is b.short)
+        not_short base [] (subst LacksLines (sym same ∙ sym (append-nil (lines_of_base base))) b.short)
+    go (inr h) = not_short base h.more (subst LacksLines h.is b.short)

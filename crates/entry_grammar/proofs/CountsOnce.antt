@@ -4,10 +4,10 @@ use Rattle.std.specs.Prelude.{codes}
 use Rattle.std.proofs.lemmas.List.{append-nil, append_cancel_left}
 use Rattle.std.proofs.lemmas.Fmt.{decimal_injective}
 use Rattle.rule_machine.specs.declared.counts.Counts.{Counts}
-use Rattle.line_text.specs.Words.{number_text, joined}
-use Rattle.line_text.specs.ReplyText.{IsCount, IsCounts, counts_text, field_text, fields_of}
-use Rattle.line_text.specs.Reading.{Reads}
-use Rattle.entry_grammar.specs.Reading.{IsFree, CutAt, FieldThen}
+use Rattle.line_text.specs.Words.{number_text, joined_texts}
+use Rattle.line_text.specs.ReplyText.{IsCountValue, IsCounts, counts_text, field_text, fields_of}
+use Rattle.line_text.specs.Parsing.{ParsesAs}
+use Rattle.entry_grammar.specs.Parsing.{IsFree, CutAt, FieldThen}
 use Rattle.entry_grammar.proofs.Free.{free_append, free_number, free_by, cut_once}
 
 -- a field is cut at the space after it
@@ -20,24 +20,24 @@ field_cut bytes name n rest f h =
     }
 
 -- a field has one text
-pub field_once : (name : List ℕ) (m n : ℕ) → IsCount m → IsCount n → field_text (name, m) ≡ field_text (name, n) → m ≡ n
+pub field_once : (name : List ℕ) (m n : ℕ) → IsCountValue m → IsCountValue n → field_text (name, m) ≡ field_text (name, n) → m ≡ n
 field_once name m n f g e =
     decimal_injective m n (omega (arith, f)) (omega (arith, g)) (append_cancel_left name (number_text m) (number_text n) e)
 
 -- a number after its name is read as its digits are
-pub field_reads : (bytes name digits : List ℕ) (r : Option ℕ) → bytes ≡ name ++ digits → Reads (λ n. n ≤ 4294967295) number_text digits r → Reads IsCount (λ n. field_text (name, n)) bytes r
+pub field_reads : (bytes name digits : List ℕ) (r : Option ℕ) → bytes ≡ name ++ digits → ParsesAs (λ n. n ≤ 4294967295) number_text digits r → ParsesAs IsCountValue (λ n. field_text (name, n)) bytes r
 field_reads bytes name digits None e none = λ n f is. none n (omega (arith, f)) (append_cancel_left name digits (number_text n) (sym e ∙ is))
 field_reads bytes name digits (Some n) e found = (omega (arith, found.0), e ∙ ap (λ (t : List ℕ). name ++ t) found.1)
 
 -- a field, and what follows the space after it
-pub behind : (bytes name : List ℕ) (m n : ℕ) (rest : List ℕ) (next : List ℕ × ℕ) (more : List (List ℕ × ℕ)) → IsFree 32 name → IsCount n → FieldThen bytes name m rest → bytes ≡ joined field_text ((name, n) ∷ next ∷ more) → (m ≡ n) × (rest ≡ joined field_text (next ∷ more))
+pub behind : (bytes name : List ℕ) (m n : ℕ) (rest : List ℕ) (next : List ℕ × ℕ) (more : List (List ℕ × ℕ)) → IsFree 32 name → IsCountValue n → FieldThen bytes name m rest → bytes ≡ joined_texts field_text ((name, n) ∷ next ∷ more) → (m ≡ n) × (rest ≡ joined_texts field_text (next ∷ more))
 behind bytes name m n rest next more f g h e =
-    let r = cut_once 32 bytes (field_text (name, m)) (field_text (name, n)) rest (joined field_text (next ∷ more)) (field_cut bytes name m rest f h) (field_cut bytes name n (joined field_text (next ∷ more)) f (record { fits = g; is = e })) in
+    let r = cut_once 32 bytes (field_text (name, m)) (field_text (name, n)) rest (joined_texts field_text (next ∷ more)) (field_cut bytes name m rest f h) (field_cut bytes name n (joined_texts field_text (next ∷ more)) f (record { fits = g; is = e })) in
     (field_once name m n h.fits g r.0, r.1)
 
 -- the fields from this one on
 abbrev pub left_from : ℕ → Counts → List ℕ
-left_from k c = joined field_text (drop k (fields_of c))
+left_from k c = joined_texts field_text (drop k (fields_of c))
 
 -- what follows each field, one after another
 pub after_nodes : (bytes : List ℕ) (n : ℕ) (rest : List ℕ) (c : Counts) → IsCounts c → FieldThen bytes (codes "nodes=") n rest → bytes ≡ counts_text c → (n ≡ c.nodes) × (rest ≡ left_from 1 c)
@@ -90,6 +90,6 @@ pub last_text : (rest : List ℕ) (c : Counts) → rest ≡ left_from 5 c → re
 last_text rest c e = e ∙ append-nil (field_text (codes "spent=", c.spent))
 
 -- if none was found there is none to be found
-pub none_read : (bytes : List ℕ) (r : Option Counts) → r ≡ None → ((c : Counts) → IsCounts c → bytes ≡ counts_text c → ⊥) → Reads IsCounts counts_text bytes r
+pub none_read : (bytes : List ℕ) (r : Option Counts) → r ≡ None → ((c : Counts) → IsCounts c → bytes ≡ counts_text c → ⊥) → ParsesAs IsCounts counts_text bytes r
 none_read bytes None e none = none
 none_read bytes (Some c) e none = cc

@@ -11,7 +11,7 @@ use Rattle.line_text.specs.EventText.{IsEvent, event_text, Spells, SpellsStep, N
 use Rattle.line_text.specs.ReplyText.{reply_text}
 use Rattle.line_text.proofs.EventsOnce.{spells_once}
 use Rattle.entry_grammar.specs.Spelling.{IsReply, SpellsEntry, AsksForList}
-use Rattle.entry_grammar.specs.Reading.{PartsOf, suits}
+use Rattle.entry_grammar.specs.Parsing.{PartsOf, reply_suits}
 use Rattle.entry_grammar.proofs.Free.{free_number}
 use Rattle.entry_grammar.proofs.Parts.{parts_of, parts_once}
 use Rattle.entry_grammar.proofs.Replies.{fits_suits, reply_once}
@@ -32,10 +32,10 @@ pub number_is : (number : List ℕ) (m n : ℕ) → m < 100000000 → n ≤ 1677
 number_is number m n h k e f = decimal_injective m n (omega arith) (omega arith) (sym e ∙ f)
 
 -- an event and a reply of its kind are determined by their texts
-pub pair_is : (event : Event) (reply : Reply) (entry : Event × Reply) → IsEvent event → IsReply reply → IsTrue (suits event reply) → IsEvent entry.0 → IsReply entry.1 → IsTrue (suits entry.0 entry.1) → event_text event ≡ event_text entry.0 → reply_text reply ≡ reply_text entry.1 → (event ≡ entry.0) × (reply ≡ entry.1)
+pub pair_is : (event : Event) (reply : Reply) (entry : Event × Reply) → IsEvent event → IsReply reply → IsTrue (reply_suits event reply) → IsEvent entry.0 → IsReply entry.1 → IsTrue (reply_suits entry.0 entry.1) → event_text event ≡ event_text entry.0 → reply_text reply ≡ reply_text entry.1 → (event ≡ entry.0) × (reply ≡ entry.1)
 pair_is event reply entry f g s h k t d e =
     let same : event ≡ entry.0 = spells_once (event_text event) event entry.0 (f, refl) (h, d) in
-    (same, reply_once entry.0 reply entry.1 (subst (λ (z : Event). IsTrue (suits z reply)) same s) t g k e)
+    (same, reply_once entry.0 reply entry.1 (subst (λ (z : Event). IsTrue (reply_suits z reply)) same s) t g k e)
 
 -- a line spells one entry
 pub spells_entry_once : (line : List ℕ) (m n : ℕ) (e f : Event × Reply) → SpellsEntry line m e → SpellsEntry line n f → (m ≡ n) × (e ≡ f)
@@ -52,14 +52,14 @@ no_command line number event reply n entry p none h =
     none entry.0 (h.event, (spelled_same line number event reply n entry p h).1)
 
 -- no entry is spelled if the reply's text is no reply to the event
-pub no_reply : (line number event reply : List ℕ) (n : ℕ) (entry : Event × Reply) (asked : Event) → PartsOf line number event reply → Spells event asked → ((q : Reply) → IsTrue (suits asked q) × IsReply q → reply ≡ reply_text q → ⊥) → SpellsEntry line n entry → ⊥
+pub no_reply : (line number event reply : List ℕ) (n : ℕ) (entry : Event × Reply) (asked : Event) → PartsOf line number event reply → Spells event asked → ((q : Reply) → IsTrue (reply_suits asked q) × IsReply q → reply ≡ reply_text q → ⊥) → SpellsEntry line n entry → ⊥
 no_reply line number event reply n entry asked p s none h =
     let q = spelled_same line number event reply n entry p h in
     let same : entry.0 ≡ asked = spells_once event entry.0 asked (h.event, q.1) s in
-    none entry.1 (subst (λ (z : Event). IsTrue (suits z entry.1)) same (fits_suits entry.0 entry.1 h.fits), h.reply) q.2
+    none entry.1 (subst (λ (z : Event). IsTrue (reply_suits z entry.1)) same (fits_suits entry.0 entry.1 h.fits), h.reply) q.2
 
 -- no entry is spelled if the reply does not fit the event
-pub no_fit : (line number event reply : List ℕ) (n : ℕ) (entry : Event × Reply) (asked : Event) (answered : Reply) → PartsOf line number event reply → Spells event asked → (IsTrue (suits asked answered) × IsReply answered) × (reply ≡ reply_text answered) → (IsTrue (fits asked answered) → ⊥) → SpellsEntry line n entry → ⊥
+pub no_fit : (line number event reply : List ℕ) (n : ℕ) (entry : Event × Reply) (asked : Event) (answered : Reply) → PartsOf line number event reply → Spells event asked → (IsTrue (reply_suits asked answered) × IsReply answered) × (reply ≡ reply_text answered) → (IsTrue (fits asked answered) → ⊥) → SpellsEntry line n entry → ⊥
 no_fit line number event reply n entry asked answered p s r none h =
     let q = spelled_same line number event reply n entry p h in
     let t = pair_is asked answered entry s.0 r.0.1 r.0.0 h.event h.reply (fits_suits entry.0 entry.1 h.fits) (sym s.1 ∙ q.1) (sym r.1 ∙ q.2) in

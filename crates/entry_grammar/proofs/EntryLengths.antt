@@ -15,9 +15,9 @@ use Rattle.rule_machine.specs.declared.reply.Reply.{Reply}
 use Rattle.rule_machine.specs.declared.reply.Reply.TheVariants.{Accepted, Refused, Moves, Shown, EnabledAre, Pairs}
 use Rattle.rule_machine.specs.declared.reply.Reply.TheVariants as reply_is
 use Rattle.rule_machine.specs.Refuse.{refusal_number, refusal_text}
-use Rattle.line_text.specs.Words.{number_text, IsName, marked_text, spaced, joined, joined_or}
+use Rattle.line_text.specs.Words.{number_text, IsName, marked_text, spaced, joined_texts, joined_or}
 use Rattle.line_text.specs.EventText.{event_text}
-use Rattle.line_text.specs.ReplyText.{act_word, enabled_text, move_text, mutual_text, refusal_words, field_text, counts_text, reply_text, IsMoved, IsEnabled, IsPair, IsCount, IsCounts, IsReply}
+use Rattle.line_text.specs.ReplyText.{act_word, enabled_text, move_text, mutual_text, refusal_words, field_text, counts_text, reply_text, IsMoved, IsEnabled, IsOrderedPair, IsCountValue, IsCounts, IsReply}
 use Rattle.line_text.specs.EntryText.{entry_text}
 use Rattle.line_text.proofs.EventLengths.{name_short, target_short, event_short}
 use Rattle.log_entry.specs.Kinds.{is_move, are_moves, fits}
@@ -58,7 +58,7 @@ enabled_short : (e : ℕ × Act) → IsEnabled e → length (enabled_text e) ≤
 enabled_short e h =
     omega (arith, name_short e.0 h, act_short e.1, length-append (number_text e.0) (codes ":"), length-append (number_text e.0 ++ codes ":") (act_word e.1))
 
-mutual_short : (p : ℕ × ℕ) → IsPair p → length (mutual_text p) ≤ 18
+mutual_short : (p : ℕ × ℕ) → IsOrderedPair p → length (mutual_text p) ≤ 18
 mutual_short p h =
     omega (arith, name_short p.0 h.0, name_short p.1 h.1, length-append (number_text p.0) (codes "-"), length-append (number_text p.0 ++ codes "-") (number_text p.1))
 
@@ -69,7 +69,7 @@ spaced_short text P short [] all = omega arith
 spaced_short text P short (x ∷ xs) all =
     omega (arith, short x all.0, spaced_short text P short xs all.1, length-append (codes " ") (text x), length-append (codes " " ++ text x) (spaced text xs))
 
-joined_short : {X : Type 0} (text : X → List ℕ) (P : X → Type 0) → ((x : X) → P x → length (text x) ≤ 18) → (xs : List X) → AllByRecursion P xs → length xs ≤ 65535 → length (joined text xs) ≤ 1245164
+joined_short : {X : Type 0} (text : X → List ℕ) (P : X → Type 0) → ((x : X) → P x → length (text x) ≤ 18) → (xs : List X) → AllByRecursion P xs → length xs ≤ 65535 → length (joined_texts text xs) ≤ 1245164
 joined_short text P short [] all few = omega arith
 joined_short text P short (x ∷ xs) all few =
     omega (arith, few, short x all.0, spaced_short text P short xs all.1, length-append (text x) (spaced text xs))
@@ -97,7 +97,7 @@ all_told [] named are = tt
 all_told (m ∷ moves) named are =
     let parts = and_parts (is_move m) (list_all is_move moves) are in ((named.0, parts.0), all_told moves named.1 parts.1)
 
-moves_short : (moves : List Moved) → AllByRecursion IsMoved moves → IsTrue (are_moves moves) → length (joined move_text moves) ≤ 1245164
+moves_short : (moves : List Moved) → AllByRecursion IsMoved moves → IsTrue (are_moves moves) → length (joined_texts move_text moves) ≤ 1245164
 moves_short moves named are =
     let parts = and_parts (nat_le 1 (length moves) && nat_le (length moves) 65535) (list_all is_move moves) are in
     let few = and_parts (nat_le 1 (length moves)) (nat_le (length moves) 65535) parts.0 in
@@ -126,13 +126,13 @@ refusal_short refusal =
     )
 
 -- a field, and the space before it
-field_short : (name : List ℕ) (n : ℕ) → length name ≤ 8 → IsCount n → length (field_text (name, n)) ≤ 18
+field_short : (name : List ℕ) (n : ℕ) → length name ≤ 8 → IsCountValue n → length (field_text (name, n)) ≤ 18
 field_short name n short h =
     let digits : length (number_text n) ≤ 10 = length-decimal-le 10 n (omega arith) (omega (arith, h)) (omega (arith, h)) in
     omega (arith, short, digits, length-append name (number_text n))
 
 abbrev IsField : List ℕ × ℕ → Type 0
-IsField f = (length f.0 ≤ 8) × IsCount f.1
+IsField f = (length f.0 ≤ 8) × IsCountValue f.1
 
 counts_short : (c : Counts) → IsCounts c → length (counts_text c) ≤ 1245164
 counts_short c h =
@@ -147,7 +147,7 @@ reply_short e (Refused refusal) is h = omega (arith, refusal_short refusal)
 reply_short e (Moves moves) is h = moves_short moves is (fits_moves e moves h)
 reply_short e (Shown target) is h = omega (arith, target_short target is)
 reply_short e (EnabledAre nodes) is h = listed_short enabled_text IsEnabled enabled_short nodes is (leb-true (length nodes) 65535 (fits_enabled e nodes h))
-reply_short e (Pairs pairs) is h = listed_short mutual_text IsPair mutual_short pairs is (leb-true (length pairs) 65535 (fits_pairs e pairs h))
+reply_short e (Pairs pairs) is h = listed_short mutual_text IsOrderedPair mutual_short pairs is (leb-true (length pairs) 65535 (fits_pairs e pairs h))
 reply_short e (reply_is.Counts counts) is h = counts_short counts is
 
 -- ---- the whole line

@@ -5,14 +5,14 @@ use Rattle.byte_streams.specs.Lines.{IsLine}
 use Rattle.rule_machine.specs.declared.rules.RuleSet.{RuleSet}
 use Rattle.rule_machine.specs.declared.rules.RuleSet.TheVariants.{Hh, Manne}
 use Rattle.rule_machine.specs.Tables.{rules_word}
-use Rattle.line_text.specs.Words.{number_text, joined}
+use Rattle.line_text.specs.Words.{number_text, joined_texts}
 use Rattle.line_text.specs.EventText.{bool_text, target_text, pair_text}
-use Rattle.line_text.specs.ReplyText.{IsCount, field_text}
+use Rattle.line_text.specs.ReplyText.{IsCountValue, field_text}
 use Rattle.line_text.specs.BaseText.{base_fields}
 use Rattle.entry_grammar.specs.declared.base_line.BaseLine.{BaseLine}
 use Rattle.entry_grammar.specs.declared.base_line.BaseLine.TheVariants.{Head, Base, Place, Link}
 use Rattle.entry_grammar.specs.Spelling.{IsBaseLine, SpellsBaseLine, base_line_text}
-use Rattle.entry_grammar.specs.Reading.{IsFree, CutAt, AreCounts, Starts}
+use Rattle.entry_grammar.specs.Parsing.{IsFree, CutAt, AreCounts, Starts}
 use Rattle.entry_grammar.proofs.Free.{free_by, cut_once, free_no_cut}
 use Rattle.entry_grammar.proofs.Marks.{feed, apart_lack, bool_lacks, both_lack, joined_lack, name_lacks, number_lacks, target_lacks}
 use Rattle.entry_grammar.proofs.BaseLines.{spells_base_line_once}
@@ -25,12 +25,12 @@ rules_free Manne = free_by 10 (rules_word Manne) refl
 
 -- what a count's name and its number meet
 abbrev pub IsField : List ℕ × ℕ → Type 0
-IsField field = IsFree 10 field.0 × IsCount field.1
+IsField field = IsFree 10 field.0 × IsCountValue field.1
 
 pub field_free : (field : List ℕ × ℕ) → IsField field → IsFree 10 (field_text field)
 field_free field f = both_lack feed field.0 (number_text field.1) f.0 (number_lacks feed field.1 (omega (arith, f.1)))
 
-fields_free : (number spent nodes edges : ℕ) → AreCounts (number, spent, nodes, edges) → IsFree 10 (joined field_text (base_fields number spent nodes edges))
+fields_free : (number spent nodes edges : ℕ) → AreCounts (number, spent, nodes, edges) → IsFree 10 (joined_texts field_text (base_fields number spent nodes edges))
 fields_free number spent nodes edges f =
     joined_lack feed IsField field_text field_free (base_fields number spent nodes edges)
     ((tt, f.0), ((free_by 10 (codes "spent=") refl, f.1), ((free_by 10 (codes "nodes=") refl, f.2), ((free_by 10 (codes "edges=") refl, f.3), tt))))
@@ -41,7 +41,7 @@ line_free (Head rules size) f =
     (both_lack feed (codes "matching2 ") (rules_word rules) (free_by 10 (codes "matching2 ") refl) (rules_free rules))
     (number_lacks feed size (omega (arith, f)))
 line_free (Base number spent nodes edges) f =
-    both_lack feed (codes "base ") (joined field_text (base_fields number spent nodes edges)) (free_by 10 (codes "base ") refl) (fields_free number spent nodes edges f)
+    both_lack feed (codes "base ") (joined_texts field_text (base_fields number spent nodes edges)) (free_by 10 (codes "base ") refl) (fields_free number spent nodes edges f)
 line_free (Place node target flag) f =
     apart_lack feed (codes "node " ++ number_text node ++ codes " " ++ target_text target) (bool_text flag)
     (apart_lack feed (codes "node " ++ number_text node) (target_text target)

@@ -10,10 +10,10 @@ use Rattle.rule_machine.specs.declared.act.Act.TheVariants.{Update}
 use Rattle.rule_machine.specs.declared.act.Moved.{Moved}
 use Rattle.line_text.specs.Words.{number_text, marked_text, IsName}
 use Rattle.line_text.specs.ReplyText.{act_word, enabled_text, move_text, mutual_text}
-use Rattle.entry_grammar.specs.Spelling.{IsMoved, IsEnabled, IsPair}
+use Rattle.entry_grammar.specs.Spelling.{IsMoved, IsEnabled, IsOrderedPair}
 use Rattle.line_text.proofs.Digits.{own}
 pub use Rattle.line_text.proofs.Digits.{cons_parts}
-use Rattle.entry_grammar.specs.Reading.{IsFree, CutAt}
+use Rattle.entry_grammar.specs.Parsing.{IsFree, CutAt}
 use Rattle.std.proofs.lemmas.Fmt.{digits_decimal}
 use Rattle.std.proofs.lemmas.Bool.{and_parts}
 use Rattle.std.proofs.lemmas.List.{take-append-drop, take_more, length-drop}
@@ -118,7 +118,7 @@ free_enabled e f =
     (free_append 32 (number_text e.0) (58 ∷ []) (free_name 32 e.0 (λ h. omega (arith, h.0)) f) (free_by 32 (58 ∷ []) refl))
     (free_act e.1)
 
-pub free_pair : (p : ℕ × ℕ) → IsPair p → IsFree 32 (mutual_text p)
+pub free_pair : (p : ℕ × ℕ) → IsOrderedPair p → IsFree 32 (mutual_text p)
 free_pair p f =
     free_append 32 (number_text p.0 ++ 45 ∷ []) (number_text p.1)
     (free_append 32 (number_text p.0) (45 ∷ []) (free_name 32 p.0 (λ h. omega (arith, h.0)) f.0) (free_by 32 (45 ∷ []) refl))

@@ -10,7 +10,7 @@ use Rattle.rule_machine.specs.Tables.{rules_word}
 use Rattle.line_text.specs.Words.{number_text}
 use Rattle.line_text.specs.EntryText.{sizes_text}
 use Rattle.entry_grammar.specs.Spelling.{AreSizes, SpellsHeader}
-use Rattle.entry_grammar.specs.Reading.{IsFree, CutAt}
+use Rattle.entry_grammar.specs.Parsing.{IsFree, CutAt}
 use Rattle.entry_grammar.proofs.Free.{free_by, free_number, free_no_cut, cut_once}
 
 -- a rule set's word has no space

@@ -7,20 +7,20 @@ use Rattle.rule_machine.specs.declared.act.Act.{Act}
 use Rattle.rule_machine.specs.declared.act.Act.TheVariants.{Update, Marry, Seduce, Abandon}
 use Rattle.line_text.specs.Words.{number_text, marked_text, IsName}
 use Rattle.line_text.specs.ReplyText.{act_word, mutual_text}
-use Rattle.line_text.specs.Reading.{NoDigit, NameThen}
+use Rattle.line_text.specs.Parsing.{NoDigit, NameThen}
 use Rattle.line_text.proofs.Digits.{name_once}
-use Rattle.entry_grammar.specs.Spelling.{IsPair}
-use Rattle.entry_grammar.specs.Reading.{first_byte, Ends, TokenThen, PairThen, DeedThen, deed_text}
-use Rattle.entry_grammar.proofs.Marked.{marked_once}
+use Rattle.entry_grammar.specs.Spelling.{IsOrderedPair}
+use Rattle.entry_grammar.specs.Parsing.{first_byte, EndsWord, TokenThen, PairThen, DeedThen, deed_text}
+use Rattle.entry_grammar.proofs.MarkedNames.{marked_once}
 use Rattle.entry_grammar.proofs.TokensOnce.{whole_pair}
 
 -- no digit begins an end
-pub ends_digit : (rest : List ℕ) → Ends rest → NoDigit rest
+pub ends_digit : (rest : List ℕ) → EndsWord rest → NoDigit rest
 ends_digit [] e = λ h. omega (arith, h.0)
 ends_digit (b ∷ rest) e = λ (h : IsInRange 48 57 b). omega (arith, h.0, h.1, e)
 
 -- no mark except a space begins an end
-pub ends_mark : (mark : ℕ) (rest : List ℕ) → (mark ≡ 32 → ⊥) → Ends (mark ∷ rest) → ⊥
+pub ends_mark : (mark : ℕ) (rest : List ℕ) → (mark ≡ 32 → ⊥) → EndsWord (mark ∷ rest) → ⊥
 ends_mark mark rest other e = other e
 
 -- a name that a mark follows
@@ -55,11 +55,11 @@ pair_rest mark bytes p q x y o a b =
     (name_once (number_text p.1 ++ x) p.1 q.1 x y (record { fits = a.fits.1; ends = a.ends; is = refl }) (record { fits = b.fits.1; ends = b.ends; is = r.1 })).1
 
 -- a mutual pair
-pub pair_of_word : (bytes : List ℕ) (p : ℕ × ℕ) (rest : List ℕ) → TokenThen IsPair mutual_text bytes p rest → PairThen 45 bytes p rest
+pub pair_of_word : (bytes : List ℕ) (p : ℕ × ℕ) (rest : List ℕ) → TokenThen IsOrderedPair mutual_text bytes p rest → PairThen 45 bytes p rest
 pair_of_word bytes p rest h = record { fits = h.fits; ends = ends_digit rest h.ends; is = h.is ∙ whole_pair p rest }
 
 -- two names and the mark between them, and no more
-pub pair_alone : (mark : ℕ) (bytes : List ℕ) (p : ℕ × ℕ) → IsPair p → bytes ≡ number_text p.0 ++ mark ∷ number_text p.1 → PairThen mark bytes p []
+pub pair_alone : (mark : ℕ) (bytes : List ℕ) (p : ℕ × ℕ) → IsOrderedPair p → bytes ≡ number_text p.0 ++ mark ∷ number_text p.1 → PairThen mark bytes p []
 pair_alone mark bytes p f e = record {
   fits = f;
   ends = λ h. omega (arith, h.0);
@@ -76,8 +76,8 @@ deed_marked bytes a marked act target rest e h =
     (act_first a act marked (marked_text (62 ∷ []) target ++ rest) (sym e ∙ h.is ∙ deed_is act target rest)).1
 
 -- after a `>` comes a name
-pub deed_name : (marked name : List ℕ) (target : Option ℕ) (rest : List ℕ) → marked ≡ 62 ∷ name → IfSome target IsName → Ends rest → marked ≡ marked_text (62 ∷ []) target ++ rest → (w : ℕ) × NameThen name w rest
-deed_name marked name None rest at f ends e = absurd (ends_mark 62 name (λ h. omega (arith, h)) (subst Ends (sym e ∙ at) ends))
+pub deed_name : (marked name : List ℕ) (target : Option ℕ) (rest : List ℕ) → marked ≡ 62 ∷ name → IfSome target IsName → EndsWord rest → marked ≡ marked_text (62 ∷ []) target ++ rest → (w : ℕ) × NameThen name w rest
+deed_name marked name None rest at f ends e = absurd (ends_mark 62 name (λ h. omega (arith, h)) (subst EndsWord (sym e ∙ at) ends))
 deed_name marked name (Some w) rest at f ends e =
     (w, record { fits = f; ends = ends_digit rest ends; is = tail 62 62 name (number_text w ++ rest) (sym at ∙ e) })
   where

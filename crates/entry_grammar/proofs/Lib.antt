@@ -2,8 +2,8 @@ pub mod Free
 pub mod Marks
 pub mod Headers
 pub mod InFront
-pub mod Joined
-pub mod Marked
+pub mod JoinedWords
+pub mod MarkedNames
 pub mod RefusalsOnce
 pub mod TokensOnce
 pub mod CountsOnce

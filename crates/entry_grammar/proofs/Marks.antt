@@ -6,9 +6,9 @@ use Rattle.std.specs.List.{AllByRecursion, list_all}
 use Rattle.rule_machine.specs.declared.choice.Item.{Item}
 use Rattle.rule_machine.specs.declared.event.Event.{Event}
 use Rattle.rule_machine.specs.declared.event.Event.TheVariants.{Link, Unlink, Point, Flag, Step, Show, Enabled, Matching, Status, Join, Leave}
-use Rattle.line_text.specs.Words.{number_text, marked_text, spaced, joined, IsName}
+use Rattle.line_text.specs.Words.{number_text, marked_text, spaced, joined_texts, IsName}
 use Rattle.line_text.specs.EventText.{IsItem, IsEvent, bool_text, event_text, flag_text, item_text, pair_text, point_text, target_text}
-use Rattle.entry_grammar.specs.Reading.{IsFree}
+use Rattle.entry_grammar.specs.Parsing.{IsFree}
 use Rattle.entry_grammar.proofs.Free.{free_append, free_by, free_marked, free_name, free_number}
 
 pub data Mark : Type 0 where
@@ -51,7 +51,7 @@ spaced_lack m fits text free [] f = tt
 spaced_lack m fits text free (x ∷ xs) f =
     both_lack m (codes " " ++ text x) (spaced text xs) (both_lack m (codes " ") (text x) (word_lacks m (codes " ") refl refl) (free x f.0)) (spaced_lack m fits text free xs f.1)
 
-pub joined_lack : {X : Type 0} (m : Mark) (fits : X → Type 0) (text : X → List ℕ) → ((x : X) → fits x → Lacks m (text x)) → (xs : List X) → AllByRecursion fits xs → Lacks m (joined text xs)
+pub joined_lack : {X : Type 0} (m : Mark) (fits : X → Type 0) (text : X → List ℕ) → ((x : X) → fits x → Lacks m (text x)) → (xs : List X) → AllByRecursion fits xs → Lacks m (joined_texts text xs)
 joined_lack m fits text free [] f = tt
 joined_lack m fits text free (x ∷ xs) f = both_lack m (text x) (spaced text xs) (free x f.0) (spaced_lack m fits text free xs f.1)
 

@@ -1,12 +1,12 @@
 -- The next line of a base: its numbers, a node or an edge.
 use Rattle.std.proofs.Common.{◌≡◌, ℕ, ◌<◌, ◌≤◌, List, sym, subst, ◌∙◌, arith}
-use Rattle.rule_machine.specs.declared.base.Place.{Place as PlaceKept}
-use Rattle.line_text.specs.BaseText.{place_text, link_text}
+use Rattle.rule_machine.specs.declared.base.NodeRecord.{NodeRecord as PlaceKept}
+use Rattle.line_text.specs.BaseText.{node_record_text, link_text}
 use Rattle.entry_grammar.specs.declared.base_line.BaseLine.{BaseLine}
 use Rattle.entry_grammar.specs.declared.base_line.BaseLine.TheVariants.{Base, Link}
-use Rattle.entry_grammar.specs.Spelling.{IsBaseLine, IsPair, base_line_text}
-use Rattle.entry_grammar.specs.Reading.{AreCounts, Starts}
-use Rattle.entry_grammar.specs.BaseLines.{IsAbove, IsPlace, place_line}
+use Rattle.entry_grammar.specs.Spelling.{IsBaseLine, IsOrderedPair, base_line_text}
+use Rattle.entry_grammar.specs.Parsing.{AreCounts, Starts}
+use Rattle.entry_grammar.specs.BaseLines.{IsEdgeAbove, IsPlace, place_line}
 use Rattle.entry_grammar.specs.BaseParts.{numbers_text}
 use Rattle.entry_grammar.proofs.FirstLines.{starts_once}
 
@@ -15,10 +15,10 @@ use Rattle.entry_grammar.proofs.FirstLines.{starts_once}
 pub numbers_start : (bytes : List ℕ) (q : ℕ × ℕ × ℕ × ℕ) (more : List ℕ) → Starts AreCounts numbers_text bytes q more → Starts IsBaseLine base_line_text bytes (Base q.0 q.1 q.2 q.3) more
 numbers_start bytes q more h = record { fits = h.fits; is = h.is }
 
-pub place_starts : (bytes : List ℕ) (place : PlaceKept) (more : List ℕ) → Starts IsPlace place_text bytes place more → Starts IsBaseLine base_line_text bytes (place_line place) more
+pub place_starts : (bytes : List ℕ) (place : PlaceKept) (more : List ℕ) → Starts IsPlace node_record_text bytes place more → Starts IsBaseLine base_line_text bytes (place_line place) more
 place_starts bytes place more h = record { fits = h.fits; is = h.is }
 
-pub edge_starts : (bytes : List ℕ) (edge : ℕ × ℕ) (more : List ℕ) → Starts IsPair link_text bytes edge more → Starts IsBaseLine base_line_text bytes (Link edge) more
+pub edge_starts : (bytes : List ℕ) (edge : ℕ × ℕ) (more : List ℕ) → Starts IsOrderedPair link_text bytes edge more → Starts IsBaseLine base_line_text bytes (Link edge) more
 edge_starts bytes edge more h = record { fits = h.fits; is = h.is }
 
 -- if the line is another, there is none
@@ -26,10 +26,10 @@ edge_starts bytes edge more h = record { fits = h.fits; is = h.is }
 pub no_numbers : (bytes : List ℕ) (line : BaseLine) (rest : List ℕ) → Starts IsBaseLine base_line_text bytes line rest → ((q : ℕ × ℕ × ℕ × ℕ) → line ≡ Base q.0 q.1 q.2 q.3 → ⊥) → (q : ℕ × ℕ × ℕ × ℕ) (more : List ℕ) → Starts AreCounts numbers_text bytes q more → ⊥
 no_numbers bytes line rest found none q more h = none q (starts_once bytes line (Base q.0 q.1 q.2 q.3) rest more found (numbers_start bytes q more h))
 
-pub no_place_starts : (bytes : List ℕ) (line : BaseLine) (rest : List ℕ) → Starts IsBaseLine base_line_text bytes line rest → ((place : PlaceKept) → line ≡ place_line place → ⊥) → (place : PlaceKept) (more : List ℕ) → Starts IsPlace place_text bytes place more → ⊥
+pub no_place_starts : (bytes : List ℕ) (line : BaseLine) (rest : List ℕ) → Starts IsBaseLine base_line_text bytes line rest → ((place : PlaceKept) → line ≡ place_line place → ⊥) → (place : PlaceKept) (more : List ℕ) → Starts IsPlace node_record_text bytes place more → ⊥
 no_place_starts bytes line rest found none place more h = none place (starts_once bytes line (place_line place) rest more found (place_starts bytes place more h))
 
-pub no_edge_starts : (bytes : List ℕ) (line : BaseLine) (rest : List ℕ) → Starts IsBaseLine base_line_text bytes line rest → ((edge : ℕ × ℕ) → line ≡ Link edge → ⊥) → (edge : ℕ × ℕ) (more : List ℕ) → Starts IsPair link_text bytes edge more → ⊥
+pub no_edge_starts : (bytes : List ℕ) (line : BaseLine) (rest : List ℕ) → Starts IsBaseLine base_line_text bytes line rest → ((edge : ℕ × ℕ) → line ≡ Link edge → ⊥) → (edge : ℕ × ℕ) (more : List ℕ) → Starts IsOrderedPair link_text bytes edge more → ⊥
 no_edge_starts bytes line rest found none edge more h = none edge (starts_once bytes line (Link edge) rest more found (edge_starts bytes edge more h))
 
 -- if its line does not come after the last, there is none that does
@@ -40,12 +40,12 @@ same_node p q e = cc
 same_edge : (p q : ℕ × ℕ) → Link p ≡ Link q → p ≡ q
 same_edge p q e = cc
 
-pub no_place_above : (bytes : List ℕ) (line : BaseLine) (rest : List ℕ) (low : PlaceKept) (last : ℕ) → Starts IsBaseLine base_line_text bytes line rest → line ≡ place_line low → low.node ≤ last → (place : PlaceKept) (more : List ℕ) → last < place.node → Starts IsPlace place_text bytes place more → ⊥
+pub no_place_above : (bytes : List ℕ) (line : BaseLine) (rest : List ℕ) (low : PlaceKept) (last : ℕ) → Starts IsBaseLine base_line_text bytes line rest → line ≡ place_line low → low.node ≤ last → (place : PlaceKept) (more : List ℕ) → last < place.node → Starts IsPlace node_record_text bytes place more → ⊥
 no_place_above bytes line rest low last found e below place more above h =
     let same = same_node low place (sym e ∙ starts_once bytes line (place_line place) rest more found (place_starts bytes place more h)) in
     omega (arith, same, below, above)
 
-pub no_edge_above : (bytes : List ℕ) (line : BaseLine) (rest : List ℕ) (low last : ℕ × ℕ) → Starts IsBaseLine base_line_text bytes line rest → line ≡ Link low → (IsAbove last low → ⊥) → (edge : ℕ × ℕ) (more : List ℕ) → IsAbove last edge → Starts IsPair link_text bytes edge more → ⊥
+pub no_edge_above : (bytes : List ℕ) (line : BaseLine) (rest : List ℕ) (low last : ℕ × ℕ) → Starts IsBaseLine base_line_text bytes line rest → line ≡ Link low → (IsEdgeAbove last low → ⊥) → (edge : ℕ × ℕ) (more : List ℕ) → IsEdgeAbove last edge → Starts IsOrderedPair link_text bytes edge more → ⊥
 no_edge_above bytes line rest low last found e below edge more above h =
     let same = same_edge low edge (sym e ∙ starts_once bytes line (Link edge) rest more found (edge_starts bytes edge more h)) in
-    below (subst (IsAbove last) (sym same) above)
+    below (subst (IsEdgeAbove last) (sym same) above)

@@ -7,9 +7,9 @@ use Rattle.rule_machine.specs.declared.refusal.Refusal.TheVariants.{UnknownNode,
 use Rattle.rule_machine.specs.Refuse.{refusal_number, refusal_text}
 use Rattle.line_text.specs.Words.{number_text, IsName}
 use Rattle.line_text.specs.ReplyText.{refusal_words}
-use Rattle.entry_grammar.specs.Reading.{CutAt}
+use Rattle.entry_grammar.specs.Parsing.{CutAt}
 use Rattle.entry_grammar.proofs.Free.{cut_once}
-use Rattle.entry_grammar.proofs.Marked.{name_cut, name_once}
+use Rattle.entry_grammar.proofs.MarkedNames.{name_cut, name_once}
 
 -- the refusal with this number
 abbrev refusal_at : ℕ → Refusal

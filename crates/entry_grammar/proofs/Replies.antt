@@ -13,14 +13,14 @@ use Rattle.rule_machine.specs.declared.reply.Reply.TheVariants.{Accepted, Refuse
 use Rattle.log_entry.specs.Kinds.{fits}
 use Rattle.line_text.specs.ReplyText.{refusal_words, reply_text}
 use Rattle.entry_grammar.specs.Spelling.{IsReply}
-use Rattle.entry_grammar.specs.Reading.{is_done, is_moved, is_shown, are_enabled, are_pairs, are_counts, suits}
+use Rattle.entry_grammar.specs.Parsing.{is_done, answers_step, is_shown, are_enabled, are_pairs, are_counts, reply_suits}
 use Rattle.entry_grammar.proofs.RefusalsOnce.{refusal_words_once}
 use Rattle.entry_grammar.proofs.CountsOnce.{counts_once}
 use Rattle.line_text.proofs.EventsOnce.{target_once}
 use Rattle.entry_grammar.proofs.TokensOnce.{moves_once, enabled_once, pairs_once, refused_moves, refused_target}
 
 -- what fits an event suits it
-pub fits_suits : (event : Event) (reply : Reply) → IsTrue (fits event reply) → IsTrue (suits event reply)
+pub fits_suits : (event : Event) (reply : Reply) → IsTrue (fits event reply) → IsTrue (reply_suits event reply)
 fits_suits (Step items) (Moves moves) h = refl
 fits_suits Enabled (EnabledAre nodes) h = refl
 fits_suits Matching (Pairs pairs) h = refl
@@ -42,7 +42,7 @@ done_once (Refused r) Accepted s t e = absurd (ok_refused r (sym e))
 done_once (Refused r) (Refused q) s t e = refused_once r q e
 done_once r q s t e = cc
 
-moved_once : (r q : Reply) → IsTrue (is_moved r) → IsTrue (is_moved q) → IsReply r → IsReply q → reply_text r ≡ reply_text q → r ≡ q
+moved_once : (r q : Reply) → IsTrue (answers_step r) → IsTrue (answers_step q) → IsReply r → IsReply q → reply_text r ≡ reply_text q → r ≡ q
 moved_once (Moves x) (Moves y) s t f g e = ap (λ (z : List Moved). Moves z) (moves_once x y f g e)
 moved_once (Moves x) (Refused q) s t f g e = absurd (refused_moves x (refusal_words q) f e)
 moved_once (Refused r) (Moves y) s t f g e = absurd (refused_moves y (refusal_words r) g (sym e))
@@ -69,7 +69,7 @@ are_counts_once (Counts x) (Counts y) s t f g e = ap (λ (z : numbers.Counts). C
 are_counts_once r q s t f g e = cc
 
 -- replies of an event's kind have texts of their own
-pub reply_once : (event : Event) (r q : Reply) → IsTrue (suits event r) → IsTrue (suits event q) → IsReply r → IsReply q → reply_text r ≡ reply_text q → r ≡ q
+pub reply_once : (event : Event) (r q : Reply) → IsTrue (reply_suits event r) → IsTrue (reply_suits event q) → IsReply r → IsReply q → reply_text r ≡ reply_text q → r ≡ q
 reply_once (Step items) r q s t f g e = moved_once r q s t f g e
 reply_once (Show v) r q s t f g e = shown_once r q s t f g e
 reply_once Enabled r q s t f g e = are_enabled_once r q s t f g e
@@ -78,7 +78,7 @@ reply_once Status r q s t f g e = are_counts_once r q s t f g e
 reply_once event r q s t f g e = done_once r q s t e
 
 -- if the words after `refused` are no refusal's, no reply to a step or to `show` is spelled
-pub no_moved : (bytes words : List ℕ) → bytes ≡ codes "refused " ++ words → ((r : Refusal) → ⊤ → words ≡ refusal_words r → ⊥) → (q : Reply) → IsTrue (is_moved q) × IsReply q → bytes ≡ reply_text q → ⊥
+pub no_moved : (bytes words : List ℕ) → bytes ≡ codes "refused " ++ words → ((r : Refusal) → ⊤ → words ≡ refusal_words r → ⊥) → (q : Reply) → IsTrue (answers_step q) × IsReply q → bytes ≡ reply_text q → ⊥
 no_moved bytes words a none (Moves x) f e = refused_moves x words f.1 (sym e ∙ a)
 no_moved bytes words a none (Refused q) f e = none q tt (append_cancel_left (codes "refused ") words (refusal_words q) (sym a ∙ e))
 no_moved bytes words a none q f e = let h = f.0 in cc

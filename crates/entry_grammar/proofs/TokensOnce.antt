@@ -10,14 +10,14 @@ use Rattle.std.proofs.lemmas.Fmt.{decimal_nonempty}
 use Rattle.rule_machine.specs.declared.act.Act.{Act}
 use Rattle.rule_machine.specs.declared.act.Act.TheVariants.{Update, Marry, Seduce, Abandon}
 use Rattle.rule_machine.specs.declared.act.Moved.{Moved}
-use Rattle.line_text.specs.Words.{number_text, IsName, spaced, joined, joined_or}
+use Rattle.line_text.specs.Words.{number_text, IsName, spaced, joined_texts, joined_or}
 use Rattle.line_text.specs.EventText.{target_text}
 use Rattle.line_text.specs.ReplyText.{act_word, enabled_text, move_text, mutual_text}
 use Rattle.line_text.proofs.Digits.{name_digits}
-use Rattle.entry_grammar.specs.Spelling.{IsMoved, IsEnabled, IsPair}
-use Rattle.entry_grammar.specs.Reading.{IsFree, deed_text}
+use Rattle.entry_grammar.specs.Spelling.{IsMoved, IsEnabled, IsOrderedPair}
+use Rattle.entry_grammar.specs.Parsing.{IsFree, deed_text}
 use Rattle.entry_grammar.proofs.Free.{cons_parts, mark_once, not_free, free_move, free_enabled, free_pair, free_act_mark}
-use Rattle.entry_grammar.proofs.Marked.{name_once, marked_once, move_is, enabled_is, mutual_is}
+use Rattle.entry_grammar.proofs.MarkedNames.{name_once, marked_once, move_is, enabled_is, mutual_is}
 
 -- digits at the front begin with a digit
 digits_first : (ds rest : List ℕ) (b : ℕ) (x : List ℕ) → AllDigits 10 ds → 0 < length ds → ds ++ rest ≡ b ∷ x → IsInRange 48 57 b
@@ -35,7 +35,7 @@ name_some n rest f = λ e. omega (arith, decimal_nonempty n (omega arith), ap le
 pub some_enabled : (x : ℕ × Act) → IsEnabled x → enabled_text x ≢ []
 some_enabled x f = λ e. name_some x.0 (58 ∷ act_word x.1) f (sym (enabled_is x) ∙ e)
 
-pub some_pair : (p : ℕ × ℕ) → IsPair p → mutual_text p ≢ []
+pub some_pair : (p : ℕ × ℕ) → IsOrderedPair p → mutual_text p ≢ []
 some_pair p f = λ e. name_some p.0 (45 ∷ number_text p.1) f.0 (sym (mutual_is p) ∙ e)
 
 -- a rule has a word of its own
@@ -78,22 +78,22 @@ enabled_word_once x y f g e =
     let act = act_once x.1 y.1 r.1 in
     ap (λ (z : ℕ). (z, x.1)) r.0 ∙ ap (λ (z : Act). (y.0, z)) act
 
-pair_once : (p q : ℕ × ℕ) → IsPair p → IsPair q → mutual_text p ≡ mutual_text q → p ≡ q
+pair_once : (p q : ℕ × ℕ) → IsOrderedPair p → IsOrderedPair q → mutual_text p ≡ mutual_text q → p ≡ q
 pair_once p q f g e =
     let r = marked_once 45 p.0 q.0 (number_text p.1) (number_text q.1) (λ h. omega (arith, h.0)) f.0 g.0 (sym (mutual_is p) ∙ e ∙ mutual_is q) in
     let high = name_once p.1 q.1 f.1 g.1 r.1 in
     ap (λ (z : ℕ). (z, p.1)) r.0 ∙ ap (λ (z : ℕ). (q.0, z)) high
 
 -- a word, and no or more words after a space
-joined_step : {X : Type 0} (text : X → List ℕ) (fits : X → Type 0) → ((x : X) → fits x → IsFree 32 (text x)) → ((x y : X) → fits x → fits y → text x ≡ text y → x ≡ y) → (x : X) (xs : List X) (y : X) (ys : List X) → AllByRecursion fits (x ∷ xs) → AllByRecursion fits (y ∷ ys) → joined text (x ∷ xs) ≡ joined text (y ∷ ys) → x ∷ xs ≡ y ∷ ys
+joined_step : {X : Type 0} (text : X → List ℕ) (fits : X → Type 0) → ((x : X) → fits x → IsFree 32 (text x)) → ((x y : X) → fits x → fits y → text x ≡ text y → x ≡ y) → (x : X) (xs : List X) (y : X) (ys : List X) → AllByRecursion fits (x ∷ xs) → AllByRecursion fits (y ∷ ys) → joined_texts text (x ∷ xs) ≡ joined_texts text (y ∷ ys) → x ∷ xs ≡ y ∷ ys
 joined_step {X} text fits free once x [] y [] f g e =
     ap (λ (z : X). z ∷ []) (once x y f.0 g.0 (sym (append-nil (text x)) ∙ e ∙ append-nil (text y)))
 joined_step text fits free once x [] y (v ∷ ys) f g e =
-    absurd (not_free 32 (text y) (joined text (v ∷ ys)) (subst (IsFree 32) (sym (append-nil (text x)) ∙ e) (free x f.0)))
+    absurd (not_free 32 (text y) (joined_texts text (v ∷ ys)) (subst (IsFree 32) (sym (append-nil (text x)) ∙ e) (free x f.0)))
 joined_step text fits free once x (u ∷ xs) y [] f g e =
-    absurd (not_free 32 (text x) (joined text (u ∷ xs)) (subst (IsFree 32) (sym (append-nil (text y)) ∙ sym e) (free y g.0)))
+    absurd (not_free 32 (text x) (joined_texts text (u ∷ xs)) (subst (IsFree 32) (sym (append-nil (text y)) ∙ sym e) (free y g.0)))
 joined_step {X} text fits free once x (u ∷ xs) y (v ∷ ys) f g e =
-    let r = mark_once 32 (text x) (text y) (joined text (u ∷ xs)) (joined text (v ∷ ys)) (free x f.0) (free y g.0) e in
+    let r = mark_once 32 (text x) (text y) (joined_texts text (u ∷ xs)) (joined_texts text (v ∷ ys)) (free x f.0) (free y g.0) e in
     ap (λ (z : X). z ∷ (u ∷ xs)) (once x y f.0 g.0 r.0) ∙ ap (λ (z : List X). y ∷ z) (joined_step text fits free once u xs v ys f.1 g.1 r.1)
 
 -- a word and what follows it begin with a name
@@ -107,7 +107,7 @@ pub whole_pair : (p : ℕ × ℕ) (rest : List ℕ) → mutual_text p ++ rest �
 whole_pair p rest = ap (λ (z : List ℕ). z ++ rest) (mutual_is p) ∙ append_assoc (number_text p.0) (45 ∷ number_text p.1) rest
 
 -- moves have a text of their own
-pub moves_once : (x y : List Moved) → AllByRecursion IsMoved x → AllByRecursion IsMoved y → joined move_text x ≡ joined move_text y → x ≡ y
+pub moves_once : (x y : List Moved) → AllByRecursion IsMoved x → AllByRecursion IsMoved y → joined_texts move_text x ≡ joined_texts move_text y → x ≡ y
 moves_once [] [] f g e = refl
 moves_once [] (k ∷ y) f g e = absurd (name_some k.node (58 ∷ (deed_text k.act k.target ++ spaced move_text y)) g.0.0 (sym (e ∙ whole_move k (spaced move_text y))))
 moves_once (m ∷ x) [] f g e = absurd (name_some m.node (58 ∷ (deed_text m.act m.target ++ spaced move_text x)) f.0.0 (sym (sym e ∙ whole_move m (spaced move_text x))))
@@ -123,14 +123,14 @@ enabled_once [] (k ∷ y) f g e = absurd (none_once k.0 (58 ∷ (act_word k.1 ++
 enabled_once (m ∷ x) [] f g e = absurd (none_once m.0 (58 ∷ (act_word m.1 ++ spaced enabled_text x)) f.0 (sym e ∙ whole_enabled m (spaced enabled_text x)))
 enabled_once (m ∷ x) (k ∷ y) f g e = joined_step enabled_text IsEnabled free_enabled enabled_word_once m x k y f g e
 
-pub pairs_once : (x y : List (ℕ × ℕ)) → AllByRecursion IsPair x → AllByRecursion IsPair y → joined_or (codes "none") mutual_text x ≡ joined_or (codes "none") mutual_text y → x ≡ y
+pub pairs_once : (x y : List (ℕ × ℕ)) → AllByRecursion IsOrderedPair x → AllByRecursion IsOrderedPair y → joined_or (codes "none") mutual_text x ≡ joined_or (codes "none") mutual_text y → x ≡ y
 pairs_once [] [] f g e = refl
 pairs_once [] (k ∷ y) f g e = absurd (none_once k.0 (45 ∷ (number_text k.1 ++ spaced mutual_text y)) g.0.0 (e ∙ whole_pair k (spaced mutual_text y)))
 pairs_once (m ∷ x) [] f g e = absurd (none_once m.0 (45 ∷ (number_text m.1 ++ spaced mutual_text x)) f.0.0 (sym e ∙ whole_pair m (spaced mutual_text x)))
-pairs_once (m ∷ x) (k ∷ y) f g e = joined_step mutual_text IsPair free_pair pair_once m x k y f g e
+pairs_once (m ∷ x) (k ∷ y) f g e = joined_step mutual_text IsOrderedPair free_pair pair_once m x k y f g e
 
 -- moves are not said as a refusal is
-pub refused_moves : (x : List Moved) (words : List ℕ) → AllByRecursion IsMoved x → joined move_text x ≡ codes "refused " ++ words → ⊥
+pub refused_moves : (x : List Moved) (words : List ℕ) → AllByRecursion IsMoved x → joined_texts move_text x ≡ codes "refused " ++ words → ⊥
 refused_moves [] words f e = omega (arith, ap length e)
 refused_moves (m ∷ x) words f e =
     omega (arith, (name_first m.node (58 ∷ (deed_text m.act m.target ++ spaced move_text x)) 114 (101 ∷ 102 ∷ 117 ∷ 115 ∷ 101 ∷ 100 ∷ 32 ∷ words) f.0.0 (sym (whole_move m (spaced move_text x)) ∙ e)).1)

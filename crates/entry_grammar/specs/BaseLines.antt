@@ -2,18 +2,18 @@
 -- from them.
 use Rattle.std.specs.Prelude.{◌≡◌, ℕ, zero, suc, ◌+◌, ◌<◌, ◌⊎◌, List, [], ◌∷◌, ◌++◌, length, map, IfSome}
 use Rattle.std.specs.List.{AllByRecursion}
-use Rattle.rule_machine.specs.declared.base.Place.{Place as PlaceKept}
+use Rattle.rule_machine.specs.declared.base.NodeRecord.{NodeRecord as PlaceKept}
 use Rattle.rule_machine.specs.declared.base.Base.{Base as BaseKept}
-use Rattle.line_text.specs.Words.{IsName, ended}
-use Rattle.line_text.specs.ReplyText.{IsCount}
-use Rattle.line_text.specs.BaseText.{numbers_line, place_text, link_text}
+use Rattle.line_text.specs.Words.{IsName, lines_with_ends}
+use Rattle.line_text.specs.ReplyText.{IsCountValue}
+use Rattle.line_text.specs.BaseText.{numbers_line, node_record_text, link_text}
 use Rattle.entry_grammar.specs.declared.base_line.BaseLine.{BaseLine}
 use Rattle.entry_grammar.specs.declared.base_line.BaseLine.TheVariants.{Base, Place, Link}
-use Rattle.entry_grammar.specs.Spelling.{IsPair, IsBaseLine, base_line_text}
+use Rattle.entry_grammar.specs.Spelling.{IsOrderedPair, IsBaseLine, base_line_text}
 
 -- the edge comes after another: its lower end is above, or they share that and its higher end is above
-abbrev pub IsAbove : ℕ × ℕ → ℕ × ℕ → Type 0
-IsAbove last edge = (last.0 < edge.0) ⊎ ((last.0 ≡ edge.0) × (last.1 < edge.1))
+abbrev pub IsEdgeAbove : ℕ × ℕ → ℕ × ℕ → Type 0
+IsEdgeAbove last edge = (last.0 < edge.0) ⊎ ((last.0 ≡ edge.0) × (last.1 < edge.1))
 
 -- nodes by ascending name, all above this one
 abbrev pub NodesRise : ℕ → List PlaceKept → Type 0
@@ -23,26 +23,26 @@ NodesRise last (place ∷ places) = (last < place.node) × NodesRise place.node 
 -- edges that ascend, all after this one
 abbrev pub EdgesRise : ℕ × ℕ → List (ℕ × ℕ) → Type 0
 EdgesRise last [] = Unit {0}
-EdgesRise last (edge ∷ edges) = IsAbove last edge × EdgesRise edge edges
+EdgesRise last (edge ∷ edges) = IsEdgeAbove last edge × EdgesRise edge edges
 
 abbrev pub IsPlace : PlaceKept → Type 0
 IsPlace place = IsName place.node × IfSome place.target IsName
 
 -- a base whose lines can be read: its numbers fit their fields, and its nodes and edges have names and ascend
 pub record IsShaped (base : BaseKept) : Type 0 where
-  pub number : IsCount base.number
-  pub spent : IsCount base.spent
-  pub nodes : IsCount (length base.nodes)
-  pub edges : IsCount (length base.edges)
+  pub number : IsCountValue base.number
+  pub spent : IsCountValue base.spent
+  pub nodes : IsCountValue (length base.nodes)
+  pub edges : IsCountValue (length base.edges)
   pub places : AllByRecursion IsPlace base.nodes
-  pub links : AllByRecursion IsPair base.edges
+  pub links : AllByRecursion IsOrderedPair base.edges
   pub nodes_rise : NodesRise 0 base.nodes
   pub edges_rise : EdgesRise (0, 0) base.edges
 
 -- the text of all lines of a base except its head
 abbrev pub base_lines : BaseKept → List ℕ
 base_lines base =
-    (numbers_line base ++ 10 ∷ []) ++ (ended place_text base.nodes ++ ended link_text base.edges)
+    (numbers_line base ++ 10 ∷ []) ++ (lines_with_ends node_record_text base.nodes ++ lines_with_ends link_text base.edges)
 
 -- ---- the lines as values
 
@@ -56,7 +56,7 @@ lines_of_base base =
 -- the lines are at most `left` edges that ascend after the last one
 abbrev pub EdgesFollow : (left : ℕ) → (last : ℕ × ℕ) → List BaseLine → Type 0
 EdgesFollow left last [] = Unit {0}
-EdgesFollow (suc left) last (Link edge ∷ lines) = IsAbove last edge × EdgesFollow left edge lines
+EdgesFollow (suc left) last (Link edge ∷ lines) = IsEdgeAbove last edge × EdgesFollow left edge lines
 EdgesFollow left last (line ∷ lines) = ⊥
 
 -- the lines are at most `left` nodes that ascend above the last one; if exactly `left`, such edges follow
@@ -73,19 +73,19 @@ MayFollow (Base number spent nodes edges ∷ lines) = NodesFollow nodes edges 0 
 MayFollow (line ∷ lines) = ⊥
 
 -- by its numbers the base lacks a line
-abbrev pub IsShort : List BaseLine → Type 0
-IsShort [] = Unit {0}
-IsShort (Base number spent nodes edges ∷ lines) = length lines < nodes + edges
-IsShort (line ∷ lines) = ⊥
+abbrev pub LacksLines : List BaseLine → Type 0
+LacksLines [] = Unit {0}
+LacksLines (Base number spent nodes edges ∷ lines) = length lines < nodes + edges
+LacksLines (line ∷ lines) = ⊥
 
 -- Line k, counted from 1, is the first that is wrong: the lines before it are the first of a base, one is
 -- missing, and the rest does not begin with a line, with its LF, that may come next.
 pub record BreaksAt (bytes : List ℕ) (k : ℕ) : Type 0 where
   pub lines : List BaseLine
   pub rest : List ℕ
-  pub is : bytes ≡ ended base_line_text lines ++ rest
+  pub is : bytes ≡ lines_with_ends base_line_text lines ++ rest
   pub fit : AllByRecursion IsBaseLine lines
   pub follow : MayFollow lines
-  pub short : IsShort lines
+  pub short : LacksLines lines
   pub number : k ≡ length lines + 1
   pub stops : (line : BaseLine) (more : List ℕ) → IsBaseLine line → MayFollow (lines ++ line ∷ []) → rest ≡ base_line_text line ++ 10 ∷ more → ⊥

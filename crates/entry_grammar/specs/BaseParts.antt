@@ -1,19 +1,19 @@
 -- What the readers of a base's nodes and edges say of their bytes.
 use Rattle.std.specs.Prelude.{◌≡◌, ℕ, ◌+◌, ◌<◌, List, [], ◌∷◌, ◌++◌, length}
 use Rattle.std.specs.List.{AllByRecursion}
-use Rattle.rule_machine.specs.declared.base.Place.{Place}
-use Rattle.line_text.specs.Words.{ended}
-use Rattle.line_text.specs.BaseText.{base_counts, place_text, link_text}
-use Rattle.entry_grammar.specs.Spelling.{IsPair}
-use Rattle.entry_grammar.specs.Reading.{Starts}
-use Rattle.entry_grammar.specs.BaseLines.{IsAbove, NodesRise, EdgesRise, IsPlace}
+use Rattle.rule_machine.specs.declared.base.NodeRecord.{NodeRecord}
+use Rattle.line_text.specs.Words.{lines_with_ends}
+use Rattle.line_text.specs.BaseText.{base_counts, node_record_text, link_text}
+use Rattle.entry_grammar.specs.Spelling.{IsOrderedPair}
+use Rattle.entry_grammar.specs.Parsing.{Starts}
+use Rattle.entry_grammar.specs.BaseLines.{IsEdgeAbove, NodesRise, EdgesRise, IsPlace}
 
 -- the line of the four numbers
 abbrev pub numbers_text : ℕ × ℕ × ℕ × ℕ → List ℕ
 numbers_text q = base_counts q.0 q.1 q.2 q.3
 
 -- the name of the last of some nodes, or the last one before them
-abbrev pub last_node : ℕ → List Place → ℕ
+abbrev pub last_node : ℕ → List NodeRecord → ℕ
 last_node last [] = last
 last_node last (place ∷ places) = last_node place.node places
 
@@ -22,24 +22,24 @@ last_edge last [] = last
 last_edge last (edge ∷ edges) = last_edge edge edges
 
 -- the bytes begin with the lines of these nodes, which ascend
-pub record NodesRead (bytes : List ℕ) (places : List Place) (rest : List ℕ) : Type 0 where
-  pub is : bytes ≡ ended place_text places ++ rest
+pub record NodesRead (bytes : List ℕ) (places : List NodeRecord) (rest : List ℕ) : Type 0 where
+  pub is : bytes ≡ lines_with_ends node_record_text places ++ rest
   pub fit : AllByRecursion IsPlace places
   pub rise : NodesRise 0 places
 
 -- after fewer than `count` nodes comes none that ascends further; the first of them is line 2
 pub record NodesBreak (bytes : List ℕ) (count k : ℕ) : Type 0 where
-  pub places : List Place
+  pub places : List NodeRecord
   pub rest : List ℕ
   pub read : NodesRead bytes places rest
   pub few : length places < count
   pub number : k ≡ length places + 2
-  pub stops : (place : Place) (more : List ℕ) → last_node 0 places < place.node → Starts IsPlace place_text rest place more → ⊥
+  pub stops : (place : NodeRecord) (more : List ℕ) → last_node 0 places < place.node → Starts IsPlace node_record_text rest place more → ⊥
 
 -- the bytes begin with the lines of these edges, which ascend
 pub record EdgesRead (bytes : List ℕ) (edges : List (ℕ × ℕ)) (rest : List ℕ) : Type 0 where
-  pub is : bytes ≡ ended link_text edges ++ rest
-  pub fit : AllByRecursion IsPair edges
+  pub is : bytes ≡ lines_with_ends link_text edges ++ rest
+  pub fit : AllByRecursion IsOrderedPair edges
   pub rise : EdgesRise (0, 0) edges
 
 -- after fewer than `count` edges comes none that ascends further; the first of them is line `first`
@@ -49,4 +49,4 @@ pub record EdgesBreak (bytes : List ℕ) (count first k : ℕ) : Type 0 where
   pub read : EdgesRead bytes edges rest
   pub few : length edges < count
   pub number : k ≡ first + length edges
-  pub stops : (edge : ℕ × ℕ) (more : List ℕ) → IsAbove (last_edge (0, 0) edges) edge → Starts IsPair link_text rest edge more → ⊥
+  pub stops : (edge : ℕ × ℕ) (more : List ℕ) → IsEdgeAbove (last_edge (0, 0) edges) edge → Starts IsOrderedPair link_text rest edge more → ⊥

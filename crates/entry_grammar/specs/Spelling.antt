@@ -6,11 +6,11 @@ use Rattle.rule_machine.specs.declared.reply.Reply.{Reply}
 use Rattle.rule_machine.specs.declared.rules.RuleSet.{RuleSet}
 use Rattle.log_entry.specs.Kinds.{fits}
 pub use Rattle.log_entry.specs.Kinds.{max_entries}
-pub use Rattle.line_text.specs.ReplyText.{IsMoved, IsEnabled, IsPair, IsReply}
+pub use Rattle.line_text.specs.ReplyText.{IsMoved, IsEnabled, IsOrderedPair, IsReply}
 use Rattle.line_text.specs.Words.{IsName}
-use Rattle.line_text.specs.ReplyText.{IsCount}
+use Rattle.line_text.specs.ReplyText.{IsCountValue}
 use Rattle.line_text.specs.EventText.{IsEvent, event_text}
-use Rattle.line_text.specs.BaseText.{base_head, base_counts, place_text, link_text}
+use Rattle.line_text.specs.BaseText.{base_head, base_counts, node_record_text, link_text}
 use Rattle.entry_grammar.specs.declared.base_line.BaseLine.{BaseLine}
 use Rattle.entry_grammar.specs.declared.base_line.BaseLine.TheVariants.{Head, Base, Place, Link}
 use Rattle.line_text.specs.EntryText.{header_text, entry_text}
@@ -54,14 +54,14 @@ pub record SpellsHeader (line : List ℕ) (rules : RuleSet) (size count : ℕ) :
 -- what each value of the program's type of a base's lines satisfies
 abbrev pub IsBaseLine : BaseLine → Type 0
 IsBaseLine (Head rules size) = size ≤ 65535
-IsBaseLine (Base number spent nodes edges) = IsCount number × IsCount spent × IsCount nodes × IsCount edges
+IsBaseLine (Base number spent nodes edges) = IsCountValue number × IsCountValue spent × IsCountValue nodes × IsCountValue edges
 IsBaseLine (Place node target flagged) = IsName node × IfSome target IsName
-IsBaseLine (Link edge) = IsPair edge
+IsBaseLine (Link edge) = IsOrderedPair edge
 
 abbrev pub base_line_text : BaseLine → List ℕ
 base_line_text (Head rules size) = base_head rules size
 base_line_text (Base number spent nodes edges) = base_counts number spent nodes edges
-base_line_text (Place node target flagged) = place_text (record { node = node; target = target; flagged = flagged })
+base_line_text (Place node target flagged) = node_record_text (record { node = node; target = target; flagged = flagged })
 base_line_text (Link edge) = link_text edge
 
 -- the line is the one spelling of this line of a base

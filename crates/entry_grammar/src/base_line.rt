@@ -1,13 +1,13 @@
 //! The lines of a base, one by one.
 
 ghost use Rattle.std.specs.Prelude.{◌≡◌, ◌≤◌, IfOk, IfErr, IfSome, MatchOption};
-ghost use Rattle.line_text.specs.Words.{IsName, joined};
+ghost use Rattle.line_text.specs.Words.{IsName, joined_texts};
 ghost use Rattle.line_text.specs.ReplyText.{field_text};
 ghost use Rattle.line_text.specs.BaseText.{base_fields};
-ghost use Rattle.line_text.specs.Reading.{Reads, ReadsTwo};
+ghost use Rattle.line_text.specs.Parsing.{ParsesAs, ReadsTwo};
 ghost use Rattle.entry_grammar.specs.declared.base_line.BaseLine.{BaseLine as Line};
 ghost use Rattle.entry_grammar.specs.Spelling.{SpellsBaseLine};
-ghost use Rattle.entry_grammar.specs.Reading.{AreCounts, ReadsPlace, registers_text, rules_text};
+ghost use Rattle.entry_grammar.specs.Parsing.{AreCounts, ReadsPlace, registers_text, rules_text};
 ghost use Rattle.entry_grammar.specs.declared.fault.EntryFault.TheVariants.{NotALine};
 
 use crate::counts::{read_field, read_next};
@@ -58,7 +58,7 @@ fn read_head(bytes: &[u8]) -> Option<(RuleSet, u32)>
 
 // Reads four numbers, the last three after their names.
 fn read_base(bytes: &[u8]) -> Option<(u32, u32, u32, u32)>
-    ensures { Reads AreCounts (λ q. joined field_text (base_fields q.0 q.1 q.2 q.3)) bytes.now result }
+    ensures { ParsesAs AreCounts (λ q. joined_texts field_text (base_fields q.0 q.1 q.2 q.3)) bytes.now result }
 {
     let Some((number, rest)) = read_next(bytes, b"") else {
         return None;

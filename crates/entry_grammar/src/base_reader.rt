@@ -1,20 +1,20 @@
 //! The lines of a whole base.
 
 ghost use Rattle.std.specs.Prelude.{◌≡◌, ℕ, ◌<◌, ◌≤◌, List, ◌++◌, length, IfOk, IfErr, MatchOption, MatchBool};
-ghost use Rattle.rule_machine.specs.declared.base.Place.{Place as PlaceKept};
-ghost use Rattle.line_text.specs.BaseText.{place_text, link_text};
+ghost use Rattle.rule_machine.specs.declared.base.NodeRecord.{NodeRecord as PlaceKept};
+ghost use Rattle.line_text.specs.BaseText.{node_record_text, link_text};
 ghost use Rattle.entry_grammar.specs.declared.base_line.BaseLine.{BaseLine as Line};
 ghost use Rattle.entry_grammar.specs.declared.base_line.BaseLine.TheVariants.{Base as LineOfNumbers, Link};
 ghost use Rattle.entry_grammar.specs.declared.fault.BaseFault.TheVariants.{BadLine};
-ghost use Rattle.entry_grammar.specs.Spelling.{IsBaseLine, IsPair, base_line_text};
-ghost use Rattle.entry_grammar.specs.Reading.{AreCounts, Starts};
-ghost use Rattle.entry_grammar.specs.BaseLines.{IsAbove, IsPlace, IsShaped, base_lines, BreaksAt, place_line};
+ghost use Rattle.entry_grammar.specs.Spelling.{IsBaseLine, IsOrderedPair, base_line_text};
+ghost use Rattle.entry_grammar.specs.Parsing.{AreCounts, Starts};
+ghost use Rattle.entry_grammar.specs.BaseLines.{IsEdgeAbove, IsPlace, IsShaped, base_lines, BreaksAt, place_line};
 ghost use Rattle.entry_grammar.specs.BaseParts.{NodesRead, NodesBreak, EdgesRead, EdgesBreak, numbers_text};
 
 use crate::base_line::{BaseLine, read_base_line};
 use crate::fault::BaseFault;
 use byte_streams::split_line;
-use rule_machine::{Base, Edge, Listing, Place};
+use rule_machine::{Base, Edge, Listing, NodeRecord};
 use std::alloc::Global;
 
 // Reads the first line and its LF, and returns the rest.
@@ -63,11 +63,11 @@ fn next_numbers(bytes: &[u8]) -> Option<((u32, u32, u32, u32), &[u8])>
     Some((numbers, rest))
 }
 
-fn place_of(line: BaseLine) -> Option<Place>
+fn place_of(line: BaseLine) -> Option<NodeRecord>
     ensures { MatchOption result ((place : PlaceKept) → line ≡ place_line place → ⊥) (λ place. line ≡ place_line place) }
 {
     match line {
-        BaseLine::Place(node, target, flagged) => Some(Place {
+        BaseLine::Place(node, target, flagged) => Some(NodeRecord {
             node,
             target,
             flagged,
@@ -86,10 +86,10 @@ fn edge_of(line: BaseLine) -> Option<Edge>
 }
 
 // Reads a node whose name is above `last`.
-fn next_node(bytes: &[u8], last: u32) -> Option<(Place, &[u8])>
+fn next_node(bytes: &[u8], last: u32) -> Option<(NodeRecord, &[u8])>
     ensures { MatchOption result
-        ((place : PlaceKept) (more : List ℕ) → last < place.node → Starts IsPlace place_text bytes.now place more → ⊥)
-        (λ found. (last < found.0.node) × Starts IsPlace place_text bytes.now found.0 found.1.now) }
+        ((place : PlaceKept) (more : List ℕ) → last < place.node → Starts IsPlace node_record_text bytes.now place more → ⊥)
+        (λ found. (last < found.0.node) × Starts IsPlace node_record_text bytes.now found.0 found.1.now) }
 {
     let Some((line, rest)) = next_line(bytes) else {
         return None;
@@ -111,7 +111,7 @@ fn ends(edge: Edge) -> (u32, u32)
 
 // Whether an edge comes after `last` in the order of a base.
 fn is_above(last: (u32, u32), edge: Edge) -> bool
-    ensures { MatchBool result (IsAbove last edge) (IsAbove last edge → ⊥) }
+    ensures { MatchBool result (IsEdgeAbove last edge) (IsEdgeAbove last edge → ⊥) }
 {
     let low = edge.low().name();
     last.0 < low || last.0 == low && last.1 < edge.high().name()
@@ -120,8 +120,8 @@ fn is_above(last: (u32, u32), edge: Edge) -> bool
 // Reads an edge that comes after `last`.
 fn next_edge(bytes: &[u8], last: (u32, u32)) -> Option<(Edge, &[u8])>
     ensures { MatchOption result
-        ((edge : ℕ × ℕ) (more : List ℕ) → IsAbove last edge → Starts IsPair link_text bytes.now edge more → ⊥)
-        (λ found. IsAbove last found.0 × Starts IsPair link_text bytes.now found.0 found.1.now) }
+        ((edge : ℕ × ℕ) (more : List ℕ) → IsEdgeAbove last edge → Starts IsOrderedPair link_text bytes.now edge more → ⊥)
+        (λ found. IsEdgeAbove last found.0 × Starts IsOrderedPair link_text bytes.now found.0 found.1.now) }
 {
     let Some((line, rest)) = next_line(bytes) else {
         return None;
@@ -140,7 +140,7 @@ fn read_nodes<'a>(
     alloc: Global,
     bytes: &'a [u8],
     count: u32,
-) -> Result<(Vec<Place>, &'a [u8]), BaseFault>
+) -> Result<(Vec<NodeRecord>, &'a [u8]), BaseFault>
     ensures read { IfOk result (λ found. NodesRead bytes.now found.0.items found.1.now) }
     ensures all { IfOk result (λ found. length found.0.items ≡ count) }
     ensures bad { IfErr result (λ fault. (k : ℕ) → fault ≡ BadLine k → NodesBreak bytes.now count k) }

@@ -2,16 +2,16 @@
 
 ghost use Rattle.std.specs.Prelude.{ℕ, ◌≤◌, List, MatchOption};
 ghost use Rattle.line_text.specs.Words.{number_text};
-ghost use Rattle.line_text.specs.ReplyText.{IsCount, IsCounts, counts_text, field_text};
-ghost use Rattle.line_text.specs.Reading.{Reads};
-ghost use Rattle.entry_grammar.specs.Reading.{IsFree, FieldThen};
+ghost use Rattle.line_text.specs.ReplyText.{IsCountValue, IsCounts, counts_text, field_text};
+ghost use Rattle.line_text.specs.Parsing.{ParsesAs};
+ghost use Rattle.entry_grammar.specs.Parsing.{IsFree, FieldThen};
 
 use crate::cut::cut;
 use line_text::{after, read_number};
 use rule_machine::Counts;
 
 pub(crate) fn read_up_to(bytes: &[u8], most: u32) -> Option<u32>
-    ensures { Reads (λ n. n ≤ most) number_text bytes.now result }
+    ensures { ParsesAs (λ n. n ≤ most) number_text bytes.now result }
 {
     let Some(number) = read_number(bytes, u64::from(most)) else {
         return None;
@@ -21,7 +21,7 @@ pub(crate) fn read_up_to(bytes: &[u8], most: u32) -> Option<u32>
 
 /// Reads a field: its name, then its number.
 pub(crate) fn read_field(bytes: &[u8], name: &[u8]) -> Option<u32>
-    ensures { Reads IsCount (λ number. field_text (name.now, number)) bytes.now result }
+    ensures { ParsesAs IsCountValue (λ number. field_text (name.now, number)) bytes.now result }
 {
     let Some(digits) = after(bytes, name) else {
         return None;
@@ -47,7 +47,7 @@ pub(crate) fn read_next<'a>(bytes: &'a [u8], name: &[u8]) -> Option<(u32, &'a [u
 
 /// Reads the six fields of a `status` reply; `None` for any other text.
 pub fn read_counts(bytes: &[u8]) -> Option<Counts>
-    ensures { Reads IsCounts counts_text bytes.now result }
+    ensures { ParsesAs IsCounts counts_text bytes.now result }
 {
     let (nodes, rest) = read_next(bytes, b"nodes=")?;
     let (edges, rest) = read_next(rest, b"edges=")?;

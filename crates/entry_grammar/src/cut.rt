@@ -1,7 +1,7 @@
 //! Cuts texts at a byte, or at one of their ends.
 
 ghost use Rattle.std.specs.Prelude.{◌≡◌, ℕ, ◌↔◌, List, ◌∷◌, ◌++◌, IsTrue, MatchOption};
-ghost use Rattle.entry_grammar.specs.Reading.{IsFree, CutAt, Ends};
+ghost use Rattle.entry_grammar.specs.Parsing.{IsFree, CutAt, EndsWord};
 
 use memchr::memchr;
 
@@ -34,7 +34,7 @@ pub fn cut_far(bytes: &[u8], mark: u8) -> Option<(&[u8], &[u8])>
 /// Whether the text is empty or begins with a space.
 #[inline(always)]
 pub(crate) fn ends(bytes: &[u8]) -> bool
-    ensures { IsTrue result ↔ Ends bytes.now }
+    ensures { IsTrue result ↔ EndsWord bytes.now }
 {
     bytes.get(0).copied().unwrap_or(b' ') == b' '
 }

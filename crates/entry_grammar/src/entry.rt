@@ -6,7 +6,7 @@ ghost use Rattle.rule_machine.specs.declared.reply.Reply.{Reply};
 ghost use Rattle.line_text.specs.Words.{number_text};
 ghost use Rattle.line_text.specs.EntryText.{entry_text};
 ghost use Rattle.entry_grammar.specs.Spelling.{max_entries, AsksForList, SpellsEntry};
-ghost use Rattle.entry_grammar.specs.Reading.{PartsOf};
+ghost use Rattle.entry_grammar.specs.Parsing.{PartsOf};
 ghost use Rattle.entry_grammar.specs.declared.fault.EntryFault.TheVariants.{Memory, NotALine};
 
 use crate::cut::{before, behind, cut_far};

@@ -5,7 +5,7 @@ ghost use Rattle.rule_machine.specs.declared.rules.RuleSet.{RuleSet};
 ghost use Rattle.rule_machine.specs.Tables.{rules_word};
 ghost use Rattle.line_text.specs.Words.{number_text};
 ghost use Rattle.line_text.specs.EntryText.{header_text, sizes_text};
-ghost use Rattle.line_text.specs.Reading.{Reads, ReadsTwo};
+ghost use Rattle.line_text.specs.Parsing.{ParsesAs, ReadsTwo};
 ghost use Rattle.entry_grammar.specs.Spelling.{AreSizes, SpellsHeader};
 ghost use Rattle.entry_grammar.specs.declared.fault.EntryFault.TheVariants.{NotALine};
 
@@ -17,7 +17,7 @@ use rule_machine::{MAX_NAME, RuleSet, Want};
 use std::alloc::Global;
 
 pub(crate) fn read_rules(bytes: &[u8]) -> Option<RuleSet>
-    ensures { Reads (λ (rules : RuleSet). ⊤) rules_word bytes.now result }
+    ensures { ParsesAs (λ (rules : RuleSet). ⊤) rules_word bytes.now result }
 {
     if bytes == RuleSet::Hh.word().as_bytes() {
         return Some(RuleSet::Hh);
@@ -30,7 +30,7 @@ pub(crate) fn read_rules(bytes: &[u8]) -> Option<RuleSet>
 
 /// Reads the number of names.
 pub(crate) fn read_size(bytes: &[u8]) -> Option<u32>
-    ensures { Reads (λ n. n ≤ 65535) number_text bytes.now result }
+    ensures { ParsesAs (λ n. n ≤ 65535) number_text bytes.now result }
 {
     read_up_to(bytes, MAX_NAME)
 }

@@ -3,9 +3,9 @@
 ghost use Rattle.std.specs.Prelude.{⊤, IfOk, IsTrue, OnErr};
 ghost use Rattle.rule_machine.specs.declared.refusal.Refusal.{Refusal};
 ghost use Rattle.line_text.specs.ReplyText.{refusal_words};
-ghost use Rattle.line_text.specs.Reading.{Reads};
+ghost use Rattle.line_text.specs.Parsing.{ParsesAs};
 ghost use Rattle.entry_grammar.specs.Spelling.{has_list};
-ghost use Rattle.entry_grammar.specs.Reading.{ReadsReply, is_done, is_moved, is_shown, suits};
+ghost use Rattle.entry_grammar.specs.Parsing.{ReadsReply, is_done, answers_step, is_shown, reply_suits};
 
 use crate::counts::{read_counts, read_up_to};
 use crate::cut::cut;
@@ -16,7 +16,7 @@ use std::alloc::Global;
 
 // Reads a refusal's number and text; `None` if they do not match.
 fn read_refusal(bytes: &[u8]) -> Option<Refusal>
-    ensures { Reads (λ (refusal : Refusal). ⊤) refusal_words bytes.now result }
+    ensures { ParsesAs (λ (refusal : Refusal). ⊤) refusal_words bytes.now result }
 {
     let Some((number, text)) = cut(bytes, b' ') else {
         return None;
@@ -48,7 +48,7 @@ fn read_done(bytes: &[u8]) -> Option<Reply>
 
 // Reads the reply to a step.
 fn read_moved(alloc: Global, bytes: &[u8]) -> Result<Option<Reply>, Want>
-    ensures { IfOk result (ReadsReply is_moved bytes.now) }
+    ensures { IfOk result (ReadsReply answers_step bytes.now) }
 {
     if let Some(words) = after(bytes, b"refused ") {
         let Some(refusal) = read_refusal(words) else {
@@ -75,7 +75,7 @@ fn read_shown(bytes: &[u8]) -> Option<Reply>
 /// Reads a reply to this event; `None` if the bytes spell none of its kind.
 /// Takes memory only for lists. Error: out of memory.
 pub fn read_reply(alloc: Global, event: &Event, bytes: &[u8]) -> Result<Option<Reply>, Want>
-    ensures reply { IfOk result (ReadsReply (suits event.now) bytes.now) }
+    ensures reply { IfOk result (ReadsReply (reply_suits event.now) bytes.now) }
     ensures memory { OnErr result (IsTrue (has_list event.now)) }
 {
     match event {

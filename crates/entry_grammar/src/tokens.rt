@@ -5,9 +5,9 @@ ghost use Rattle.std.specs.Int.{IsInRange};
 ghost use Rattle.rule_machine.specs.declared.act.Act.{Act};
 ghost use Rattle.line_text.specs.Words.{number_text, IsName};
 ghost use Rattle.line_text.specs.ReplyText.{act_word, enabled_text, move_text, mutual_text};
-ghost use Rattle.line_text.specs.Reading.{Reads};
-ghost use Rattle.entry_grammar.specs.Spelling.{IsMoved, IsEnabled, IsPair};
-ghost use Rattle.entry_grammar.specs.Reading.{DeedThen, PairThen, first_byte};
+ghost use Rattle.line_text.specs.Parsing.{ParsesAs};
+ghost use Rattle.entry_grammar.specs.Spelling.{IsMoved, IsEnabled, IsOrderedPair};
+ghost use Rattle.entry_grammar.specs.Parsing.{DeedThen, PairThen, first_byte};
 
 use crate::cut::{behind, ends};
 use crate::words::Token;
@@ -127,7 +127,7 @@ fn read_pair(bytes: &[u8], mark: u8) -> Option<(Edge, &[u8])>
 /// Reads an edge's ends with `mark` between them, the lower one first, to the end of the text.
 pub(crate) fn read_ends(bytes: &[u8], mark: u8) -> Option<Edge>
     requires { IsInRange 48 57 mark → ⊥ }
-    ensures { Reads IsPair (λ e. number_text e.0 ++ mark ∷ number_text e.1) bytes.now result }
+    ensures { ParsesAs IsOrderedPair (λ e. number_text e.0 ++ mark ∷ number_text e.1) bytes.now result }
 {
     let Some((pair, rest)) = read_pair(bytes, mark) else {
         return None;
@@ -177,7 +177,7 @@ impl Token for (Node, Act) {
 impl Token for Edge {
     ghost text = { mutual_text };
 
-    ghost fits = { IsPair };
+    ghost fits = { IsOrderedPair };
 
     #[inline(always)]
     fn read(bytes: &[u8]) -> Option<(Edge, &[u8])> {

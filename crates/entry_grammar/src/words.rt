@@ -2,9 +2,9 @@
 
 ghost use Rattle.std.specs.Prelude.{◌≡◌, ◌≢◌, ℕ, List, [], ◌∷◌, IfOk, IfSome, MatchOption, codes};
 ghost use Rattle.std.specs.List.{AllByRecursion};
-ghost use Rattle.line_text.specs.Words.{joined, joined_or};
-ghost use Rattle.line_text.specs.Reading.{Reads};
-ghost use Rattle.entry_grammar.specs.Reading.{IsFree, TokenThen};
+ghost use Rattle.line_text.specs.Words.{joined_texts, joined_or};
+ghost use Rattle.line_text.specs.Parsing.{ParsesAs};
+ghost use Rattle.entry_grammar.specs.Parsing.{IsFree, TokenThen};
 
 use crate::cut::behind;
 use rule_machine::{Listing, Want};
@@ -27,7 +27,7 @@ pub trait Token {
 }
 
 fn read_alone<W: Token + Copy>(bytes: &[u8]) -> Option<W>
-    ensures { IfSome result (λ word. AllByRecursion W.fits (word ∷ []) × (bytes.now ≡ joined W.text (word ∷ []))) }
+    ensures { IfSome result (λ word. AllByRecursion W.fits (word ∷ []) × (bytes.now ≡ joined_texts W.text (word ∷ []))) }
 {
     match W::read(bytes) {
         Some((word, [])) => Some(word),
@@ -40,7 +40,7 @@ fn read_alone<W: Token + Copy>(bytes: &[u8]) -> Option<W>
 fn read_many<W: Token + Copy>(alloc: Global, bytes: &[u8]) -> Result<Option<Listing<W>>, Want>
     requires some { bytes.now ≢ [] }
     requires no_space { (word : W) → W.fits word → IsFree 32 (W.text word) }
-    ensures { IfOk result (Reads (AllByRecursion W.fits) (joined W.text) bytes.now) }
+    ensures { IfOk result (ParsesAs (AllByRecursion W.fits) (joined_texts W.text) bytes.now) }
 {
     let mut words = Vec::new(alloc);
     let mut rest = bytes;
@@ -58,7 +58,7 @@ fn read_many<W: Token + Copy>(alloc: Global, bytes: &[u8]) -> Result<Option<List
 /// Takes memory for two or more words. Error: out of memory.
 pub fn read_words<W: Token + Copy>(alloc: Global, bytes: &[u8]) -> Result<Option<Listing<W>>, Want>
     requires no_space { (word : W) → W.fits word → IsFree 32 (W.text word) }
-    ensures { IfOk result (Reads (AllByRecursion W.fits) (joined W.text) bytes.now) }
+    ensures { IfOk result (ParsesAs (AllByRecursion W.fits) (joined_texts W.text) bytes.now) }
 {
     if bytes.is_empty() {
         return Ok(Some(Listing::from_vec(Vec::new(alloc))));
@@ -73,7 +73,7 @@ pub fn read_words<W: Token + Copy>(alloc: Global, bytes: &[u8]) -> Result<Option
 pub fn read_list<W: Token + Copy>(alloc: Global, bytes: &[u8]) -> Result<Option<Listing<W>>, Want>
     requires some { (word : W) → W.fits word → W.text word ≢ [] }
     requires no_space { (word : W) → W.fits word → IsFree 32 (W.text word) }
-    ensures { IfOk result (Reads (AllByRecursion W.fits) (joined_or (codes "none") W.text) bytes.now) }
+    ensures { IfOk result (ParsesAs (AllByRecursion W.fits) (joined_or (codes "none") W.text) bytes.now) }
 {
     if bytes == b"none".as_slice() {
         return Ok(Some(Listing::from_vec(Vec::new(alloc))));

@@ -3,13 +3,13 @@
 ghost use Rattle.std.specs.Prelude.{◌≡◌, ◌<◌, ◌↔◌, IfSome, IsNone, IsTrue, None};
 ghost use Rattle.rule_machine.specs.Network.{node_count};
 ghost use Rattle.rule_machine.specs.Refuse.{refusal_of};
-ghost use Rattle.fault_injector.specs.Drawn.{drawn, behind, fault_words, is_register_fault};
+ghost use Rattle.fault_injector.specs.DrawnFaults.{fault_drawn, behind, fault_words, is_register_fault};
 
 use crate::picks::{pick_node, pick_target, pick_value};
 use rand_core::Rng;
 use rule_engine::Net;
 use rule_machine::Event;
-use rule_set::Rules;
+use rules_api::Rules;
 use std::marker::Model;
 
 /// Draws faults of registers from the words of a generator; the same words give the same faults.
@@ -44,7 +44,7 @@ impl<G: Rng> Injector<G> {
     /// - The last picks the value. A flag is true if the word is odd. A pointer, with d neighbours, is null
     ///   if `word mod (d + 1)` is 0, otherwise the neighbour with that number, from 1, names ascending.
     pub fn draw<R: Rules>(&mut self, net: &Net<R>) -> Option<Event>
-        ensures event { (result, G.stream self.new) ≡ drawn net.now.state.network R.table.flags (G.stream self.old) }
+        ensures event { (result, G.stream self.new) ≡ fault_drawn net.now.state.network R.table.flags (G.stream self.old) }
         ensures none { IsNone result ↔ (node_count net.now.state.network ≡ 0) }
         ensures unused { node_count net.now.state.network ≡ 0 → G.stream self.new ≡ G.stream self.old }
         ensures words { 0 < node_count net.now.state.network → G.stream self.new ≡ behind (fault_words R.table.flags) (G.stream self.old) }

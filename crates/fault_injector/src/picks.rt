@@ -3,7 +3,7 @@
 ghost use Rattle.std.specs.Prelude.{◌≡◌, ◌<◌, IsTrue, None, slice_index};
 ghost use Rattle.rule_machine.specs.Network.{names, node_count, present};
 ghost use Rattle.rule_machine.specs.Refuse.{point_refusal};
-ghost use Rattle.fault_injector.specs.Drawn.{node_at, target_at, is_odd};
+ghost use Rattle.fault_injector.specs.DrawnFaults.{node_at, drawn_target, is_odd};
 
 use graph_store::EdgeStore;
 use rule_machine::Node;
@@ -32,7 +32,7 @@ pub(crate) fn pick_node(store: &EdgeStore, word: u32) -> Node
 /// The value that a word picks for a node's pointer, as in `Injector::draw`. Looks at one neighbour.
 pub(crate) fn pick_target(store: &EdgeStore, node: Node, word: u32) -> Option<Node>
     requires { IsTrue (present store.now.network node) }
-    ensures target { result ≡ target_at store.now.network node word }
+    ensures target { result ≡ drawn_target store.now.network node word }
     ensures accepted { point_refusal store.now.network node result ≡ None }
 {
     let neighbours = store.neighbours(node);

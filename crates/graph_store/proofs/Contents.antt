@@ -8,7 +8,7 @@ use Rattle.std.specs.declared.alloc.Global.{Global}
 use Rattle.std.proofs.Math.Seq.{map-set_same, take-append-add}
 use Rattle.std.proofs.lemmas.List.{map-set, get_or-map, get_or_past, length-map, ext_get_or, get_or-take, get_or-drop, take_rest, length-take-le, take-take, take-append-le, drop-drop}
 use Rattle.graph_store.specs.Rows.{contents, row_at, has, HasRoom, IsPlaceOf, IsGapFor}
-use Rattle.graph_store.proofs.Rising.{there_at_place, absent_at_gap}
+use Rattle.graph_store.proofs.AscendingLists.{there_at_place, absent_at_gap}
 
 -- there are as many lists of names as vectors
 pub length_contents : (rows : List (Vec ℕ Global)) → length (contents rows) ≡ length rows

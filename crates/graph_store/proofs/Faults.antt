@@ -11,7 +11,7 @@ use Rattle.graph_store.specs.Fault.{ends_fault, link_fault, unlink_fault}
 use Rattle.graph_store.specs.Rows.{contents, row_at, has, network_of, IsRows, IsPlaceOf}
 use Rattle.graph_store.proofs.PairOrder.{count-some}
 use Rattle.graph_store.proofs.Contents.{row_read, length_contents}
-use Rattle.graph_store.proofs.Rising.{there_at_place}
+use Rattle.graph_store.proofs.AscendingLists.{there_at_place}
 use Rattle.machine_laws.specs.Neighbours.{present_range, linked_back}
 use Rattle.graph_store.proofs.Store.{linked_by, linked_present}
 

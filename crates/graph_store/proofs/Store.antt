@@ -17,7 +17,7 @@ use Rattle.graph_store.specs.Rows.{has, row_at, edges_of, network_of, IsRows, Is
 use Rattle.graph_store.proofs.PairOrder.{count-empty, same_pairs}
 use Rattle.std.proofs.Math.Bool.{and-false}
 use Rattle.graph_store.proofs.Pairs.{has-edges_of}
-use Rattle.graph_store.proofs.Rising.{part_of_names}
+use Rattle.graph_store.proofs.AscendingLists.{part_of_names}
 
 -- the roll says which names are present
 pub on_roll : (net : Network) (v : ℕ) → length net.here ≡ net.size + 1 → get_or net.here 0 false ≡ false → get_or net.here v false ≡ present net v

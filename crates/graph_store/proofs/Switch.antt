@@ -10,7 +10,7 @@ use Rattle.rule_machine.specs.Network.{Network, PairSet, edge, linked, present, 
 use Rattle.graph_store.specs.Rows.{has, row_at, edges_of, network_of, put_both, take_both, IsRows, IsStore, IsPlaceOf, IsGapFor}
 use Rattle.graph_store.proofs.PairOrder.{same_pair, has-insert as has_pair-insert, has-remove as has_pair-remove, count-insert, count-remove, same_pairs}
 use Rattle.graph_store.proofs.Pairs.{has-edges_of}
-use Rattle.graph_store.proofs.Rising.{absent_at_gap, there_at_place, has-insert, has-remove, rising-insert, rising-remove}
+use Rattle.graph_store.proofs.AscendingLists.{absent_at_gap, there_at_place, has-insert, has-remove, rising-insert, rising-remove}
 use Rattle.machine_laws.specs.Neighbours.{present_range}
 use Rattle.graph_store.proofs.Store.{linked_row}
 

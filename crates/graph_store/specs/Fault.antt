@@ -43,6 +43,6 @@ unlink_fault net a b =
     else (if linked net a b then None else Some NotLinked))
 
 -- an error is the fault of the call, or a lack of memory if the call has none
-abbrev pub Explains : Option GraphFault → GraphFault → Type 0
-Explains None f = f ≡ Memory
-Explains (Some fault) f = f ≡ fault
+abbrev pub ExplainsGraphFault : Option GraphFault → GraphFault → Type 0
+ExplainsGraphFault None f = f ≡ Memory
+ExplainsGraphFault (Some fault) f = f ≡ fault

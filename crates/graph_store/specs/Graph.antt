@@ -5,8 +5,8 @@ use Rattle.std.specs.Vec.{vec_len, vec_capacity}
 use Rattle.std.specs.declared.vec.Vec.{Vec}
 use Rattle.std.specs.declared.alloc.Global.{Global}
 use Rattle.rule_machine.specs.Network.{Network, network_code}
-use Rattle.graph_store.specs.declared.ends.End.{End}
-use Rattle.graph_store.specs.Ends.{end_code}
+use Rattle.graph_store.specs.declared.ends.EdgeStance.{EdgeStance}
+use Rattle.graph_store.specs.EdgeStances.{end_code}
 use Rattle.graph_store.specs.Rows.{contents, network_of}
 
 -- the network, the room for further neighbours of each name, and the stance of each; every list has an entry
@@ -14,14 +14,14 @@ use Rattle.graph_store.specs.Rows.{contents, network_of}
 pub record Graph : Type 0 where
   pub network : Network
   pub room : List ℕ
-  pub ends : List End
+  pub ends : List EdgeStance
 
 abbrev pub graph_code : Coded Graph
 graph_code =
-    code_by (Network × (List ℕ × List End)) (coded× network_code (coded× (coded_list coded_ℕ) (coded_list end_code))) (λ g. (g.network, (g.room, g.ends))) (λ p. record { network = p.0; room = p.1.0; ends = p.1.1 }) (λ _. refl)
+    code_by (Network × (List ℕ × List EdgeStance)) (coded× network_code (coded× (coded_list coded_ℕ) (coded_list end_code))) (λ g. (g.network, (g.room, g.ends))) (λ p. record { network = p.0; room = p.1.0; ends = p.1.1 }) (λ _. refl)
 
 -- the graph of a store by its parts
-abbrev pub graph_of : ℕ → List Bool → List (Vec ℕ Global) → List End → Graph
+abbrev pub graph_of : ℕ → List Bool → List (Vec ℕ Global) → List EdgeStance → Graph
 graph_of size roll rows ends = record {
   network = network_of size roll (contents rows);
   room = map (λ row. vec_capacity row - vec_len row) rows;

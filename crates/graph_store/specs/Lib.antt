@@ -1,4 +1,4 @@
 pub mod Fault
 pub mod Rows
 pub mod Graph
-pub mod Ends
+pub mod EdgeStances

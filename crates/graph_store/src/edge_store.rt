@@ -3,8 +3,8 @@
 ghost use Rattle.std.specs.Prelude.{◌≡◌, ◌≢◌, ◌≤◌, ℕ, false, length, [], slice_get, slice_set, IfOk, IfErr, OnOk, OnErr, MatchOption, IsTrue, All, None, Some};
 ghost use Rattle.std.specs.List.Sorted.{IsStrictlyIncreasing};
 ghost use Rattle.rule_machine.specs.Network.{edgeless, edgeless_with, with_node, without_node, names, first_names, node_count, edge_count, edge_list, present, linked, neighbours, with_edge, without_edge};
-ghost use Rattle.graph_store.specs.Fault.{nodes_fault, ends_fault, join_fault, leave_fault, link_fault, unlink_fault, Explains};
-ghost use Rattle.graph_store.specs.Ends.{end_at, open_edges};
+ghost use Rattle.graph_store.specs.Fault.{nodes_fault, ends_fault, join_fault, leave_fault, link_fault, unlink_fault, ExplainsGraphFault};
+ghost use Rattle.graph_store.specs.EdgeStances.{end_at, open_edges};
 ghost use Rattle.graph_store.specs.Graph.{HasRoomFor};
 ghost use Rattle.graph_store.specs.Rows.{has, IsGapFor, IsPlaceOf};
 ghost use Rattle.graph_store.specs.declared.fault.GraphFault.TheVariants.{Memory};
@@ -13,7 +13,7 @@ use crate::ends::{are_open, shut_ends, turn_end};
 use crate::rows::{
     empty_rows, find_gap, find_place, guess_gap, list_pairs, put_both, reserve_both, take_both,
 };
-use crate::{End, GraphFault};
+use crate::{EdgeStance, GraphFault};
 use enabled_set::EnabledSet;
 use rule_machine::{Edge, MAX_EDGES, MAX_NAME, Node, Want};
 use std::alloc::Global;
@@ -21,7 +21,7 @@ use std::marker::Model;
 
 /// A network of nodes named 1 to a fixed capacity, as sorted neighbour lists.
 ///
-/// Contracts see the network, the room in each list, and each name's stance (`End`) on its edges.
+/// Contracts see the network, the room in each list, and each name's stance (`EdgeStance`) on its edges.
 /// Memory: two bytes a neighbour; a list, a bit (present) and a byte (stance) a name.
 /// An absent name has no neighbours.
 #[derive(Drop)]
@@ -30,7 +30,7 @@ pub struct EdgeStore {
     nodes: u32,
     here: EnabledSet,
     edges: u32,
-    ends: Vec<End>,
+    ends: Vec<EdgeStance>,
     open_edges: u32,
     // A guess, checked before use: the gap for the last reserved edge in the row of its first end.
     last_gap: usize,
@@ -39,7 +39,7 @@ pub struct EdgeStore {
 impl Model for EdgeStore {
     ghost use Rattle.graph_store.specs.Graph.{Graph, graph_code, graph_of};
     ghost use Rattle.graph_store.specs.Rows.{contents, IsStore};
-    ghost use Rattle.graph_store.specs.Ends.{AreCounted};
+    ghost use Rattle.graph_store.specs.EdgeStances.{CountsOpenEdges};
 
     ghost Value = { Graph };
 
@@ -47,7 +47,7 @@ impl Model for EdgeStore {
 
     ghost view = { λ s. graph_of s.nodes s.here s.rows.items s.ends.items };
 
-    ghost invariant = { λ s. IsStore s.nodes s.here s.edges (contents s.rows.items) × AreCounted s.nodes (contents s.rows.items) s.ends.items s.open_edges };
+    ghost invariant = { λ s. IsStore s.nodes s.here s.edges (contents s.rows.items) × CountsOpenEdges s.nodes (contents s.rows.items) s.ends.items s.open_edges };
 }
 
 impl EdgeStore {
@@ -57,7 +57,7 @@ impl EdgeStore {
     pub fn new(alloc: Global, nodes: u32) -> Result<EdgeStore, GraphFault>
         ensures ok { IfOk result (λ store. store.network ≡ edgeless nodes) }
         ensures small { OnOk result (nodes ≤ 65535) }
-        ensures fault { IfErr result (λ fault. Explains (nodes_fault nodes) fault) }
+        ensures fault { IfErr result (λ fault. ExplainsGraphFault (nodes_fault nodes) fault) }
     {
         EdgeStore::with_present(alloc, nodes, nodes)
     }
@@ -69,7 +69,7 @@ impl EdgeStore {
         requires within { present ≤ nodes }
         ensures ok { IfOk result (λ store. store.network ≡ edgeless_with nodes present) }
         ensures small { OnOk result (nodes ≤ 65535) }
-        ensures fault { IfErr result (λ fault. Explains (nodes_fault nodes) fault) }
+        ensures fault { IfErr result (λ fault. ExplainsGraphFault (nodes_fault nodes) fault) }
     {
         if nodes > MAX_NAME {
             return Err(GraphFault::TooManyNodes);
@@ -173,7 +173,7 @@ impl EdgeStore {
 
     /// Sets a name's stance on its edges. At first each name shuts them.
     /// One look if the stance is unchanged, else one at each neighbour. Takes no memory.
-    pub fn turn(&mut self, v: Node, end: End)
+    pub fn set_stance(&mut self, v: Node, end: EdgeStance)
         requires { v ≤ self.old.network.size }
         ensures told { end_at self.new.ends v ≡ end }
         ensures ends { self.new.ends ≡ slice_set self.old.ends v end }
@@ -276,7 +276,7 @@ impl EdgeStore {
     /// An error leaves the network unchanged.
     pub fn link(&mut self, a: Node, b: Node) -> Result<(), GraphFault>
         ensures ok { OnOk result ((link_fault self.old.network a b ≡ None) × (self.new.network ≡ with_edge self.old.network a b)) }
-        ensures fault { IfErr result (λ fault. Explains (link_fault self.old.network a b) fault) }
+        ensures fault { IfErr result (λ fault. ExplainsGraphFault (link_fault self.old.network a b) fault) }
         ensures unchanged { OnErr result (self.new.network ≡ self.old.network) }
         ensures ends { self.new.ends ≡ self.old.ends }
     {
@@ -292,7 +292,7 @@ impl EdgeStore {
     /// Errors: those of `link`, in its order. No edge changes.
     pub fn reserve_link(&mut self, a: Node, b: Node) -> Result<(), GraphFault>
         ensures ok { OnOk result ((link_fault self.old.network a b ≡ None) × HasRoomFor self.new.room a b) }
-        ensures fault { IfErr result (λ fault. Explains (link_fault self.old.network a b) fault) }
+        ensures fault { IfErr result (λ fault. ExplainsGraphFault (link_fault self.old.network a b) fault) }
         ensures unchanged { self.new.network ≡ self.old.network }
         ensures ends { self.new.ends ≡ self.old.ends }
     {
@@ -325,7 +325,7 @@ impl EdgeStore {
     }
 
     /// Removes an edge: a binary search and a shift in both rows. Takes no memory.
-    pub fn take_out(&mut self, a: Node, b: Node)
+    pub fn remove_edge(&mut self, a: Node, b: Node)
         requires { IsTrue (linked self.old.network a b) }
         ensures network { self.new.network ≡ without_edge self.old.network a b }
         ensures ends { self.new.ends ≡ self.old.ends }
@@ -350,7 +350,7 @@ impl EdgeStore {
         if !self.linked(a, b) {
             return Err(GraphFault::NotLinked);
         }
-        self.take_out(a, b);
+        self.remove_edge(a, b);
         Ok(())
     }
 

@@ -1,8 +1,8 @@
 //! Stances on edges, and open edges.
 
 ghost use Rattle.std.specs.Prelude.{◌≡◌, ◌+◌, ◌<◌, ◌≤◌, All, IfOk, length, replicate, slice_set};
-ghost use Rattle.graph_store.specs.Ends.{are_open, end_at, open_to};
-ghost use Rattle.graph_store.specs.declared.ends.End.TheVariants.{Shut};
+ghost use Rattle.graph_store.specs.EdgeStances.{are_open, end_at, open_to};
+ghost use Rattle.graph_store.specs.declared.ends.EdgeStance.TheVariants.{Shut};
 
 use rule_machine::{Node, Want};
 use std::alloc::Global;
@@ -10,7 +10,7 @@ use std::alloc::Global;
 /// A node's stance on its edges.
 /// An edge is open if neither end shuts it and its ends are not both courted.
 #[derive(Clone, Copy, PartialEq, Eq)]
-pub enum End {
+pub enum EdgeStance {
     /// No edge at the node is open.
     Shut,
     /// An edge at the node is open if its other end is free.
@@ -19,26 +19,26 @@ pub enum End {
     Free,
 }
 
-impl End {
+impl EdgeStance {
     /// Whether an edge between two such ends is open.
     #[inline(always)]
-    pub fn is_open_to(self, other: End) -> bool
+    pub fn is_open_to(self, other: EdgeStance) -> bool
         ensures { result ≡ are_open self other }
     {
-        (self != End::Shut)
-            & (other != End::Shut)
-            & ((self != End::Courted) | (other != End::Courted))
+        (self != EdgeStance::Shut)
+            & (other != EdgeStance::Shut)
+            & ((self != EdgeStance::Courted) | (other != EdgeStance::Courted))
     }
 }
 
-pub fn shut_ends(alloc: Global, count: usize) -> Result<Vec<End>, Want>
+pub fn shut_ends(alloc: Global, count: usize) -> Result<Vec<EdgeStance>, Want>
     ensures { IfOk result (λ ends. ends.items ≡ replicate count Shut) }
 {
-    vec![in alloc; End::Shut; count]
+    vec![in alloc; EdgeStance::Shut; count]
 }
 
 #[inline(always)]
-pub fn are_open(ends: &[End], a: Node, b: Node) -> bool
+pub fn are_open(ends: &[EdgeStance], a: Node, b: Node) -> bool
     requires low { a < length ends.now }
     requires high { b < length ends.now }
     ensures { result ≡ are_open (end_at ends.now a) (end_at ends.now b) }
@@ -46,7 +46,7 @@ pub fn are_open(ends: &[End], a: Node, b: Node) -> bool
     ends[a.place()].is_open_to(ends[b.place()])
 }
 
-fn open_to(row: &[Node], ends: &[End], end: End) -> u32
+fn open_to(row: &[Node], ends: &[EdgeStance], end: EdgeStance) -> u32
     requires few { length row.now ≤ 65536 }
     requires within { All (λ w. w < length ends.now) row.now }
     ensures count { result ≡ open_to ends.now end row.now }
@@ -60,7 +60,7 @@ fn open_to(row: &[Node], ends: &[End], end: End) -> u32
 }
 
 /// Sets the stance of the name with this row; returns the new number of open edges, given the old.
-pub fn turn_end(row: &[Node], ends: &mut [End], count: u32, v: Node, end: End) -> u32
+pub fn turn_end(row: &[Node], ends: &mut [EdgeStance], count: u32, v: Node, end: EdgeStance) -> u32
     requires few { length row.now ≤ 65536 }
     requires within { All (λ w. w < length ends.old) row.now }
     requires here { v < length ends.old }

@@ -1,5 +1,5 @@
 pub mod Partners
-pub mod Named
+pub mod NodeScans
 pub mod Rounds
-pub mod Told
-pub mod Summed
+pub mod StoredContributions
+pub mod ContributionSums

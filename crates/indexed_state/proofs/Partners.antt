@@ -3,7 +3,7 @@ use Rattle.std.proofs.Common.{◌≡◌, ℕ, Bool, true, false, cond, None, Som
 use Rattle.std.proofs.lemmas.Bool.{true≢false}
 use Rattle.rule_machine.specs.State.{State, IsState, pointer, points, partner}
 use Rattle.machine_laws.specs.Neighbours.{option_cases}
-use Rattle.indexed_state.specs.Shares.{answered_by}
+use Rattle.indexed_state.specs.Contributions.{answered_by}
 use Rattle.machine_laws.specs.Pointers.{none_is, partner_from, null_unmarried, unanswered_unmarried, points_true, points_from}
 
 at_pointer : (s : State) (v w : ℕ) → IsState s → pointer s v ≡ Some w → (b : Bool) → points s.registers w v ≡ b → partner s v ≡ cond b (Some w) None

@@ -4,17 +4,17 @@ use Rattle.enabled_set.specs.Members.{is_in}
 use Rattle.rule_machine.specs.Network.{neighbours}
 use Rattle.rule_machine.specs.State.{State, IsState, holds_at, points}
 use Rattle.rule_machine.specs.Stable.{pair_above}
-use Rattle.rule_set.specs.Charge.{AreNear}
-use Rattle.rule_set.specs.Standing.{IsSameStanding}
+use Rattle.rules_api.specs.Charge.{AreNear}
+use Rattle.rules_api.specs.ChargeInputs.{IsSameChargeInput}
 use Rattle.machine_laws.specs.Pointers.{points_true}
-use Rattle.charge_laws.specs.Counting.{count_agree}
-use Rattle.graph_store.specs.declared.ends.End.{End}
-use Rattle.graph_store.specs.declared.ends.End.TheVariants.{Shut, Courted, Free}
+use Rattle.charge_laws.specs.ListCounts.{count_agree}
+use Rattle.graph_store.specs.declared.ends.EdgeStance.{EdgeStance}
+use Rattle.graph_store.specs.declared.ends.EdgeStance.TheVariants.{Shut, Courted, Free}
 use Rattle.net_state.proofs.Rounds.{IsSameRound, round_seated, same_suitors, same_marriage}
-use Rattle.indexed_state.specs.declared.share.Share.{Share}
-use Rattle.indexed_state.specs.Shares.{closing_at, IsToldAt, AreTold}
+use Rattle.indexed_state.specs.declared.share.Contribution.{Contribution}
+use Rattle.indexed_state.specs.Contributions.{closing_at, IsExactAt, AreExactUnlessStale}
 
-pub same_standing : (s u : State) (v : ℕ) → IsSameRound s u v → IsSameStanding s u v
+pub same_standing : (s u : State) (v : ℕ) → IsSameRound s u v → IsSameChargeInput s u v
 same_standing s u v round = record {
   points = round.own_pointer;
   flagged = round.own_flag;
@@ -34,7 +34,7 @@ same_closing closes adds s u v near good also round =
         grind arith
 
 -- so what is kept of a node is still right
-pub told_again : (courted_close : Bool) (closes : State → ℕ → Bool) (adds : State → ℕ → ℕ) (s u : State) (ends : List End) (each : List Share) (lower : List Bool) (v : ℕ) → AreNear closes adds → IsState s → IsState u → IsSameRound s u v → IsToldAt courted_close closes adds s ends each lower v → IsToldAt courted_close closes adds u ends each lower v
+pub told_again : (courted_close : Bool) (closes : State → ℕ → Bool) (adds : State → ℕ → ℕ) (s u : State) (ends : List EdgeStance) (each : List Contribution) (lower : List Bool) (v : ℕ) → AreNear closes adds → IsState s → IsState u → IsSameRound s u v → IsExactAt courted_close closes adds s ends each lower v → IsExactAt courted_close closes adds u ends each lower v
 told_again courted_close closes adds s u ends each lower v near good also round told =
     let standing = same_standing s u v round in
     let added : adds s v ≡ adds u v = near.adds_by_standing s u v standing in
@@ -47,7 +47,7 @@ told_again courted_close closes adds s u ends each lower v near good also round 
     }
 
 -- and so is all that is not stale, if only this changed
-pub told_after : {t : State} (courted_close : Bool) (closes : State → ℕ → Bool) (adds : State → ℕ → ℕ) (s u : State) (ends ends' : List End) (each each' : List Share) (lower lower' stale stale' : List Bool) → AreNear closes adds → IsState s → IsState u → u ≡ t → t.network.size ≡ s.network.size → ends' ≡ ends → each' ≡ each → lower' ≡ lower → length stale' ≡ length stale → ((v : ℕ) → is_in stale' v ≡ false → (is_in stale v ≡ false) × IsSameRound s t v) → AreTold courted_close closes adds s ends each lower stale → AreTold courted_close closes adds u ends' each' lower' stale'
+pub told_after : {t : State} (courted_close : Bool) (closes : State → ℕ → Bool) (adds : State → ℕ → ℕ) (s u : State) (ends ends' : List EdgeStance) (each each' : List Contribution) (lower lower' stale stale' : List Bool) → AreNear closes adds → IsState s → IsState u → u ≡ t → t.network.size ≡ s.network.size → ends' ≡ ends → each' ≡ each → lower' ≡ lower → length stale' ≡ length stale → ((v : ℕ) → is_in stale' v ≡ false → (is_in stale v ≡ false) × IsSameRound s t v) → AreExactUnlessStale courted_close closes adds s ends each lower stale → AreExactUnlessStale courted_close closes adds u ends' each' lower' stale'
 told_after {t = t} courted_close closes adds s u ends ends' each each' lower lower' stale stale' near good also now size same_ends same_each same_lower same_places elsewhere told = record {
   places = ap length same_each ∙ told.places ∙ sym (ap (λ n. n + 1) sizes);
   lower_places = ap length same_lower ∙ told.lower_places ∙ sym (ap (λ n. n + 1) sizes);
@@ -55,16 +55,16 @@ told_after {t = t} courted_close closes adds s u ends ends' each each' lower low
   told = λ v fresh.
       let was = elsewhere v fresh in
       let round = subst (λ x. IsSameRound s x v) (sym now) was.1 in
-      subst (λ (l : List Bool). IsToldAt courted_close closes adds u ends' each' l v) (sym same_lower)
-      (subst (λ (l : List Share). IsToldAt courted_close closes adds u ends' l lower v) (sym same_each)
-      (subst (λ (l : List End). IsToldAt courted_close closes adds u l each lower v) (sym same_ends)
+      subst (λ (l : List Bool). IsExactAt courted_close closes adds u ends' each' l v) (sym same_lower)
+      (subst (λ (l : List Contribution). IsExactAt courted_close closes adds u ends' l lower v) (sym same_each)
+      (subst (λ (l : List EdgeStance). IsExactAt courted_close closes adds u l each lower v) (sym same_ends)
       (told_again courted_close closes adds s u ends each lower v near good also round (told.told v was.0))));
 } where
   sizes : u.network.size ≡ s.network.size
   sizes = ap (λ (x : State). x.network.size) now ∙ size
 
 -- if a name became present or absent, without an edge
-pub told_seated : (courted_close : Bool) (closes : State → ℕ → Bool) (adds : State → ℕ → ℕ) (s u : State) (v : ℕ) (b : Bool) (ends ends' : List End) (each each' : List Share) (lower lower' stale stale' : List Bool) → AreNear closes adds → IsState s → IsState u → u ≡ record s { network = record s.network { here = set s.network.here v b } } → ends' ≡ ends → each' ≡ each → lower' ≡ lower → length stale' ≡ length stale → ((w : ℕ) → is_in stale' w ≡ false → (is_in stale w ≡ false) × (w ≢ v)) → AreTold courted_close closes adds s ends each lower stale → AreTold courted_close closes adds u ends' each' lower' stale'
+pub told_seated : (courted_close : Bool) (closes : State → ℕ → Bool) (adds : State → ℕ → ℕ) (s u : State) (v : ℕ) (b : Bool) (ends ends' : List EdgeStance) (each each' : List Contribution) (lower lower' stale stale' : List Bool) → AreNear closes adds → IsState s → IsState u → u ≡ record s { network = record s.network { here = set s.network.here v b } } → ends' ≡ ends → each' ≡ each → lower' ≡ lower → length stale' ≡ length stale → ((w : ℕ) → is_in stale' w ≡ false → (is_in stale w ≡ false) × (w ≢ v)) → AreExactUnlessStale courted_close closes adds s ends each lower stale → AreExactUnlessStale courted_close closes adds u ends' each' lower' stale'
 told_seated courted_close closes adds s u v b ends ends' each each' lower lower' stale stale' near good also now same_ends same_each same_lower same_places elsewhere told =
     let kept = subst IsState now also in
     told_after courted_close closes adds s u ends ends' each each' lower lower' stale stale' near good also now refl same_ends same_each same_lower same_places

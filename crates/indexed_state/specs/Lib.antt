@@ -1,2 +1,2 @@
-pub mod Indexed
-pub mod Shares
+pub mod IndexedViews
+pub mod Contributions

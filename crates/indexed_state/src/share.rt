@@ -3,13 +3,13 @@
 ghost use Rattle.std.specs.Prelude.{◌≡◌, ◌&&◌, ◌≤◌, false, not, cond, IsTrue, MatchOption};
 ghost use Rattle.rule_machine.specs.Network.{present};
 ghost use Rattle.rule_machine.specs.State.{State, IsState, holds_at, points};
-ghost use Rattle.rule_set.specs.Standing.{IsStanding};
-ghost use Rattle.indexed_state.specs.Shares.{closing_at, end_of, is_lower_end, node_part};
+ghost use Rattle.rules_api.specs.ChargeInputs.{IsChargeInput};
+ghost use Rattle.indexed_state.specs.Contributions.{closing_at, stance_of, is_lower_end, node_part};
 
-use graph_store::End;
+use graph_store::EdgeStance;
 use registers::Registers;
 use rule_machine::Node;
-use rule_set::{Rules, Standing};
+use rules_api::{ChargeInput, Rules};
 use suitor_index::SuitorIndex;
 
 /// What a node contributes to the totals of its network.
@@ -17,31 +17,31 @@ use suitor_index::SuitorIndex;
 /// It has what the node adds to the charge apart from its edges, and how many pointers at it close an edge
 /// that is open by its ends.
 #[derive(Clone, Copy)]
-pub(crate) struct Share {
+pub(crate) struct Contribution {
     pub(crate) added: u16,
     pub(crate) closing: u16,
 }
 
-pub(crate) const NO_SHARE: Share = Share {
+pub(crate) const NO_SHARE: Contribution = Contribution {
     added: 0,
     closing: 0,
 };
 
 #[inline(always)]
-fn end_of<R: Rules>(node: &Standing) -> End
-    ensures { (s : State) → IsStanding s node.now → result ≡ end_of R.COURTED_CLOSE s node.now.node }
+fn end_of<R: Rules>(node: &ChargeInput) -> EdgeStance
+    ensures { (s : State) → IsChargeInput s node.now → result ≡ stance_of R.COURTED_PAIR_CLOSES_EDGE s node.now.node }
 {
     if node.is_married {
-        End::Shut
-    } else if R::COURTED_CLOSE && node.pointer.is_none() && node.has_suitor {
-        End::Courted
+        EdgeStance::Shut
+    } else if R::COURTED_PAIR_CLOSES_EDGE && node.pointer.is_none() && node.has_suitor {
+        EdgeStance::Courted
     } else {
-        End::Free
+        EdgeStance::Free
     }
 }
 
 #[inline(always)]
-fn is_unanswered(registers: &Registers, node: &Standing) -> bool
+fn is_unanswered(registers: &Registers, node: &ChargeInput) -> bool
     ensures { result ≡ holds_at (λ w. not (points registers.now w node.now.node)) node.now.pointer }
 {
     match node.pointer {
@@ -52,13 +52,13 @@ fn is_unanswered(registers: &Registers, node: &Standing) -> bool
 
 /// Returns what the charge depends on at a node. A few looks.
 #[inline(always)]
-fn standing<R: Rules>(index: &SuitorIndex<R>, v: Node) -> Standing
+fn standing<R: Rules>(index: &SuitorIndex<R>, v: Node) -> ChargeInput
     requires { IsTrue (present index.now.state.network v) }
     ensures node { result.node ≡ v }
-    ensures standing { IsStanding index.now.state result }
+    ensures standing { IsChargeInput index.now.state result }
 {
     let net = index.net();
-    Standing {
+    ChargeInput {
         node: v,
         pointer: net.pointer(v),
         flag: net.flag(v),
@@ -69,17 +69,17 @@ fn standing<R: Rules>(index: &SuitorIndex<R>, v: Node) -> Standing
 
 /// Whether `w` points at the node, and so closes an edge that is open by its ends.
 #[inline(always)]
-fn closes_edge<R: Rules>(index: &SuitorIndex<R>, w: Node, node: &Standing) -> bool
-    requires { IsStanding index.now.state node.now }
+fn closes_edge<R: Rules>(index: &SuitorIndex<R>, w: Node, node: &ChargeInput) -> bool
+    requires { IsChargeInput index.now.state node.now }
     ensures { result ≡ (points index.now.state.registers w node.now.node && R.closes index.now.state w) }
 {
     index.net().points(w, node.node) && R::closes(w, node)
 }
 
 /// Counts the pointers at a node that close an edge open by its ends. A look at each neighbour.
-fn closing_among<R: Rules>(index: &SuitorIndex<R>, node: &Standing) -> u16
+fn closing_among<R: Rules>(index: &SuitorIndex<R>, node: &ChargeInput) -> u16
     requires present { IsTrue (present index.now.state.network node.now.node) }
-    requires standing { IsStanding index.now.state node.now }
+    requires standing { IsChargeInput index.now.state node.now }
     ensures { result ≡ closing_at (R.closes index.now.state) index.now.state node.now.node }
 {
     let mut closing = 0;
@@ -92,9 +92,9 @@ fn closing_among<R: Rules>(index: &SuitorIndex<R>, node: &Standing) -> u16
 /// Counts the pointers at a node that close an edge open by its ends.
 ///
 /// Cost: a scan of the neighbours only if the node has several suitors.
-fn closing_at<R: Rules>(index: &SuitorIndex<R>, node: &Standing) -> u16
+fn closing_at<R: Rules>(index: &SuitorIndex<R>, node: &ChargeInput) -> u16
     requires present { IsTrue (present index.now.state.network node.now.node) }
-    requires standing { IsStanding index.now.state node.now }
+    requires standing { IsChargeInput index.now.state node.now }
     ensures { result ≡ closing_at (R.closes index.now.state) index.now.state node.now.node }
 {
     // Gives the prover `IsState`.
@@ -108,7 +108,7 @@ fn closing_at<R: Rules>(index: &SuitorIndex<R>, node: &Standing) -> u16
     }
 }
 
-pub(crate) fn share_of<R: Rules>(index: &SuitorIndex<R>, v: Node) -> Share
+pub(crate) fn share_of<R: Rules>(index: &SuitorIndex<R>, v: Node) -> Contribution
     ensures added { result.added ≡ cond (present index.now.state.network v) (node_part (R.adds index.now.state) index.now.state v) 0 }
     ensures closing { result.closing ≡ cond (present index.now.state.network v) (closing_at (R.closes index.now.state) index.now.state v) 0 }
 {
@@ -116,7 +116,7 @@ pub(crate) fn share_of<R: Rules>(index: &SuitorIndex<R>, v: Node) -> Share
         return NO_SHARE;
     }
     let node = standing(index, v);
-    Share {
+    Contribution {
         added: u16::from(is_unanswered(index.net().registers(), &node))
             + u16::from(R::node_charge(&node)),
         closing: closing_at(index, &node),
@@ -134,8 +134,8 @@ pub(crate) fn is_lower_end<R: Rules>(index: &SuitorIndex<R>, v: Node) -> bool
 }
 
 /// Returns the stance of the name's node towards its edges, if there is one.
-pub(crate) fn end_at<R: Rules>(index: &SuitorIndex<R>, v: Node) -> Option<End>
-    ensures { MatchOption result (present index.now.state.network v ≡ false) (λ end. end ≡ end_of R.COURTED_CLOSE index.now.state v) }
+pub(crate) fn end_at<R: Rules>(index: &SuitorIndex<R>, v: Node) -> Option<EdgeStance>
+    ensures { MatchOption result (present index.now.state.network v ≡ false) (λ end. end ≡ stance_of R.COURTED_PAIR_CLOSES_EDGE index.now.state v) }
 {
     if !index.net().has(v) {
         return None;

@@ -3,10 +3,10 @@
 ghost use Rattle.std.specs.Prelude.{◌≡◌, ◌≢◌, All, ℕ, ◌+◌, ◌<◌, ◌≤◌, true, false, length, replicate, slice_set, IfOk, IfSome};
 ghost use Rattle.enabled_set.specs.Members.{is_in};
 ghost use Rattle.rule_machine.specs.State.{is_at};
-ghost use Rattle.indexed_state.specs.Shares.{no_share, AreSummed, IsLight};
-ghost use Rattle.net_state.specs.Held.{IsElsewhere};
+ghost use Rattle.indexed_state.specs.Contributions.{no_contribution, AreChargeSums, FitsSixteenBits};
+ghost use Rattle.net_state.specs.StateViews.{IsUntouchedBy};
 
-use crate::share::{NO_SHARE, Share};
+use crate::share::{Contribution, NO_SHARE};
 use enabled_set::{EnabledSet, Marks};
 use rule_machine::{Node, Want};
 use std::alloc::Global;
@@ -15,22 +15,22 @@ use std::alloc::Global;
 ///
 /// The nodes of stale names may contribute otherwise.
 #[derive(Drop)]
-pub(crate) struct Shares {
-    pub(crate) each: Vec<Share>,
+pub(crate) struct Contributions {
+    pub(crate) each: Vec<Contribution>,
     pub(crate) added: u32,
     pub(crate) closing: u32,
     pub(crate) lower_ends: EnabledSet,
     pub(crate) stale: Marks,
     ghost few: { length each.items ≤ 65536 },
-    ghost light: { All IsLight each.items },
-    ghost summed: { AreSummed each.items added closing },
+    ghost light: { All FitsSixteenBits each.items },
+    ghost summed: { AreChargeSums each.items added closing },
 }
 
-impl Shares {
+impl Contributions {
     /// Creates empty contributions; all names up to `nodes` are stale. Takes seven bytes and a bit a name.
-    pub(crate) fn new(alloc: Global, nodes: u32) -> Result<Shares, Want>
+    pub(crate) fn new(alloc: Global, nodes: u32) -> Result<Contributions, Want>
         requires { nodes ≤ 65535 }
-        ensures each { IfOk result (λ it. it.each.items ≡ replicate (nodes + 1) no_share) }
+        ensures each { IfOk result (λ it. it.each.items ≡ replicate (nodes + 1) no_contribution) }
         ensures lower { IfOk result (λ it. it.lower_ends ≡ replicate (nodes + 1) false) }
         ensures places { IfOk result (λ it. length it.stale ≡ nodes + 1) }
         ensures stale { IfOk result (λ it. (v : ℕ) → 1 ≤ v → v ≤ nodes → is_in it.stale v ≡ true) }
@@ -39,7 +39,7 @@ impl Shares {
         let lower_ends = EnabledSet::new(alloc, nodes)?;
         let mut stale = Marks::new(alloc, nodes)?;
         stale.mark_all();
-        Ok(Shares {
+        Ok(Contributions {
             each,
             added: 0,
             closing: 0,
@@ -78,14 +78,14 @@ impl Shares {
         requires is { IfSome is (λ w. w < length self.old.stale) }
         ensures kept { (self.new.each.items ≡ self.old.each.items) × (self.new.lower_ends ≡ self.old.lower_ends) }
         ensures places { length self.new.stale ≡ length self.old.stale }
-        ensures marked { (w : ℕ) → is_in self.new.stale w ≡ false → (is_in self.old.stale w ≡ false) × IsElsewhere v was is w }
+        ensures marked { (w : ℕ) → is_in self.new.stale w ≡ false → (is_in self.old.stale w ≡ false) × IsUntouchedBy v was is w }
     {
         self.mark(v);
         self.mark_target(was);
         self.mark_target(is);
     }
 
-    pub(crate) fn put(&mut self, v: Node, share: Share, is_lower_end: bool)
+    pub(crate) fn put(&mut self, v: Node, share: Contribution, is_lower_end: bool)
         requires share { v < length self.old.each.items }
         requires lower { v < length self.old.lower_ends }
         ensures each { self.new.each.items ≡ slice_set self.old.each.items v share }

@@ -2,22 +2,22 @@
 
 ghost use Rattle.std.specs.Prelude.{◌≡◌, ◌≢◌, ◌≤◌, false, IfOk, IfErr, IfSome, OnOk, MatchOption, IsTrue, None, not};
 ghost use Rattle.std.specs.Bool.{beq};
-ghost use Rattle.graph_store.specs.Fault.{nodes_fault, link_fault, Explains};
+ghost use Rattle.graph_store.specs.Fault.{nodes_fault, link_fault, ExplainsGraphFault};
 ghost use Rattle.graph_store.specs.Graph.{HasRoomFor};
 ghost use Rattle.rule_machine.specs.Network.{present, linked};
 ghost use Rattle.rule_machine.specs.State.{IsState, opening_with, pointer};
 ghost use Rattle.rule_machine.specs.Disturbance.{after_link, after_point, after_flag, after_join};
 ghost use Rattle.rule_machine.specs.RuleTable as RuleTable;
-ghost use Rattle.rule_set.specs.Glance.{reaches_beside};
+ghost use Rattle.rules_api.specs.LocalViews.{reaches_beside};
 ghost use Rattle.suitor_index.specs.Tallies.{suitor_count, IsLoneSuitor};
 
 use crate::NodeView;
-use crate::shares::Shares;
+use crate::shares::Contributions;
 use graph_store::{EdgeStore, GraphFault};
-use net_state::{Disturb, NetState};
+use net_state::{NetState, StateWriter};
 use registers::Registers;
 use rule_machine::Node;
-use rule_set::Rules;
+use rules_api::Rules;
 use std::alloc::Global;
 use std::marker::Model;
 use suitor_index::{Change, SuitorIndex};
@@ -29,20 +29,20 @@ use suitor_index::{Change, SuitorIndex};
 #[derive(Drop)]
 pub struct IndexedState<R: Rules> {
     pub(crate) index: SuitorIndex<R>,
-    pub(crate) shares: Shares,
+    pub(crate) shares: Contributions,
 }
 
 impl<R: Rules> Model for IndexedState<R> {
-    ghost use Rattle.indexed_state.specs.Indexed.{Indexed, indexed_code};
-    ghost use Rattle.indexed_state.specs.Shares.{IsTold};
+    ghost use Rattle.indexed_state.specs.IndexedViews.{IndexedView, indexed_code};
+    ghost use Rattle.indexed_state.specs.Contributions.{IsExactState};
 
-    ghost Value = { Indexed };
+    ghost Value = { IndexedView };
 
     ghost coded = { indexed_code };
 
     ghost view = { λ n. record { state = n.index.state; room = n.index.room; ends = n.index.ends; stale = n.shares.stale } };
 
-    ghost invariant = { λ n. IsTold R.COURTED_CLOSE R.closes R.adds n.index n.shares.each.items n.shares.lower_ends n.shares.stale };
+    ghost invariant = { λ n. IsExactState R.COURTED_PAIR_CLOSES_EDGE R.closes R.adds n.index n.shares.each.items n.shares.lower_ends n.shares.stale };
 }
 
 impl<R: Rules> IndexedState<R> {
@@ -57,10 +57,10 @@ impl<R: Rules> IndexedState<R> {
         requires within { present ≤ nodes }
         ensures ok { IfOk result (λ state. state.state ≡ opening_with nodes present) }
         ensures small { OnOk result (nodes ≤ 65535) }
-        ensures fault { IfErr result (λ fault. Explains (nodes_fault nodes) fault) }
+        ensures fault { IfErr result (λ fault. ExplainsGraphFault (nodes_fault nodes) fault) }
     {
         let index = SuitorIndex::with_present(alloc, nodes, present)?;
-        let Ok(shares) = Shares::new(alloc, nodes) else {
+        let Ok(shares) = Contributions::new(alloc, nodes) else {
             return Err(GraphFault::Memory);
         };
         Ok(IndexedState { index, shares })
@@ -105,13 +105,13 @@ impl<R: Rules> IndexedState<R> {
     /// Whether no neighbour but `v` that the guard of `w` asks for is open. One look.
     ///
     /// `v` is a neighbour of `w`, and `is_open` is whether `v` is open.
-    pub fn relies_on(&self, w: Node, v: Node, is_open: bool) -> bool
+    pub fn is_only_open_neighbour(&self, w: Node, v: Node, is_open: bool) -> bool
         requires present { IsTrue (present self.now.state.network w) }
         requires linked { IsTrue (linked self.now.state.network w v) }
         requires open { is_open ≡ RuleTable.is_open R.table.opens self.now.state v }
-        ensures { result ≡ not (reaches_beside R.ABOVE R.table.opens self.now.state w v) }
+        ensures { result ≡ not (reaches_beside R.COURTS_HIGHER_ONLY R.table.opens self.now.state w v) }
     {
-        self.index.relies_on(w, v, is_open)
+        self.index.is_only_open_neighbour(w, v, is_open)
     }
 
     /// Returns the only neighbour that points at a node; `None` if none or several do. One look.
@@ -127,7 +127,7 @@ impl<R: Rules> IndexedState<R> {
     /// Errors and cost: as for `NetState::reserve_link`. The state never changes.
     pub fn reserve_link(&mut self, a: Node, b: Node) -> Result<(), GraphFault>
         ensures ok { OnOk result ((link_fault self.old.state.network a b ≡ None) × HasRoomFor self.new.room a b) }
-        ensures fault { IfErr result (λ fault. Explains (link_fault self.old.state.network a b) fault) }
+        ensures fault { IfErr result (λ fault. ExplainsGraphFault (link_fault self.old.state.network a b) fault) }
         ensures kept { self.new.state ≡ self.old.state }
     {
         self.index.reserve_link(a, b)
@@ -193,7 +193,7 @@ impl<R: Rules> IndexedState<R> {
     }
 }
 
-impl<R: Rules> Disturb for IndexedState<R> {
+impl<R: Rules> StateWriter for IndexedState<R> {
     ghost state = { λ n. n.state };
 
     ghost ends = { λ n. n.ends };
@@ -211,15 +211,15 @@ impl<R: Rules> Disturb for IndexedState<R> {
     }
 
     /// Takes no memory.
-    fn take_out(&mut self, a: Node, b: Node) {
-        self.index.take_out(a, b);
+    fn remove_edge(&mut self, a: Node, b: Node) {
+        self.index.remove_edge(a, b);
         self.shares.mark(a);
         self.shares.mark(b);
     }
 
     /// Takes no memory.
-    fn free_name(&mut self, v: Node) {
-        self.index.free_name(v);
+    fn remove_node(&mut self, v: Node) {
+        self.index.remove_node(v);
         self.shares.mark(v);
     }
 }

@@ -6,13 +6,13 @@ ghost use Rattle.enabled_set.specs.Members.{is_in};
 ghost use Rattle.rule_machine.specs.Network.{names, present, edge_list};
 ghost use Rattle.rule_machine.specs.Stable.{mutual_pairs};
 ghost use Rattle.rule_machine.specs.State.{State, holds_at, points};
-ghost use Rattle.rule_set.specs.Standing.{ends_open, IsStanding};
-ghost use Rattle.indexed_state.specs.Shares.{closing_at, end_of, is_lower_end, node_part};
+ghost use Rattle.rules_api.specs.ChargeInputs.{ends_open, IsChargeInput};
+ghost use Rattle.indexed_state.specs.Contributions.{closing_at, stance_of, is_lower_end, node_part};
 
 use crate::IndexedState;
 use crate::share::{end_at, is_lower_end, share_of};
 use rule_machine::{Node, Want};
-use rule_set::Rules;
+use rules_api::Rules;
 
 /// The totals over all nodes and edges that a status needs.
 #[derive(Clone, Copy)]
@@ -43,7 +43,7 @@ impl<R: Rules> IndexedState<R> {
             let end = end_at(&self.index, v);
             self.shares.put(v, share, is_lower_end);
             if let Some(end) = end {
-                self.index.turn(v, end);
+                self.index.set_stance(v, end);
             }
         }
     }
@@ -56,7 +56,7 @@ impl<R: Rules> IndexedState<R> {
         ensures state { self.new.state ≡ self.old.state }
         ensures room { self.new.room ≡ self.old.room }
         ensures pairs { result.pairs ≡ length (mutual_pairs self.old.state) }
-        ensures open { result.open_edges ≡ count_by (ends_open R.COURTED_CLOSE self.old.state) (edge_list self.old.state.network) }
+        ensures open { result.open_edges ≡ count_by (ends_open R.COURTED_PAIR_CLOSES_EDGE self.old.state) (edge_list self.old.state.network) }
         ensures added { result.added ≡ sum_by (node_part (R.adds self.old.state) self.old.state) (names self.old.state.network) }
         ensures closing { result.closing ≡ count_by (R.closes self.old.state) (names self.old.state.network) }
     {

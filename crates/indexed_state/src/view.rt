@@ -7,7 +7,7 @@ ghost use Rattle.rule_machine.specs.RuleTable.{is_open, first_open, last_open_ab
 
 use crate::IndexedState;
 use rule_machine::Node;
-use rule_set::{Local, Rules};
+use rules_api::{Local, Rules};
 
 /// The registers around one node of a network, and the index's counts there.
 #[derive(Drop)]

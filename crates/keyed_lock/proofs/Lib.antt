@@ -1,1 +1,1 @@
-pub mod Claiming
+pub mod LockSteps

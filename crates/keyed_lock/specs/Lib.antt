@@ -1,2 +1,2 @@
-pub mod Kept
+pub mod LockSteps
 pub mod Locks

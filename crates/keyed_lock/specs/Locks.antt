@@ -1,5 +1,5 @@
 -- What a clause says of a lock and of a hold.
-use Rattle.keyed_lock.specs.Kept.{Holds}
+use Rattle.keyed_lock.specs.LockSteps.{Holds}
 use Rattle.keyed_lock.specs.declared.lock.Hold.{Hold}
 use Rattle.keyed_lock.specs.declared.lock.KeyedLock.{KeyedLock}
 

@@ -1,7 +1,7 @@
 //! The lock and its invariant.
 
 ghost use Rattle.std.specs.Prelude.{◌≡◌, IfOk, IfErr};
-ghost use Rattle.keyed_lock.specs.Kept.{Waits, HasValue};
+ghost use Rattle.keyed_lock.specs.LockSteps.{Waits, HasValue};
 
 use crate::steps::{Arrive, Claim, Leave, OneValue};
 use atomic_table::{Refused, Seat, Table};

@@ -1,6 +1,6 @@
 //! The rule of the table that the lock uses, and its steps.
 
-ghost use Rattle.keyed_lock.specs.Kept.{IsKept, arrived, claimed, left};
+ghost use Rattle.keyed_lock.specs.LockSteps.{IsLockState, arrived, claimed, left};
 
 use crate::Invariant;
 use atomic_table::{Play, TableRule};
@@ -12,7 +12,7 @@ pub struct OneValue<I> {
 }
 
 impl<T, K, I: Invariant<T, K>> TableRule<Option<T>, K, K> for OneValue<I> {
-    ghost holds = { λ key s. IsKept I.holds key s };
+    ghost holds = { λ key s. IsLockState I.holds key s };
 
     ghost first = { λ key. key };
 }

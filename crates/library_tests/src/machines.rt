@@ -2,7 +2,7 @@
 
 ghost use Rattle.std.specs.Prelude.{◌≤◌};
 
-use plain_machine::PlainNet;
+use reference_model::PlainNet;
 use rule_engine::{Event, Net, Reply, RuleSet, Rules};
 use std::alloc::Global;
 use std::process::Abort;

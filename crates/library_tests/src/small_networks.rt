@@ -17,7 +17,7 @@ ghost use Rattle.std.specs.Prelude.{◌<◌};
 
 use crate::helpers::named;
 use crate::machines::{Plain, moves_in, net_with, plain_with};
-use judge::Judge;
+use reply_checker::Judge;
 use rule_engine::{Choice, Event, Item, Net, Node, Refusal, Reply, RuleSet, Rules};
 use rules_hsu_huang::HsuHuang;
 use rules_manne::Manne;

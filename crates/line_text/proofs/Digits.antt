@@ -7,7 +7,7 @@ use Rattle.std.proofs.lemmas.List.{append-nil, take-append-drop, length-take-le,
 use Rattle.std.proofs.lemmas.Str.Parse.{IsNumeralModel, numerals_by_value, tells_digits, digit_from_value}
 use Rattle.std.proofs.lemmas.Fmt.{digits_decimal, digits_value-decimal, decimal-digits_value, decimal_injective, decimal_nonempty, length-decimal-le, first_decimal}
 use Rattle.line_text.specs.Words.{number_text, IsName}
-use Rattle.line_text.specs.Reading.{NoDigit, NameThen, WordThen}
+use Rattle.line_text.specs.Parsing.{NoDigit, NameThen, WordThen}
 
 -- std's words for digits and for their number
 pub own : IsNumeralModel (AllDigits 10) (digits_value 10)

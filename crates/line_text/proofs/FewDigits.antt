@@ -5,7 +5,7 @@ use Rattle.std.proofs.lemmas.Fmt.{digits_decimal, digits_value-decimal, decimal-
 use Rattle.std.proofs.lemmas.List.{append-nil, take-append-drop, length-take-le, get_or-take}
 use Rattle.std.proofs.lemmas.Str.Parse.{digits_value_short}
 use Rattle.line_text.specs.Words.{number_text}
-use Rattle.line_text.specs.Reading.{NoDigit, NumberThen}
+use Rattle.line_text.specs.Parsing.{NoDigit, NumberThen}
 use Rattle.line_text.proofs.Digits.{own, run_once}
 
 -- a number with a leading zero has one digit

@@ -7,8 +7,8 @@ use Rattle.std.proofs.lemmas.List.{append-nil, append_cancel_left, length-append
 use Rattle.std.proofs.lemmas.List.Concat.{flat_map-append}
 use Rattle.rule_machine.specs.declared.choice.Item.{Item}
 use Rattle.line_text.specs.Words.{number_text, IsName, marked_text, spaced}
-use Rattle.line_text.specs.EventText.{IsItem, IsChoice, item_text}
-use Rattle.line_text.specs.Reading.{NoDigit, NameThen, ItemEnds, ItemThen, SpellsChoice, HasItems}
+use Rattle.line_text.specs.EventText.{IsItem, AreChoiceItems, item_text}
+use Rattle.line_text.specs.Parsing.{NoDigit, NameThen, ItemEnds, ItemThen, SpellsChoice, HasItems}
 use Rattle.line_text.proofs.Digits.{name_once}
 
 -- the empty text is not a text with a byte
@@ -127,7 +127,7 @@ stuck rest [] some none f e = some e
 stuck rest (i ∷ is) some none f e = none i (spaced item_text is) (first_item rest i is f e)
 
 -- no items are spelled if the rest begins with none
-pub SoFar-stuck : (bytes : List ℕ) (items : List Item) (rest : List ℕ) → SoFar bytes items rest → rest ≢ [] → ((item : Item) (end : List ℕ) → ItemThen rest item end → ⊥) → (all : List Item) → IsChoice all → bytes ≡ spaced item_text all → ⊥
+pub SoFar-stuck : (bytes : List ℕ) (items : List Item) (rest : List ℕ) → SoFar bytes items rest → rest ≢ [] → ((item : Item) (end : List ℕ) → ItemThen rest item end → ⊥) → (all : List Item) → AreChoiceItems all → bytes ≡ spaced item_text all → ⊥
 SoFar-stuck bytes items rest s some none all f e =
     let l = s.left all f.1 e in
     stuck rest l.0 some none l.2 l.3

@@ -1,7 +1,7 @@
 pub mod Decimals
-pub mod Trailing
+pub mod ZeroDigits
 pub mod Windows
-pub mod Growing
+pub mod TextGrowth
 pub mod Spaces
 pub mod Digits
 pub mod FewDigits

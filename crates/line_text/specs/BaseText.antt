@@ -1,10 +1,10 @@
 -- The lines of a base. Each ends with an LF.
 use Rattle.std.specs.Prelude.{ℕ, List, [], ◌∷◌, ◌++◌, length, codes}
-use Rattle.rule_machine.specs.declared.base.Place.{Place}
+use Rattle.rule_machine.specs.declared.base.NodeRecord.{NodeRecord}
 use Rattle.rule_machine.specs.declared.base.Base.{Base}
 use Rattle.rule_machine.specs.declared.rules.RuleSet.{RuleSet}
 use Rattle.rule_machine.specs.Tables.{rules_word}
-use Rattle.line_text.specs.Words.{number_text, ended, joined}
+use Rattle.line_text.specs.Words.{number_text, lines_with_ends, joined_texts}
 use Rattle.line_text.specs.ReplyText.{field_text}
 use Rattle.line_text.specs.EventText.{pair_text, target_text, bool_text}
 
@@ -19,15 +19,15 @@ base_fields number spent nodes edges =
     (codes "", number) ∷ (codes "spent=", spent) ∷ (codes "nodes=", nodes) ∷ (codes "edges=", edges) ∷ []
 
 abbrev pub base_counts : ℕ → ℕ → ℕ → ℕ → List ℕ
-base_counts number spent nodes edges = codes "base " ++ joined field_text (base_fields number spent nodes edges)
+base_counts number spent nodes edges = codes "base " ++ joined_texts field_text (base_fields number spent nodes edges)
 
 -- the line with the four numbers of a base
 abbrev pub numbers_line : Base → List ℕ
 numbers_line base = base_counts base.number base.spent (length base.nodes) (length base.edges)
 
 -- a node, its pointer, and its flag
-abbrev pub place_text : Place → List ℕ
-place_text place = codes "node " ++ number_text place.node ++ codes " " ++ target_text place.target ++ codes " " ++ bool_text place.flagged
+abbrev pub node_record_text : NodeRecord → List ℕ
+node_record_text place = codes "node " ++ number_text place.node ++ codes " " ++ target_text place.target ++ codes " " ++ bool_text place.flagged
 
 -- an edge, by its lower and its higher end
 abbrev pub link_text : ℕ × ℕ → List ℕ
@@ -36,4 +36,4 @@ link_text edge = codes "edge " ++ pair_text edge.0 edge.1
 -- all lines of a base of `size` names
 abbrev pub base_text : RuleSet → ℕ → Base → List ℕ
 base_text rules size base =
-    (base_head rules size ++ 10 ∷ []) ++ (numbers_line base ++ 10 ∷ []) ++ ended place_text base.nodes ++ ended link_text base.edges
+    (base_head rules size ++ 10 ∷ []) ++ (numbers_line base ++ 10 ∷ []) ++ lines_with_ends node_record_text base.nodes ++ lines_with_ends link_text base.edges

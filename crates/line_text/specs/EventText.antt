@@ -48,8 +48,8 @@ event_text Status = codes "status"
 abbrev pub IsItem : Item → Type 0
 IsItem item = IsName item.node × IfSome item.wish IsName
 
-abbrev pub IsChoice : List Item → Type 0
-IsChoice items = (length items ≤ 65535) × AllByRecursion IsItem items
+abbrev pub AreChoiceItems : List Item → Type 0
+AreChoiceItems items = (length items ≤ 65535) × AllByRecursion IsItem items
 
 -- what each value of the program's type of events satisfies: names are 1 to 65,535, and a step has at most
 -- 65,535 items
@@ -60,7 +60,7 @@ IsEvent (Point v target) = IsName v × IfSome target IsName
 IsEvent (Flag v value) = IsName v
 IsEvent (Join v) = IsName v
 IsEvent (Leave v) = IsName v
-IsEvent (Step items) = IsChoice items
+IsEvent (Step items) = AreChoiceItems items
 IsEvent (Show v) = IsName v
 IsEvent Enabled = Unit {0}
 IsEvent Matching = Unit {0}
@@ -69,8 +69,8 @@ IsEvent Status = Unit {0}
 abbrev pub Spells : List ℕ → Event → Type 0
 Spells line event = IsEvent event × (line ≡ event_text event)
 
-abbrev pub IsCommand : List ℕ → Type 0
-IsCommand line = (event : Event) × Spells line event
+abbrev pub IsEventLine : List ℕ → Type 0
+IsEventLine line = (event : Event) × Spells line event
 
 abbrev pub NotACommand : List ℕ → Type 0
 NotACommand line = (event : Event) → Spells line event → ⊥

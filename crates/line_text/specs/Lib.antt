@@ -2,5 +2,5 @@ pub mod Words
 pub mod EventText
 pub mod ReplyText
 pub mod EntryText
-pub mod Reading
+pub mod Parsing
 pub mod BaseText

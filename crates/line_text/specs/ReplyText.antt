@@ -10,7 +10,7 @@ use Rattle.rule_machine.specs.declared.reply.Reply.{Reply}
 use Rattle.rule_machine.specs.declared.reply.Reply.TheVariants.{Accepted, Refused, Moves, Shown, EnabledAre, Pairs}
 use Rattle.rule_machine.specs.declared.reply.Reply.TheVariants as reply_is
 use Rattle.rule_machine.specs.Refuse.{refusal_number, refusal_text}
-use Rattle.line_text.specs.Words.{number_text, IsName, marked_text, joined, joined_or}
+use Rattle.line_text.specs.Words.{number_text, IsName, marked_text, joined_texts, joined_or}
 use Rattle.line_text.specs.EventText.{target_text}
 
 abbrev pub act_word : Act → List ℕ
@@ -46,12 +46,12 @@ fields_of c =
     ∷ (codes "charge=", c.charge) ∷ (codes "spent=", c.spent) ∷ []
 
 abbrev pub counts_text : Counts → List ℕ
-counts_text c = joined field_text (fields_of c)
+counts_text c = joined_texts field_text (fields_of c)
 
 abbrev pub reply_text : Reply → List ℕ
 reply_text Accepted = codes "ok"
 reply_text (Refused refusal) = codes "refused " ++ refusal_words refusal
-reply_text (Moves moves) = joined move_text moves
+reply_text (Moves moves) = joined_texts move_text moves
 reply_text (Shown target) = target_text target
 reply_text (EnabledAre nodes) = joined_or (codes "none") enabled_text nodes
 reply_text (Pairs pairs) = joined_or (codes "none") mutual_text pairs
@@ -64,15 +64,15 @@ abbrev pub IsEnabled : ℕ × Act → Type 0
 IsEnabled e = IsName e.0
 
 -- two names, the lower first
-abbrev pub IsPair : ℕ × ℕ → Type 0
-IsPair p = IsName p.0 × IsName p.1 × (p.0 < p.1)
+abbrev pub IsOrderedPair : ℕ × ℕ → Type 0
+IsOrderedPair p = IsName p.0 × IsName p.1 × (p.0 < p.1)
 
 -- what each of the six numbers satisfies
-abbrev pub IsCount : ℕ → Type 0
-IsCount n = n < 4294967296
+abbrev pub IsCountValue : ℕ → Type 0
+IsCountValue n = n < 4294967296
 
 abbrev pub IsCounts : Counts → Type 0
-IsCounts c = IsCount c.nodes × IsCount c.edges × IsCount c.pairs × IsCount c.enabled × IsCount c.charge × IsCount c.spent
+IsCounts c = IsCountValue c.nodes × IsCountValue c.edges × IsCountValue c.pairs × IsCountValue c.enabled × IsCountValue c.charge × IsCountValue c.spent
 
 -- what each value of the program's type of replies satisfies
 abbrev pub IsReply : Reply → Type 0
@@ -81,5 +81,5 @@ IsReply (Refused refusal) = Unit {0}
 IsReply (Moves moves) = AllByRecursion IsMoved moves
 IsReply (Shown target) = IfSome target IsName
 IsReply (EnabledAre nodes) = AllByRecursion IsEnabled nodes
-IsReply (Pairs pairs) = AllByRecursion IsPair pairs
+IsReply (Pairs pairs) = AllByRecursion IsOrderedPair pairs
 IsReply (reply_is.Counts counts) = IsCounts counts

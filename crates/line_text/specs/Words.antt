@@ -31,18 +31,18 @@ abbrev pub space_ended : {X : Type 0} → (X → List ℕ) → List X → List �
 space_ended text items = flat_map (λ item. text item ++ codes " ") items
 
 -- the items' texts, joined by one space
-abbrev pub joined : {X : Type 0} → (X → List ℕ) → List X → List ℕ
-joined text [] = []
-joined text (item ∷ items) = text item ++ spaced text items
+abbrev pub joined_texts : {X : Type 0} → (X → List ℕ) → List X → List ℕ
+joined_texts text [] = []
+joined_texts text (item ∷ items) = text item ++ spaced text items
 
 -- the items' texts, joined by one space, or a word if there are no items
 abbrev pub joined_or : {X : Type 0} → List ℕ → (X → List ℕ) → List X → List ℕ
 joined_or word text [] = word
-joined_or word text (item ∷ items) = joined text (item ∷ items)
+joined_or word text (item ∷ items) = joined_texts text (item ∷ items)
 
 -- each item's text with an LF after it
-abbrev pub ended : {X : Type 0} → (X → List ℕ) → List X → List ℕ
-ended text items = flat_map (λ item. text item ++ 10 ∷ []) items
+abbrev pub lines_with_ends : {X : Type 0} → (X → List ℕ) → List X → List ℕ
+lines_with_ends text items = flat_map (λ item. text item ++ 10 ∷ []) items
 
 -- new is old with more after it
 pub record Extends (old new : List ℕ) : Type 0 where

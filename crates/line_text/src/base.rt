@@ -1,13 +1,13 @@
 //! The lines of a base.
 
 ghost use Rattle.std.specs.Prelude.{◌≡◌, ℕ, ◌≤◌, List, [], ◌∷◌, ◌++◌, length, OnOk, OnErr};
-ghost use Rattle.line_text.specs.Words.{ended, Extends};
-ghost use Rattle.line_text.specs.BaseText.{base_head, numbers_line, place_text, link_text, base_text};
+ghost use Rattle.line_text.specs.Words.{lines_with_ends, Extends};
+ghost use Rattle.line_text.specs.BaseText.{base_head, numbers_line, node_record_text, link_text, base_text};
 
 use crate::entry::whole_or_none;
 use crate::numbers::{put_name, put_name_then, put_number, put_target};
 use crate::replies::put_field;
-use rule_machine::{Base, Edge, Place, RuleSet, Want};
+use rule_machine::{Base, Edge, NodeRecord, RuleSet, Want};
 
 /// A value written as one line.
 trait Line {
@@ -20,8 +20,8 @@ trait Line {
         ensures err { OnErr result (Extends out.old.items out.new.items) };
 }
 
-impl Line for Place {
-    ghost text = { place_text };
+impl Line for NodeRecord {
+    ghost text = { node_record_text };
 
     fn put_line(&self, out: &mut Vec<u8>) -> Result<(), Want> {
         out.extend_from_slice(b"node ")?;
@@ -42,7 +42,7 @@ impl Line for Edge {
 }
 
 fn put_lines<L: Line>(out: &mut Vec<u8>, lines: &[L]) -> Result<(), Want>
-    ensures ok { OnOk result (out.new.items ≡ out.old.items ++ ended L.text lines.now) }
+    ensures ok { OnOk result (out.new.items ≡ out.old.items ++ lines_with_ends L.text lines.now) }
     ensures err { OnErr result (Extends out.old.items out.new.items) }
 {
     for line in lines {

@@ -3,7 +3,7 @@
 ghost use Rattle.std.specs.Prelude.{◌≡◌, Option, Bool, ⊤, IfOk, IfSome, OnErr, MatchOption};
 ghost use Rattle.line_text.specs.Words.{IsName};
 ghost use Rattle.line_text.specs.EventText.{Spells, SpellsStep, NotACommand, pair_text, point_text, flag_text, bool_text, target_text};
-ghost use Rattle.line_text.specs.Reading.{Reads, ReadsTwo, kept_if};
+ghost use Rattle.line_text.specs.Parsing.{ParsesAs, ReadsTwo, kept_if};
 
 use crate::front::{after, read_last, read_word};
 use crate::items::read_items;
@@ -24,7 +24,7 @@ fn read_pair(bytes: &[u8]) -> Option<(Node, Node)>
 
 /// Reads a name, or `-` for null.
 pub fn read_target(bytes: &[u8]) -> Option<Option<Node>>
-    ensures { Reads (λ target. IfSome target IsName) target_text bytes.now result }
+    ensures { ParsesAs (λ target. IfSome target IsName) target_text bytes.now result }
 {
     if bytes == b"-".as_slice() {
         return Some(None);
@@ -49,7 +49,7 @@ fn read_point(bytes: &[u8]) -> Option<(Node, Option<Node>)>
 
 /// Reads `1` for true, or `0` for false.
 pub fn read_bool(bytes: &[u8]) -> Option<bool>
-    ensures { Reads (λ (b : Bool). ⊤) bool_text bytes.now result }
+    ensures { ParsesAs (λ (b : Bool). ⊤) bool_text bytes.now result }
 {
     if bytes == b"0".as_slice() {
         return Some(false);

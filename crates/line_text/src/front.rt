@@ -3,7 +3,7 @@
 ghost use Rattle.std.specs.Prelude.{◌≡◌, ℕ, ◌≤◌, List, ◌++◌, length, take, drop, MatchOption};
 ghost use Rattle.std.specs.Str.Parse.{AllDigits, digits_value};
 ghost use Rattle.line_text.specs.Words.{number_text, IsName};
-ghost use Rattle.line_text.specs.Reading.{Reads, NoDigit, NameThen, WordThen};
+ghost use Rattle.line_text.specs.Parsing.{ParsesAs, NoDigit, NameThen, WordThen};
 
 use rule_machine::{MAX_NAME, Node};
 
@@ -84,7 +84,7 @@ pub fn read_name(bytes: &[u8]) -> Option<(Node, &[u8])>
 
 /// Reads a text that is one name; `None` for any other text.
 pub fn read_last(bytes: &[u8]) -> Option<Node>
-    ensures { Reads IsName number_text bytes.now result }
+    ensures { ParsesAs IsName number_text bytes.now result }
 {
     let Some((node, rest)) = read_name(bytes) else {
         return None;

@@ -3,8 +3,8 @@
 ghost use Rattle.std.specs.Prelude.{◌≡◌, ℕ, List, IfOk, IfSome, OnErr, MatchOption};
 ghost use Rattle.rule_machine.specs.declared.choice.Item.{Item};
 ghost use Rattle.line_text.specs.Words.{spaced};
-ghost use Rattle.line_text.specs.EventText.{IsChoice, item_text};
-ghost use Rattle.line_text.specs.Reading.{Reads, ItemThen, SpellsChoice, HasItems};
+ghost use Rattle.line_text.specs.EventText.{AreChoiceItems, item_text};
+ghost use Rattle.line_text.specs.Parsing.{ParsesAs, ItemThen, SpellsChoice, HasItems};
 
 use crate::front::{after, read_name};
 use rule_machine::{Choice, Item, MAX_ITEMS, Want};
@@ -63,7 +63,7 @@ fn count_items(bytes: &[u8]) -> Option<usize>
 
 // The result if there is no memory for items: an error, or `None` if they are not a choice.
 fn read_none(bytes: &[u8]) -> Result<Option<Choice>, Want>
-    ensures items { IfOk result (Reads IsChoice (spaced item_text) bytes.now) }
+    ensures items { IfOk result (ParsesAs AreChoiceItems (spaced item_text) bytes.now) }
     ensures memory { OnErr result (SpellsChoice bytes.now) }
 {
     match count_items(bytes) {
@@ -74,7 +74,7 @@ fn read_none(bytes: &[u8]) -> Result<Option<Choice>, Want>
 
 // Reads a single item after one space.
 fn read_one(bytes: &[u8]) -> Option<Choice>
-    ensures { IfSome result (λ choice. IsChoice choice × (bytes.now ≡ spaced item_text choice)) }
+    ensures { IfSome result (λ choice. AreChoiceItems choice × (bytes.now ≡ spaced item_text choice)) }
 {
     match read_item(bytes) {
         Some((item, [])) => Some(Choice::one(item)),
@@ -86,7 +86,7 @@ fn read_one(bytes: &[u8]) -> Option<Choice>
 /// Takes memory for two or more items; a line that is no choice needs none.
 /// Each item but the first is read once.
 pub(crate) fn read_items(alloc: Global, bytes: &[u8]) -> Result<Option<Choice>, Want>
-    ensures items { IfOk result (Reads IsChoice (spaced item_text) bytes.now) }
+    ensures items { IfOk result (ParsesAs AreChoiceItems (spaced item_text) bytes.now) }
     ensures memory { OnErr result (SpellsChoice bytes.now) }
 {
     if let Some(choice) = read_one(bytes) {

@@ -2,7 +2,7 @@
 
 ghost use Rattle.std.specs.Prelude.{◌≤◌, ◌<◌, ◌^◌, ℕ, List, MatchOption};
 ghost use Rattle.line_text.specs.Words.{number_text};
-ghost use Rattle.line_text.specs.Reading.{Reads, NumberThen};
+ghost use Rattle.line_text.specs.Parsing.{ParsesAs, NumberThen};
 
 use crate::front::digits_in_front;
 use itoa::Buffer;
@@ -30,7 +30,7 @@ pub fn number_in_front(bytes: &[u8]) -> Option<(u32, &[u8])>
 }
 
 fn read_short(bytes: &[u8]) -> Option<u32>
-    ensures { Reads (λ n. n < 100000000) number_text bytes.now result }
+    ensures { ParsesAs (λ n. n < 100000000) number_text bytes.now result }
 {
     let Some((number, rest)) = number_in_front(bytes) else {
         return None;
@@ -43,7 +43,7 @@ fn read_short(bytes: &[u8]) -> Option<u32>
 
 // Reads a number below 2^64.
 fn read_long(bytes: &[u8]) -> Option<u64>
-    ensures { Reads (λ n. n < 2 ^ 64) number_text bytes.now result }
+    ensures { ParsesAs (λ n. n < 2 ^ 64) number_text bytes.now result }
 {
     let Ok(digits) = str::from_utf8(bytes) else {
         return None;
@@ -58,7 +58,7 @@ fn read_long(bytes: &[u8]) -> Option<u64>
 }
 
 fn read_any(bytes: &[u8]) -> Option<u64>
-    ensures { Reads (λ n. n < 2 ^ 64) number_text bytes.now result }
+    ensures { ParsesAs (λ n. n < 2 ^ 64) number_text bytes.now result }
 {
     if bytes.len() > FEW_DIGITS {
         return read_long(bytes);
@@ -72,7 +72,7 @@ fn read_any(bytes: &[u8]) -> Option<u64>
 /// Reads a number up to `most`; `None` for a greater one, and for any other text.
 /// A sign or a leading zero is refused. Takes no memory.
 pub fn read_number(bytes: &[u8], most: u64) -> Option<u64>
-    ensures { Reads (λ n. n ≤ most) number_text bytes.now result }
+    ensures { ParsesAs (λ n. n ≤ most) number_text bytes.now result }
 {
     let Some(number) = read_any(bytes) else {
         return None;

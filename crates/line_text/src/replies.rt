@@ -1,7 +1,7 @@
 //! Replies, appended to a text.
 
 ghost use Rattle.std.specs.Prelude.{◌≡◌, [], ◌∷◌, ◌++◌, ◌+◌, ◌≤◌, length, take, OnOk, OnErr};
-ghost use Rattle.line_text.specs.ReplyText.{IsCount, IsCounts, IsEnabled, IsMoved, IsPair, IsReply, act_word, counts_text, enabled_text, field_text, move_text, mutual_text, refusal_words, reply_text};
+ghost use Rattle.line_text.specs.ReplyText.{IsCountValue, IsCounts, IsEnabled, IsMoved, IsOrderedPair, IsReply, act_word, counts_text, enabled_text, field_text, move_text, mutual_text, refusal_words, reply_text};
 ghost use Rattle.line_text.specs.Words.{Extends};
 
 use crate::numbers::{put_number, put_number_then, put_target};
@@ -85,7 +85,7 @@ impl Word for (Node, Act) {
 impl Word for Edge {
     ghost text = { mutual_text };
 
-    ghost fits = { IsPair };
+    ghost fits = { IsOrderedPair };
 
     #[inline(always)]
     fn put(&self, room: &mut [u8], at: usize, behind: u8) -> usize {
@@ -98,7 +98,7 @@ impl Word for Edge {
 pub(crate) fn put_field(out: &mut Vec<u8>, name: &[u8], number: u32) -> Result<(), Want>
     ensures ok { OnOk result (out.new.items ≡ out.old.items ++ field_text (name.now, number)) }
     ensures err { OnErr result (Extends out.old.items out.new.items) }
-    ensures fit { IsCount number }
+    ensures fit { IsCountValue number }
 {
     out.extend_from_slice(name)?;
     put_number(out, number)

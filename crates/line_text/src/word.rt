@@ -2,7 +2,7 @@
 
 ghost use Rattle.std.specs.Prelude.{◌≡◌, [], ◌∷◌, ◌++◌, ◌+◌, ◌*◌, ◌≤◌, List, ℕ, length, take, OnOk, OnErr};
 ghost use Rattle.std.specs.List.{AllByRecursion};
-ghost use Rattle.line_text.specs.Words.{space_ended, spaced, joined, joined_or, Extends};
+ghost use Rattle.line_text.specs.Words.{space_ended, spaced, joined_texts, joined_or, Extends};
 
 use rule_machine::Want;
 
@@ -86,7 +86,7 @@ pub(crate) fn put_spaced<W: Word>(out: &mut Vec<u8>, words: &[W]) -> Result<(), 
 
 /// Appends the words, joined by one space.
 pub(crate) fn put_joined<W: Word>(out: &mut Vec<u8>, words: &[W]) -> Result<(), Want>
-    ensures ok { OnOk result (out.new.items ≡ out.old.items ++ joined W.text words.now) }
+    ensures ok { OnOk result (out.new.items ≡ out.old.items ++ joined_texts W.text words.now) }
     ensures err { OnErr result (Extends out.old.items out.new.items) }
     ensures fit { OnOk result (AllByRecursion W.fits words.now) }
 {

@@ -5,7 +5,7 @@ use Rattle.logbook.specs.Pages.{Book}
 use Rattle.locked_net.specs.Settings.{Setting}
 use Rattle.locked_net.specs.declared.call_fault.CallFault.{CallFault}
 use Rattle.locked_net.specs.Receipts.{ClerkView}
-use Rattle.locked_net.specs.Roamed.{AllEnd, AllKeepNotes}
+use Rattle.locked_net.specs.RoamResults.{AllEnd, AllKeepNotes}
 
 or_assoc : {A : Type 0} (a b c : Option A) → option_or (option_or a b) c ≡ option_or a (option_or b c)
 or_assoc None b c = refl

@@ -15,9 +15,9 @@ use Rattle.rule_machine.specs.State.{State}
 use Rattle.rule_machine.specs.RuleTable.{RuleTable, rule_at, enabled_names, least_target}
 use Rattle.rule_machine.specs.Refuse.{step_refusal, items_refusal, item_refusal}
 use Rattle.rule_machine.specs.Least.{move_in, outcome_of, outcome_at, least_moves, reply_of, reply_by}
-use Rattle.rule_engine.proofs.Ascending.{one_least}
-use Rattle.locked_net.specs.Roaming.{mover, lone_items, lone_step}
-use Rattle.locked_net.proofs.Lawful.{enabled_at, taken_by, few_alone}
+use Rattle.rule_engine.proofs.AscendingMoves.{one_least}
+use Rattle.locked_net.specs.RoamTurns.{mover, lone_items, lone_step}
+use Rattle.locked_net.proofs.DaemonSteps.{enabled_at, taken_by, few_alone}
 
 -- the move of a node by its rule
 abbrev move_by : RuleTable → State → ℕ → Act → Moved

@@ -6,8 +6,8 @@ use Rattle.step_log.specs.Log.{Log}
 use Rattle.locked_net.specs.Receipts.{front_of}
 use Rattle.locked_net.specs.Settings.{Setting, IsLogIn}
 use Rattle.locked_net.specs.declared.call_fault.CallFault.{CallFault}
-use Rattle.locked_net.specs.Roaming.{receipts_of_turn, fault_of_turn, FaultInTurn}
-use Rattle.locked_net.specs.Roamed.{TakesTurn, MeetsFault}
+use Rattle.locked_net.specs.RoamTurns.{receipts_of_turn, fault_of_turn, FaultInTurn}
+use Rattle.locked_net.specs.RoamResults.{TakesTurn, MeetsFault}
 
 -- the result on a log
 pub turn_taken : {A B : Type 0} (setting : Setting) (turn : ℕ) (result : Result A B) (log : Log) (old new : List Receipt) → IsLogIn setting log

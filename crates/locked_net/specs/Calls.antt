@@ -7,7 +7,7 @@ use Rattle.rule_machine.specs.declared.event.Event.{Event}
 use Rattle.rule_machine.specs.declared.event.Event.TheVariants.{Step}
 use Rattle.rule_machine.specs.declared.reply.Reply.{Reply}
 use Rattle.rule_machine.specs.declared.reply.Reply.TheVariants.{Accepted, Moves}
-use Rattle.fault_injector.specs.Drawn.{is_register_fault}
+use Rattle.fault_injector.specs.DrawnFaults.{is_register_fault}
 use Rattle.step_log.specs.declared.fault.RecordFault.{RecordFault}
 use Rattle.step_log.specs.declared.fault.RecordFault.TheVariants as record_fault
 use Rattle.step_log.specs.declared.receipt.Receipt.{Receipt}
@@ -33,9 +33,9 @@ checkpoint_fault seen log =
     if nat_lt (length log.entries) seen then Some (Behind (length log.entries) seen) else None
 
 -- the fault is the call's, and `Memory` only if there is none
-abbrev pub Explains : Option CallFault → CallFault → Type 0
-Explains None fault = fault ≡ Memory
-Explains (Some found) fault = fault ≡ found
+abbrev pub ExplainsCallFault : Option CallFault → CallFault → Type 0
+ExplainsCallFault None fault = fault ≡ Memory
+ExplainsCallFault (Some found) fault = fault ≡ found
 
 -- the faults that a clerk can expect without seeing the log
 abbrev pub MayAnswer : ℕ → CallFault → Type 0
@@ -50,9 +50,9 @@ MayRefuseCheckpoint seen LogFull = ⊥
 MayRefuseCheckpoint seen Memory = Unit {0}
 
 -- a journal's fault as a call's
-abbrev pub fault_for : RecordFault → CallFault
-fault_for record_fault.LogFull = LogFull
-fault_for record_fault.Memory = Memory
+abbrev pub call_fault_of : RecordFault → CallFault
+call_fault_of record_fault.LogFull = LogFull
+call_fault_of record_fault.Memory = Memory
 
 -- One receipt was added: of this event and this reply, with a number above all before.
 pub record Keeps (old new : List Receipt) (event : Event) (reply : Reply) : Type 0 where
@@ -76,7 +76,7 @@ pub record KeepsFault (old new : List Receipt) (reply : Reply) : Type 0 where
   pub accepted : reply ≡ Accepted
 
 -- An event was recorded with this reply, and its receipt added.
-pub record Tells (t : RuleTable) (before after : Log) (old new : List Receipt) (event : Event) (reply : Reply) : Type 0 where
+pub record RecordsEvent (t : RuleTable) (before after : Log) (old new : List Receipt) (event : Event) (reply : Reply) : Type 0 where
   pub log : after ≡ recorded t before event
   pub receipt : new ≡ old ++ receipt_of t before event ∷ []
   pub reply_is : reply ≡ (receipt_of t before event).reply
@@ -85,14 +85,14 @@ pub record Tells (t : RuleTable) (before after : Log) (old new : List Receipt) (
 pub record Drives (t : RuleTable) (before after : Log) (old new : List Receipt) (reply : Reply) : Type 0 where
   pub items : List Item
   pub moves : List Moved
-  pub told : Tells t before after old new (Step items) reply
+  pub told : RecordsEvent t before after old new (Step items) reply
   pub moved : reply ≡ Moves moves
   pub one : IsTrue t.central → length items ≡ 1
 
 -- The event is an accepted change of a register.
 pub record Breaks (t : RuleTable) (before after : Log) (old new : List Receipt) (reply : Reply) : Type 0 where
   pub event : Event
-  pub told : Tells t before after old new event reply
+  pub told : RecordsEvent t before after old new event reply
   pub register : IsTrue (is_register_fault event)
   pub accepted : reply ≡ Accepted
 

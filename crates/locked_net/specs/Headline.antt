@@ -2,15 +2,15 @@
 -- faults, queries and daemon choices of the callers' threads.
 use Rattle.std.specs.Prelude.{ℕ, List}
 use Rattle.rule_machine.specs.RuleTable.{RuleTable}
-use Rattle.step_log.specs.Kept.{Kept}
+use Rattle.step_log.specs.RetainedLogs.{RetainedLog}
 use Rattle.step_log.specs.Headline.{Upholds}
 use Rattle.locked_net.specs.Receipts.{ClerkView}
-use Rattle.locked_net.specs.Settled.{Settled}
+use Rattle.locked_net.specs.Settlements.{Settlement}
 
 -- * upheld: the log is a run of the rule machine, quiet exactly if stable, and its moves are within their
 --   bounds;
 -- * told: each reply to a caller is that run's, and each entry belongs to one caller.
 -- Both hold of the entries above the journal's base; below it only the receipts' numbers count.
-pub record Headline (t : RuleTable) (weight : ℕ) (kept : Kept) (clerks : List ClerkView) : Type 0 where
+pub record Headline (t : RuleTable) (weight : ℕ) (kept : RetainedLog) (clerks : List ClerkView) : Type 0 where
   pub upheld : Upholds t weight kept
-  pub told : Settled kept clerks
+  pub told : Settlement kept clerks

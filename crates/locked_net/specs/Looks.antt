@@ -2,26 +2,26 @@
 use Rattle.std.specs.Prelude.{◌≡◌, ℕ}
 use Rattle.rule_machine.specs.declared.event.Event.{Event}
 use Rattle.rule_machine.specs.State.{State}
-use Rattle.rule_engine.specs.Costs.{cost_of, BoundsGrowth}
+use Rattle.rule_engine.specs.Costs.{disturbance_cost, BoundsGrowth}
 use Rattle.logbook.specs.Pages.{Book}
-use Rattle.board.specs.Views.{Told}
-use Rattle.step_log.specs.Kept.{Kept}
+use Rattle.snapshots.specs.Views.{PublishedLog}
+use Rattle.step_log.specs.RetainedLogs.{RetainedLog}
 use Rattle.step_log.specs.Log.{Log}
-use Rattle.locked_net.specs.Above.{IsPart}
+use Rattle.locked_net.specs.RetainedParts.{IsPartOfLog}
 use Rattle.locked_net.specs.Settings.{Setting, IsLogIn}
 
 -- The log under the lock is exactly the note's, published in this history. After it the event costs this, and
 -- if it is accepted the charge grows by at most this.
-pub record IsCostSeen (setting : Setting) (book : Book) (weighs : State → Event → ℕ) (event : Event) (cost : ℕ) (note : Told) : Type 0 where
+pub record IsCostSeen (setting : Setting) (book : Book) (weighs : State → Event → ℕ) (event : Event) (cost : ℕ) (note : PublishedLog) : Type 0 where
   pub log : Log
   pub own : IsLogIn setting log
   pub published : note.log ≡ log.entries
   pub in_book : note.book ≡ book
-  pub costs : cost ≡ cost_of setting.table weighs log.state event
+  pub costs : cost ≡ disturbance_cost setting.table weighs log.state event
   pub grows : BoundsGrowth setting.table log.state log.spent event cost
 
 -- What is kept is the part above its base of exactly the note's log, published in this history.
-pub record IsPublished (setting : Setting) (book : Book) (kept : Kept) (note : Told) : Type 0 where
-  pub part : IsPart setting kept
+pub record IsPublished (setting : Setting) (book : Book) (kept : RetainedLog) (note : PublishedLog) : Type 0 where
+  pub part : IsPartOfLog setting kept
   pub published : note.log ≡ part.log.entries
   pub in_book : note.book ≡ book

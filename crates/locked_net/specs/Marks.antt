@@ -1,17 +1,17 @@
 -- How receipts are settled, in order: a table has a mark for each entry that an earlier receipt has named.
 use Rattle.std.specs.Prelude.{◌≡◌, ℕ, ◌+◌, ◌-◌, ◌<◌, Bool, true, false, List, Some, length, take, slice_get, slice_index_or}
 use Rattle.std.specs.List.{sum_by, count_by}
-use Rattle.step_log.specs.Kept.{Kept, last_number}
+use Rattle.step_log.specs.RetainedLogs.{RetainedLog, last_number}
 use Rattle.step_log.specs.declared.receipt.Receipt.{Receipt}
 use Rattle.locked_net.specs.Receipts.{ClerkView, RiseAbove}
-use Rattle.locked_net.specs.Settled.{StandsAt, IsBefore, Agrees}
+use Rattle.locked_net.specs.Settlements.{StandsAt, IsEarlierReceipt, Agrees}
 
 -- a receipt before place p of clerk c has the number n
 pub record IsNumbered (clerks : List ClerkView) (c p n : ℕ) : Type 0 where
   pub clerk : ℕ
   pub place : ℕ
   pub receipt : Receipt
-  pub before : IsBefore clerk place c p
+  pub before : IsEarlierReceipt clerk place c p
   pub stands : StandsAt clerks clerk place receipt
   pub numbered : receipt.seq ≡ n
 
@@ -21,10 +21,10 @@ mark_of marks number = slice_index_or marks (number - 1) false
 
 -- All receipts before place p of clerk c agree, the clerks before c rise, and the marks are those of these
 -- receipts, one each.
-pub record IsMarked (kept : Kept) (clerks : List ClerkView) (c p : ℕ) (marks : List Bool) : Type 0 where
+pub record AreReceiptMarks (kept : RetainedLog) (clerks : List ClerkView) (c p : ℕ) (marks : List Bool) : Type 0 where
   pub size : length marks ≡ last_number kept
-  pub agree : (d q : ℕ) (other : Receipt) → IsBefore d q c p → StandsAt clerks d q other → Agrees kept clerks d q other
+  pub agree : (d q : ℕ) (other : Receipt) → IsEarlierReceipt d q c p → StandsAt clerks d q other → Agrees kept clerks d q other
   pub rise : (d : ℕ) (clerk : ClerkView) → d < c → slice_get clerks d ≡ Some clerk → RiseAbove 0 clerk.receipts
-  pub marked : (d q : ℕ) (other : Receipt) → IsBefore d q c p → StandsAt clerks d q other → mark_of marks other.seq ≡ true
+  pub marked : (d q : ℕ) (other : Receipt) → IsEarlierReceipt d q c p → StandsAt clerks d q other → mark_of marks other.seq ≡ true
   pub numbered : (k : ℕ) → slice_index_or marks k false ≡ true → IsNumbered clerks c p (k + 1)
   pub count : count_by (λ mark. mark) marks ≡ sum_by (λ clerk. length clerk.receipts) (take c clerks) + p

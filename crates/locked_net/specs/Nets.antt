@@ -2,11 +2,11 @@
 use Rattle.std.specs.Prelude.{◌≡◌, ℕ}
 use Rattle.rule_machine.specs.RuleTable.{RuleTable}
 use Rattle.logbook.specs.Pages.{Book}
-use Rattle.board.specs.Views.{Name, Reading}
+use Rattle.snapshots.specs.Views.{BoardName, ReaderView}
 use Rattle.step_log.specs.Log.{Log}
 use Rattle.keyed_lock.specs.Locks.{key_of}
 use Rattle.locked_net.specs.Settings.{Setting, IsLogIn}
-use Rattle.locked_net.specs.Desks.{name_from}
+use Rattle.locked_net.specs.PublishedJournals.{name_from}
 use Rattle.locked_net.specs.declared.key.NetKey.{NetKey}
 use Rattle.locked_net.specs.declared.net.LockedNet.{LockedNet}
 
@@ -15,20 +15,20 @@ module _ {R : Type 0} where
   net_key_of net = key_of net.lock
 
   -- how many names it has
-  abbrev pub nodes_of : LockedNet R → ℕ
-  nodes_of net = (net_key_of net).nodes
+  abbrev pub name_count_of : LockedNet R → ℕ
+  name_count_of net = (net_key_of net).nodes
 
   -- how many nodes it had at the start, named from 1
-  abbrev pub present_of : LockedNet R → ℕ
-  present_of net = (net_key_of net).present
+  abbrev pub first_nodes_of : LockedNet R → ℕ
+  first_nodes_of net = (net_key_of net).present
 
   -- how many entries its log may hold
-  abbrev pub limit_of : LockedNet R → ℕ
-  limit_of net = (net_key_of net).limit
+  abbrev pub log_limit_of : LockedNet R → ℕ
+  log_limit_of net = (net_key_of net).limit
 
   -- all three, with its rules
   abbrev pub setting_of : RuleTable → LockedNet R → Setting
-  setting_of t net = record { table = t; nodes = nodes_of net; present = present_of net; limit = limit_of net }
+  setting_of t net = record { table = t; nodes = name_count_of net; present = first_nodes_of net; limit = log_limit_of net }
 
   -- the history that its readers see
   abbrev pub book_of : LockedNet R → Book
@@ -36,10 +36,10 @@ module _ {R : Type 0} where
 
   -- that history, the number of places of its copies (one for each name, and the unused place 0), and the
   -- number of nodes at the start
-  abbrev pub name_of : LockedNet R → Name
+  abbrev pub name_of : LockedNet R → BoardName
   name_of net = name_from (net_key_of net)
 
   -- The reader has seen, and learnt, exactly the log under the net's lock at one moment: a run of the rules
   -- from the opening state of its names and nodes, within its limit.
-  abbrev pub HasSeenLog : RuleTable → LockedNet R → Reading → Type 0
+  abbrev pub HasSeenLog : RuleTable → LockedNet R → ReaderView → Type 0
   HasSeenLog t net reader = (log : Log) × IsLogIn (setting_of t net) log × (reader.list ≡ log.entries) × (reader.learnt ≡ log.entries)

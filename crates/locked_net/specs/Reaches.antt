@@ -3,15 +3,15 @@ use Rattle.std.specs.Prelude.{◌≡◌, ℕ, Bool, List, None, IsTrue}
 use Rattle.rule_machine.specs.declared.event.Event.{Event}
 use Rattle.rule_machine.specs.RuleTable.{rule_at}
 use Rattle.containment_laws.specs.Rest.{is_at_rest}
-use Rattle.rule_engine.specs.Reached.{reach_of, Spares}
+use Rattle.rule_engine.specs.DisturbanceReach.{reach_of, Spares}
 use Rattle.logbook.specs.Pages.{Book}
-use Rattle.board.specs.Views.{Told}
+use Rattle.snapshots.specs.Views.{PublishedLog}
 use Rattle.step_log.specs.Log.{Log}
 use Rattle.locked_net.specs.Settings.{Setting, IsLogIn}
 
 -- The log under the lock is exactly the note's, published in this history. After it the node is at rest and
 -- no rule is enabled at it, or it is not at rest.
-pub record IsRestSeen (setting : Setting) (book : Book) (v : ℕ) (rests : Bool) (note : Told) : Type 0 where
+pub record IsRestSeen (setting : Setting) (book : Book) (v : ℕ) (rests : Bool) (note : PublishedLog) : Type 0 where
   pub log : Log
   pub own : IsLogIn setting log
   pub published : note.log ≡ log.entries
@@ -21,7 +21,7 @@ pub record IsRestSeen (setting : Setting) (book : Book) (v : ℕ) (rests : Bool)
 
 -- After that log the event would reach these nodes; if it is accepted, each node at rest and not among them
 -- stays at rest.
-pub record IsReachSeen (setting : Setting) (book : Book) (event : Event) (reach : List ℕ) (note : Told) : Type 0 where
+pub record IsReachSeen (setting : Setting) (book : Book) (event : Event) (reach : List ℕ) (note : PublishedLog) : Type 0 where
   pub log : Log
   pub own : IsLogIn setting log
   pub published : note.log ≡ log.entries

@@ -4,7 +4,7 @@ use Rattle.std.specs.Prelude.{◌≡◌, ℕ, ◌<◌, ◌-◌, max, List, [], �
 use Rattle.rule_machine.specs.Run.{Entry}
 use Rattle.step_log.specs.declared.receipt.Receipt.{Receipt}
 use Rattle.logbook.specs.Pages.{Book}
-use Rattle.board.specs.Views.{Told}
+use Rattle.snapshots.specs.Views.{PublishedLog}
 
 -- the number of the last receipt; `front` if there is none
 abbrev pub front_from : ℕ → List Receipt → ℕ
@@ -21,14 +21,14 @@ RiseAbove low [] = Unit {0}
 RiseAbove low (receipt ∷ receipts) = (low < receipt.seq) × RiseAbove receipt.seq receipts
 
 -- The receipt is the log's entry with its number, from 1: the same event with the same reply.
-pub record IsEntry (log : List Entry) (receipt : Receipt) : Type 0 where
+pub record IsReceiptOf (log : List Entry) (receipt : Receipt) : Type 0 where
   pub numbered : 0 < receipt.seq
   pub same : slice_get log (receipt.seq - 1) ≡ Some (receipt.event, receipt.reply)
 
 -- a clerk as contracts see it
 pub record ClerkView : Type 0 where
   pub receipts : List Receipt
-  pub note : Option Told
+  pub note : Option PublishedLog
   pub base : Option ℕ
 
 -- the number of a base; 0 if there is none
@@ -46,7 +46,7 @@ fresh = record { receipts = []; note = None; base = None }
 
 -- the last receipt is the log's entry with its number
 abbrev pub StandsLastFrom : List Entry → Receipt → List Receipt → Type 0
-StandsLastFrom log receipt [] = IsEntry log receipt
+StandsLastFrom log receipt [] = IsReceiptOf log receipt
 StandsLastFrom log receipt (next ∷ receipts) = StandsLastFrom log next receipts
 
 -- the same, if there is a receipt
@@ -55,12 +55,12 @@ StandsLast log [] = Unit {0}
 StandsLast log (receipt ∷ receipts) = StandsLastFrom log receipt receipts
 
 -- a clerk with a receipt has a note, and its log has the last receipt's entry
-abbrev pub NotesLast : List Receipt → Option Told → Type 0
+abbrev pub NotesLast : List Receipt → Option PublishedLog → Type 0
 NotesLast receipts None = receipts ≡ []
 NotesLast receipts (Some told) = StandsLast told.log receipts
 
 -- the entries of a note; none if there is no note
-abbrev pub noted : Option Told → List Entry
+abbrev pub noted : Option PublishedLog → List Entry
 noted None = []
 noted (Some told) = told.log
 

@@ -4,15 +4,15 @@ ghost use Rattle.std.specs.Prelude.{◌≡◌, false, length, IsTrue, IfOk, IfSo
 ghost use mathlib.Core.List.{IsPrefix};
 ghost use Rattle.rule_machine.specs.Network.{present};
 ghost use Rattle.rule_machine.specs.State.{pointer};
-ghost use Rattle.board.specs.History.{IsOneLog, AreOneLog, AreComparable};
-ghost use Rattle.board.specs.Row.{partner_in};
+ghost use Rattle.snapshots.specs.History.{IsOneLog, AreOneLog, AreComparable};
+ghost use Rattle.snapshots.specs.Row.{partner_in};
 ghost use Rattle.locked_net.specs.Receipts.{StandsLast};
-ghost use Rattle.locked_net.specs.Seen.{Shows, OnView, IfUnknown};
+ghost use Rattle.locked_net.specs.ReaderAnswers.{Shows, OnView, IfUnknown};
 ghost use Rattle.locked_net.specs.declared.read_fault.ReadFault.TheVariants.{NoView as NoLook};
 
 use crate::{Clerk, NoView, ReadFault};
-use board::{Look, Reader, Runs};
 use rule_engine::{Node, Rules};
+use snapshots::{Reader, Runs, Snapshot};
 use std::marker::Model;
 
 /// A node's pointer at one moment.
@@ -45,9 +45,9 @@ pub struct BoardReader<R: Rules> {
 impl<R: Rules> Model for BoardReader<R> {
     ghost use Rattle.std.specs.Coded.{codes};
     ghost use Rattle.logbook.specs.Pages.{book_coded};
-    ghost use Rattle.board.specs.Views.{Reading};
+    ghost use Rattle.snapshots.specs.Views.{ReaderView};
 
-    ghost Value = { Reading };
+    ghost Value = { ReaderView };
 
     ghost coded = { Prim.hlevel (codes, book_coded) };
 
@@ -75,7 +75,7 @@ impl<R: Rules> BoardReader<R> {
         ensures unknown_front { IfUnknown result (λ front. front ≡ length self.new.list) }
         ensures no_view { IsErrOf result NoLook → self.new.list ≡ self.old.list }
     {
-        let Some(Look { front, found }) = self.reader.look(v.place()) else {
+        let Some(Snapshot { front, found }) = self.reader.look(v.place()) else {
             return Err(ReadFault::NoView);
         };
         let Some(seen) = found else {
@@ -154,7 +154,7 @@ impl<R: Rules> BoardReader<R> {
     /// Takes in a clerk's note: each later view includes all that was published at the clerk's last receipt.
     /// So it includes that receipt's entry. The note's log and the view are of one log.
     /// The clerk must have called only the reader's network, or none. It stays unchanged.
-    #[tactic(auto, using(crate::proofs::Seeing::noted_last))]
+    #[tactic(auto, using(crate::proofs::BoardReads::noted_last))]
     pub fn learn(&mut self, clerk: &mut Clerk)
         requires { IfSome clerk.old.note (λ told. told.book ≡ self.old.name.book) }
         ensures clerk { clerk.new ≡ clerk.old }

@@ -36,9 +36,9 @@ impl From<AllocError> for CallFault {
 
 impl From<RecordFault> for CallFault {
     ghost use Rattle.std.specs.Prelude.{◌≡◌};
-    ghost use Rattle.locked_net.specs.Calls.{fault_for};
+    ghost use Rattle.locked_net.specs.Calls.{call_fault_of};
 
-    ghost from_gives = { λ why fault. fault ≡ fault_for why };
+    ghost from_gives = { λ why fault. fault ≡ call_fault_of why };
 
     fn from(why: RecordFault) -> CallFault {
         match why {

@@ -1,10 +1,10 @@
 //! A clerk: it calls a network and keeps the receipts.
 
 ghost use Rattle.std.specs.Prelude.{◌≡◌, None, Some, IfSome, MatchOption};
-ghost use Rattle.board.specs.History.{AreComparable};
+ghost use Rattle.snapshots.specs.History.{AreComparable};
 ghost use Rattle.locked_net.specs.Receipts.{fresh, front_of, seen_by, noted, IsClerk, IsOfBook, RiseAbove};
 
-use board::Note;
+use snapshots::Note;
 use std::alloc::Global;
 use std::marker::Model;
 use step_log::Receipt;

@@ -1,21 +1,21 @@
 //! What a network's lock guards.
 
 ghost use Rattle.std.specs.Prelude.{◌≡◌, ◌+◌, ◌≤◌, ◌↔◌, length, min, IfOk, IfErr, OnOk, OnErr, IsErrOf, IsTrue};
-ghost use Rattle.graph_store.specs.Fault.{nodes_fault, Explains};
+ghost use Rattle.graph_store.specs.Fault.{nodes_fault, ExplainsGraphFault};
 ghost use Rattle.rule_machine.specs.declared.event.Event.TheVariants.{Step};
-ghost use Rattle.rule_engine.specs.Choosing.{verdicts_of};
-ghost use Rattle.rule_engine.specs.Costs.{cost_of, BoundsGrowth};
-ghost use Rattle.rule_engine.specs.Reached.{reach_of, Spares};
+ghost use Rattle.rule_engine.specs.ChoiceMoves.{verdicts_of};
+ghost use Rattle.rule_engine.specs.Costs.{disturbance_cost, BoundsGrowth};
+ghost use Rattle.rule_engine.specs.DisturbanceReach.{reach_of, Spares};
 ghost use Rattle.step_log.specs.declared.fault.RecordFault.TheVariants.{LogFull};
-ghost use Rattle.step_log.specs.Held.{IsReady, kept_of};
-ghost use Rattle.step_log.specs.Kept.{IsKept};
+ghost use Rattle.step_log.specs.JournalViews.{IsNextReceipt, kept_of};
+ghost use Rattle.step_log.specs.RetainedLogs.{IsRetainedRun};
 ghost use Rattle.step_log.specs.Log.{IsLog, max_entries, recorded, receipt_of};
-ghost use Rattle.locked_net.specs.Above.{IsAbove, log_over};
-ghost use Rattle.locked_net.specs.Desks.{IsDesk, based, KeepsKey};
+ghost use Rattle.locked_net.specs.RetainedParts.{IsLogAboveBase, log_over};
+ghost use Rattle.locked_net.specs.PublishedJournals.{IsPublishedJournal, based, KeepsKey};
 
 use crate::SeenCost;
-use board::{Board, NoPlace, Note, Reader, Runs};
 use rule_engine::{Choice, Event, GraphFault, Net, Node, Reply, Rules, Verdict, Want};
+use snapshots::{Board, NoPlace, Note, Reader, Runs};
 use std::alloc::{AllocError, Global};
 use std::marker::Model;
 use std::sync::Wait;
@@ -27,55 +27,55 @@ const READERS: usize = 64;
 /// A journal and the board that publishes all its entries. It cannot be dropped: `close` ends it.
 /// Contracts see the whole log, with dropped entries, which is what is published; the journal's base; and the
 /// board's name.
-pub(crate) struct Desk<R: Rules> {
+pub(crate) struct PublishedJournal<R: Rules> {
     journal: Journal<R>,
     board: Board<Runs<R>>,
 }
 
-impl<R: Rules> Model for Desk<R> {
+impl<R: Rules> Model for PublishedJournal<R> {
     ghost use Rattle.std.specs.Coded.{codes};
     ghost use Rattle.rule_machine.specs.State.{state_code};
     ghost use Rattle.logbook.specs.Pages.{book_coded};
-    ghost use Rattle.step_log.specs.Held.{kept_of};
-    ghost use Rattle.locked_net.specs.Above.{log_over};
-    ghost use Rattle.locked_net.specs.Desks.{DeskView, IsDesk};
+    ghost use Rattle.step_log.specs.JournalViews.{kept_of};
+    ghost use Rattle.locked_net.specs.RetainedParts.{log_over};
+    ghost use Rattle.locked_net.specs.PublishedJournals.{PublishedJournalView, IsPublishedJournal};
 
-    ghost Value = { DeskView };
+    ghost Value = { PublishedJournalView };
 
     ghost coded = { Prim.hlevel (codes, state_code, book_coded) };
 
     ghost view = { λ d. record { log = log_over (kept_of d.journal) d.board.list; base = d.journal.base; name = d.board.name } };
 
-    ghost invariant = { λ d. IsDesk R.table (kept_of d.journal) d.board };
+    ghost invariant = { λ d. IsPublishedJournal R.table (kept_of d.journal) d.board };
 }
 
 /// The result of an event: the receipt of its entry, the reply, and a note that ends with the entry.
 #[derive(Drop)]
-pub(crate) struct Recorded {
+pub(crate) struct RecordedEvent {
     pub(crate) receipt: Receipt,
     pub(crate) reply: Reply,
     pub(crate) note: Note,
 }
 
-impl<R: Rules> Desk<R> {
+impl<R: Rules> PublishedJournal<R> {
     pub(crate) fn new<W: Wait>(
         alloc: Global,
         rt: &W,
         nodes: u32,
         present: u32,
         limit: u32,
-    ) -> Result<Desk<R>, GraphFault>
+    ) -> Result<PublishedJournal<R>, GraphFault>
         requires within { present ≤ nodes }
         ensures nodes { IfOk result (λ desk. desk.log.state.network.size ≡ nodes) }
         ensures limit { IfOk result (λ desk. desk.log.limit ≡ min limit max_entries) }
         ensures present { IfOk result (λ desk. desk.log.present ≡ present) }
         ensures extent { IfOk result (λ desk. desk.name.extent ≡ record { places = nodes + 1; present = present }) }
         ensures small { OnOk result (nodes ≤ 65535) }
-        ensures fault { IfErr result (λ fault. Explains (nodes_fault nodes) fault) }
+        ensures fault { IfErr result (λ fault. ExplainsGraphFault (nodes_fault nodes) fault) }
     {
         let journal = Journal::with_present(alloc, nodes, present, limit)?;
         match Board::new(alloc, rt, nodes as usize + 1, present, READERS) {
-            Ok(board) => Ok(Desk { journal, board }),
+            Ok(board) => Ok(PublishedJournal { journal, board }),
             Err(_) => Err(GraphFault::Memory),
         }
     }
@@ -107,7 +107,7 @@ impl<R: Rules> Desk<R> {
     }
 
     pub(crate) fn cost_of(&self, event: &Event) -> SeenCost
-        ensures cost { result.cost ≡ cost_of R.table R.cost self.now.log.state event.now }
+        ensures cost { result.cost ≡ disturbance_cost R.table R.cost self.now.log.state event.now }
         ensures grows { BoundsGrowth R.table self.now.log.state self.now.log.spent event.now result.cost }
         ensures note { (result.note.log ≡ self.now.log.entries) × (result.note.book ≡ self.now.name.book) }
         ensures run { IsLog R.table self.now.log }
@@ -126,7 +126,11 @@ impl<R: Rules> Desk<R> {
     }
 
     /// Carries out an event, records it and publishes its entry. A fault changes nothing.
-    pub(crate) fn record<W: Wait>(&mut self, rt: &W, event: Event) -> Result<Recorded, RecordFault>
+    pub(crate) fn record<W: Wait>(
+        &mut self,
+        rt: &W,
+        event: Event,
+    ) -> Result<RecordedEvent, RecordFault>
         ensures log { OnOk result (self.new.log ≡ recorded R.table self.old.log event) }
         ensures receipt { IfOk result (λ told. told.receipt ≡ receipt_of R.table self.old.log event) }
         ensures reply { IfOk result (λ told. told.reply ≡ (receipt_of R.table self.old.log event).reply) }
@@ -145,7 +149,7 @@ impl<R: Rules> Desk<R> {
         rt: &W,
         choice: Choice,
         verdicts: &[Verdict],
-    ) -> Result<Recorded, RecordFault>
+    ) -> Result<RecordedEvent, RecordFault>
         requires { verdicts.now ≡ verdicts_of R.table self.old.log.state choice }
         ensures log { OnOk result (self.new.log ≡ recorded R.table self.old.log (Step choice)) }
         ensures receipt { IfOk result (λ told. told.receipt ≡ receipt_of R.table self.old.log (Step choice)) }
@@ -180,11 +184,11 @@ impl<R: Rules> Desk<R> {
     }
 
     pub(crate) fn close<W: Wait>(self, rt: &W) -> Journal<R>
-        ensures kept { IsKept R.table R.NODE_WEIGHT (kept_of result) }
-        ensures above { IsAbove R.table self.log (kept_of result) }
+        ensures kept { IsRetainedRun R.table R.NODE_WEIGHT (kept_of result) }
+        ensures above { IsLogAboveBase R.table self.log (kept_of result) }
         ensures run { IsLog R.table self.log }
     {
-        let Desk { journal, board } = self;
+        let PublishedJournal { journal, board } = self;
         board.end(rt);
         prove!(journal.len() <= step_log::MAX_ENTRIES);
         journal
@@ -197,12 +201,12 @@ fn finish<R: Rules, W: Wait>(
     board: &mut Board<Runs<R>>,
     rt: &W,
     prepared: Prepared,
-) -> Result<Recorded, AllocError>
-    requires ready { IsReady R.table journal.old prepared }
-    requires desk { IsDesk R.table (kept_of journal.old) board.old }
+) -> Result<RecordedEvent, AllocError>
+    requires ready { IsNextReceipt R.table journal.old prepared }
+    requires desk { IsPublishedJournal R.table (kept_of journal.old) board.old }
     ensures log { OnOk result (log_over (kept_of journal.new) board.new.list ≡ recorded R.table (log_over (kept_of journal.old) board.old.list) prepared.event) }
     ensures base { journal.new.base ≡ journal.old.base }
-    ensures desk { IsDesk R.table (kept_of journal.new) board.new }
+    ensures desk { IsPublishedJournal R.table (kept_of journal.new) board.new }
     ensures receipt { IfOk result (λ told. told.receipt ≡ receipt_of R.table (log_over (kept_of journal.old) board.old.list) prepared.event) }
     ensures reply { IfOk result (λ told. told.reply ≡ prepared.reply) }
     ensures note { IfOk result (λ told. (told.note.log ≡ board.new.list) × (told.note.book ≡ board.old.name.book)) }
@@ -213,7 +217,7 @@ fn finish<R: Rules, W: Wait>(
     board.post(prepared.entry())?;
     let receipt = journal.commit(prepared);
     let note = board.publish(rt);
-    Ok(Recorded {
+    Ok(RecordedEvent {
         receipt,
         reply,
         note,

@@ -3,19 +3,19 @@
 ghost use Rattle.std.specs.Prelude.{◌≡◌, ◌≢◌, false, IfOk, IfErr, OnOk, IsTrue};
 ghost use Rattle.std.specs.List.{All};
 ghost use mathlib.Core.List.{IsPrefix};
-ghost use Rattle.step_log.specs.Held.{kept_of};
-ghost use Rattle.step_log.specs.Kept.{IsKept};
-ghost use Rattle.locked_net.specs.Above.{IsBack, IsPart, IsPartNoted};
+ghost use Rattle.step_log.specs.JournalViews.{kept_of};
+ghost use Rattle.step_log.specs.RetainedLogs.{IsRetainedRun};
+ghost use Rattle.locked_net.specs.RetainedParts.{IsBack, IsPartOfLog, IsPartNoted};
 ghost use Rattle.locked_net.specs.Headline.{Headline};
-ghost use Rattle.locked_net.specs.Nets.{book_of, nodes_of, present_of, limit_of, setting_of};
+ghost use Rattle.locked_net.specs.Nets.{book_of, name_count_of, first_nodes_of, log_limit_of, setting_of};
 ghost use Rattle.locked_net.specs.Receipts.{HasNoteOf, IsOfBook, noted};
-ghost use Rattle.locked_net.specs.Settled.{Settled, Unsettles};
+ghost use Rattle.locked_net.specs.Settlements.{Settlement, Unsettles};
 ghost use Rattle.locked_net.specs.declared.settle_fault.SettleFault.TheVariants.{Memory};
 
 use crate::settling::settled_with;
 use crate::{Clerk, LockedNet, SettleFault, Unsettled};
-use board::Note;
 use rule_engine::Rules;
+use snapshots::Note;
 use std::alloc::Global;
 use std::sync::Wait;
 use step_log::Journal;
@@ -36,10 +36,10 @@ pub fn settle<R: Rules, W: Wait>(
     clerks: Vec<Clerk>,
 ) -> Result<Journal<R>, Unsettled<R>>
     ensures headline { IfOk result (λ journal. Headline R.table R.NODE_WEIGHT (kept_of journal) clerks.items) }
-    ensures settled { IfOk result (λ journal. Settled (kept_of journal) clerks.items) }
-    ensures run { IfOk result (λ journal. IsKept R.table R.NODE_WEIGHT (kept_of journal)) }
-    ensures whole { IfOk result (λ journal. IsPart (setting_of R.table net) (kept_of journal)) }
-    ensures size { IfOk result (λ journal. (journal.state.network.size ≡ nodes_of net) × (journal.present ≡ present_of net) × (journal.limit ≡ limit_of net)) }
+    ensures settled { IfOk result (λ journal. Settlement (kept_of journal) clerks.items) }
+    ensures run { IfOk result (λ journal. IsRetainedRun R.table R.NODE_WEIGHT (kept_of journal)) }
+    ensures whole { IfOk result (λ journal. IsPartOfLog (setting_of R.table net) (kept_of journal)) }
+    ensures size { IfOk result (λ journal. (journal.state.network.size ≡ name_count_of net) × (journal.present ≡ first_nodes_of net) × (journal.limit ≡ log_limit_of net)) }
     ensures fault { IfErr result (λ unsettled. Unsettles (kept_of unsettled.journal) clerks.items unsettled.why) }
     ensures back { IfErr result (λ unsettled. IsBack (setting_of R.table net) R.NODE_WEIGHT unsettled.journal) }
 {
@@ -58,11 +58,11 @@ pub fn settle_own<R: Rules, W: Wait>(
 ) -> Result<Journal<R>, Unsettled<R>>
     requires { All (IsOfBook (book_of net)) clerks.items }
     ensures headline { IfOk result (λ journal. Headline R.table R.NODE_WEIGHT (kept_of journal) clerks.items) }
-    ensures settled { IfOk result (λ journal. Settled (kept_of journal) clerks.items) }
+    ensures settled { IfOk result (λ journal. Settlement (kept_of journal) clerks.items) }
     ensures noted { IfOk result (λ journal. IsPartNoted (setting_of R.table net) (kept_of journal) clerks.items) }
-    ensures run { IfOk result (λ journal. IsKept R.table R.NODE_WEIGHT (kept_of journal)) }
-    ensures whole { IfOk result (λ journal. IsPart (setting_of R.table net) (kept_of journal)) }
-    ensures size { IfOk result (λ journal. (journal.state.network.size ≡ nodes_of net) × (journal.present ≡ present_of net) × (journal.limit ≡ limit_of net)) }
+    ensures run { IfOk result (λ journal. IsRetainedRun R.table R.NODE_WEIGHT (kept_of journal)) }
+    ensures whole { IfOk result (λ journal. IsPartOfLog (setting_of R.table net) (kept_of journal)) }
+    ensures size { IfOk result (λ journal. (journal.state.network.size ≡ name_count_of net) × (journal.present ≡ first_nodes_of net) × (journal.limit ≡ log_limit_of net)) }
     ensures fault { IfErr result (λ unsettled. Unsettles (kept_of unsettled.journal) clerks.items unsettled.why) }
     ensures back { IfErr result (λ unsettled. IsBack (setting_of R.table net) R.NODE_WEIGHT unsettled.journal) }
     ensures back_noted { IfErr result (λ unsettled. (unsettled.why ≢ Memory) → IsPartNoted (setting_of R.table net) (kept_of unsettled.journal) clerks.items) }
@@ -106,7 +106,7 @@ fn settle_journal<R: Rules>(
     journal: Journal<R>,
     clerks: &[Clerk],
 ) -> Result<Journal<R>, Unsettled<R>>
-    requires run { IsKept R.table R.NODE_WEIGHT (kept_of journal) }
+    requires run { IsRetainedRun R.table R.NODE_WEIGHT (kept_of journal) }
     ensures same { IfOk result (λ settled. settled ≡ journal) }
     ensures headline { OnOk result (Headline R.table R.NODE_WEIGHT (kept_of journal) clerks.now) }
     ensures fault { IfErr result (λ unsettled. Unsettles (kept_of journal) clerks.now unsettled.why) }

@@ -3,9 +3,9 @@
 ghost use Rattle.std.specs.Prelude.{◌+◌, ◌<◌, ◌^◌, length};
 ghost use Rattle.std.specs.Thread.{IsSync, IsSend};
 ghost use Rattle.locked_net.specs.Nets.{book_of, setting_of};
-ghost use Rattle.locked_net.specs.Roamed.{AllEnd, AllKeepNotes};
+ghost use Rattle.locked_net.specs.RoamResults.{AllEnd, AllKeepNotes};
 
-use crate::round::{Round, take_turns};
+use crate::round::{RoamConfig, take_turns};
 use crate::{CallFault, Clerk};
 use rule_engine::Rules;
 use std::sync::Wait;
@@ -14,7 +14,7 @@ use steal_pool::Gate;
 
 fn roam_first<R: Rules, G: Gate, W: Wait>(
     rt: &W,
-    round: &Round<R, G>,
+    round: &RoamConfig<R, G>,
     worker: u32,
     clerks: &mut [Clerk],
 ) -> Option<CallFault>
@@ -32,7 +32,7 @@ fn roam_first<R: Rules, G: Gate, W: Wait>(
 #[cycle(forks)]
 pub(crate) fn roam_all<R: Rules + Send, G: Gate + Sync, T: Threads + Wait + Sync>(
     rt: &T,
-    round: &Round<R, G>,
+    round: &RoamConfig<R, G>,
     first: u32,
     clerks: &mut [Clerk],
 ) -> Option<CallFault>
@@ -53,7 +53,7 @@ pub(crate) fn roam_all<R: Rules + Send, G: Gate + Sync, T: Threads + Wait + Sync
 #[cycle(forks)]
 fn roam_halves<R: Rules + Send, G: Gate + Sync, T: Threads + Wait + Sync>(
     rt: &T,
-    round: &Round<R, G>,
+    round: &RoamConfig<R, G>,
     first: u32,
     ours: &mut [Clerk],
     theirs: &mut [Clerk],

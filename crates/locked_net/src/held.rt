@@ -5,7 +5,7 @@ ghost use Rattle.locked_net.specs.Nets.{name_of, setting_of};
 ghost use Rattle.locked_net.specs.Settings.{IsLogIn};
 
 use crate::LockedNet;
-use crate::desk::Desk;
+use crate::desk::PublishedJournal;
 use crate::key::NetKey;
 use keyed_lock::Hold;
 use rule_engine::Rules;
@@ -25,8 +25,8 @@ mod reach;
 /// the board's name.
 pub struct HeldNet<'a, R: Rules> {
     net: &'a LockedNet<R>,
-    desk: Desk<R>,
-    hold: Hold<Desk<R>, NetKey>,
+    desk: PublishedJournal<R>,
+    hold: Hold<PublishedJournal<R>, NetKey>,
 }
 
 impl<'a, R: Rules> Model for HeldNet<'a, R> {
@@ -34,10 +34,10 @@ impl<'a, R: Rules> Model for HeldNet<'a, R> {
     ghost use Rattle.rule_machine.specs.State.{state_code};
     ghost use Rattle.logbook.specs.Pages.{book_coded};
     ghost use Rattle.keyed_lock.specs.Locks.{IsHoldOf};
-    ghost use Rattle.locked_net.specs.Desks.{DeskView, IsOfKey};
+    ghost use Rattle.locked_net.specs.PublishedJournals.{PublishedJournalView, IsOfKey};
     ghost use Rattle.locked_net.specs.Nets.{net_key_of};
 
-    ghost Value = { DeskView };
+    ghost Value = { PublishedJournalView };
 
     ghost coded = { Prim.hlevel (codes, state_code, book_coded) };
 

@@ -1,9 +1,9 @@
 //! What no call of a network changes.
 
-use crate::desk::Desk;
-use board::Note;
+use crate::desk::PublishedJournal;
 use keyed_lock::Invariant;
 use rule_engine::Rules;
+use snapshots::Note;
 
 /// The key of a network's lock: its names, its nodes at the start, the log's limit, and a note.
 /// The note is of the board when it was made.
@@ -16,10 +16,10 @@ pub(crate) struct NetKey {
 }
 
 /// The log under the lock has the key's sizes, and the board of the key's note publishes it.
-pub(crate) struct OfKey;
+pub(crate) struct KeyInvariant;
 
-impl<R: Rules> Invariant<Desk<R>, NetKey> for OfKey {
-    ghost use Rattle.locked_net.specs.Desks.{IsOfKey};
+impl<R: Rules> Invariant<PublishedJournal<R>, NetKey> for KeyInvariant {
+    ghost use Rattle.locked_net.specs.PublishedJournals.{IsOfKey};
 
     ghost holds = { λ key desk. IsOfKey key desk };
 }

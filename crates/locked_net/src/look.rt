@@ -4,8 +4,8 @@ ghost use Rattle.locked_net.specs.Looks.{IsCostSeen};
 ghost use Rattle.locked_net.specs.Nets.{book_of, setting_of};
 
 use crate::LockedNet;
-use board::Note;
 use rule_engine::{Event, Rules};
+use snapshots::Note;
 use std::sync::Wait;
 
 /// What an event would cost at one moment, with a note of the log then.

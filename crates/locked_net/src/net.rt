@@ -2,15 +2,15 @@
 
 ghost use Rattle.std.specs.Prelude.{◌≡◌, ◌≤◌, min, IfOk, IfErr, OnOk};
 ghost use Rattle.step_log.specs.Log.{max_entries};
-ghost use Rattle.graph_store.specs.Fault.{nodes_fault, Explains};
+ghost use Rattle.graph_store.specs.Fault.{nodes_fault, ExplainsGraphFault};
 
-use crate::desk::Desk;
-use crate::key::{NetKey, OfKey};
+use crate::desk::PublishedJournal;
+use crate::key::{KeyInvariant, NetKey};
 use crate::{BoardReader, Clerk, ReaderFault};
-use board::Note;
 use keyed_lock::{Hold, KeyedLock};
 use rule_engine::{GraphFault, Rules};
 use rule_machine::Want;
+use snapshots::Note;
 use std::alloc::{AllocFailed, Global};
 use std::sync::Wait;
 use step_log::{Journal, MAX_ENTRIES};
@@ -23,28 +23,28 @@ use step_log::{Journal, MAX_ENTRIES};
 /// `into_journal` ends it.
 pub struct LockedNet<R: Rules> {
     alloc: Global,
-    lock: KeyedLock<Desk<R>, NetKey, OfKey>,
+    lock: KeyedLock<PublishedJournal<R>, NetKey, KeyInvariant>,
 }
 
 impl<R: Rules> LockedNet<R> {
     ghost use Rattle.keyed_lock.specs.Locks.{IsHoldOf};
-    ghost use Rattle.locked_net.specs.Desks.{IsOfKey};
-    ghost use Rattle.locked_net.specs.Above.{IsPart};
+    ghost use Rattle.locked_net.specs.PublishedJournals.{IsOfKey};
+    ghost use Rattle.locked_net.specs.RetainedParts.{IsPartOfLog};
     ghost use Rattle.locked_net.specs.Looks.{IsPublished};
-    ghost use Rattle.locked_net.specs.Nets.{net_key_of, nodes_of, present_of, limit_of, book_of, name_of, setting_of, HasSeenLog};
+    ghost use Rattle.locked_net.specs.Nets.{net_key_of, name_count_of, first_nodes_of, log_limit_of, book_of, name_of, setting_of, HasSeenLog};
     ghost use Rattle.locked_net.specs.Receipts.{fresh};
     ghost use Rattle.locked_net.specs.declared.read_fault.ReaderFault.TheVariants.{NoPlace};
-    ghost use Rattle.step_log.specs.Held.{kept_of};
-    ghost use Rattle.step_log.specs.Kept.{IsKept};
+    ghost use Rattle.step_log.specs.JournalViews.{kept_of};
+    ghost use Rattle.step_log.specs.RetainedLogs.{IsRetainedRun};
 
     /// A new network of the nodes 1 to `nodes`, with a limit of 16,777,216 entries.
     /// `TooManyNodes` above 65,535 nodes; `Memory` if memory runs out.
     pub fn new<W: Wait>(alloc: Global, rt: &W, nodes: u32) -> Result<LockedNet<R>, GraphFault>
-        ensures nodes { IfOk result (λ net. nodes_of net ≡ nodes) }
-        ensures present { IfOk result (λ net. present_of net ≡ nodes) }
-        ensures limit { IfOk result (λ net. limit_of net ≡ max_entries) }
+        ensures nodes { IfOk result (λ net. name_count_of net ≡ nodes) }
+        ensures present { IfOk result (λ net. first_nodes_of net ≡ nodes) }
+        ensures limit { IfOk result (λ net. log_limit_of net ≡ max_entries) }
         ensures small { OnOk result (nodes ≤ 65535) }
-        ensures fault { IfErr result (λ fault. Explains (nodes_fault nodes) fault) }
+        ensures fault { IfErr result (λ fault. ExplainsGraphFault (nodes_fault nodes) fault) }
     {
         LockedNet::with_limit(alloc, rt, nodes, MAX_ENTRIES)
     }
@@ -56,11 +56,11 @@ impl<R: Rules> LockedNet<R> {
         nodes: u32,
         limit: u32,
     ) -> Result<LockedNet<R>, GraphFault>
-        ensures nodes { IfOk result (λ net. nodes_of net ≡ nodes) }
-        ensures present { IfOk result (λ net. present_of net ≡ nodes) }
-        ensures limit { IfOk result (λ net. limit_of net ≡ min limit max_entries) }
+        ensures nodes { IfOk result (λ net. name_count_of net ≡ nodes) }
+        ensures present { IfOk result (λ net. first_nodes_of net ≡ nodes) }
+        ensures limit { IfOk result (λ net. log_limit_of net ≡ min limit max_entries) }
         ensures small { OnOk result (nodes ≤ 65535) }
-        ensures fault { IfErr result (λ fault. Explains (nodes_fault nodes) fault) }
+        ensures fault { IfErr result (λ fault. ExplainsGraphFault (nodes_fault nodes) fault) }
     {
         LockedNet::with_present(alloc, rt, nodes, nodes, limit)
     }
@@ -75,13 +75,13 @@ impl<R: Rules> LockedNet<R> {
         limit: u32,
     ) -> Result<LockedNet<R>, GraphFault>
         requires within { present ≤ nodes }
-        ensures nodes { IfOk result (λ net. nodes_of net ≡ nodes) }
-        ensures present { IfOk result (λ net. present_of net ≡ present) }
-        ensures limit { IfOk result (λ net. limit_of net ≡ min limit max_entries) }
+        ensures nodes { IfOk result (λ net. name_count_of net ≡ nodes) }
+        ensures present { IfOk result (λ net. first_nodes_of net ≡ present) }
+        ensures limit { IfOk result (λ net. log_limit_of net ≡ min limit max_entries) }
         ensures small { OnOk result (nodes ≤ 65535) }
-        ensures fault { IfErr result (λ fault. Explains (nodes_fault nodes) fault) }
+        ensures fault { IfErr result (λ fault. ExplainsGraphFault (nodes_fault nodes) fault) }
     {
-        let desk = Desk::new(alloc, rt, nodes, present, limit)?;
+        let desk = PublishedJournal::new(alloc, rt, nodes, present, limit)?;
         let key = NetKey {
             nodes,
             present,
@@ -126,7 +126,10 @@ impl<R: Rules> LockedNet<R> {
     }
 
     /// Waits for the lock, and takes the desk out.
-    pub(crate) fn take<W: Wait>(&self, rt: &W) -> (Desk<R>, Hold<Desk<R>, NetKey>)
+    pub(crate) fn take<W: Wait>(
+        &self,
+        rt: &W,
+    ) -> (PublishedJournal<R>, Hold<PublishedJournal<R>, NetKey>)
         ensures key { IsOfKey (net_key_of self.now) result.0 }
         ensures hold { IsHoldOf self.now.lock result.1 }
     {
@@ -134,7 +137,7 @@ impl<R: Rules> LockedNet<R> {
     }
 
     /// Gives the desk back, and frees the lock.
-    pub(crate) fn give(&self, hold: Hold<Desk<R>, NetKey>, desk: Desk<R>)
+    pub(crate) fn give(&self, hold: Hold<PublishedJournal<R>, NetKey>, desk: PublishedJournal<R>)
         requires key { IsOfKey (net_key_of self.now) desk }
         requires hold { IsHoldOf self.now.lock hold }
     {
@@ -146,11 +149,11 @@ impl<R: Rules> LockedNet<R> {
     /// the entries below.
     /// It would wait for a call under the lock; a network that is owned has none.
     pub fn into_journal<W: Wait>(self, rt: &W) -> Journal<R>
-        ensures run { IsKept R.table R.NODE_WEIGHT (kept_of result) }
-        ensures whole { IsPart (setting_of R.table self) (kept_of result) }
-        ensures nodes { result.state.network.size ≡ nodes_of self }
-        ensures present { result.present ≡ present_of self }
-        ensures limit { result.limit ≡ limit_of self }
+        ensures run { IsRetainedRun R.table R.NODE_WEIGHT (kept_of result) }
+        ensures whole { IsPartOfLog (setting_of R.table self) (kept_of result) }
+        ensures nodes { result.state.network.size ≡ name_count_of self }
+        ensures present { result.present ≡ first_nodes_of self }
+        ensures limit { result.limit ≡ log_limit_of self }
     {
         self.into_desk(rt).close(rt)
     }
@@ -159,17 +162,17 @@ impl<R: Rules> LockedNet<R> {
     /// The journal keeps exactly the part of this log above its base.
     pub fn into_noted<W: Wait>(self, rt: &W) -> (Journal<R>, Note)
         ensures published { IsPublished (setting_of R.table self) (book_of self) (kept_of result.0) result.1 }
-        ensures run { IsKept R.table R.NODE_WEIGHT (kept_of result.0) }
-        ensures nodes { result.0.state.network.size ≡ nodes_of self }
-        ensures present { result.0.present ≡ present_of self }
-        ensures limit { result.0.limit ≡ limit_of self }
+        ensures run { IsRetainedRun R.table R.NODE_WEIGHT (kept_of result.0) }
+        ensures nodes { result.0.state.network.size ≡ name_count_of self }
+        ensures present { result.0.present ≡ first_nodes_of self }
+        ensures limit { result.0.limit ≡ log_limit_of self }
     {
         let desk = self.into_desk(rt);
         let last = desk.note();
         (desk.close(rt), last)
     }
 
-    fn into_desk<W: Wait>(self, rt: &W) -> Desk<R>
+    fn into_desk<W: Wait>(self, rt: &W) -> PublishedJournal<R>
         ensures { IsOfKey (net_key_of self) result }
     {
         let LockedNet { alloc: _, lock } = self;

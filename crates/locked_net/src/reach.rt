@@ -5,8 +5,8 @@ ghost use Rattle.locked_net.specs.Nets.{book_of, setting_of};
 ghost use Rattle.locked_net.specs.Reaches.{IsRestSeen, IsReachSeen};
 
 use crate::LockedNet;
-use board::Note;
 use rule_engine::{Event, Node, Rules, Want};
+use snapshots::Note;
 use std::sync::Wait;
 
 /// Whether a node is at rest at one moment, with a note of the log then.

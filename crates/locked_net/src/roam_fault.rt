@@ -30,7 +30,7 @@ pub enum RoamFault {
 
 impl From<CallFault> for RoamFault {
     ghost use Rattle.std.specs.Prelude.{◌≡◌};
-    ghost use Rattle.locked_net.specs.Roamed.{roam_fault};
+    ghost use Rattle.locked_net.specs.RoamResults.{roam_fault};
 
     ghost from_gives = { λ why fault. fault ≡ roam_fault why };
 

@@ -2,11 +2,11 @@
 
 ghost use Rattle.std.specs.Prelude.{◌≡◌, ◌↔◌, [], take, IfErr, OnOk, IsErrOf};
 ghost use Rattle.locked_net.specs.Nets.{book_of, setting_of};
-ghost use Rattle.locked_net.specs.Roamed.{Roamed, AllTakeTurns, AllKeepNotes, MayStop};
+ghost use Rattle.locked_net.specs.RoamResults.{RoamResult, AllTakeTurns, AllKeepNotes, MayMeetRoamFault};
 ghost use Rattle.locked_net.specs.declared.roam_fault.RoamFault.TheVariants.{ZeroWorkers};
 
 use crate::forks::roam_all;
-use crate::round::Round;
+use crate::round::RoamConfig;
 use crate::{Clerk, LockedNet, RoamFault};
 use rule_engine::Rules;
 use std::sync::Wait;
@@ -38,16 +38,16 @@ pub fn roam<R: Rules + Send, G: Gate + Sync, T: Threads + Wait + Sync>(
     turns: u32,
     gate: &G,
 ) -> Result<(), RoamFault>
-    ensures roamed { Roamed turns clerks.old clerks.new }
+    ensures roamed { RoamResult turns clerks.old clerks.new }
     ensures turns { OnOk result (AllTakeTurns (setting_of R.table net.now) turns (take 64 clerks.old) (take 64 clerks.new)) }
     ensures notes { AllKeepNotes (book_of net.now) clerks.old clerks.new }
     ensures none { IsErrOf result ZeroWorkers ↔ (clerks.old ≡ []) }
-    ensures fault { IfErr result (λ fault. MayStop clerks.new fault) }
+    ensures fault { IfErr result (λ fault. MayMeetRoamFault clerks.new fault) }
 {
     if clerks.is_empty() {
         return Err(RoamFault::ZeroWorkers);
     }
-    let round = Round { net, gate, turns };
+    let round = RoamConfig { net, gate, turns };
     let workers = clerks.len().min(MAX_WORKERS);
     let (ours, _) = clerks.split_at_mut(workers);
     match roam_all(rt, &round, 0, ours) {

@@ -3,7 +3,7 @@
 ghost use Rattle.std.specs.Prelude.{◌≡◌, IfErr, OnOk, OnErr};
 ghost use Rattle.std.specs.Result.{result_err};
 ghost use Rattle.locked_net.specs.Nets.{book_of, setting_of};
-ghost use Rattle.locked_net.specs.Roamed.{KeepsNote, TakesTurn, MeetsFault, MayEnd};
+ghost use Rattle.locked_net.specs.RoamResults.{KeepsNote, TakesTurn, MeetsFault, MayEnd};
 
 use crate::{CallFault, Clerk, LockedNet};
 use rule_engine::Rules;
@@ -12,7 +12,7 @@ use steal_pool::Gate;
 
 /// The network of the clerks that roam, the gate that they pass, and their number of turns.
 #[derive(Drop)]
-pub(crate) struct Round<'a, R: Rules, G: Gate> {
+pub(crate) struct RoamConfig<'a, R: Rules, G: Gate> {
     pub net: &'a LockedNet<R>,
     pub gate: &'a G,
     pub turns: u32,
@@ -40,7 +40,7 @@ fn take_turn<R: Rules, W: Wait>(
 /// Before each turn it passes the gate with the worker's number and the turn's.
 pub(crate) fn take_turns<R: Rules, G: Gate, W: Wait>(
     rt: &W,
-    round: &Round<R, G>,
+    round: &RoamConfig<R, G>,
     worker: u32,
     clerk: &mut Clerk,
 ) -> Result<(), CallFault>

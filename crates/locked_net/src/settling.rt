@@ -2,13 +2,13 @@
 
 ghost use Rattle.std.specs.Prelude.{◌≡◌, ◌↔◌, ◌+◌, ◌^◌, ◌<◌, ◌≤◌, ◌⊎◌, ℕ, List, Some, length, slice_get, IsTrue, IfErr, OnOk, MatchOption};
 ghost use Rattle.step_log.specs.declared.receipt.Receipt.{Receipt};
-ghost use Rattle.step_log.specs.Held.{kept_of};
-ghost use Rattle.step_log.specs.Kept.{Kept};
+ghost use Rattle.step_log.specs.JournalViews.{kept_of};
+ghost use Rattle.step_log.specs.RetainedLogs.{RetainedLog};
 ghost use Rattle.locked_net.specs.declared.settle_fault.SettleFault.{SettleFault};
 ghost use Rattle.locked_net.specs.declared.settle_fault.SettleFault.TheVariants.{Stranger, Memory};
 ghost use Rattle.locked_net.specs.Receipts.{ClerkView, RiseAbove};
-ghost use Rattle.locked_net.specs.Settled.{receipt_count, greatest_base, base_number, StandsAt, Holds, IsEntryAbove, Agrees, Settled, IsFirstStranger, Unsettles};
-ghost use Rattle.locked_net.specs.Marks.{IsMarked};
+ghost use Rattle.locked_net.specs.Settlements.{receipt_count, greatest_base, base_number, StandsAt, HasReceiptNumber, IsEntryAbove, Agrees, Settlement, IsFirstStranger, Unsettles};
+ghost use Rattle.locked_net.specs.Marks.{AreReceiptMarks};
 
 use crate::clerk::greater;
 use crate::{Clerk, SettleFault};
@@ -24,7 +24,7 @@ pub(crate) fn settled_with<R: Rules>(
     journal: &Journal<R>,
     clerks: &[Clerk],
 ) -> Result<(), SettleFault>
-    ensures settled { OnOk result (Settled (kept_of journal.now) clerks.now) }
+    ensures settled { OnOk result (Settlement (kept_of journal.now) clerks.now) }
     ensures fault { IfErr result (λ why. Unsettles (kept_of journal.now) clerks.now why) }
 {
     let len = journal.len() as usize;
@@ -98,9 +98,9 @@ fn first_stranger<R: Rules>(
     taken: &mut [bool],
 ) -> Option<usize>
     requires inside { clerk < length clerks.now }
-    requires marked { IsMarked (kept_of journal.now) clerks.now clerk 0 taken.old }
+    requires marked { AreReceiptMarks (kept_of journal.now) clerks.now clerk 0 taken.old }
     ensures { MatchOption result
-        (IsMarked (kept_of journal.now) clerks.now (clerk + 1) 0 taken.new)
+        (AreReceiptMarks (kept_of journal.now) clerks.now (clerk + 1) 0 taken.new)
         (λ place. IsFirstStranger (kept_of journal.now) clerks.now clerk place) }
 {
     for (place, receipt) in clerks[clerk].receipts().iter().enumerate() {
@@ -130,16 +130,16 @@ fn is_entry<R: Rules>(journal: &Journal<R>, receipt: &Receipt) -> bool
 
 /// If a log and clerks are settled, only `Memory` can keep them from settling.
 pub fn settling_is_exact()
-    ensures { (kept : Kept) (clerks : List ClerkView) (why : SettleFault)
-        → Settled kept clerks → Unsettles kept clerks why → why ≡ Memory }
+    ensures { (kept : RetainedLog) (clerks : List ClerkView) (why : SettleFault)
+        → Settlement kept clerks → Unsettles kept clerks why → why ≡ Memory }
 {}
 
 /// When a receipt agrees, given that the numbers of each clerk rise.
 /// It is the log's entry with its number, or has the number of a dropped one, and no earlier clerk has that
 /// number.
 pub fn own_numbers_never_clash()
-    ensures { (kept : Kept) (clerks : List ClerkView) (c p : ℕ) (receipt : Receipt)
+    ensures { (kept : RetainedLog) (clerks : List ClerkView) (c p : ℕ) (receipt : Receipt)
         → ((d : ℕ) (clerk : ClerkView) → slice_get clerks d ≡ Some clerk → RiseAbove 0 clerk.receipts)
         → StandsAt clerks c p receipt
-        → Agrees kept clerks c p receipt ↔ (IsEntryAbove kept receipt × ((d : ℕ) → d < c → Holds clerks d receipt.seq → ⊥)) }
+        → Agrees kept clerks c p receipt ↔ (IsEntryAbove kept receipt × ((d : ℕ) → d < c → HasReceiptNumber clerks d receipt.seq → ⊥)) }
 {}

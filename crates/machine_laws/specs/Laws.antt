@@ -9,7 +9,7 @@ use Rattle.rule_machine.specs.Stable.{IsStable, IsMaximalMatching, ShareAnEnd, m
 use Rattle.machine_laws.specs.Neighbours.{option_cases, linked_pair}
 use Rattle.machine_laws.specs.Pointers.{pointer_linked}
 use Rattle.machine_laws.specs.Writes.{if_some_at}
-use Rattle.machine_laws.specs.Pairs.{IsPair, pair_from, pair_at}
+use Rattle.machine_laws.specs.Pairs.{IsMutualPair, pair_from, pair_at}
 
 -- each mutual pair is an edge, since pointers cross edges
 pub pairs_are_edges : (s : State) → IsState s → All (λ e. IsTrue (map.contains_key s.network.edges e)) (mutual_pairs s)
@@ -19,7 +19,7 @@ pairs_are_edges s is_state k d within =
 
 -- Two pairs that share an end are equal: the end points at the other end of both. If it is the lower end of
 -- one and the higher end of the other, that other end is both above and below it.
-same_pair : (s : State) (e f : ℕ × ℕ) → IsPair s e → IsPair s f → ShareAnEnd e f → e ≡ f
+same_pair : (s : State) (e f : ℕ × ℕ) → IsMutualPair s e → IsMutualPair s f → ShareAnEnd e f → e ≡ f
 same_pair s e f pe pf shared =
     ⊎_elim
     (

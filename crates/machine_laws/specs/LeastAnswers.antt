@@ -24,9 +24,9 @@ use Rattle.rule_machine.specs.Step.{IsAllowedTarget, IsTarget, IsMoveOf, IsStep,
 use Rattle.rule_machine.specs.Refuse.{refusal_of}
 use Rattle.rule_machine.specs.Answer.{Does, AnswersBy, Answers}
 use Rattle.rule_machine.specs.Least.{outcome_of, move_in, item_of, least_moves, accepted_reply, accepted_state, reply_by, state_by, reply_of, state_after}
-use Rattle.rule_set.specs.Target.{target_by, takes_target}
+use Rattle.rules_api.specs.Target.{target_by, takes_target}
 use Rattle.machine_laws.specs.LeastMoves.{IsTable, Makes, find_passes, filter_map_all, makes_from_outcome, target_allowed, move_at}
-use Rattle.machine_laws.specs.Accepted.{IsChoice, choice_from_none, taken_at}
+use Rattle.machine_laws.specs.AcceptedEvents.{IsStepChoice, choice_from_none, taken_at}
 
 -- ---- the target of a move
 
@@ -168,7 +168,7 @@ least_each t table s good items =
     All-from_recursion (λ m. Any (λ item. IsMoveOf t s item m) items) (least_moves t s items)
     (filter_map_all (move_at t s items) (λ m. Any (λ item. IsMoveOf t s item m) items) (move_at_asked t table s good items) (names s.network))
 
-least_all : (t : RuleTable) → IsTable t → (s : State) → IsState s → (items : List Item) → IsChoice t s items → All (λ item. Any (λ m. IsMoveOf t s item m) (least_moves t s items)) items
+least_all : (t : RuleTable) → IsTable t → (s : State) → IsState s → (items : List Item) → IsStepChoice t s items → All (λ item. Any (λ m. IsMoveOf t s item m) (least_moves t s items)) items
 least_all t table s good items choice k d below =
     let item = get_or items k d in
     let taken = taken_at t s [] items choice.taken k d below in
@@ -186,7 +186,7 @@ some_of_all P (item ∷ items) ms some all none =
 
 -- Under a central daemon the choice is one item, each move is of its node, so ascending names have at most
 -- one.
-least_alone : (t : RuleTable) (s : State) (items : List Item) (ms : List Moved) → IsChoice t s items → ms ≢ [] → IsStrictlyIncreasing (map (λ m. m.node) ms) → All (λ m. Any (λ item. IsMoveOf t s item m) items) ms → IsTrue t.central → length ms ≡ 1
+least_alone : (t : RuleTable) (s : State) (items : List Item) (ms : List Moved) → IsStepChoice t s items → ms ≢ [] → IsStrictlyIncreasing (map (λ m. m.node) ms) → All (λ m. Any (λ item. IsMoveOf t s item m) items) ms → IsTrue t.central → length ms ≡ 1
 least_alone t s [] ms choice some up each central = absurd (true≢false choice.some)
 least_alone t s (item ∷ []) [] choice some up each central = absurd (some refl)
 least_alone t s (item ∷ []) (m ∷ ms) choice some up each central =
@@ -201,7 +201,7 @@ least_alone t s (a ∷ b ∷ items) ms choice some up each central =
 -- The moves with the least targets are a step of a choice that is not refused. They are at the ascending
 -- names, each made by the first item of its node. Each item is present and the first of its node, so its move
 -- is there.
-pub least_step : (t : RuleTable) → IsTable t → (s : State) → IsState s → (items : List Item) → IsChoice t s items → IsStep t s items (least_moves t s items) (after_moves s (least_moves t s items))
+pub least_step : (t : RuleTable) → IsTable t → (s : State) → IsState s → (items : List Item) → IsStepChoice t s items → IsStep t s items (least_moves t s items) (after_moves s (least_moves t s items))
 least_step t table s good items choice =
     let all = least_all t table s good items choice in
     let some = some_of_all (λ item m. IsMoveOf t s item m) items (least_moves t s items) choice.some all in

@@ -12,9 +12,9 @@ use Rattle.rule_machine.specs.State.{State, IsState}
 use Rattle.rule_machine.specs.RuleTable.{RuleTable, rule_at, least_target}
 use Rattle.rule_machine.specs.Step.{after_moves}
 use Rattle.rule_machine.specs.Least.{outcome_by, outcome_at, outcome_of, move_in, item_of, least_moves}
-pub use Rattle.rule_set.specs.Table.{IsTable}
-use Rattle.rule_set.specs.Target.{target_by}
-use Rattle.machine_laws.specs.Keeps.{IsMoveIn, moves_keep}
+pub use Rattle.rules_api.specs.Table.{IsTable}
+use Rattle.rules_api.specs.Target.{target_by}
+use Rattle.machine_laws.specs.StatePreservation.{IsMoveIn, moves_keep}
 
 -- what `find` finds passes the test
 pub find_passes : {X : Type 0} (p : X → Bool) (xs : List X) (x : X) → find p xs ≡ Some x → p x ≡ true

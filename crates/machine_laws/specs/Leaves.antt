@@ -13,7 +13,7 @@ use Rattle.rule_machine.specs.Disturbance.{after_unlink, after_leave, without_po
 use Rattle.machine_laws.specs.Neighbours.{linked_back, near_found}
 use Rattle.machine_laws.specs.Edges.{pair_total, pair_exact, contains-remove, removed_was, still_removed, contains-without}
 use Rattle.machine_laws.specs.Writes.{if_some_at, cleared, some_from_is_at, pointer-with_pointer_other, without_pointer_was, without_pointer_flags, without_pointer_len}
-use Rattle.machine_laws.specs.Keeps.{unlink_keeps}
+use Rattle.machine_laws.specs.StatePreservation.{unlink_keeps}
 
 -- the edges between a node and these go, one after another
 abbrev pub unlinked_all : State → ℕ → List ℕ → State

@@ -59,23 +59,23 @@ filter_map_range {Y = Y} p h a (suc n) x y low high passes e =
     skip false c = c
 
 -- the lower end comes first, and the two ends point at each other
-pub record IsPair (s : State) (e : ℕ × ℕ) : Type 0 where
+pub record IsMutualPair (s : State) (e : ℕ × ℕ) : Type 0 where
   pub ordered : e.0 < e.1
   pub there : pointer s e.0 ≡ Some e.1
   pub back : pointer s e.1 ≡ Some e.0
 
 -- a listed pair is one
-pub pair_from : (s : State) (e : ℕ × ℕ) → Contains (mutual_pairs s) e → IsPair s e
+pub pair_from : (s : State) (e : ℕ × ℕ) → Contains (mutual_pairs s) e → IsMutualPair s e
 pair_from s e c =
     let given = filter_map_from (λ v. pair_above v (partner s v)) (names s.network) e c in
     go given.0 (partner s given.0) refl given.1
   where
-    go : (v : ℕ) (o : Option ℕ) → partner s v ≡ o → pair_above v o ≡ Some e → IsPair s e
+    go : (v : ℕ) (o : Option ℕ) → partner s v ≡ o → pair_above v o ≡ Some e → IsMutualPair s e
     go v None p h = absurd cc
     go v (Some w) p h =
         let both = partner_some s v w p in
         let parts = cond_some (nat_lt v w) (v, w) e h in
-        subst (IsPair s) parts.1 (record { ordered = ltb-true v w parts.0; there = both.0; back = both.1 })
+        subst (IsMutualPair s) parts.1 (record { ordered = ltb-true v w parts.0; there = both.0; back = both.1 })
 
 -- and two that point at each other are listed
 pub pair_listed : (s : State) (v w : ℕ) → IsState s → v < w → pointer s v ≡ Some w → pointer s w ≡ Some v → Contains (mutual_pairs s) (v, w)

@@ -18,9 +18,9 @@ use Rattle.rule_machine.specs.Step.{IsTarget, IsMoveOf, IsStep}
 use Rattle.rule_machine.specs.Refuse.{refusal_of}
 use Rattle.rule_machine.specs.Answer.{Does, AnswersBy, Answers, spent_after}
 use Rattle.rule_machine.specs.Run.{Entry, Moment, Run}
-use Rattle.machine_laws.specs.Keeps.{IsMoveIn, moves_keep}
+use Rattle.machine_laws.specs.StatePreservation.{IsMoveIn, moves_keep}
 use Rattle.machine_laws.specs.LeastMoves.{IsTable}
-use Rattle.machine_laws.specs.Accepted.{IsChoice, choice_from_none, taken_at, accepted_keeps}
+use Rattle.machine_laws.specs.AcceptedEvents.{IsStepChoice, choice_from_none, taken_at, accepted_keeps}
 
 is_target_allowed : (t : RuleTable) (s : State) (v : ℕ) (act : Act) (wish target : Option ℕ) → IsTarget t s v act wish target → (x : ℕ) → target ≡ Some x → IsTrue (t.allowed s v act x)
 is_target_allowed t s v Update wish target is x at = absurd (none-some x (sym is ∙ at))
@@ -34,14 +34,14 @@ move_of_is_move_in t table s item m has is = record {
   near = λ x at. subst (λ v. IsTrue (linked s.network v x)) (sym is.node) (table.allowed_is_neighbour s item.node m.act x (is_target_allowed t s item.node m.act item.wish m.target is.target x at));
 }
 
-asked_is_move_in : (t : RuleTable) → IsTable t → (s : State) (items : List Item) → IsChoice t s items → (m : Moved) → Any (λ item. IsMoveOf t s item m) items → IsMoveIn s.network m
+asked_is_move_in : (t : RuleTable) → IsTable t → (s : State) (items : List Item) → IsStepChoice t s items → (m : Moved) → Any (λ item. IsMoveOf t s item m) items → IsMoveIn s.network m
 asked_is_move_in t table s items choice m (k, item, below, at, is) =
     let taken = taken_at t s [] items choice.taken k item below in
     move_of_is_move_in t table s item m (subst (λ i. IsTrue (present s.network i.node)) at taken.0.has) is
 
 -- Whatever allowed targets a step takes, it leads to a state: its items are present, and what they allow is a
 -- neighbour.
-pub any_step_keeps : (t : RuleTable) → IsTable t → (s : State) → IsState s → (items : List Item) → IsChoice t s items → (moves : List Moved) (s' : State) → IsStep t s items moves s' → IsState s'
+pub any_step_keeps : (t : RuleTable) → IsTable t → (s : State) → IsState s → (items : List Item) → IsStepChoice t s items → (moves : List Moved) (s' : State) → IsStep t s items moves s' → IsState s'
 any_step_keeps t table s good items choice moves s' step =
     let all = All-weaker (λ m. Any (λ item. IsMoveOf t s item m) items) (IsMoveIn s.network) (asked_is_move_in t table s items choice) moves step.each in
     subst IsState (sym step.after) (moves_keep s moves good (recursion_from_All (IsMoveIn s.network) moves all))

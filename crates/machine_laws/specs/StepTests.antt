@@ -13,7 +13,7 @@ use Rattle.rule_machine.specs.declared.act.Moved.{Moved}
 use Rattle.rule_machine.specs.State.{State}
 use Rattle.rule_machine.specs.RuleTable.{RuleTable, rule_at}
 use Rattle.rule_machine.specs.Step.{takes_target, IsAllowedTarget, IsTarget, IsMoveOf, IsStep, after_moves}
-use Rattle.machine_laws.specs.Judged.{same_act, is_rule, suits_wish, is_target, is_move_of, is_asked, is_answered, are_of_items}
+use Rattle.machine_laws.specs.MoveTests.{same_act, is_rule, suits_wish, is_target, is_move_of, is_asked, is_answered, are_of_items}
 
 -- a test that fails, of what cannot be
 never : {P : Type 0} → (P → ⊥) → Decides false P

@@ -4,7 +4,7 @@ ghost use Rattle.std.specs.Prelude.{◌≡◌, ℕ, ◌*◌, ◌≤◌, Bool, Li
 ghost use Rattle.std.specs.FinMap as map;
 ghost use Rattle.rule_machine.specs.Base.{base_of};
 ghost use Rattle.rule_machine.specs.Network.{Network, present};
-ghost use Rattle.machine_laws.specs.Half.{IsMatching};
+ghost use Rattle.machine_laws.specs.HalfMatchings.{IsMatching};
 ghost use Rattle.rule_machine.specs.Run.{Moment};
 ghost use Rattle.rule_machine.specs.State.{State, IsState, pointer, flag, married};
 ghost use Rattle.rule_machine.specs.Stable.{IsStable, IsMaximalMatching, ShareAnEnd, mutual_pairs};

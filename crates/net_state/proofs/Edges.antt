@@ -8,11 +8,11 @@ use Rattle.rule_machine.specs.State.{Registers, IsState, points, pointer_of, wit
 use Rattle.rule_machine.specs.Disturbance.{without_pointer}
 use Rattle.rule_machine.specs.Refuse.{link_refusal, unlink_refusal}
 use Rattle.machine_laws.specs.Edges.{pair_exact, contains-insert, contains-remove, edge_ends}
-use Rattle.machine_laws.specs.Keeps.{link_keeps}
+use Rattle.machine_laws.specs.StatePreservation.{link_keeps}
 use Rattle.machine_laws.specs.Neighbours.{linked_back, linked_apart, linked_present}
 use Rattle.machine_laws.specs.Writes.{some_from_is_at, without_pointer_was, without_pointer_gone}
 use Rattle.graph_store.specs.Fault.{link_fault}
-use Rattle.net_state.specs.Held.{state_of}
+use Rattle.net_state.specs.StateViews.{state_of}
 
 -- what two names are that an edge may be put between
 pub record IsNewEdge (net : Network) (a b : ℕ) : Type 0 where

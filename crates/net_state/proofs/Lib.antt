@@ -1,3 +1,3 @@
 pub mod Edges
-pub mod Placed
+pub mod NodeRecords
 pub mod Rounds

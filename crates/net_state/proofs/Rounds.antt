@@ -8,7 +8,7 @@ use Rattle.rule_machine.specs.Disturbance.{after_point, after_flag}
 use Rattle.machine_laws.specs.Edges.{present_other}
 use Rattle.machine_laws.specs.Neighbours.{neighbours_range}
 use Rattle.machine_laws.specs.Writes.{pointer-with_pointer_other, pointer-with_pointer_same, flag-with_flag_other}
-use Rattle.net_state.specs.Held.{IsElsewhere}
+use Rattle.net_state.specs.StateViews.{IsUntouchedBy}
 use Rattle.net_state.proofs.Edges.{linked_with_other, linked_without_other}
 
 -- two states have the same round a name
@@ -30,7 +30,7 @@ pub same_marriage : (s u : State) (v : ℕ) → IsSameRound s u v → married s 
 same_marriage s u v round = ap is_some (same_partner s u v round)
 
 -- a pointer is written
-pub round_pointed : (s : State) (v : ℕ) (target : Option ℕ) (w : ℕ) → v < length s.registers.pointers → IsElsewhere v (pointer s v) target w → IsSameRound s (after_point s v target) w
+pub round_pointed : (s : State) (v : ℕ) (target : Option ℕ) (w : ℕ) → v < length s.registers.pointers → IsUntouchedBy v (pointer s v) target w → IsSameRound s (after_point s v target) w
 round_pointed s v target w within apart = record {
   here = refl;
   near = refl;

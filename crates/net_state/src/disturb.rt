@@ -1,15 +1,15 @@
 //! Disturbances and moves that take several steps, for any type that keeps a state.
 
 ghost use Rattle.std.specs.Prelude.{◌≡◌, All, IfSome, IsTrue, List, MatchOption, None, [], false, fold};
-ghost use Rattle.graph_store.specs.declared.ends.End.{End};
+ghost use Rattle.graph_store.specs.declared.ends.EdgeStance.{EdgeStance};
 ghost use Rattle.rule_machine.specs.Network.{present, linked, neighbours, without_edge};
 ghost use Rattle.rule_machine.specs.State.{State, IsState, flag, points};
 ghost use Rattle.rule_machine.specs.Disturbance.{after_unlink, after_point, after_flag, after_leave, without_pointer};
 ghost use Rattle.rule_machine.specs.Refuse.{unlink_refusal};
 ghost use Rattle.rule_machine.specs.Step.{after_moves};
-ghost use Rattle.machine_laws.specs.Keeps.{IsMoveIn};
+ghost use Rattle.machine_laws.specs.StatePreservation.{IsMoveIn};
 ghost use Rattle.machine_laws.specs.TwoPasses.{flag_read, pointer_written};
-ghost use Rattle.net_state.specs.Held.{without_place};
+ghost use Rattle.net_state.specs.StateViews.{without_place};
 
 use crate::NetState;
 use rule_machine::{Act, Moved, Node};
@@ -17,12 +17,12 @@ use rule_machine::{Act, Moved, Node};
 /// A type that keeps a state; each step writes the state and updates what depends on it.
 ///
 /// `unlink`, `leave` and `make_moves` are built from these steps.
-pub trait Disturb {
+pub trait StateWriter {
     /// The state.
     ghost state: { Self → State };
 
     /// The stance of each name towards its edges.
-    ghost ends: { Self → List End };
+    ghost ends: { Self → List EdgeStance };
 
     /// Returns the network with its registers.
     fn net(&self) -> &NetState
@@ -45,7 +45,7 @@ pub trait Disturb {
     /// Removes an edge that no pointer crosses.
     ///
     /// Cost: a shift in two neighbour lists; no memory.
-    fn take_out(&mut self, a: Node, b: Node)
+    fn remove_edge(&mut self, a: Node, b: Node)
         requires linked { IsTrue (linked (state self.old).network a b) }
         requires not_there { points (state self.old).registers a b ≡ false }
         requires not_back { points (state self.old).registers b a ≡ false }
@@ -54,7 +54,7 @@ pub trait Disturb {
         ensures sound { IsState (state self.new) };
 
     /// Frees the name of a node that has no edge and whose flag is false. Takes no memory.
-    fn free_name(&mut self, v: Node)
+    fn remove_node(&mut self, v: Node)
         requires present { IsTrue (present (state self.old).network v) }
         requires alone { neighbours (state self.old).network v ≡ [] }
         requires unflagged { flag (state self.old) v ≡ false }
@@ -63,7 +63,7 @@ pub trait Disturb {
         ensures sound { IsState (state self.new) };
 }
 
-fn last_neighbour<D: Disturb>(it: &D, v: Node) -> Option<Node>
+fn last_neighbour<D: StateWriter>(it: &D, v: Node) -> Option<Node>
     requires { IsTrue (present (D.state it.now).network v) }
     ensures last { MatchOption result (neighbours (D.state it.now).network v ≡ []) (λ w. IsTrue (linked (D.state it.now).network v w)) }
     ensures sound { IsState (D.state it.now) }
@@ -71,7 +71,7 @@ fn last_neighbour<D: Disturb>(it: &D, v: Node) -> Option<Node>
     it.net().neighbours(v).last().copied()
 }
 
-fn clear_pointer<D: Disturb>(it: &mut D, v: Node, w: Node)
+fn clear_pointer<D: StateWriter>(it: &mut D, v: Node, w: Node)
     requires { IsTrue (present (D.state it.old).network v) }
     ensures { D.state it.new ≡ record (D.state it.old) { registers = without_pointer (D.state it.old).registers v w } }
 {
@@ -83,7 +83,7 @@ fn clear_pointer<D: Disturb>(it: &mut D, v: Node, w: Node)
 /// Removes the edge between two nodes, and sets to null the pointers that crossed it.
 ///
 /// Cost: a shift in two neighbour lists; no memory.
-pub fn unlink<D: Disturb>(it: &mut D, a: Node, b: Node)
+pub fn unlink<D: StateWriter>(it: &mut D, a: Node, b: Node)
     requires { unlink_refusal (D.state it.old).network a b ≡ None }
     ensures { D.state it.new ≡ after_unlink (D.state it.old) a b }
 {
@@ -91,10 +91,10 @@ pub fn unlink<D: Disturb>(it: &mut D, a: Node, b: Node)
     let _ = it.net();
     clear_pointer(it, a, b);
     clear_pointer(it, b, a);
-    it.take_out(a, b);
+    it.remove_edge(a, b);
 }
 
-fn unlink_all<D: Disturb>(it: &mut D, v: Node)
+fn unlink_all<D: StateWriter>(it: &mut D, v: Node)
     requires { IsTrue (present (D.state it.old).network v) }
     ensures left { after_leave (D.state it.new) v ≡ after_leave (D.state it.old) v }
     ensures present { IsTrue (present (D.state it.new).network v) }
@@ -109,16 +109,16 @@ fn unlink_all<D: Disturb>(it: &mut D, v: Node)
 /// Makes a node absent: its edges go, its pointer and those at it become null, its flag false.
 ///
 /// Cost: for each neighbour a look-up and a shift in its list; no memory.
-pub fn leave<D: Disturb>(it: &mut D, v: Node)
+pub fn leave<D: StateWriter>(it: &mut D, v: Node)
     requires { IsTrue (present (D.state it.old).network v) }
     ensures { D.state it.new ≡ after_leave (D.state it.old) v }
 {
     unlink_all(it, v);
     it.set_flag(v, false);
-    it.free_name(v);
+    it.remove_node(v);
 }
 
-fn write_flags<D: Disturb>(it: &mut D, moves: &[Moved])
+fn write_flags<D: StateWriter>(it: &mut D, moves: &[Moved])
     requires { All (IsMoveIn (D.state it.old).network) moves.now }
     ensures registers { (D.state it.new).registers ≡ fold flag_read (D.state it.old).registers moves.now }
     ensures network { (D.state it.new).network ≡ (D.state it.old).network }
@@ -131,7 +131,7 @@ fn write_flags<D: Disturb>(it: &mut D, moves: &[Moved])
     }
 }
 
-fn write_pointers<D: Disturb>(it: &mut D, moves: &[Moved])
+fn write_pointers<D: StateWriter>(it: &mut D, moves: &[Moved])
     requires { All (IsMoveIn (D.state it.old).network) moves.now }
     ensures registers { (D.state it.new).registers ≡ fold pointer_written (D.state it.old).registers moves.now }
     ensures network { (D.state it.new).network ≡ (D.state it.old).network }
@@ -148,7 +148,7 @@ fn write_pointers<D: Disturb>(it: &mut D, moves: &[Moved])
 /// Carries out the moves of one step.
 ///
 /// Flags come first, since they are computed from the pointers before the step.
-pub fn make_moves<D: Disturb>(it: &mut D, moves: &[Moved])
+pub fn make_moves<D: StateWriter>(it: &mut D, moves: &[Moved])
     requires { All (IsMoveIn (D.state it.old).network) moves.now }
     ensures { D.state it.new ≡ after_moves (D.state it.old) moves.now }
 {
@@ -158,7 +158,7 @@ pub fn make_moves<D: Disturb>(it: &mut D, moves: &[Moved])
     write_pointers(it, moves);
 }
 
-impl Disturb for NetState {
+impl StateWriter for NetState {
     ghost state = { λ n. n.state };
 
     ghost ends = { λ n. n.ends };
@@ -177,11 +177,11 @@ impl Disturb for NetState {
         NetState::set_flag(self, v, value);
     }
 
-    fn take_out(&mut self, a: Node, b: Node) {
-        self.store.take_out(a, b);
+    fn remove_edge(&mut self, a: Node, b: Node) {
+        self.store.remove_edge(a, b);
     }
 
-    fn free_name(&mut self, v: Node) {
+    fn remove_node(&mut self, v: Node) {
         self.store.part(v);
     }
 }

@@ -4,7 +4,7 @@
 //! at a neighbour, and an absent name has no edge, no pointer and no flag. It does not check what its caller
 //! must ensure: the crates above it refuse events.
 //!
-//! `Disturb` has four write steps: a pointer, a flag, the removal of an edge, the release of a name.
+//! `StateWriter` has four write steps: a pointer, a flag, the removal of an edge, the release of a name.
 //! `unlink`, `leave` and `make_moves` are written once, from these four. The judge, the index, the indexed
 //! state and the engine share them.
 //!
@@ -23,5 +23,5 @@ mod net;
 mod places;
 mod steps;
 
-pub use disturb::{Disturb, leave, make_moves, unlink};
+pub use disturb::{StateWriter, leave, make_moves, unlink};
 pub use net::NetState;

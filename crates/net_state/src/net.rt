@@ -3,8 +3,8 @@
 ghost use Rattle.std.specs.Prelude.{◌≡◌, ◌≤◌, ◌&&◌, All, IfOk, IfErr, IsTrue, OnOk, length, nat_le};
 ghost use Rattle.rule_machine.specs.Network as network;
 ghost use Rattle.rule_machine.specs.State as state;
-ghost use Rattle.graph_store.specs.Ends.{open_edges};
-ghost use Rattle.graph_store.specs.Fault.{nodes_fault, Explains};
+ghost use Rattle.graph_store.specs.EdgeStances.{open_edges};
+ghost use Rattle.graph_store.specs.Fault.{nodes_fault, ExplainsGraphFault};
 
 use graph_store::{EdgeStore, GraphFault};
 use registers::Registers;
@@ -24,9 +24,9 @@ pub struct NetState {
 
 impl Model for NetState {
     ghost use Rattle.rule_machine.specs.State.{IsState};
-    ghost use Rattle.net_state.specs.Held.{Held, held_code, state_of};
+    ghost use Rattle.net_state.specs.StateViews.{StateView, held_code, state_of};
 
-    ghost Value = { Held };
+    ghost Value = { StateView };
 
     ghost coded = { held_code };
 
@@ -43,7 +43,7 @@ impl NetState {
         requires within { present ≤ nodes }
         ensures ok { IfOk result (λ net. net.state ≡ state.opening_with nodes present) }
         ensures small { OnOk result (nodes ≤ 65535) }
-        ensures fault { IfErr result (λ fault. Explains (nodes_fault nodes) fault) }
+        ensures fault { IfErr result (λ fault. ExplainsGraphFault (nodes_fault nodes) fault) }
     {
         let store = EdgeStore::with_present(alloc, nodes, present)?;
         let Ok(registers) = Registers::new(alloc, nodes) else {

@@ -1,21 +1,21 @@
 //! The nodes of a base.
 
 ghost use Rattle.std.specs.Prelude.{◌≡◌, ◌≤◌, IfOk, length};
-ghost use Rattle.rule_machine.specs.Base.{places};
-ghost use Rattle.net_state.specs.Held.{place_in};
+ghost use Rattle.rule_machine.specs.Base.{node_records};
+ghost use Rattle.net_state.specs.StateViews.{place_in};
 
 use crate::NetState;
-use rule_machine::{Node, Place, Want};
+use rule_machine::{Node, NodeRecord, Want};
 use std::alloc::Global;
 
 impl NetState {
-    fn place_of(&self, v: Node) -> Option<Place>
+    fn place_of(&self, v: Node) -> Option<NodeRecord>
         ensures { result ≡ place_in self.now.state v }
     {
         if !self.store.has(v) {
             return None;
         }
-        Some(Place {
+        Some(NodeRecord {
             node: v,
             target: self.registers.pointer(v),
             flagged: self.registers.flag(v),
@@ -25,8 +25,8 @@ impl NetState {
     /// Returns the nodes with their registers, ascending.
     ///
     /// A look at each name; fails only if memory runs out.
-    pub fn list_places(&self, alloc: Global) -> Result<Vec<Place>, Want>
-        ensures places { IfOk result (λ v. v.items ≡ places self.now.state) }
+    pub fn list_places(&self, alloc: Global) -> Result<Vec<NodeRecord>, Want>
+        ensures places { IfOk result (λ v. v.items ≡ node_records self.now.state) }
         ensures few { IfOk result (λ v. length v.items ≤ 65535) }
     {
         let mut places = Vec::with_capacity(alloc, self.nodes() as usize)?;

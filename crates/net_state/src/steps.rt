@@ -4,12 +4,12 @@ ghost use Rattle.std.specs.Prelude.{◌≡◌, ◌≤◌, IfErr, IfSome, IsTrue,
 ghost use Rattle.rule_machine.specs.Network.{present, linked};
 ghost use Rattle.rule_machine.specs.State.{IsState};
 ghost use Rattle.rule_machine.specs.Disturbance.{after_link, after_point, after_flag, after_join};
-ghost use Rattle.graph_store.specs.Fault.{link_fault, Explains};
+ghost use Rattle.graph_store.specs.Fault.{link_fault, ExplainsGraphFault};
 ghost use Rattle.graph_store.specs.Graph.{HasRoomFor};
-ghost use Rattle.graph_store.specs.Ends.{end_at};
+ghost use Rattle.graph_store.specs.EdgeStances.{end_at};
 
 use crate::NetState;
-use graph_store::{End, GraphFault};
+use graph_store::{EdgeStance, GraphFault};
 use rule_machine::Node;
 
 impl NetState {
@@ -21,7 +21,7 @@ impl NetState {
     /// Cost: a binary search and a shift in two neighbour lists.
     pub fn link(&mut self, a: Node, b: Node) -> Result<(), GraphFault>
         ensures ok { OnOk result ((link_fault self.old.state.network a b ≡ None) × (self.new.state ≡ after_link self.old.state a b)) }
-        ensures fault { IfErr result (λ fault. Explains (link_fault self.old.state.network a b) fault) }
+        ensures fault { IfErr result (λ fault. ExplainsGraphFault (link_fault self.old.state.network a b) fault) }
         ensures kept { OnErr result (self.new.state ≡ self.old.state) }
         ensures ends { self.new.ends ≡ self.old.ends }
         ensures sound { IsState self.new.state }
@@ -37,7 +37,7 @@ impl NetState {
     /// Cost: a binary search, and the growth of at most two neighbour lists.
     pub fn reserve_link(&mut self, a: Node, b: Node) -> Result<(), GraphFault>
         ensures ok { OnOk result ((link_fault self.old.state.network a b ≡ None) × HasRoomFor self.new.room a b) }
-        ensures fault { IfErr result (λ fault. Explains (link_fault self.old.state.network a b) fault) }
+        ensures fault { IfErr result (λ fault. ExplainsGraphFault (link_fault self.old.state.network a b) fault) }
         ensures kept { self.new.state ≡ self.old.state }
         ensures ends { self.new.ends ≡ self.old.ends }
     {
@@ -93,13 +93,13 @@ impl NetState {
     /// Sets the stance of a name towards its edges; at first every name shuts them.
     ///
     /// Cost: one look if the stance is the same as before, else one at each neighbour; no memory.
-    pub fn turn(&mut self, v: Node, end: End)
+    pub fn set_stance(&mut self, v: Node, end: EdgeStance)
         requires { v ≤ self.old.state.network.size }
         ensures told { end_at self.new.ends v ≡ end }
         ensures ends { self.new.ends ≡ slice_set self.old.ends v end }
         ensures state { self.new.state ≡ self.old.state }
         ensures room { self.new.room ≡ self.old.room }
     {
-        self.store.turn(v, end);
+        self.store.set_stance(v, end);
     }
 }

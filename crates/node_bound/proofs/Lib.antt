@@ -1,1 +1,1 @@
-pub mod Smaller
+pub mod SmallerBound

@@ -4,7 +4,7 @@ use Rattle.rule_machine.specs.Network.{node_count}
 use Rattle.rule_machine.specs.State.{State, IsState}
 use Rattle.rule_machine.specs.RuleTable.{RuleTable}
 use Rattle.rule_machine.specs.Run.{Entry, Moment, Run}
-use Rattle.charge_laws.specs.Charged.{moves_in, IsUndisturbed}
+use Rattle.charge_laws.specs.ChargeWords.{moves_in, IsUndisturbed}
 
 -- the smaller of the two bounds, or the charge if there is no other
 abbrev pub moves_left : ℕ → Option ℕ → ℕ

@@ -3,7 +3,7 @@
 ghost use Rattle.std.specs.Prelude.{◌≡◌, ℕ, ◌≤◌, Option};
 ghost use Rattle.node_bound.specs.MovesLeft.{BoundsByNodes};
 
-use rule_set::Rules;
+use rules_api::Rules;
 
 /// How many moves the number of nodes alone allows.
 pub trait NodeBound: Rules {

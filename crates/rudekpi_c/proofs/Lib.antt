@@ -1,15 +1,15 @@
 mod AsBox
-mod Moving
-mod Nulling
+mod OwnershipMoves
+mod NullHandles
 mod Walks
-pub mod Auditing
-pub mod Calling
-pub mod Counting
-pub mod Feeding
-pub mod Going
-pub mod Handing
-pub mod Joining
-pub mod Judging
-pub mod Naming
+pub mod AuditCalls
+pub mod CommandCalls
+pub mod StatusNumbers
+pub mod LineCalls
+pub mod SessionCycle
+pub mod TextTransfer
+pub mod JoinedVerdicts
+pub mod AuditVerdicts
+pub mod NameOutput
 pub mod Partners
-pub mod Rowing
+pub mod RowOutput

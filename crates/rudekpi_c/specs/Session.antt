@@ -5,8 +5,8 @@ use Rattle.rule_machine.specs.declared.rules.RuleSet.TheVariants as rules
 use Rattle.rule_machine.specs.Tables.{table_of}
 use Rattle.script_text.specs.declared.command.Command.{Command}
 use Rattle.script_text.specs.Script.{Progress}
-use Rattle.line_run.specs.Line.{progress, LineEnds, CommandEnds}
-use Rattle.line_run.specs.declared.stop.Stop.{Stop}
+use Rattle.run_session.specs.Line.{progress, LineEnds, CommandEnds}
+use Rattle.run_session.specs.declared.stop.LineError.{LineError}
 use Rattle.rudekpi_c.specs.declared.session.Machine.{Machine}
 use Rattle.rudekpi_c.specs.declared.session.Machine.TheVariants.{Hh, Manne}
 use Rattle.rudekpi_c.specs.declared.session.Session.{Session}
@@ -36,9 +36,9 @@ abbrev pub limit_of : Session → ℕ
 limit_of s = limit_at s.machine
 
 -- with the text if a transcript is kept, else without
-abbrev pub shown : Bool → Progress → Progress
-shown true at = at
-shown false at = record at { text = [] }
+abbrev pub with_text_if : Bool → Progress → Progress
+with_text_if true at = at
+with_text_if false at = record at { text = [] }
 
 -- the rules, the limit, and whether a transcript is kept are unchanged
 pub record GoesOn (s t : Session) : Type 0 where
@@ -47,7 +47,7 @@ pub record GoesOn (s t : Session) : Type 0 where
   pub keeps : t.keeps ≡ s.keeps
 
 -- by these rules
-abbrev pub LineEnded : {E : Type 0} → RuleSet → ℕ → ℕ → List ℕ → Progress → Progress → Result (Option Stop) E → Type 0
+abbrev pub LineEnded : {E : Type 0} → RuleSet → ℕ → ℕ → List ℕ → Progress → Progress → Result (Option LineError) E → Type 0
 LineEnded r = LineEnds (table_of r)
 
 abbrev pub CommandEnded : {E : Type 0} → RuleSet → ℕ → Command → Progress → Progress → Result Bool E → Type 0

@@ -7,7 +7,7 @@ use Rattle.rule_machine.specs.RuleTable.{RuleTable, enabled_names}
 use Rattle.rule_machine.specs.Run.{Moment}
 use Rattle.rule_machine.specs.State.{State}
 use Rattle.rule_machine.specs.Tables.{table_of}
-use Rattle.rule_engine.specs.Costs.{cost_of}
+use Rattle.rule_engine.specs.Costs.{disturbance_cost}
 use Rattle.silence_laws.specs.Costs.{silent_cost, manne_silent_cost}
 use Rattle.silent_cost.specs.FromSilence.{BoundsMovesAfter}
 use Rattle.script_text.specs.declared.command.Command.TheVariants.{Tell}
@@ -22,7 +22,7 @@ silent_costs_of Manne = manne_silent_cost
 
 -- what the event would cost the session's network if that is silent; 0 if it would be refused
 abbrev pub silent_cost_at : Session → Event → ℕ
-silent_cost_at s event = cost_of (table_of (rules_of s)) (silent_costs_of (rules_of s)) (stands s).moment.state event
+silent_cost_at s event = disturbance_cost (table_of (rules_of s)) (silent_costs_of (rules_of s)) (stands s).moment.state event
 
 -- no rule is enabled in the session's network
 abbrev pub IsSilentAt : Session → Type 0

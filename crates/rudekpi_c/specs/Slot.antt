@@ -5,12 +5,12 @@ use Rattle.rule_machine.specs.declared.rules.RuleSet.{RuleSet}
 use Rattle.rule_machine.specs.declared.rules.RuleSet.TheVariants.{Hh, Manne}
 use Rattle.rule_machine.specs.Tables.{table_of}
 use Rattle.script_text.specs.Script.{Progress, LineDoes, IsBadLine, MeetsFullLog}
-use Rattle.line_run.specs.Beginning.{beginning}
-use Rattle.line_run.specs.Line.{LineBegins}
-use Rattle.line_run.specs.declared.stop.Stop.{Stop}
-use Rattle.line_run.specs.declared.stop.Stop.TheVariants.{BadLine, LogFull}
-use Rattle.rudekpi_c.specs.Session.{stands, rules_of, limit_of, shown, GoesOn}
-use Rattle.rudekpi_c.specs.Silenced.{LineSilences}
+use Rattle.run_session.specs.RunStart.{first_progress}
+use Rattle.run_session.specs.Line.{LineBegins}
+use Rattle.run_session.specs.declared.stop.LineError.{LineError}
+use Rattle.run_session.specs.declared.stop.LineError.TheVariants.{BadLine, LogFull}
+use Rattle.rudekpi_c.specs.Session.{stands, rules_of, limit_of, with_text_if, GoesOn}
+use Rattle.rudekpi_c.specs.SilentDrives.{LineSilences}
 use Rattle.rudekpi_c.specs.declared.session.Session.{Session}
 
 -- 0 is the rules of Hsu and Huang, any other number those of Manne and others
@@ -29,13 +29,13 @@ pub record IsPutBack (s : Session) (new : Option Session) : Type 0 where
   pub goes_on : GoesOn s t
   pub lines_is : t.lines ≡ s.lines
   pub answer_is : t.answer ≡ s.answer
-  pub stands_is : stands t ≡ shown t.keeps (stands s)
+  pub stands_is : stands t ≡ with_text_if t.keeps (stands s)
 
 -- a session at the beginning of a run, which keeps its transcript and has no answer
-pub record IsBegun (rules nodes present : ℕ) (new : Option Session) : Type 0 where
+pub record IsFreshSession (rules nodes present : ℕ) (new : Option Session) : Type 0 where
   pub session : Session
   pub is : new ≡ Some session
-  pub stands_is : stands session ≡ beginning (named rules) nodes present
+  pub stands_is : stands session ≡ first_progress (named rules) nodes present
   pub rules_is : rules_of session ≡ named rules
   pub limit_is : limit_of session ≡ 16777216
   pub lines_is : session.lines ≡ 0
@@ -43,9 +43,9 @@ pub record IsBegun (rules nodes present : ℕ) (new : Option Session) : Type 0 w
   pub answer_is : session.answer.reply ≡ Accepted
 
 -- 0: it began; 3: memory ran out; 5: an argument is out of range; after 3 and 5 there is none
-abbrev pub Begun : ℕ → ℕ → ℕ → ℕ → Option Session → Type 0
-Begun rules nodes present status new =
-    (IsWanted rules nodes present × (status ≡ 0) × IsBegun rules nodes present new)
+abbrev pub OpensSession : ℕ → ℕ → ℕ → ℕ → Option Session → Type 0
+OpensSession rules nodes present status new =
+    (IsWanted rules nodes present × (status ≡ 0) × IsFreshSession rules nodes present new)
     ⊎ (IsWanted rules nodes present × (status ≡ 3) × (new ≡ None))
     ⊎ ((IsWanted rules nodes present → ⊥) × (status ≡ 5) × (new ≡ None))
 
@@ -57,7 +57,7 @@ pub record IsNext (number : ℕ) (s t : Session) : Type 0 where
   pub answer_is : t.answer ≡ s.answer
 
 -- the status of a line
-abbrev pub line_status : {E : Type 0} → Result (Option Stop) E → ℕ
+abbrev pub line_status : {E : Type 0} → Result (Option LineError) E → ℕ
 line_status (Ok None) = 0
 line_status (Ok (Some (BadLine n))) = 1
 line_status (Ok (Some LogFull)) = 2
@@ -65,31 +65,31 @@ line_status (Err want) = 3
 
 -- 0: it was carried out; 1: it is neither empty nor a command, and nothing was done; 2: it met a full log; 3:
 -- memory ran out, and at most some first turns were taken
-abbrev pub Does : List ℕ → ℕ → Session → Progress → Type 0
-Does line status s after =
+abbrev pub AnswersLine : List ℕ → ℕ → Session → Progress → Type 0
+AnswersLine line status s after =
     ((status ≡ 0) × LineDoes (table_of (rules_of s)) (limit_of s) line (stands s) after)
     ⊎ ((status ≡ 1) × IsBadLine line × (after ≡ stands s))
     ⊎ ((status ≡ 2) × MeetsFullLog (table_of (rules_of s)) (limit_of s) line (stands s) after)
     ⊎ ((status ≡ 3) × LineBegins (table_of (rules_of s)) (limit_of s) line (stands s) after)
 
-pub record IsFed (line : List ℕ) (status number : ℕ) (old new : Option Session) : Type 0 where
+pub record TakesLine (line : List ℕ) (status number : ℕ) (old new : Option Session) : Type 0 where
   pub s : Session
   pub t : Session
   pub was : old ≡ Some s
   pub is : new ≡ Some t
   pub next : IsNext number s t
   pub after : Progress
-  pub does : Does line status s after
+  pub does : AnswersLine line status s after
   pub silent : status ≡ 0 → LineSilences (table_of (rules_of s)) line (stands s).moment.state after.moment.state
-  pub stands_is : stands t ≡ shown t.keeps after
+  pub stands_is : stands t ≡ with_text_if t.keeps after
 
 -- there was none
 abbrev pub IsNobody : ℕ → Option Session → Option Session → Type 0
 IsNobody status old new = (status ≡ 4) × (old ≡ None) × (new ≡ None)
 
 -- a line was given to the session, and its number returned; or there was none, and the number is unchanged
-abbrev pub Fed : List ℕ → ℕ → ℕ → ℕ → Option Session → Option Session → Type 0
-Fed line was status number old new = IsFed line status number old new ⊎ (IsNobody status old new × (number ≡ was))
+abbrev pub AnswersFeed : List ℕ → ℕ → ℕ → ℕ → Option Session → Option Session → Type 0
+AnswersFeed line was status number old new = TakesLine line status number old new ⊎ (IsNobody status old new × (number ≡ was))
 
 -- how many bytes of text there are
 abbrev pub text_length : Option Session → ℕ
@@ -104,7 +104,7 @@ pub record IsHanded (was out : List ℕ) (n : ℕ) (s : Session) (new : Option S
   pub goes_on : GoesOn s t
   pub lines_is : t.lines ≡ s.lines
   pub answer_is : t.answer ≡ s.answer
-  pub all : n ≤ length was → (out ≡ (stands s).text ++ drop n was) × (stands t ≡ shown false (stands s))
+  pub all : n ≤ length was → (out ≡ (stands s).text ++ drop n was) × (stands t ≡ with_text_if false (stands s))
   pub none : length was < n → (out ≡ was) × (t ≡ s)
 
 abbrev pub Handed : List ℕ → List ℕ → ℕ → Option Session → Option Session → Type 0

@@ -7,7 +7,7 @@ ghost use Rattle.line_text.specs.Words.{IsName};
 ghost use Rattle.line_text.specs.EventText.{IsItem};
 ghost use Rattle.script_text.specs.declared.command.Command.TheVariants.{Tell, Drive, Scramble};
 ghost use Rattle.script_text.specs.Command.{IsCommand, IsTurns};
-ghost use Rattle.rudekpi_c.specs.Called.{IsAsked, named_by, item_named, step_named};
+ghost use Rattle.rudekpi_c.specs.CommandCalls.{IsAsked, optional_name, item_named, step_named};
 
 use rule_machine::{Choice, Event, Item, MAX_ITEMS, Node, Want};
 use script_text::{Command, MAX_TURNS, Turns};
@@ -16,7 +16,7 @@ use std::alloc::Global;
 /// An item of a step: a node, and the wished target of its pointer, or 0 for any.
 #[repr(C)]
 #[derive(Clone, Copy)]
-pub struct Chosen {
+pub struct StepItem {
     pub node: u32,
     pub wish: u32,
 }
@@ -65,7 +65,7 @@ pub(crate) fn flag(v: u32, value: bool) -> Option<Command>
 
 /// The node with this name; 0 is null.
 fn target(number: u32) -> Option<Option<Node>>
-    ensures { SomeIff result (IfSome (named_by number) IsName) (named_by number) }
+    ensures { SomeIff result (IfSome (optional_name number) IsName) (optional_name number) }
 {
     if number == 0 {
         return Some(None);
@@ -74,12 +74,12 @@ fn target(number: u32) -> Option<Option<Node>>
 }
 
 pub(crate) fn point(v: u32, w: u32) -> Option<Command>
-    ensures { SomeIff result (IsCommand (Tell (Point v (named_by w)))) (Tell (Point v (named_by w))) }
+    ensures { SomeIff result (IsCommand (Tell (Point v (optional_name w)))) (Tell (Point v (optional_name w))) }
 {
     Some(Command::Tell(Event::Point(Node::new(v)?, target(w)?)))
 }
 
-fn item(chosen: Chosen) -> Option<Item>
+fn item(chosen: StepItem) -> Option<Item>
     ensures { SomeIff result (IsItem (item_named chosen)) (item_named chosen) }
 {
     Some(Item {
@@ -88,7 +88,7 @@ fn item(chosen: Chosen) -> Option<Item>
     })
 }
 
-fn are_items(chosen: &[Chosen]) -> bool
+fn are_items(chosen: &[StepItem]) -> bool
     ensures { IsTrue result ↔ AllByRecursion IsItem (map item_named chosen.now) }
 {
     for one in chosen {
@@ -100,7 +100,7 @@ fn are_items(chosen: &[Chosen]) -> bool
 }
 
 /// The items, if all are valid.
-fn items(alloc: Global, chosen: &[Chosen]) -> Result<Vec<Item>, Want>
+fn items(alloc: Global, chosen: &[StepItem]) -> Result<Vec<Item>, Want>
     requires { AllByRecursion IsItem (map item_named chosen.now) }
     ensures { IfOk result (λ items. items.items ≡ map item_named chosen.now) }
 {
@@ -115,14 +115,14 @@ fn items(alloc: Global, chosen: &[Chosen]) -> Result<Vec<Item>, Want>
 }
 
 /// A `step` with one item. Takes no memory.
-fn step_one(chosen: Chosen) -> Option<Command>
+fn step_one(chosen: StepItem) -> Option<Command>
     ensures { SomeIff result (IsCommand (Tell (step_named (chosen ∷ [])))) (Tell (step_named (chosen ∷ []))) }
 {
     Some(Command::Tell(Event::Step(Choice::one(item(chosen)?))))
 }
 
 /// A `step` with any number of items.
-fn step_all(alloc: Global, chosen: &[Chosen]) -> Result<Option<Command>, Want>
+fn step_all(alloc: Global, chosen: &[StepItem]) -> Result<Option<Command>, Want>
     ensures { IsAsked result (Tell (step_named chosen.now)) }
 {
     if chosen.len() > MAX_ITEMS || !are_items(chosen) {
@@ -135,7 +135,7 @@ fn step_all(alloc: Global, chosen: &[Chosen]) -> Result<Option<Command>, Want>
 }
 
 /// The command `step`. Only two or more items take memory.
-pub(crate) fn step(alloc: Global, chosen: &[Chosen]) -> Result<Option<Command>, Want>
+pub(crate) fn step(alloc: Global, chosen: &[StepItem]) -> Result<Option<Command>, Want>
     ensures { IsAsked result (Tell (step_named chosen.now)) }
 {
     match chosen {

@@ -2,7 +2,7 @@
 
 ghost use Rattle.std.specs.Prelude.{◌≡◌, ◌↔◌, None, Some, Option, IsTrue, IsNone, IfSome};
 ghost use Rattle.auditor.specs.declared.pieces.PieceAudit.{PieceAudit};
-ghost use Rattle.rudekpi_c.specs.Held.{held_audit, held_audit_coded};
+ghost use Rattle.rudekpi_c.specs.HandleOwnership.{held_audit, held_audit_coded};
 
 use crate::parts::Parts;
 use auditor::PieceAudit;

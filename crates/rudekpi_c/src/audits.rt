@@ -1,7 +1,7 @@
 //! Audits that C feeds a transcript as it comes.
 
 ghost use Rattle.std.specs.Prelude.{◌≡◌, None};
-ghost use Rattle.rudekpi_c.specs.Audited.{AuditBegun, AuditEnded, AuditFed, found_status};
+ghost use Rattle.rudekpi_c.specs.AuditCalls.{AuditBegun, AuditEnded, AuditFed, found_status};
 
 use crate::audit_slot::AuditSlot;
 use crate::judged::{Verdict, told, unsaid};

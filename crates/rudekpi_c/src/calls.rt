@@ -6,14 +6,14 @@ ghost use Rattle.rule_machine.specs.declared.event.Event.TheVariants.{Link, Unli
 ghost use Rattle.script_text.specs.declared.command.Command.{Command};
 ghost use Rattle.script_text.specs.declared.command.Command.TheVariants.{Tell, Drive, Scramble, Checkpoint};
 ghost use Rattle.script_text.specs.Command.{IsCommand};
-ghost use Rattle.rudekpi_c.specs.Called.{Called, command_status, named_by, step_named};
-ghost use Rattle.rudekpi_c.specs.Counted.{IsCounted};
+ghost use Rattle.rudekpi_c.specs.CommandCalls.{AnswersCommand, command_status, optional_name, step_named};
+ghost use Rattle.rudekpi_c.specs.CountCalls.{AnswersCounts};
 
-use crate::asked::{self, Chosen};
-use crate::counted::{Counted, counted_of};
+use crate::asked::{self, StepItem};
+use crate::counted::{StatusCounts, counted_of};
 use crate::slot::Slot;
 use crate::status::{BAD_ARGUMENT, DONE, LOG_FULL, MEMORY, NO_SESSION, REFUSED};
-use crate::told::Told;
+use crate::told::CallResult;
 use rule_machine::{Event, Reply, Want};
 use script_text::Command;
 use std::alloc::Global;
@@ -30,10 +30,10 @@ fn status_of(done: &Result<bool, Want>, reply: &Reply) -> u32
 }
 
 // Gives the session a command; 5 if there is none because a number is out of range.
-fn call(alloc: Global, slot: &mut Slot, command: Option<Command>, told: &mut Told) -> u32
-    ensures { (asked : Command) → SomeIff command (IsCommand asked) asked → Called asked result told.new slot.old.handle.value slot.new.handle.value }
+fn call(alloc: Global, slot: &mut Slot, command: Option<Command>, told: &mut CallResult) -> u32
+    ensures { (asked : Command) → SomeIff command (IsCommand asked) asked → AnswersCommand asked result told.new slot.old.handle.value slot.new.handle.value }
 {
-    *told = Told::nothing();
+    *told = CallResult::nothing();
     let Some(command) = command else {
         return BAD_ARGUMENT;
     };
@@ -42,16 +42,16 @@ fn call(alloc: Global, slot: &mut Slot, command: Option<Command>, told: &mut Tol
     };
     let done = session.follow(alloc, &command);
     let status = status_of(&done, &session.answer.reply);
-    *told = Told::of(&session.answer);
+    *told = CallResult::of(&session.answer);
     slot.put_back(session);
     status
 }
 
 // Drops the last answer and returns 3: memory ran out for an event.
-fn unheard(alloc: Global, slot: &mut Slot, told: &mut Told) -> u32
-    ensures { (event : Event) → IsCommand (Tell event) → Called (Tell event) result told.new slot.old.handle.value slot.new.handle.value }
+fn fail_memory(alloc: Global, slot: &mut Slot, told: &mut CallResult) -> u32
+    ensures { (event : Event) → IsCommand (Tell event) → AnswersCommand (Tell event) result told.new slot.old.handle.value slot.new.handle.value }
 {
-    *told = Told::nothing();
+    *told = CallResult::nothing();
     let Some(mut session) = slot.take(alloc) else {
         return NO_SESSION;
     };
@@ -70,9 +70,9 @@ pub extern "C" fn rudekpi_link(
     slot: &mut Slot,
     a: u32,
     b: u32,
-    told: &mut Told,
+    told: &mut CallResult,
 ) -> u32
-    ensures { Called (Tell (Link a b)) result told.new slot.old.handle.value slot.new.handle.value }
+    ensures { AnswersCommand (Tell (Link a b)) result told.new slot.old.handle.value slot.new.handle.value }
 {
     call(alloc, slot, asked::link(a, b), told)
 }
@@ -84,25 +84,35 @@ pub extern "C" fn rudekpi_unlink(
     slot: &mut Slot,
     a: u32,
     b: u32,
-    told: &mut Told,
+    told: &mut CallResult,
 ) -> u32
-    ensures { Called (Tell (Unlink a b)) result told.new slot.old.handle.value slot.new.handle.value }
+    ensures { AnswersCommand (Tell (Unlink a b)) result told.new slot.old.handle.value slot.new.handle.value }
 {
     call(alloc, slot, asked::unlink(a, b), told)
 }
 
 /// Makes a name present.
 #[unsafe(no_mangle)]
-pub extern "C" fn rudekpi_join(alloc: Global, slot: &mut Slot, node: u32, told: &mut Told) -> u32
-    ensures { Called (Tell (Join node)) result told.new slot.old.handle.value slot.new.handle.value }
+pub extern "C" fn rudekpi_join(
+    alloc: Global,
+    slot: &mut Slot,
+    node: u32,
+    told: &mut CallResult,
+) -> u32
+    ensures { AnswersCommand (Tell (Join node)) result told.new slot.old.handle.value slot.new.handle.value }
 {
     call(alloc, slot, asked::join(node), told)
 }
 
 /// Makes a node absent, with its edges.
 #[unsafe(no_mangle)]
-pub extern "C" fn rudekpi_leave(alloc: Global, slot: &mut Slot, node: u32, told: &mut Told) -> u32
-    ensures { Called (Tell (Leave node)) result told.new slot.old.handle.value slot.new.handle.value }
+pub extern "C" fn rudekpi_leave(
+    alloc: Global,
+    slot: &mut Slot,
+    node: u32,
+    told: &mut CallResult,
+) -> u32
+    ensures { AnswersCommand (Tell (Leave node)) result told.new slot.old.handle.value slot.new.handle.value }
 {
     call(alloc, slot, asked::leave(node), told)
 }
@@ -114,9 +124,9 @@ pub extern "C" fn rudekpi_point(
     slot: &mut Slot,
     node: u32,
     target: u32,
-    told: &mut Told,
+    told: &mut CallResult,
 ) -> u32
-    ensures { Called (Tell (Point node (named_by target))) result told.new slot.old.handle.value slot.new.handle.value }
+    ensures { AnswersCommand (Tell (Point node (optional_name target))) result told.new slot.old.handle.value slot.new.handle.value }
 {
     call(alloc, slot, asked::point(node, target), told)
 }
@@ -128,9 +138,9 @@ pub extern "C" fn rudekpi_flag(
     slot: &mut Slot,
     node: u32,
     value: bool,
-    told: &mut Told,
+    told: &mut CallResult,
 ) -> u32
-    ensures { Called (Tell (Flag node value)) result told.new slot.old.handle.value slot.new.handle.value }
+    ensures { AnswersCommand (Tell (Flag node value)) result told.new slot.old.handle.value slot.new.handle.value }
 {
     call(alloc, slot, asked::flag(node, value), told)
 }
@@ -140,37 +150,42 @@ pub extern "C" fn rudekpi_flag(
 pub extern "C" fn rudekpi_step(
     alloc: Global,
     slot: &mut Slot,
-    items: &[Chosen],
-    told: &mut Told,
+    items: &[StepItem],
+    told: &mut CallResult,
 ) -> u32
-    ensures { Called (Tell (step_named items.now)) result told.new slot.old.handle.value slot.new.handle.value }
+    ensures { AnswersCommand (Tell (step_named items.now)) result told.new slot.old.handle.value slot.new.handle.value }
 {
     match asked::step(alloc, items) {
         Ok(command) => call(alloc, slot, command, told),
-        Err(_) => unheard(alloc, slot, told),
+        Err(_) => fail_memory(alloc, slot, told),
     }
 }
 
 /// Asks for a node's pointer.
 #[unsafe(no_mangle)]
-pub extern "C" fn rudekpi_show(alloc: Global, slot: &mut Slot, node: u32, told: &mut Told) -> u32
-    ensures { Called (Tell (Show node)) result told.new slot.old.handle.value slot.new.handle.value }
+pub extern "C" fn rudekpi_show(
+    alloc: Global,
+    slot: &mut Slot,
+    node: u32,
+    told: &mut CallResult,
+) -> u32
+    ensures { AnswersCommand (Tell (Show node)) result told.new slot.old.handle.value slot.new.handle.value }
 {
     call(alloc, slot, asked::show(node), told)
 }
 
 /// Asks for the enabled nodes.
 #[unsafe(no_mangle)]
-pub extern "C" fn rudekpi_enabled(alloc: Global, slot: &mut Slot, told: &mut Told) -> u32
-    ensures { Called (Tell Enabled) result told.new slot.old.handle.value slot.new.handle.value }
+pub extern "C" fn rudekpi_enabled(alloc: Global, slot: &mut Slot, told: &mut CallResult) -> u32
+    ensures { AnswersCommand (Tell Enabled) result told.new slot.old.handle.value slot.new.handle.value }
 {
     call(alloc, slot, Some(Command::Tell(Event::Enabled)), told)
 }
 
 /// Asks for the matching.
 #[unsafe(no_mangle)]
-pub extern "C" fn rudekpi_pairs(alloc: Global, slot: &mut Slot, told: &mut Told) -> u32
-    ensures { Called (Tell Matching) result told.new slot.old.handle.value slot.new.handle.value }
+pub extern "C" fn rudekpi_pairs(alloc: Global, slot: &mut Slot, told: &mut CallResult) -> u32
+    ensures { AnswersCommand (Tell Matching) result told.new slot.old.handle.value slot.new.handle.value }
 {
     call(alloc, slot, Some(Command::Tell(Event::Matching)), told)
 }
@@ -180,11 +195,11 @@ pub extern "C" fn rudekpi_pairs(alloc: Global, slot: &mut Slot, told: &mut Told)
 pub extern "C" fn rudekpi_status(
     alloc: Global,
     slot: &mut Slot,
-    counts: &mut Counted,
-    told: &mut Told,
+    counts: &mut StatusCounts,
+    told: &mut CallResult,
 ) -> u32
-    ensures called { Called (Tell Status) result told.new slot.old.handle.value slot.new.handle.value }
-    ensures counted { IsCounted result counts.new slot.old.handle.value }
+    ensures called { AnswersCommand (Tell Status) result told.new slot.old.handle.value slot.new.handle.value }
+    ensures counted { AnswersCounts result counts.new slot.old.handle.value }
 {
     let status = call(alloc, slot, Some(Command::Tell(Event::Status)), told);
     *counts = counted_of(alloc, slot);
@@ -198,9 +213,9 @@ pub extern "C" fn rudekpi_drive(
     slot: &mut Slot,
     seed: u64,
     count: u32,
-    told: &mut Told,
+    told: &mut CallResult,
 ) -> u32
-    ensures { Called (Drive (record { seed = seed; count = count })) result told.new slot.old.handle.value slot.new.handle.value }
+    ensures { AnswersCommand (Drive (record { seed = seed; count = count })) result told.new slot.old.handle.value slot.new.handle.value }
 {
     call(alloc, slot, asked::drive(seed, count), told)
 }
@@ -212,17 +227,17 @@ pub extern "C" fn rudekpi_scramble(
     slot: &mut Slot,
     seed: u64,
     count: u32,
-    told: &mut Told,
+    told: &mut CallResult,
 ) -> u32
-    ensures { Called (Scramble (record { seed = seed; count = count })) result told.new slot.old.handle.value slot.new.handle.value }
+    ensures { AnswersCommand (Scramble (record { seed = seed; count = count })) result told.new slot.old.handle.value slot.new.handle.value }
 {
     call(alloc, slot, asked::scramble(seed, count), told)
 }
 
 /// Adds the lines of a base.
 #[unsafe(no_mangle)]
-pub extern "C" fn rudekpi_checkpoint(alloc: Global, slot: &mut Slot, told: &mut Told) -> u32
-    ensures { Called Checkpoint result told.new slot.old.handle.value slot.new.handle.value }
+pub extern "C" fn rudekpi_checkpoint(alloc: Global, slot: &mut Slot, told: &mut CallResult) -> u32
+    ensures { AnswersCommand Checkpoint result told.new slot.old.handle.value slot.new.handle.value }
 {
     call(alloc, slot, Some(Command::Checkpoint), told)
 }

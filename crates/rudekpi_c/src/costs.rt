@@ -5,8 +5,8 @@ ghost use Rattle.rule_machine.specs.declared.event.Event.{Event};
 ghost use Rattle.rule_machine.specs.declared.event.Event.TheVariants.{Link, Unlink, Point, Flag, Join, Leave};
 ghost use Rattle.script_text.specs.declared.command.Command.TheVariants.{Tell};
 ghost use Rattle.script_text.specs.Command.{IsCommand};
-ghost use Rattle.rudekpi_c.specs.Called.{named_by};
-ghost use Rattle.rudekpi_c.specs.Costed.{Costed};
+ghost use Rattle.rudekpi_c.specs.CommandCalls.{optional_name};
+ghost use Rattle.rudekpi_c.specs.CostCalls.{AnswersCost};
 
 use crate::asked;
 use crate::slot::Slot;
@@ -16,7 +16,7 @@ use std::alloc::Global;
 
 // Tells what an event would cost, or that there is none, since its numbers are out of their ranges.
 fn cost_of(alloc: Global, slot: &mut Slot, asked: Option<Command>, cost: &mut u32) -> u32
-    ensures costed { (event : Event) → SomeIff asked (IsCommand (Tell event)) (Tell event) → Costed event result cost.new slot.old.handle.value }
+    ensures costed { (event : Event) → SomeIff asked (IsCommand (Tell event)) (Tell event) → AnswersCost event result cost.new slot.old.handle.value }
     ensures kept { slot.new.handle.value ≡ slot.old.handle.value }
 {
     *cost = 0;
@@ -43,7 +43,7 @@ pub extern "C" fn rudekpi_cost_of_link(
     b: u32,
     cost: &mut u32,
 ) -> u32
-    ensures costed { Costed (Link a b) result cost.new slot.old.handle.value }
+    ensures costed { AnswersCost (Link a b) result cost.new slot.old.handle.value }
     ensures kept { slot.new.handle.value ≡ slot.old.handle.value }
 {
     cost_of(alloc, slot, asked::link(a, b), cost)
@@ -58,7 +58,7 @@ pub extern "C" fn rudekpi_cost_of_unlink(
     b: u32,
     cost: &mut u32,
 ) -> u32
-    ensures costed { Costed (Unlink a b) result cost.new slot.old.handle.value }
+    ensures costed { AnswersCost (Unlink a b) result cost.new slot.old.handle.value }
     ensures kept { slot.new.handle.value ≡ slot.old.handle.value }
 {
     cost_of(alloc, slot, asked::unlink(a, b), cost)
@@ -72,7 +72,7 @@ pub extern "C" fn rudekpi_cost_of_join(
     node: u32,
     cost: &mut u32,
 ) -> u32
-    ensures costed { Costed (Join node) result cost.new slot.old.handle.value }
+    ensures costed { AnswersCost (Join node) result cost.new slot.old.handle.value }
     ensures kept { slot.new.handle.value ≡ slot.old.handle.value }
 {
     cost_of(alloc, slot, asked::join(node), cost)
@@ -86,7 +86,7 @@ pub extern "C" fn rudekpi_cost_of_leave(
     node: u32,
     cost: &mut u32,
 ) -> u32
-    ensures costed { Costed (Leave node) result cost.new slot.old.handle.value }
+    ensures costed { AnswersCost (Leave node) result cost.new slot.old.handle.value }
     ensures kept { slot.new.handle.value ≡ slot.old.handle.value }
 {
     cost_of(alloc, slot, asked::leave(node), cost)
@@ -101,7 +101,7 @@ pub extern "C" fn rudekpi_cost_of_point(
     target: u32,
     cost: &mut u32,
 ) -> u32
-    ensures costed { Costed (Point node (named_by target)) result cost.new slot.old.handle.value }
+    ensures costed { AnswersCost (Point node (optional_name target)) result cost.new slot.old.handle.value }
     ensures kept { slot.new.handle.value ≡ slot.old.handle.value }
 {
     cost_of(alloc, slot, asked::point(node, target), cost)
@@ -116,7 +116,7 @@ pub extern "C" fn rudekpi_cost_of_flag(
     value: bool,
     cost: &mut u32,
 ) -> u32
-    ensures costed { Costed (Flag node value) result cost.new slot.old.handle.value }
+    ensures costed { AnswersCost (Flag node value) result cost.new slot.old.handle.value }
     ensures kept { slot.new.handle.value ≡ slot.old.handle.value }
 {
     cost_of(alloc, slot, asked::flag(node, value), cost)

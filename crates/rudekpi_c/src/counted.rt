@@ -1,7 +1,7 @@
 //! The counts of a network, for C.
 
 ghost use Rattle.std.specs.Prelude.{◌≡◌};
-ghost use Rattle.rudekpi_c.specs.Counted.{counted_in, counted_kept, uncounted};
+ghost use Rattle.rudekpi_c.specs.CountCalls.{counted_in, counted_kept, uncounted};
 
 use crate::slot::Slot;
 use rule_machine::Reply;
@@ -12,7 +12,7 @@ use std::alloc::Global;
 /// The moves spent are those since the last disturbance.
 #[repr(C)]
 #[derive(Clone, Copy)]
-pub struct Counted {
+pub struct StatusCounts {
     pub nodes: u32,
     pub edges: u32,
     pub pairs: u32,
@@ -21,11 +21,11 @@ pub struct Counted {
     pub spent: u32,
 }
 
-impl Counted {
-    pub(crate) fn none() -> Counted
+impl StatusCounts {
+    pub(crate) fn none() -> StatusCounts
         ensures { result ≡ uncounted }
     {
-        Counted {
+        StatusCounts {
             nodes: 0,
             edges: 0,
             pairs: 0,
@@ -35,11 +35,11 @@ impl Counted {
         }
     }
 
-    fn of(reply: &Reply) -> Counted
+    fn of(reply: &Reply) -> StatusCounts
         ensures { result ≡ counted_in reply.now }
     {
         match reply {
-            Reply::Counts(counts) => Counted {
+            Reply::Counts(counts) => StatusCounts {
                 nodes: counts.nodes,
                 edges: counts.edges,
                 pairs: counts.pairs,
@@ -47,20 +47,20 @@ impl Counted {
                 charge: counts.charge,
                 spent: counts.spent,
             },
-            _ => Counted::none(),
+            _ => StatusCounts::none(),
         }
     }
 }
 
 /// The numbers in the last answer.
-pub(crate) fn counted_of(alloc: Global, slot: &mut Slot) -> Counted
+pub(crate) fn counted_of(alloc: Global, slot: &mut Slot) -> StatusCounts
     ensures counted { result ≡ counted_kept slot.old.handle.value }
     ensures kept { slot.new.handle.value ≡ slot.old.handle.value }
 {
     let Some(session) = slot.take(alloc) else {
-        return Counted::none();
+        return StatusCounts::none();
     };
-    let counts = Counted::of(&session.answer.reply);
+    let counts = StatusCounts::of(&session.answer.reply);
     slot.put(session);
     counts
 }

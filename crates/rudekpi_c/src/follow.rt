@@ -1,19 +1,19 @@
 //! Carrying out a command in a run.
 
 ghost use Rattle.std.specs.Prelude.{◌≡◌, IfOk, IsTrue};
-ghost use Rattle.rule_engine.specs.Costs.{cost_of};
+ghost use Rattle.rule_engine.specs.Costs.{disturbance_cost};
 ghost use Rattle.rule_machine.specs.State.{partner, pointer_of};
-ghost use Rattle.line_run.specs.Line.{moment_of, progress_of, CommandEnds};
+ghost use Rattle.run_session.specs.Line.{recording_moment, progress_of, CommandEnds};
 ghost use Rattle.rule_machine.specs.declared.reply.Reply.TheVariants.{Accepted};
 ghost use Rattle.script_text.specs.declared.command.Command.TheVariants.{Tell, Checkpoint};
-ghost use Rattle.rudekpi_c.specs.Called.{number_at, reply_kept};
-ghost use Rattle.rudekpi_c.specs.Costed.{GrowsBy};
-ghost use Rattle.rudekpi_c.specs.Silenced.{Silences};
+ghost use Rattle.rudekpi_c.specs.CommandCalls.{number_at, reply_kept};
+ghost use Rattle.rudekpi_c.specs.CostCalls.{GrowsBy};
+ghost use Rattle.rudekpi_c.specs.SilentDrives.{Silences};
 
-use line_run::Run;
 use registers::Registers;
 use rule_machine::{Event, Node, Reply, Want};
-use rule_set::Rules;
+use rules_api::Rules;
+use run_session::Run;
 use script_text::Command;
 use std::alloc::Global;
 use step_log::Answer;
@@ -125,8 +125,8 @@ pub(crate) fn partner<R: Rules>(run: &Run<R>, v: Node) -> Option<Node>
 }
 
 pub(crate) fn cost_of<R: Rules>(run: &Run<R>, event: &Event) -> u32
-    ensures cost { result ≡ cost_of R.table R.cost run.now.recorder.state event.now }
-    ensures grows { GrowsBy R.table (moment_of run.now.recorder) event.now result }
+    ensures cost { result ≡ disturbance_cost R.table R.cost run.now.recorder.state event.now }
+    ensures grows { GrowsBy R.table (recording_moment run.now.recorder) event.now result }
 {
     run.recorder.net().cost_of(event)
 }

@@ -2,7 +2,7 @@
 
 ghost use Rattle.std.specs.Prelude.{◌≡◌, None, Some, Option};
 ghost use Rattle.rudekpi_c.specs.declared.session.Session.{Session};
-ghost use Rattle.rudekpi_c.specs.Held.{held, held_coded};
+ghost use Rattle.rudekpi_c.specs.HandleOwnership.{held, held_coded};
 
 use crate::parts::Parts;
 use crate::session::Session;

@@ -1,7 +1,7 @@
 //! Joining the verdicts of texts that meet.
 
 ghost use Rattle.std.specs.Prelude.{◌≡◌, ◌≤◌, MatchOption};
-ghost use Rattle.rudekpi_c.specs.Joined.{AuditJoined, said_by};
+ghost use Rattle.rudekpi_c.specs.JoinCalls.{AuditJoined, said_by};
 
 use crate::judged::{Verdict, told};
 use crate::status::{BAD_ARGUMENT, DONE};

@@ -1,7 +1,7 @@
 //! The audit of a transcript.
 
 ghost use Rattle.std.specs.Prelude.{◌≡◌};
-ghost use Rattle.rudekpi_c.specs.Judged.{JudgedAs, accepted, damaged, refused, unjudged, verdict_of};
+ghost use Rattle.rudekpi_c.specs.AuditVerdicts.{JudgedAs, accepted, damaged, refused, unjudged, audit_verdict};
 
 use auditor::{Damage, JudgeFault, Summary, audit_bytes};
 use std::alloc::Global;
@@ -73,7 +73,7 @@ pub(crate) fn unsaid() -> Verdict
 }
 
 pub(crate) fn told(found: Result<Summary, JudgeFault>) -> Verdict
-    ensures { result ≡ verdict_of found }
+    ensures { result ≡ audit_verdict found }
 {
     match found {
         Ok(counted) => told_accepted(counted),

@@ -3,12 +3,12 @@
 ghost use Rattle.std.specs.Prelude.{◌≡◌};
 ghost use Rattle.rule_machine.specs.Network.{node_count};
 ghost use Rattle.node_bound.specs.MovesLeft.{moves_left, BoundsMoves};
-ghost use Rattle.rudekpi_c.specs.Left.{Left};
+ghost use Rattle.rudekpi_c.specs.MovesLeftCalls.{AnswersMovesLeft};
 
 use crate::slot::Slot;
 use crate::status::{DONE, NO_SESSION};
-use line_run::Run;
 use rule_engine::NodeBound;
+use run_session::Run;
 use std::alloc::Global;
 
 /// A bound on the moves that can still come in the run's state.
@@ -25,7 +25,7 @@ pub(crate) fn moves_left<R: NodeBound>(run: &mut Run<R>) -> u32
 /// Returns 4 if there is no session.
 #[unsafe(no_mangle)]
 pub extern "C" fn rudekpi_moves_left(alloc: Global, slot: &mut Slot, moves: &mut u32) -> u32
-    ensures left { Left result moves.new slot.old.handle.value }
+    ensures left { AnswersMovesLeft result moves.new slot.old.handle.value }
     ensures kept { slot.new.handle.value ≡ slot.old.handle.value }
 {
     *moves = 0;

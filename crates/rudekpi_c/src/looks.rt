@@ -1,7 +1,7 @@
 //! Reading answers and state from a session, without an entry.
 
 ghost use Rattle.std.specs.Prelude.{◌≡◌, ◌≤◌, ◌<◌, ◌++◌, length, drop};
-ghost use Rattle.rudekpi_c.specs.Looked.{Kept, Partnered, rows_kept};
+ghost use Rattle.rudekpi_c.specs.SessionQuestions.{AnswersKeep, AnswersPartner, rows_kept};
 
 use crate::row::Row;
 use crate::slot::Slot;
@@ -36,7 +36,7 @@ pub extern "C" fn rudekpi_rows(alloc: Global, slot: &mut Slot, out: &mut [Row]) 
 /// Returns 4 if there is no session.
 #[unsafe(no_mangle)]
 pub extern "C" fn rudekpi_transcript(alloc: Global, slot: &mut Slot, keeps: bool) -> u32
-    ensures { Kept keeps result slot.old.handle.value slot.new.handle.value }
+    ensures { AnswersKeep keeps result slot.old.handle.value slot.new.handle.value }
 {
     let Some(mut session) = slot.take(alloc) else {
         return NO_SESSION;
@@ -56,7 +56,7 @@ pub extern "C" fn rudekpi_partner(
     node: u32,
     partner: &mut u32,
 ) -> u32
-    ensures found { Partnered node result partner.new slot.old.handle.value }
+    ensures found { AnswersPartner node result partner.new slot.old.handle.value }
     ensures kept { slot.new.handle.value ≡ slot.old.handle.value }
 {
     *partner = 0;

@@ -2,24 +2,24 @@
 
 ghost use Rattle.std.specs.Prelude.{◌≡◌, ◌≤◌, ◌++◌, SomeIff, IfOk, IsTrue, length, drop};
 ghost use Rattle.containment_laws.specs.Rest.{is_at_rest};
-ghost use Rattle.rule_engine.specs.Reached.{reach_of};
+ghost use Rattle.rule_engine.specs.DisturbanceReach.{reach_of};
 ghost use Rattle.rule_machine.specs.State.{IsState};
 ghost use Rattle.rule_machine.specs.Tables.{table_of};
 ghost use Rattle.rule_machine.specs.declared.event.Event.{Event};
 ghost use Rattle.rule_machine.specs.declared.event.Event.TheVariants.{Link, Unlink, Point, Flag, Join, Leave};
 ghost use Rattle.script_text.specs.declared.command.Command.TheVariants.{Tell};
 ghost use Rattle.script_text.specs.Command.{IsCommand};
-ghost use Rattle.rudekpi_c.specs.Called.{named_by};
-ghost use Rattle.rudekpi_c.specs.Reached.{rests_at, StaysAtRest, reach_at, Rests, Reached};
+ghost use Rattle.rudekpi_c.specs.CommandCalls.{optional_name};
+ghost use Rattle.rudekpi_c.specs.ReachCalls.{rests_at, StaysAtRest, reach_at, AnswersRest, AnswersReach};
 ghost use Rattle.rudekpi_c.specs.Session.{stands, rules_of};
 
 use crate::asked;
 use crate::session::{Machine, Session};
 use crate::slot::Slot;
 use crate::status::{BAD_ARGUMENT, DONE, MEMORY, NO_SESSION};
-use line_run::Run;
 use rule_machine::{Event, Node, Want};
-use rule_set::Rules;
+use rules_api::Rules;
+use run_session::Run;
 use script_text::Command;
 use std::alloc::Global;
 
@@ -78,7 +78,7 @@ fn reach_of(
     out: &mut [u32],
     count: &mut usize,
 ) -> u32
-    ensures reached { (event : Event) → SomeIff asked (IsCommand (Tell event)) (Tell event) → Reached event result count.new out.old out.new slot.old.handle.value }
+    ensures reached { (event : Event) → SomeIff asked (IsCommand (Tell event)) (Tell event) → AnswersReach event result count.new out.old out.new slot.old.handle.value }
     ensures kept { slot.new.handle.value ≡ slot.old.handle.value }
 {
     *count = 0;
@@ -111,7 +111,7 @@ pub extern "C" fn rudekpi_is_at_rest(
     node: u32,
     rests: &mut bool,
 ) -> u32
-    ensures rests { Rests node result rests.new slot.old.handle.value }
+    ensures rests { AnswersRest node result rests.new slot.old.handle.value }
     ensures kept { slot.new.handle.value ≡ slot.old.handle.value }
 {
     *rests = false;
@@ -140,7 +140,7 @@ pub extern "C" fn rudekpi_reach_of_link(
     out: &mut [u32],
     count: &mut usize,
 ) -> u32
-    ensures reached { Reached (Link a b) result count.new out.old out.new slot.old.handle.value }
+    ensures reached { AnswersReach (Link a b) result count.new out.old out.new slot.old.handle.value }
     ensures kept { slot.new.handle.value ≡ slot.old.handle.value }
 {
     reach_of(alloc, slot, asked::link(a, b), out, count)
@@ -156,7 +156,7 @@ pub extern "C" fn rudekpi_reach_of_unlink(
     out: &mut [u32],
     count: &mut usize,
 ) -> u32
-    ensures reached { Reached (Unlink a b) result count.new out.old out.new slot.old.handle.value }
+    ensures reached { AnswersReach (Unlink a b) result count.new out.old out.new slot.old.handle.value }
     ensures kept { slot.new.handle.value ≡ slot.old.handle.value }
 {
     reach_of(alloc, slot, asked::unlink(a, b), out, count)
@@ -171,7 +171,7 @@ pub extern "C" fn rudekpi_reach_of_join(
     out: &mut [u32],
     count: &mut usize,
 ) -> u32
-    ensures reached { Reached (Join node) result count.new out.old out.new slot.old.handle.value }
+    ensures reached { AnswersReach (Join node) result count.new out.old out.new slot.old.handle.value }
     ensures kept { slot.new.handle.value ≡ slot.old.handle.value }
 {
     reach_of(alloc, slot, asked::join(node), out, count)
@@ -186,7 +186,7 @@ pub extern "C" fn rudekpi_reach_of_leave(
     out: &mut [u32],
     count: &mut usize,
 ) -> u32
-    ensures reached { Reached (Leave node) result count.new out.old out.new slot.old.handle.value }
+    ensures reached { AnswersReach (Leave node) result count.new out.old out.new slot.old.handle.value }
     ensures kept { slot.new.handle.value ≡ slot.old.handle.value }
 {
     reach_of(alloc, slot, asked::leave(node), out, count)
@@ -202,7 +202,7 @@ pub extern "C" fn rudekpi_reach_of_point(
     out: &mut [u32],
     count: &mut usize,
 ) -> u32
-    ensures reached { Reached (Point node (named_by target)) result count.new out.old out.new slot.old.handle.value }
+    ensures reached { AnswersReach (Point node (optional_name target)) result count.new out.old out.new slot.old.handle.value }
     ensures kept { slot.new.handle.value ≡ slot.old.handle.value }
 {
     reach_of(alloc, slot, asked::point(node, target), out, count)
@@ -218,7 +218,7 @@ pub extern "C" fn rudekpi_reach_of_flag(
     out: &mut [u32],
     count: &mut usize,
 ) -> u32
-    ensures reached { Reached (Flag node value) result count.new out.old out.new slot.old.handle.value }
+    ensures reached { AnswersReach (Flag node value) result count.new out.old out.new slot.old.handle.value }
     ensures kept { slot.new.handle.value ≡ slot.old.handle.value }
 {
     reach_of(alloc, slot, asked::flag(node, value), out, count)

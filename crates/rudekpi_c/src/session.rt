@@ -1,22 +1,22 @@
 //! A session: a network, and the run of its commands.
 
 ghost use Rattle.std.specs.Prelude.{◌≡◌, ◌≤◌, ◌+◌, ◌^◌, ◌-◌, true, false, None, Ok, IfOk, IsTrue, min};
-ghost use Rattle.line_run.specs.Beginning.{beginning};
+ghost use Rattle.run_session.specs.RunStart.{first_progress};
 ghost use Rattle.rule_machine.specs.declared.reply.Reply.TheVariants.{Accepted};
 ghost use Rattle.rule_machine.specs.State.{partner};
 ghost use Rattle.rule_machine.specs.Tables.{table_of};
-ghost use Rattle.rudekpi_c.specs.Called.{number_at, reply_kept};
-ghost use Rattle.rudekpi_c.specs.Costed.{cost_at, GrowsBy};
-ghost use Rattle.rudekpi_c.specs.Left.{left_at, IsMost};
-ghost use Rattle.rudekpi_c.specs.Silenced.{LineSilences, Silences};
-ghost use Rattle.rudekpi_c.specs.Session.{stands, limit_of, rules_of, shown, LineEnded, CommandEnded};
+ghost use Rattle.rudekpi_c.specs.CommandCalls.{number_at, reply_kept};
+ghost use Rattle.rudekpi_c.specs.CostCalls.{cost_at, GrowsBy};
+ghost use Rattle.rudekpi_c.specs.MovesLeftCalls.{left_at, IsMost};
+ghost use Rattle.rudekpi_c.specs.SilentDrives.{LineSilences, Silences};
+ghost use Rattle.rudekpi_c.specs.Session.{stands, limit_of, rules_of, with_text_if, LineEnded, CommandEnded};
 
 use crate::follow::{cost_of, follow, partner, unanswered};
 use crate::left::moves_left;
-use line_run::{Run, Stop};
 use rule_machine::{Event, Node, RuleSet, Want};
 use rules_hsu_huang::HsuHuang;
 use rules_manne::Manne;
+use run_session::{LineError, Run};
 use script_text::Command;
 use std::alloc::Global;
 use step_log::{Answer, MAX_ENTRIES};
@@ -49,7 +49,7 @@ impl Session {
     ) -> Result<Session, Want>
         requires few { nodes ≤ 65535 }
         requires within { present ≤ nodes }
-        ensures begins { IfOk result (λ session. stands session ≡ beginning rules nodes present) }
+        ensures begins { IfOk result (λ session. stands session ≡ first_progress rules nodes present) }
         ensures rules { IfOk result (λ session. rules_of session ≡ rules) }
         ensures limit { IfOk result (λ session. limit_of session ≡ 16777216) }
         ensures lines { IfOk result (λ session. session.lines ≡ 0) }
@@ -68,7 +68,7 @@ impl Session {
         })
     }
 
-    pub(crate) fn feed(&mut self, alloc: Global, line: &[u8]) -> Result<Option<Stop>, Want>
+    pub(crate) fn feed(&mut self, alloc: Global, line: &[u8]) -> Result<Option<LineError>, Want>
         ensures ends { LineEnded (rules_of self.old) (limit_of self.old) self.new.lines line.now (stands self.old) (stands self.new) result }
         ensures silent { result ≡ Ok None → LineSilences (table_of (rules_of self.old)) line.now (stands self.old).moment.state (stands self.new).moment.state }
         ensures lines { self.new.lines ≡ min (self.old.lines + 1) (2 ^ 64 - 1) }
@@ -142,7 +142,7 @@ impl Session {
     }
 
     pub(crate) fn forget_text(&mut self)
-        ensures stands { stands self.new ≡ shown false (stands self.old) }
+        ensures stands { stands self.new ≡ with_text_if false (stands self.old) }
         ensures rules { rules_of self.new ≡ rules_of self.old }
         ensures limit { limit_of self.new ≡ limit_of self.old }
         ensures lines { self.new.lines ≡ self.old.lines }
@@ -180,7 +180,7 @@ impl Session {
 
     /// Drops the text if no transcript is kept.
     pub(crate) fn settle(&mut self)
-        ensures stands { stands self.new ≡ shown self.old.keeps (stands self.old) }
+        ensures stands { stands self.new ≡ with_text_if self.old.keeps (stands self.old) }
         ensures rules { rules_of self.new ≡ rules_of self.old }
         ensures limit { limit_of self.new ≡ limit_of self.old }
         ensures lines { self.new.lines ≡ self.old.lines }

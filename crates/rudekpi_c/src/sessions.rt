@@ -1,13 +1,13 @@
 //! Sessions that are fed script lines.
 
 ghost use Rattle.std.specs.Prelude.{◌≡◌, None};
-ghost use Rattle.rudekpi_c.specs.Slot.{Begun, Fed, Handed, line_status, named, text_length};
+ghost use Rattle.rudekpi_c.specs.Slot.{OpensSession, AnswersFeed, Handed, line_status, named, text_length};
 
 use crate::session::Session;
 use crate::slot::Slot;
 use crate::status::{BAD_ARGUMENT, BAD_LINE, DONE, LOG_FULL, MEMORY, NO_SESSION};
-use line_run::Stop;
 use rule_machine::{MAX_NAME, RuleSet, Want};
+use run_session::LineError;
 use std::alloc::Global;
 
 fn rules_named(rules: u32) -> RuleSet
@@ -31,7 +31,7 @@ pub extern "C" fn rudekpi_session_new(
     present: u32,
     slot: &mut Slot,
 ) -> u32
-    ensures { Begun rules nodes present result slot.new.handle.value }
+    ensures { OpensSession rules nodes present result slot.new.handle.value }
 {
     drop(slot.take(alloc));
     if rules > 1 || nodes > MAX_NAME || present > nodes {
@@ -62,7 +62,7 @@ pub extern "C" fn rudekpi_session_feed(
     line: &[u8],
     number: &mut u64,
 ) -> u32
-    ensures { Fed line.now number.old result number.new slot.old.handle.value slot.new.handle.value }
+    ensures { AnswersFeed line.now number.old result number.new slot.old.handle.value slot.new.handle.value }
 {
     let Some(mut session) = slot.take(alloc) else {
         return NO_SESSION;
@@ -117,13 +117,13 @@ pub extern "C" fn rudekpi_session_free(alloc: Global, slot: &mut Slot)
     slot.take(alloc);
 }
 
-fn status_of(done: Result<Option<Stop>, Want>) -> u32
+fn status_of(done: Result<Option<LineError>, Want>) -> u32
     ensures { result ≡ line_status done }
 {
     match done {
         Ok(None) => DONE,
-        Ok(Some(Stop::BadLine { line: _ })) => BAD_LINE,
-        Ok(Some(Stop::LogFull)) => LOG_FULL,
+        Ok(Some(LineError::BadLine { line: _ })) => BAD_LINE,
+        Ok(Some(LineError::LogFull)) => LOG_FULL,
         Err(_) => MEMORY,
     }
 }

@@ -1,7 +1,7 @@
 //! The costs of edits and faults in a silent network, without an entry.
 
 ghost use Rattle.std.specs.Prelude.{◌≡◌, ◌↔◌, [], IfSome, IsSome, SomeIff};
-ghost use Rattle.rule_engine.specs.Costs.{cost_of};
+ghost use Rattle.rule_engine.specs.Costs.{disturbance_cost};
 ghost use Rattle.rule_machine.specs.RuleTable.{enabled_names};
 ghost use Rattle.rule_machine.specs.Tables.{table_of};
 ghost use Rattle.rule_machine.specs.declared.event.Event.{Event};
@@ -9,7 +9,7 @@ ghost use Rattle.rule_machine.specs.declared.event.Event.TheVariants.{Link, Unli
 ghost use Rattle.script_text.specs.declared.command.Command.TheVariants.{Tell};
 ghost use Rattle.script_text.specs.Command.{IsCommand};
 ghost use Rattle.silent_cost.specs.FromSilence.{BoundsMovesAfter};
-ghost use Rattle.rudekpi_c.specs.Called.{named_by};
+ghost use Rattle.rudekpi_c.specs.CommandCalls.{optional_name};
 ghost use Rattle.rudekpi_c.specs.Session.{stands, rules_of};
 ghost use Rattle.rudekpi_c.specs.SilentCosts.{silent_cost_at, IsSilentAt, PaysFor, AnswersSilentCost};
 
@@ -17,15 +17,15 @@ use crate::asked;
 use crate::session::{Machine, Session};
 use crate::slot::Slot;
 use crate::status::{BAD_ARGUMENT, DONE, NO_SESSION, NOT_SILENT};
-use line_run::Run;
-use rule_machine::Event;
-use script_text::Command;
 use rule_engine::SilentCost;
+use rule_machine::Event;
+use run_session::Run;
+use script_text::Command;
 use std::alloc::Global;
 
 fn silent_cost_in<R: SilentCost>(run: &Run<R>, event: &Event) -> Option<u32>
     ensures silent { IsSome result ↔ (enabled_names R.table run.now.recorder.state ≡ []) }
-    ensures cost { IfSome result (λ most. most ≡ cost_of R.table R.silent_cost run.now.recorder.state event.now) }
+    ensures cost { IfSome result (λ most. most ≡ disturbance_cost R.table R.silent_cost run.now.recorder.state event.now) }
     ensures pays { IfSome result (λ most. BoundsMovesAfter R.table run.now.recorder.state run.now.recorder.spent event.now most) }
 {
     run.recorder.net().silent_cost_of(event)
@@ -135,7 +135,7 @@ pub extern "C" fn rudekpi_silent_cost_of_point(
     target: u32,
     cost: &mut u32,
 ) -> u32
-    ensures answers { AnswersSilentCost (Point node (named_by target)) result cost.new slot.old.handle.value }
+    ensures answers { AnswersSilentCost (Point node (optional_name target)) result cost.new slot.old.handle.value }
     ensures kept { slot.new.handle.value ≡ slot.old.handle.value }
 {
     silent_cost(alloc, slot, asked::point(node, target), cost)

@@ -1,7 +1,7 @@
 //! The answer to a command, for C.
 
 ghost use Rattle.std.specs.Prelude.{◌≡◌, ◌≤◌, ◌++◌, ◌<◌, length, drop};
-ghost use Rattle.rudekpi_c.specs.Told.{told_of, untold, number_of, refusal_in, target_in, rows_of};
+ghost use Rattle.rudekpi_c.specs.ReplyNumbers.{told_of, untold, number_of, refusal_code, target_in, rows_of};
 
 use crate::row::{Row, put_rows};
 use rule_machine::{Node, Reply};
@@ -12,18 +12,18 @@ use step_log::Answer;
 /// Each is 0 if there is none.
 #[repr(C)]
 #[derive(Clone, Copy)]
-pub struct Told {
+pub struct CallResult {
     pub entry: u32,
     pub refusal: u32,
     pub target: u32,
     pub rows: usize,
 }
 
-impl Told {
-    pub(crate) fn nothing() -> Told
+impl CallResult {
+    pub(crate) fn nothing() -> CallResult
         ensures { result ≡ untold }
     {
-        Told {
+        CallResult {
             entry: 0,
             refusal: 0,
             target: 0,
@@ -32,11 +32,11 @@ impl Told {
     }
 
     /// The answer as numbers.
-    pub(crate) fn of(answer: &Answer) -> Told
+    pub(crate) fn of(answer: &Answer) -> CallResult
         ensures { result ≡ told_of answer.now.seq answer.now.reply }
     {
         let reply = &answer.reply;
-        Told {
+        CallResult {
             entry: answer.seq,
             refusal: refusal_told(reply),
             target: target_told(reply),
@@ -56,7 +56,7 @@ pub(crate) fn number_told(node: Option<Node>) -> u32
 }
 
 fn refusal_told(reply: &Reply) -> u32
-    ensures { result ≡ refusal_in reply.now }
+    ensures { result ≡ refusal_code reply.now }
 {
     match reply {
         Reply::Refused(refusal) => refusal.number(),

@@ -10,25 +10,25 @@ use Rattle.rule_machine.specs.Refuse.{refusal_of}
 use Rattle.rule_machine.specs.Answer.{Answers, spent_after}
 use Rattle.rule_machine.specs.Least.{reply_of, state_after, replies_of}
 use Rattle.rule_machine.specs.Run.{Moment, Run, beginning_with, moment_after}
-use Rattle.machine_laws.specs.Keeps.{opening_is_state}
+use Rattle.machine_laws.specs.StatePreservation.{opening_is_state}
 use Rattle.machine_laws.specs.LeastMoves.{IsTable}
-use Rattle.machine_laws.specs.Accepted.{state_after_keeps}
+use Rattle.machine_laws.specs.AcceptedEvents.{state_after_keeps}
 use Rattle.machine_laws.specs.LeastAnswers.{least_answers}
 use Rattle.machine_laws.specs.Runs.{answers_keep}
-use Rattle.charge_laws.specs.Charged.{IsCharged}
+use Rattle.charge_laws.specs.ChargeWords.{IsCharged}
 use Rattle.charge_laws.specs.Laws.{beginning_is_within}
 use Rattle.charge_laws.specs.Runs.{answer_within}
-use Rattle.rule_engine.specs.Applied.{IsPaid, StopsAt, moment_after_all, takes_memory}
-use Rattle.rule_engine.specs.Kept.{moment}
-use Rattle.rule_engine.specs.Prepared.{NetView, IsPrepared}
+use Rattle.rule_engine.specs.EventReplies.{IsWithinBudget, StopsForMemory, moment_after_all, takes_memory}
+use Rattle.rule_engine.specs.EngineStates.{moment}
+use Rattle.rule_engine.specs.PreparedEvents.{NetView, IsPrepared}
 
 -- ---- what is spent
 
-pub beginning_is_paid : (t : RuleTable) (weight : ℕ) → IsCharged t weight → (size count : ℕ) → IsPaid t weight (beginning_with size count)
+pub beginning_is_paid : (t : RuleTable) (weight : ℕ) → IsCharged t weight → (size count : ℕ) → IsWithinBudget t weight (beginning_with size count)
 beginning_is_paid t weight charged size count = record { is_state = opening_is_state size count; within = beginning_is_within t weight charged size count }
 
 -- an answer of the machine, and what its reply spends
-pub answer_is_paid : (t : RuleTable) (weight : ℕ) → IsTable t → IsCharged t weight → (m : Moment) → IsPaid t weight m → (event : Event) (reply : Reply) (s : State) → Answers t m.state m.spent event reply s → IsPaid t weight (moment s (spent_after m.spent reply))
+pub answer_is_paid : (t : RuleTable) (weight : ℕ) → IsTable t → IsCharged t weight → (m : Moment) → IsWithinBudget t weight m → (event : Event) (reply : Reply) (s : State) → Answers t m.state m.spent event reply s → IsWithinBudget t weight (moment s (spent_after m.spent reply))
 answer_is_paid t weight table charged m paid event reply s answers = record {
   is_state = answers_keep t table m.state paid.is_state m.spent event reply s answers;
   within = answer_within t weight table charged m paid.is_state paid.within event reply s answers;
@@ -39,12 +39,12 @@ pub turn_answers : (t : RuleTable) → IsTable t → (m : Moment) → IsState m.
 turn_answers t table m good event reply s told is =
     subst (λ q. Answers t m.state m.spent event q s) (sym told) (subst (λ u. Answers t m.state m.spent event (reply_of t m.state m.spent event) u) (sym is) (least_answers t table m.state good m.spent event))
 
-pub turn_is_paid : (t : RuleTable) (weight : ℕ) → IsTable t → IsCharged t weight → (m : Moment) → IsPaid t weight m → (event : Event) (reply : Reply) (s : State) → reply ≡ reply_of t m.state m.spent event → s ≡ state_after t m.state event → IsPaid t weight (moment s (spent_after m.spent reply))
+pub turn_is_paid : (t : RuleTable) (weight : ℕ) → IsTable t → IsCharged t weight → (m : Moment) → IsWithinBudget t weight m → (event : Event) (reply : Reply) (s : State) → reply ≡ reply_of t m.state m.spent event → s ≡ state_after t m.state event → IsWithinBudget t weight (moment s (spent_after m.spent reply))
 turn_is_paid t weight table charged m paid event reply s told is =
     answer_is_paid t weight table charged m paid event reply s (turn_answers t table m paid.is_state event reply s told is)
 
 -- so it is with a reply that was prepared
-pub prepared_is_paid : (t : RuleTable) (weight : ℕ) → IsTable t → IsCharged t weight → (inside net : NetView) → inside ≡ net → IsPaid t weight (moment inside.state inside.spent) → (event : Event) (reply : Reply) → IsPrepared t net event reply → (s : State) → s ≡ state_after t inside.state event → IsPaid t weight (moment s (spent_after inside.spent reply))
+pub prepared_is_paid : (t : RuleTable) (weight : ℕ) → IsTable t → IsCharged t weight → (inside net : NetView) → inside ≡ net → IsWithinBudget t weight (moment inside.state inside.spent) → (event : Event) (reply : Reply) → IsPrepared t net event reply → (s : State) → s ≡ state_after t inside.state event → IsWithinBudget t weight (moment s (spent_after inside.spent reply))
 prepared_is_paid t weight table charged inside net same paid event reply ready s is =
     turn_is_paid t weight table charged (moment inside.state inside.spent) paid event reply s (subst (λ (n : NetView). reply ≡ reply_of t n.state n.spent event) (sym same) ready.reply_is) is
 
@@ -87,7 +87,7 @@ rest_more t here next end events i event within is step so_far =
     ∙ so_far
 
 -- if an event found no memory, the moment after the events before it
-pub stopped_at : (t : RuleTable) (m here m' : Moment) (events : List Event) (i : ℕ) (event : Event) → i < length events → event ≡ get_or events i event → here ≡ moment_after_all t m (take i events) → m' ≡ here → (refusal_of t here.state event ≡ None) × IsTrue (takes_memory event) → StopsAt t m events i m'
+pub stopped_at : (t : RuleTable) (m here m' : Moment) (events : List Event) (i : ℕ) (event : Event) → i < length events → event ≡ get_or events i event → here ≡ moment_after_all t m (take i events) → m' ≡ here → (refusal_of t here.state event ≡ None) × IsTrue (takes_memory event) → StopsForMemory t m events i m'
 stopped_at t m here m' events i event within is so_far kept want = record {
   next = within;
   moment = kept ∙ so_far;
@@ -95,7 +95,7 @@ stopped_at t m here m' events i event within is so_far kept want = record {
 }
 
 -- if the list of replies found no memory, no event was carried out
-pub stopped_first : (t : RuleTable) (m : Moment) (events : List Event) → (length events ≡ 0 → ⊥) → StopsAt t m events 0 m
+pub stopped_first : (t : RuleTable) (m : Moment) (events : List Event) → (length events ≡ 0 → ⊥) → StopsForMemory t m events 0 m
 stopped_first t m events some = record { next = omega arith; moment = refl; cause = inl refl }
 
 pub on_err : {T E P : Type 0} (r : Result T E) → P → OnErr r P

@@ -23,8 +23,8 @@ abbrev pub disturbs : RuleTable → State → Event → Bool
 disturbs t s event = may_disturb event && is_none (refusal_of t s event)
 
 -- the cost by the rule set; 0 unless the event is a disturbance that is not refused
-abbrev pub cost_of : RuleTable → (State → Event → ℕ) → State → Event → ℕ
-cost_of t cost s event = cond (disturbs t s event) (cost s event) 0
+abbrev pub disturbance_cost : RuleTable → (State → Event → ℕ) → State → Event → ℕ
+disturbance_cost t cost s event = cond (disturbs t s event) (cost s event) 0
 
 -- if the event is accepted, the charge grows by at most this
 abbrev pub BoundsGrowth : RuleTable → State → ℕ → Event → ℕ → Type 0

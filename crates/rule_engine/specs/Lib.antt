@@ -1,9 +1,9 @@
-pub mod Kept
-pub mod Looked
-pub mod Choosing
+pub mod EngineStates
+pub mod GuardRefresh
+pub mod ChoiceMoves
 pub mod Marks
-pub mod Refused
-pub mod Applied
-pub mod Prepared
+pub mod FaultRefusals
+pub mod EventReplies
+pub mod PreparedEvents
 pub mod Costs
-pub mod Reached
+pub mod DisturbanceReach

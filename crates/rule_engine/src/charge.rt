@@ -1,17 +1,17 @@
 //! The charge of a state, and the moves spent of it.
 
 ghost use Rattle.std.specs.Prelude.{◌≡◌, ◌≤◌, count_by, length, sum_by};
-ghost use Rattle.charge_laws.specs.Charged.{charge_bound};
+ghost use Rattle.charge_laws.specs.ChargeWords.{charge_bound};
 ghost use Rattle.rule_machine.specs.Answer.{spent_after};
 ghost use Rattle.rule_machine.specs.Network.{names, edge_list};
 ghost use Rattle.rule_machine.specs.Stable.{mutual_pairs};
-ghost use Rattle.rule_set.specs.Standing.{ends_open};
-ghost use Rattle.indexed_state.specs.Shares.{node_part};
+ghost use Rattle.rules_api.specs.ChargeInputs.{ends_open};
+ghost use Rattle.indexed_state.specs.Contributions.{node_part};
 
 use graph_store::{EdgeStore, MAX_EDGES};
 use indexed_state::IndexedState;
 use rule_machine::{MAX_NAME, Reply};
-use rule_set::Rules;
+use rules_api::Rules;
 
 /// What a status reports of all nodes together.
 #[derive(Clone, Copy)]
@@ -22,7 +22,7 @@ pub(crate) struct Totals {
 
 /// The charge of a state, from the sums over its edges and nodes.
 fn charge_by<R: Rules>(state: &IndexedState<R>, open_edges: u32, added: u32, closing: u32) -> u32
-    requires open { open_edges ≡ count_by (ends_open R.COURTED_CLOSE state.now.state) (edge_list state.now.state.network) }
+    requires open { open_edges ≡ count_by (ends_open R.COURTED_PAIR_CLOSES_EDGE state.now.state) (edge_list state.now.state.network) }
     requires added { added ≡ sum_by (node_part (R.adds state.now.state) state.now.state) (names state.now.state.network) }
     requires closing { closing ≡ count_by (R.closes state.now.state) (names state.now.state.network) }
     ensures { result ≡ R.table.charge state.now.state }

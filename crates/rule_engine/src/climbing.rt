@@ -2,15 +2,15 @@
 
 ghost use Rattle.std.specs.Prelude.{◌≡◌, [], None, IsTrue};
 ghost use Rattle.rule_machine.specs.Refuse.{items_refusal};
-ghost use Rattle.rule_engine.specs.Choosing.{moves_by};
+ghost use Rattle.rule_engine.specs.ChoiceMoves.{moves_by};
 ghost use Rattle.rule_engine.specs.Marks.{Ascend};
 
 use crate::guard::outcome;
-use crate::moves::Gathered;
+use crate::moves::CollectedMoves;
 use crate::taking::accepted;
 use indexed_state::IndexedState;
 use rule_machine::{Item, Refusal};
-use rule_set::Rules;
+use rules_api::Rules;
 
 /// Whether each item names a higher node than the item before it. Stops at the first that does not.
 pub(crate) fn ascend(items: &[Item]) -> bool
@@ -31,7 +31,7 @@ pub(crate) fn ascend(items: &[Item]) -> bool
 /// It looks at each item up to that one, and searches its node's neighbours if its target is free.
 pub(crate) fn take_ascending<R: Rules>(
     state: &IndexedState<R>,
-    gathered: &mut Gathered,
+    gathered: &mut CollectedMoves,
     items: &[Item],
 ) -> Option<Refusal>
     requires ascend { Ascend items.now }

@@ -1,12 +1,12 @@
 //! What a disturbance would cost.
 
 ghost use Rattle.std.specs.Prelude.{◌≡◌};
-ghost use Rattle.rule_engine.specs.Costs.{disturbs, cost_of};
+ghost use Rattle.rule_engine.specs.Costs.{disturbs, disturbance_cost};
 
 use crate::edits::{refused_flag, refused_join, refused_leave, refused_point};
 use indexed_state::IndexedState;
 use rule_machine::{Event, Node};
-use rule_set::{Local, Rules, Touched};
+use rules_api::{Local, Rules, Touched};
 
 /// A state that shows only the nodes that a disturbance touches.
 #[derive(Drop)]
@@ -24,7 +24,7 @@ impl<R: Rules> Touched for TouchedNodes<'_, R> {
         state.registers().pointer(v)
     }
 
-    #[tactic(auto, using(indexed_state::proofs::Named::few_neighbours))]
+    #[tactic(auto, using(indexed_state::proofs::NodeScans::few_neighbours))]
     fn degree(&self, v: Node) -> u32 {
         let state = self.state;
         state.store().neighbours(v).len() as u32
@@ -52,9 +52,9 @@ pub(crate) fn is_disturbance<R: Rules>(state: &IndexedState<R>, event: &Event) -
     }
 }
 
-#[tactic(auto, using(crate::proofs::Costed::not_refused))]
+#[tactic(auto, using(crate::proofs::EventCosts::not_refused))]
 pub(crate) fn cost_of<R: Rules>(state: &IndexedState<R>, event: &Event) -> u32
-    ensures { result ≡ cost_of R.table R.cost state.now.state event.now }
+    ensures { result ≡ disturbance_cost R.table R.cost state.now.state event.now }
 {
     // Called for its contract: the state is sound.
     let _ = state.registers();

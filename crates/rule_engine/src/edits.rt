@@ -2,12 +2,12 @@
 
 ghost use Rattle.std.specs.Prelude.{◌≡◌, Ok};
 ghost use Rattle.rule_machine.specs.Refuse.{unlink_refusal, point_refusal, flag_refusal, join_refusal, leave_refusal};
-ghost use Rattle.rule_engine.specs.Applied.{told};
-ghost use Rattle.rule_engine.specs.Refused.{refused_as, edit_reply};
+ghost use Rattle.rule_engine.specs.EventReplies.{stored_reply};
+ghost use Rattle.rule_engine.specs.FaultRefusals.{refused_as, edit_reply};
 
 use graph_store::{EdgeStore, GraphFault};
 use rule_machine::{Node, Refusal, Reply, Want};
-use rule_set::Rules;
+use rules_api::Rules;
 
 /// The refusal that corresponds to a fault of the edge store; none for `TooManyNodes` and `Memory`.
 pub(crate) fn refusal_of(fault: GraphFault) -> Option<Refusal>
@@ -26,7 +26,7 @@ pub(crate) fn refusal_of(fault: GraphFault) -> Option<Refusal>
 
 /// Puts the reply to an edit or a fault into `reply`: the refusal, or accepted if there is none.
 pub(crate) fn put_edit(reply: &mut Reply, refusal: Option<Refusal>) -> Result<(), Want>
-    ensures { told result reply.new ≡ Ok (edit_reply refusal) }
+    ensures { stored_reply result reply.new ≡ Ok (edit_reply refusal) }
 {
     match refusal {
         Some(refusal) => *reply = Reply::Refused(refusal),
@@ -36,7 +36,7 @@ pub(crate) fn put_edit(reply: &mut Reply, refusal: Option<Refusal>) -> Result<()
 }
 
 pub(crate) fn put(reply: &mut Reply, found: Result<Reply, Want>) -> Result<(), Want>
-    ensures { told result reply.new ≡ found }
+    ensures { stored_reply result reply.new ≡ found }
 {
     *reply = found?;
     Ok(())

@@ -2,7 +2,7 @@
 
 ghost use Rattle.std.specs.Prelude.{◌≡◌, ◌<◌, ◌≤◌, ◌↔◌, ℕ, [], IfOk, IfErr, IfSome, OnOk, IsTrue, None, false, length, slice_get};
 ghost use Rattle.enabled_set.specs.Members.{members};
-ghost use Rattle.graph_store.specs.Fault.{nodes_fault, Explains};
+ghost use Rattle.graph_store.specs.Fault.{nodes_fault, ExplainsGraphFault};
 ghost use Rattle.graph_store.specs.Graph.{HasRoomFor};
 ghost use Rattle.rule_machine.specs.Network.{present};
 ghost use Rattle.rule_machine.specs.State.{opening_with, IsState};
@@ -11,17 +11,17 @@ ghost use Rattle.rule_machine.specs.Disturbance.{after_link, after_join};
 ghost use Rattle.rule_machine.specs.Refuse.{refusal_of, link_refusal};
 ghost use Rattle.rule_machine.specs.Least.{reply_of, state_after};
 ghost use Rattle.rule_machine.specs.Stable.{IsStable, IsMaximalMatching, mutual_pairs};
-ghost use Rattle.machine_laws.specs.Followed.{disturbed};
+ghost use Rattle.machine_laws.specs.StatesAfterReplies.{disturbed};
 ghost use Rattle.rule_machine.specs.declared.event.Event.TheVariants.{Link, Step, Show, Enabled, Matching, Status, Join, Leave};
 ghost use Rattle.rule_machine.specs.declared.reply.Reply.TheVariants.{Accepted};
-ghost use Rattle.rule_engine.specs.Kept.{guard_at, IsAnswered};
-ghost use Rattle.rule_engine.specs.Applied.{Prepares, told};
-ghost use Rattle.rule_engine.specs.Costs.{cost_of};
-ghost use Rattle.rule_engine.specs.Reached.{would_reach, reach_of};
+ghost use Rattle.rule_engine.specs.EngineStates.{guard_at, IsAnswered};
+ghost use Rattle.rule_engine.specs.EventReplies.{Prepares, stored_reply};
+ghost use Rattle.rule_engine.specs.Costs.{disturbance_cost};
+ghost use Rattle.rule_engine.specs.DisturbanceReach.{would_reach, reach_of};
 ghost use Rattle.containment_laws.specs.Reach.{reach_size};
 ghost use Rattle.containment_laws.specs.Rest.{is_at_rest};
-ghost use Rattle.rule_engine.specs.Prepared.{HasRoomTo};
-ghost use Rattle.rule_engine.specs.Choosing.{verdict_of, verdicts_of};
+ghost use Rattle.rule_engine.specs.PreparedEvents.{HasRoomTo};
+ghost use Rattle.rule_engine.specs.ChoiceMoves.{verdict_of, verdicts_of};
 
 use crate::charge::totals_of;
 use crate::cost::cost_of;
@@ -32,16 +32,16 @@ use crate::edits::{
 use crate::guard::{outcome, put_reply_to_one, rule_enabled, take_items};
 use crate::listing::{enabled_rules, mutual_edges};
 use crate::look::{look_after_write, look_at, look_at_target};
-use crate::moves::{Gathered, step_reply};
+use crate::moves::{CollectedMoves, step_reply};
 use crate::reach::{reach_of, would_reach};
 use crate::taking::{refused_size, take_verdicts};
 use enabled_set::{EnabledSet, Marks};
 use graph_store::{EdgeStore, GraphFault};
 use indexed_state::IndexedState;
-use net_state::{Disturb, NetState, leave, make_moves, unlink};
+use net_state::{NetState, StateWriter, leave, make_moves, unlink};
 use registers::Registers;
 use rule_machine::{Act, Choice, Counts, Event, Listing, Node, Refusal, Reply, Verdict, Want};
-use rule_set::Rules;
+use rules_api::Rules;
 use std::alloc::{AllocError, Global};
 use std::marker::Model;
 
@@ -56,16 +56,16 @@ pub(crate) struct Engine<R: Rules> {
 }
 
 impl<R: Rules> Model for Engine<R> {
-    ghost use Rattle.indexed_state.specs.Indexed.{Indexed, indexed_code};
-    ghost use Rattle.rule_engine.specs.Kept.{IsKept};
+    ghost use Rattle.indexed_state.specs.IndexedViews.{IndexedView, indexed_code};
+    ghost use Rattle.rule_engine.specs.EngineStates.{IsEngineState};
 
-    ghost Value = { Indexed };
+    ghost Value = { IndexedView };
 
     ghost coded = { indexed_code };
 
     ghost view = { λ n. n.state };
 
-    ghost invariant = { λ n. IsKept R.table n.state.state n.enabled n.chosen };
+    ghost invariant = { λ n. IsEngineState R.table n.state.state n.enabled n.chosen };
 }
 
 impl<R: Rules> Engine<R> {
@@ -78,7 +78,7 @@ impl<R: Rules> Engine<R> {
         requires within { present ≤ nodes }
         ensures ok { IfOk result (λ net. net.state ≡ opening_with nodes present) }
         ensures small { OnOk result (nodes ≤ 65535) }
-        ensures fault { IfErr result (λ fault. Explains (nodes_fault nodes) fault) }
+        ensures fault { IfErr result (λ fault. ExplainsGraphFault (nodes_fault nodes) fault) }
     {
         let state = IndexedState::with_present(alloc, nodes, present)?;
         let Ok(enabled) = EnabledSet::new(alloc, nodes) else {
@@ -125,7 +125,7 @@ impl<R: Rules> Engine<R> {
     }
 
     pub(crate) fn cost_of(&self, event: &Event) -> u32
-        ensures { result ≡ cost_of R.table R.cost self.now.state event.now }
+        ensures { result ≡ disturbance_cost R.table R.cost self.now.state event.now }
     {
         cost_of(&self.state, event)
     }
@@ -185,7 +185,7 @@ impl<R: Rules> Engine<R> {
         spent: u32,
         reply: &mut Reply,
     ) -> Result<(), Want>
-        ensures { Prepares R.table self.old spent event.now (told result reply.new) self.new }
+        ensures { Prepares R.table self.old spent event.now (stored_reply result reply.new) self.new }
     {
         match event {
             Event::Link(a, b) => self.prepare_link(*a, *b, reply),
@@ -209,7 +209,7 @@ impl<R: Rules> Engine<R> {
     }
 
     fn prepare_link(&mut self, a: Node, b: Node, reply: &mut Reply) -> Result<(), Want>
-        ensures { (spent : ℕ) → Prepares R.table self.old spent (Link a b) (told result reply.new) self.new }
+        ensures { (spent : ℕ) → Prepares R.table self.old spent (Link a b) (stored_reply result reply.new) self.new }
     {
         let Err(fault) = self.state.reserve_link(a, b) else {
             return put_edit(reply, None);
@@ -222,7 +222,7 @@ impl<R: Rules> Engine<R> {
     }
 
     fn prepare_choice(&mut self, choice: &Choice, reply: &mut Reply) -> Result<(), Want>
-        ensures { (spent : ℕ) → Prepares R.table self.old spent (Step choice.now) (told result reply.new) self.new }
+        ensures { (spent : ℕ) → Prepares R.table self.old spent (Step choice.now) (stored_reply result reply.new) self.new }
     {
         let items = choice.items();
         if items.len() == 1 {
@@ -232,7 +232,7 @@ impl<R: Rules> Engine<R> {
         if let Some(refusal) = refused_size(R::CENTRAL, items.len()) {
             return put_edit(reply, Some(refusal));
         }
-        let mut gathered = Gathered::new(self.alloc, items.len());
+        let mut gathered = CollectedMoves::new(self.alloc, items.len());
         let refused = take_items(&self.state, &mut self.chosen, &mut gathered, items);
         put(reply, step_reply(refused, gathered))
     }
@@ -249,7 +249,7 @@ impl<R: Rules> Engine<R> {
         if let Some(refusal) = refused_size(R::CENTRAL, verdicts.len()) {
             return Ok(Reply::Refused(refusal));
         }
-        let mut gathered = Gathered::new(self.alloc, verdicts.len());
+        let mut gathered = CollectedMoves::new(self.alloc, verdicts.len());
         let refused = take_verdicts(&mut self.chosen, &mut gathered, verdicts);
         step_reply(refused, gathered)
     }
@@ -266,13 +266,13 @@ impl<R: Rules> Engine<R> {
 
     // A function of its own, so that the path of other events reserves no stack for its results.
     fn prepare_enabled(&mut self, reply: &mut Reply) -> Result<(), Want>
-        ensures { (spent : ℕ) → Prepares R.table self.old spent Enabled (told result reply.new) self.new }
+        ensures { (spent : ℕ) → Prepares R.table self.old spent Enabled (stored_reply result reply.new) self.new }
     {
         put(reply, self.list_enabled())
     }
 
     fn prepare_matching(&mut self, reply: &mut Reply) -> Result<(), Want>
-        ensures { (spent : ℕ) → Prepares R.table self.old spent Matching (told result reply.new) self.new }
+        ensures { (spent : ℕ) → Prepares R.table self.old spent Matching (stored_reply result reply.new) self.new }
     {
         let pairs = self.list_pairs();
         put(reply, pairs)
@@ -372,7 +372,7 @@ impl<R: Rules> Engine<R> {
     }
 }
 
-impl<R: Rules> Disturb for Engine<R> {
+impl<R: Rules> StateWriter for Engine<R> {
     ghost state = { λ n. n.state };
 
     ghost ends = { λ n. n.ends };
@@ -396,14 +396,14 @@ impl<R: Rules> Disturb for Engine<R> {
         look_after_write(&self.state, &mut self.enabled, v, turned);
     }
 
-    fn take_out(&mut self, a: Node, b: Node) {
-        self.state.take_out(a, b);
+    fn remove_edge(&mut self, a: Node, b: Node) {
+        self.state.remove_edge(a, b);
         look_at(&self.state, &mut self.enabled, a);
         look_at(&self.state, &mut self.enabled, b);
     }
 
-    fn free_name(&mut self, v: Node) {
-        self.state.free_name(v);
+    fn remove_node(&mut self, v: Node) {
+        self.state.remove_node(v);
         self.enabled.remove(v);
     }
 }

@@ -4,17 +4,17 @@ ghost use Rattle.std.specs.Prelude.{◌≡◌, ◌+◌, [], ◌∷◌, None, len
 ghost use Rattle.rule_machine.specs.Network.{present};
 ghost use Rattle.rule_machine.specs.Refuse.{items_refusal};
 ghost use Rattle.rule_machine.specs.Least.{outcome_of};
-ghost use Rattle.rule_engine.specs.Kept.{guard_at};
-ghost use Rattle.rule_engine.specs.Choosing.{IsToldOf, moves_by};
+ghost use Rattle.rule_engine.specs.EngineStates.{guard_at};
+ghost use Rattle.rule_engine.specs.ChoiceMoves.{IsToldOf, moves_by};
 ghost use Rattle.rule_engine.specs.Marks.{AreClear};
 
 use crate::climbing::{ascend, take_ascending};
-use crate::moves::Gathered;
+use crate::moves::CollectedMoves;
 use crate::taking::{accepted, take_outcome};
 use enabled_set::Marks;
 use indexed_state::IndexedState;
 use rule_machine::{Act, Item, Listing, Moved, Node, Outcome, Refusal, Reply};
-use rule_set::Rules;
+use rules_api::Rules;
 
 pub(crate) fn rule_at<R: Rules>(state: &IndexedState<R>, v: Node) -> Option<Act>
     requires { IsTrue (present state.now.state.network v) }
@@ -58,7 +58,7 @@ pub(crate) fn outcome<R: Rules>(state: &IndexedState<R>, item: Item) -> Outcome
 fn take_up_to_refusal<R: Rules>(
     state: &IndexedState<R>,
     chosen: &mut Marks,
-    gathered: &mut Gathered,
+    gathered: &mut CollectedMoves,
     items: &[Item],
 ) -> Option<Refusal>
     requires places { length chosen.old ≡ state.now.state.network.size + 1 }
@@ -83,7 +83,7 @@ fn take_up_to_refusal<R: Rules>(
 pub(crate) fn take_items<R: Rules>(
     state: &IndexedState<R>,
     chosen: &mut Marks,
-    gathered: &mut Gathered,
+    gathered: &mut CollectedMoves,
     items: &[Item],
 ) -> Option<Refusal>
     requires places { length chosen.old ≡ state.now.state.network.size + 1 }

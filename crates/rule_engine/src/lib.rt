@@ -37,8 +37,8 @@ pub use graph_store::{Edge, GraphFault, Node};
 pub use net::Net;
 pub use node_bound::NodeBound;
 pub use rule_machine::{
-    Act, Base, Choice, Counts, Event, Item, Listing, Moved, Outcome, Place, Refusal, Reply,
+    Act, Base, Choice, Counts, Event, Item, Listing, Moved, NodeRecord, Outcome, Refusal, Reply,
     RuleSet, Verdict, Want,
 };
-pub use rule_set::{BadTarget, Local, Rules};
+pub use rules_api::{BadTarget, Local, Rules};
 pub use silent_cost::SilentCost;

@@ -3,13 +3,13 @@
 ghost use Rattle.std.specs.Prelude.{All, ◌≡◌, IfOk, IsTrue, filter_map};
 ghost use Rattle.rule_machine.specs.RuleTable.{enabled_names, enabled};
 ghost use Rattle.rule_machine.specs.Stable.{mutual_pairs, pair_above};
-ghost use Rattle.indexed_state.specs.Shares.{answered_by, is_lower_end};
+ghost use Rattle.indexed_state.specs.Contributions.{answered_by, is_lower_end};
 
 use crate::guard::rule_enabled;
 use indexed_state::IndexedState;
 use registers::Registers;
 use rule_machine::{Act, Edge, Node, Want};
-use rule_set::Rules;
+use rules_api::Rules;
 use std::alloc::Global;
 
 /// The given enabled nodes, each with its rule.

@@ -3,18 +3,18 @@
 ghost use Rattle.std.specs.Prelude.{◌≡◌, ◌+◌, ◌&&◌, IfSome, IsTrue, length, nat_eq};
 ghost use Rattle.rule_machine.specs.Network.{linked, present};
 ghost use Rattle.rule_machine.specs.RuleTable as RuleTable;
-ghost use Rattle.rule_engine.specs.Looked.{is_null_target, is_suitor, is_touched, may_turn, turns_with, IsLookedAt};
+ghost use Rattle.rule_engine.specs.GuardRefresh.{is_null_target, is_suitor, may_change_guard, may_turn, turns_with, IsRefreshed};
 
 use crate::guard::rule_at;
 use enabled_set::EnabledSet;
 use indexed_state::IndexedState;
 use rule_machine::Node;
-use rule_set::{Local, Rules, asks_for};
+use rules_api::{Local, Rules, asks_for};
 
 pub(crate) fn look_at<R: Rules>(state: &IndexedState<R>, enabled: &mut EnabledSet, v: Node)
     requires has { IsTrue (present state.now.state.network v) }
     requires places { length enabled.old ≡ state.now.state.network.size + 1 }
-    ensures { IsLookedAt R.table state.now.state (λ w. nat_eq w v) enabled.old enabled.new }
+    ensures { IsRefreshed R.table state.now.state (λ w. nat_eq w v) enabled.old enabled.new }
 {
     if rule_at(state, v).is_some() {
         enabled.insert(v);
@@ -26,7 +26,7 @@ pub(crate) fn look_at<R: Rules>(state: &IndexedState<R>, enabled: &mut EnabledSe
 fn look_if<R: Rules>(state: &IndexedState<R>, enabled: &mut EnabledSet, v: Node, asked: bool)
     requires has { IsTrue (present state.now.state.network v) }
     requires places { length enabled.old ≡ state.now.state.network.size + 1 }
-    ensures { IsLookedAt R.table state.now.state (λ w. nat_eq w v && asked) enabled.old enabled.new }
+    ensures { IsRefreshed R.table state.now.state (λ w. nat_eq w v && asked) enabled.old enabled.new }
 {
     if asked {
         look_at(state, enabled, v);
@@ -41,7 +41,7 @@ pub(crate) fn look_at_target<R: Rules>(
 )
     requires has { IfSome target (λ w. IsTrue (present state.now.state.network w)) }
     requires places { length enabled.old ≡ state.now.state.network.size + 1 }
-    ensures { IsLookedAt R.table state.now.state (is_null_target state.now.state target) enabled.old enabled.new }
+    ensures { IsRefreshed R.table state.now.state (is_null_target state.now.state target) enabled.old enabled.new }
 {
     if let Some(w) = target {
         look_if(state, enabled, w, state.registers().pointer(w).is_none());
@@ -52,7 +52,7 @@ pub(crate) fn look_at_target<R: Rules>(
 fn look_at_suitors<R: Rules>(state: &IndexedState<R>, enabled: &mut EnabledSet, v: Node)
     requires has { IsTrue (present state.now.state.network v) }
     requires places { length enabled.old ≡ state.now.state.network.size + 1 }
-    ensures { IsLookedAt R.table state.now.state (is_suitor state.now.state v) enabled.old enabled.new }
+    ensures { IsRefreshed R.table state.now.state (is_suitor state.now.state v) enabled.old enabled.new }
 {
     if let Some(w) = state.lone_suitor(v) {
         return look_at(state, enabled, w);
@@ -71,10 +71,10 @@ fn turns_with<R: Rules>(state: &IndexedState<R>, w: Node, v: Node, is_open: bool
     requires has { IsTrue (present state.now.state.network w) }
     requires linked { IsTrue (linked state.now.state.network w v) }
     requires open { is_open ≡ RuleTable.is_open R.table.opens state.now.state v }
-    ensures { result ≡ turns_with R.ABOVE R.table.opens state.now.state v w }
+    ensures { result ≡ turns_with R.COURTS_HIGHER_ONLY R.table.opens state.now.state v w }
 {
     // Counts first: successive neighbours mostly agree, so the branch is well predicted.
-    if !state.relies_on(w, v, is_open) {
+    if !state.is_only_open_neighbour(w, v, is_open) {
         return false;
     }
     state.registers().pointer(w).is_none()
@@ -85,7 +85,7 @@ fn turns_with<R: Rules>(state: &IndexedState<R>, w: Node, v: Node, is_open: bool
 fn look_where_turned<R: Rules>(state: &IndexedState<R>, enabled: &mut EnabledSet, v: Node)
     requires has { IsTrue (present state.now.state.network v) }
     requires places { length enabled.old ≡ state.now.state.network.size + 1 }
-    ensures { IsLookedAt R.table state.now.state (may_turn R.ABOVE R.table.opens state.now.state v) enabled.old enabled.new }
+    ensures { IsRefreshed R.table state.now.state (may_turn R.COURTS_HIGHER_ONLY R.table.opens state.now.state v) enabled.old enabled.new }
 {
     let is_open = state.is_open(v);
     for &w in state.store().neighbours(v) {
@@ -108,7 +108,7 @@ pub(crate) fn look_after_write<R: Rules>(
 )
     requires has { IsTrue (present state.now.state.network v) }
     requires places { length enabled.old ≡ state.now.state.network.size + 1 }
-    ensures { IsLookedAt R.table state.now.state (is_touched R.ABOVE R.table.opens state.now.state v turned) enabled.old enabled.new }
+    ensures { IsRefreshed R.table state.now.state (may_change_guard R.COURTS_HIGHER_ONLY R.table.opens state.now.state v turned) enabled.old enabled.new }
 {
     look_at(state, enabled, v);
     look_at_suitors(state, enabled, v);

@@ -1,24 +1,24 @@
 //! The moves of a step.
 
 ghost use Rattle.std.specs.Prelude.{◌≡◌, ◌++◌, ◌∷◌, [], IfOk, IsTrue, None, OnErr, OnOk};
-ghost use Rattle.rule_engine.specs.Choosing.{AreLeast, IsToldOf};
+ghost use Rattle.rule_engine.specs.ChoiceMoves.{AreLeast, IsToldOf};
 
 use rule_machine::{Listing, Moved, Refusal, Reply, Want};
 use std::alloc::{AllocError, Global};
 
 /// The moves gathered so far from a choice of `items` items, and whether memory lasted for each.
 #[derive(Drop)]
-pub(crate) struct Gathered {
+pub(crate) struct CollectedMoves {
     pub(crate) moves: Vec<Moved>,
     pub(crate) items: usize,
     pub(crate) whole: bool,
 }
 
-impl Gathered {
-    pub(crate) fn new(alloc: Global, items: usize) -> Gathered
+impl CollectedMoves {
+    pub(crate) fn new(alloc: Global, items: usize) -> CollectedMoves
         ensures { result.moves.items ≡ [] }
     {
-        Gathered {
+        CollectedMoves {
             moves: Vec::new(alloc),
             items,
             whole: true,
@@ -39,7 +39,7 @@ impl Gathered {
     pub(crate) fn into_ascending(self) -> Result<Listing<Moved>, Want>
         ensures { IfOk result (λ moves. IsTrue self.whole × AreLeast self.moves.items moves) }
     {
-        let Gathered {
+        let CollectedMoves {
             mut moves,
             whole,
             ..
@@ -64,7 +64,7 @@ pub(crate) fn add_one<T: Copy>(list: &mut Vec<T>, most: usize, item: T) -> bool
 }
 
 /// The reply to a step: the refusal, or else the moves that were gathered. Takes no memory.
-pub(crate) fn step_reply(refused: Option<Refusal>, gathered: Gathered) -> Result<Reply, Want>
+pub(crate) fn step_reply(refused: Option<Refusal>, gathered: CollectedMoves) -> Result<Reply, Want>
     ensures told { IfOk result (λ reply. IsToldOf refused gathered.moves.items reply) }
     ensures whole { OnOk result (refused ≡ None → IsTrue gathered.whole) }
     ensures want { OnErr result (refused ≡ None) }

@@ -2,7 +2,7 @@
 
 ghost use Rattle.std.specs.Prelude.{◌≡◌, ◌<◌, ◌≤◌, ◌+◌, ◌*◌, ◌↔◌, ℕ, List, [], IfOk, IfErr, IfSome, OnOk, OnErr, IsTrue, None, length, zip, slice_get};
 ghost use Rattle.enabled_set.specs.Members.{members};
-ghost use Rattle.graph_store.specs.Fault.{nodes_fault, Explains};
+ghost use Rattle.graph_store.specs.Fault.{nodes_fault, ExplainsGraphFault};
 ghost use Rattle.rule_machine.specs.Base.{base_of};
 ghost use Rattle.rule_machine.specs.Network.{node_count, edge_count};
 ghost use Rattle.rule_machine.specs.State.{IsState};
@@ -12,25 +12,25 @@ ghost use Rattle.rule_machine.specs.Least.{reply_of, replies_of};
 ghost use Rattle.rule_machine.specs.Stable.{IsStable, IsMaximalMatching, mutual_pairs};
 ghost use Rattle.rule_machine.specs.Run.{Run, beginning, beginning_with, moment_after};
 ghost use Rattle.rule_machine.specs.Answer.{Answers};
-ghost use Rattle.machine_laws.specs.Half.{IsMatching};
+ghost use Rattle.machine_laws.specs.HalfMatchings.{IsMatching};
 ghost use Rattle.rule_machine.specs.declared.event.Event.TheVariants.{Step};
-ghost use Rattle.rule_engine.specs.Kept.{guard_at, IsAnswered};
-ghost use Rattle.rule_engine.specs.Applied.{StopsAt, moment_after_all, takes_memory};
-ghost use Rattle.rule_engine.specs.Choosing.{verdict_of, verdicts_of};
-ghost use Rattle.rule_engine.specs.Costs.{cost_of, BoundsGrowth};
-ghost use Rattle.rule_engine.specs.Reached.{would_reach, reach_of, Spares};
+ghost use Rattle.rule_engine.specs.EngineStates.{guard_at, IsAnswered};
+ghost use Rattle.rule_engine.specs.EventReplies.{StopsForMemory, moment_after_all, takes_memory};
+ghost use Rattle.rule_engine.specs.ChoiceMoves.{verdict_of, verdicts_of};
+ghost use Rattle.rule_engine.specs.Costs.{disturbance_cost, BoundsGrowth};
+ghost use Rattle.rule_engine.specs.DisturbanceReach.{would_reach, reach_of, Spares};
 ghost use Rattle.containment_laws.specs.Reach.{reach_size};
 ghost use Rattle.containment_laws.specs.Rest.{is_at_rest};
-ghost use Rattle.rule_engine.specs.Prepared.{IsPrepared, moment_of};
+ghost use Rattle.rule_engine.specs.PreparedEvents.{IsPrepared, net_moment};
 
 use crate::charge::spent_after;
 use crate::engine::Engine;
 use enabled_set::EnabledSet;
 use graph_store::{EdgeStore, GraphFault};
-use net_state::Disturb;
+use net_state::StateWriter;
 use registers::Registers;
 use rule_machine::{Act, Base, Choice, Event, Listing, Node, Reply, Verdict, Want};
-use rule_set::Rules;
+use rules_api::Rules;
 use std::alloc::Global;
 use std::marker::Model;
 
@@ -45,9 +45,9 @@ pub struct Net<R: Rules> {
 }
 
 impl<R: Rules> Model for Net<R> {
-    ghost use Rattle.rule_engine.specs.Kept.{moment};
-    ghost use Rattle.rule_engine.specs.Applied.{IsPaid};
-    ghost use Rattle.rule_engine.specs.Prepared.{NetView, net_code};
+    ghost use Rattle.rule_engine.specs.EngineStates.{moment};
+    ghost use Rattle.rule_engine.specs.EventReplies.{IsWithinBudget};
+    ghost use Rattle.rule_engine.specs.PreparedEvents.{NetView, net_code};
 
     ghost Value = { NetView };
 
@@ -55,7 +55,7 @@ impl<R: Rules> Model for Net<R> {
 
     ghost view = { λ n. record { state = n.engine.state; spent = n.spent; room = n.engine.room } };
 
-    ghost invariant = { λ n. IsPaid R.table R.NODE_WEIGHT (moment n.engine.state n.spent) };
+    ghost invariant = { λ n. IsWithinBudget R.table R.NODE_WEIGHT (moment n.engine.state n.spent) };
 }
 
 impl<R: Rules> Net<R> {
@@ -63,9 +63,9 @@ impl<R: Rules> Net<R> {
     /// `TooManyNodes` above 65,535 nodes; `Memory` if memory runs out.
     /// Takes about fifty bytes a node.
     pub fn new(alloc: Global, nodes: u32) -> Result<Net<R>, GraphFault>
-        ensures ok { IfOk result (λ net. moment_of net ≡ beginning nodes) }
+        ensures ok { IfOk result (λ net. net_moment net ≡ beginning nodes) }
         ensures small { OnOk result (nodes ≤ 65535) }
-        ensures fault { IfErr result (λ fault. Explains (nodes_fault nodes) fault) }
+        ensures fault { IfErr result (λ fault. ExplainsGraphFault (nodes_fault nodes) fault) }
     {
         Net::with_present(alloc, nodes, nodes)
     }
@@ -75,9 +75,9 @@ impl<R: Rules> Net<R> {
     /// Takes about fifty bytes a name.
     pub fn with_present(alloc: Global, nodes: u32, present: u32) -> Result<Net<R>, GraphFault>
         requires within { present ≤ nodes }
-        ensures ok { IfOk result (λ net. moment_of net ≡ beginning_with nodes present) }
+        ensures ok { IfOk result (λ net. net_moment net ≡ beginning_with nodes present) }
         ensures small { OnOk result (nodes ≤ 65535) }
-        ensures fault { IfErr result (λ fault. Explains (nodes_fault nodes) fault) }
+        ensures fault { IfErr result (λ fault. ExplainsGraphFault (nodes_fault nodes) fault) }
     {
         let engine = Engine::with_present(alloc, nodes, present)?;
         Ok(Net {
@@ -159,7 +159,7 @@ impl<R: Rules> Net<R> {
     /// 0 for a step, for a query, and for an event that would be refused.
     /// It reads pointers and counts of the nodes that the event touches, whatever the size of the network.
     pub fn cost_of(&self, event: &Event) -> u32
-        ensures cost { result ≡ cost_of R.table R.cost self.now.state event.now }
+        ensures cost { result ≡ disturbance_cost R.table R.cost self.now.state event.now }
         ensures grows { BoundsGrowth R.table self.now.state self.now.spent event.now result }
     {
         // Called for its contract: the state is sound.
@@ -208,7 +208,7 @@ impl<R: Rules> Net<R> {
     /// `AllocError` if memory runs out. Takes about eight bytes a node and four an edge.
     /// It looks at every name and at both ends of every edge.
     pub fn base(&self, number: u32) -> Result<Base, Want>
-        ensures base { IfOk result (λ base. base ≡ base_of number (moment_of self.now)) }
+        ensures base { IfOk result (λ base. base ≡ base_of number (net_moment self.now)) }
         ensures few { IfOk result (λ base. (length base.nodes ≤ 65535) × (length base.edges ≤ 1048576)) }
     {
         let net = self.engine.net();
@@ -238,7 +238,7 @@ impl<R: Rules> Net<R> {
     pub fn prepare(&mut self, event: &Event) -> Result<Reply, Want>
         ensures reply { IfOk result (λ reply. reply ≡ reply_of R.table self.old.state self.old.spent event.now) }
         ensures prepared { IfOk result (λ reply. IsPrepared R.table self.new event.now reply) }
-        ensures kept { moment_of self.new ≡ moment_of self.old }
+        ensures kept { net_moment self.new ≡ net_moment self.old }
         ensures want { OnErr result ((refusal_of R.table self.old.state event.now ≡ None) × IsTrue (takes_memory event.now)) }
     {
         let mut reply = Reply::Accepted;
@@ -252,7 +252,7 @@ impl<R: Rules> Net<R> {
     pub fn prepare_into(&mut self, event: &Event, reply: &mut Reply) -> Result<(), Want>
         ensures reply { OnOk result (reply.new ≡ reply_of R.table self.old.state self.old.spent event.now) }
         ensures prepared { OnOk result (IsPrepared R.table self.new event.now reply.new) }
-        ensures kept { moment_of self.new ≡ moment_of self.old }
+        ensures kept { net_moment self.new ≡ net_moment self.old }
         ensures want { OnErr result ((refusal_of R.table self.old.state event.now ≡ None) × IsTrue (takes_memory event.now)) }
     {
         self.engine.prepare(event, self.spent, reply)
@@ -265,7 +265,7 @@ impl<R: Rules> Net<R> {
         requires { verdicts.now ≡ verdicts_of R.table self.old.state choice.now }
         ensures reply { IfOk result (λ reply. reply ≡ reply_of R.table self.old.state self.old.spent (Step choice.now)) }
         ensures prepared { IfOk result (λ reply. IsPrepared R.table self.new (Step choice.now) reply) }
-        ensures kept { moment_of self.new ≡ moment_of self.old }
+        ensures kept { net_moment self.new ≡ net_moment self.old }
         ensures want { OnErr result (refusal_of R.table self.old.state (Step choice.now) ≡ None) }
     {
         self.engine.prepare_step(choice, verdicts)
@@ -276,7 +276,7 @@ impl<R: Rules> Net<R> {
     #[inline(always)]
     pub fn commit(&mut self, event: &Event, reply: &Reply)
         requires { IsPrepared R.table self.old event.now reply.now }
-        ensures state { moment_of self.new ≡ moment_after R.table (moment_of self.old) event.now }
+        ensures state { net_moment self.new ≡ moment_after R.table (net_moment self.old) event.now }
         ensures machine { Answers R.table self.old.state self.old.spent event.now reply.now self.new.state }
     {
         self.engine.commit(event, reply);
@@ -304,9 +304,9 @@ impl<R: Rules> Net<R> {
     /// its edges changed or several nodes point at it.
     pub fn apply(&mut self, event: &Event) -> Result<Reply, Want>
         ensures reply { IfOk result (λ reply. reply ≡ reply_of R.table self.old.state self.old.spent event.now) }
-        ensures state { OnOk result (moment_of self.new ≡ moment_after R.table (moment_of self.old) event.now) }
+        ensures state { OnOk result (net_moment self.new ≡ moment_after R.table (net_moment self.old) event.now) }
         ensures machine { IfOk result (λ reply. Answers R.table self.old.state self.old.spent event.now reply self.new.state) }
-        ensures kept { OnErr result (moment_of self.new ≡ moment_of self.old) }
+        ensures kept { OnErr result (net_moment self.new ≡ net_moment self.old) }
         ensures want { OnErr result ((refusal_of R.table self.old.state event.now ≡ None) × IsTrue (takes_memory event.now)) }
     {
         let mut reply = Reply::Accepted;
@@ -319,9 +319,9 @@ impl<R: Rules> Net<R> {
     #[inline(always)]
     pub fn apply_into(&mut self, event: &Event, reply: &mut Reply) -> Result<(), Want>
         ensures reply { OnOk result (reply.new ≡ reply_of R.table self.old.state self.old.spent event.now) }
-        ensures state { OnOk result (moment_of self.new ≡ moment_after R.table (moment_of self.old) event.now) }
+        ensures state { OnOk result (net_moment self.new ≡ moment_after R.table (net_moment self.old) event.now) }
         ensures machine { OnOk result (Answers R.table self.old.state self.old.spent event.now reply.new self.new.state) }
-        ensures kept { OnErr result (moment_of self.new ≡ moment_of self.old) }
+        ensures kept { OnErr result (net_moment self.new ≡ net_moment self.old) }
         ensures want { OnErr result ((refusal_of R.table self.old.state event.now ≡ None) × IsTrue (takes_memory event.now)) }
     {
         self.prepare_into(event, reply)?;
@@ -334,9 +334,9 @@ impl<R: Rules> Net<R> {
     /// if the list of replies needed it.
     pub fn apply_all(&mut self, events: &[Event]) -> Result<Listing<Reply>, Want>
         ensures replies { IfOk result (λ replies. replies ≡ replies_of R.table self.old.state self.old.spent events.now) }
-        ensures state { OnOk result (moment_of self.new ≡ moment_after_all R.table (moment_of self.old) events.now) }
-        ensures run { IfOk result (λ replies. Run R.table (moment_of self.old) (zip events.now replies) (moment_of self.new)) }
-        ensures err { OnErr result ((k : ℕ) × StopsAt R.table (moment_of self.old) events.now k (moment_of self.new)) }
+        ensures state { OnOk result (net_moment self.new ≡ moment_after_all R.table (net_moment self.old) events.now) }
+        ensures run { IfOk result (λ replies. Run R.table (net_moment self.old) (zip events.now replies) (net_moment self.new)) }
+        ensures err { OnErr result ((k : ℕ) × StopsForMemory R.table (net_moment self.old) events.now k (net_moment self.new)) }
     {
         let mut replies = Vec::with_capacity(self.alloc, events.len())?;
         for event in events {
@@ -354,8 +354,8 @@ impl<R: Rules> Net<R> {
     pub fn apply_step(&mut self, choice: &Choice, verdicts: &[Verdict]) -> Result<Reply, Want>
         requires { verdicts.now ≡ verdicts_of R.table self.old.state choice.now }
         ensures reply { IfOk result (λ reply. reply ≡ reply_of R.table self.old.state self.old.spent (Step choice.now)) }
-        ensures state { OnOk result (moment_of self.new ≡ moment_after R.table (moment_of self.old) (Step choice.now)) }
-        ensures kept { OnErr result (moment_of self.new ≡ moment_of self.old) }
+        ensures state { OnOk result (net_moment self.new ≡ moment_after R.table (net_moment self.old) (Step choice.now)) }
+        ensures kept { OnErr result (net_moment self.new ≡ net_moment self.old) }
         ensures want { OnErr result (refusal_of R.table self.old.state (Step choice.now) ≡ None) }
     {
         let reply = self.prepare_step(choice, verdicts)?;
@@ -365,7 +365,7 @@ impl<R: Rules> Net<R> {
 
     fn commit_step(&mut self, choice: &Choice, reply: &Reply)
         requires { IsPrepared R.table self.old (Step choice.now) reply.now }
-        ensures { moment_of self.new ≡ moment_after R.table (moment_of self.old) (Step choice.now) }
+        ensures { net_moment self.new ≡ moment_after R.table (net_moment self.old) (Step choice.now) }
     {
         self.engine.commit_step(choice, reply);
         self.spent = spent_after::<R>(self.engine.store(), self.spent, reply);

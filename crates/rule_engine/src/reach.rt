@@ -2,13 +2,13 @@
 
 ghost use Rattle.std.specs.Prelude.{◌≡◌, ◌≤◌, IfOk, length};
 ghost use Rattle.containment_laws.specs.Reach.{reach_size};
-ghost use Rattle.rule_engine.specs.Reached.{would_reach, reach_of};
+ghost use Rattle.rule_engine.specs.DisturbanceReach.{would_reach, reach_of};
 
 use crate::cost::is_disturbance;
 use indexed_state::IndexedState;
-use net_state::Disturb;
+use net_state::StateWriter;
 use rule_machine::{Event, Node, Want};
-use rule_set::Rules;
+use rules_api::Rules;
 use std::alloc::Global;
 
 pub(crate) fn would_reach<R: Rules>(state: &IndexedState<R>, event: &Event, v: Node) -> bool

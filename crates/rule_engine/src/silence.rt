@@ -2,20 +2,20 @@
 
 ghost use Rattle.std.specs.Prelude.{◌≡◌, ◌≤◌, ◌+◌, ◌↔◌, [], IfSome, IsSome};
 ghost use Rattle.rule_machine.specs.RuleTable.{enabled_names};
-ghost use Rattle.rule_engine.specs.Costs.{cost_of};
+ghost use Rattle.rule_engine.specs.Costs.{disturbance_cost};
 ghost use Rattle.silent_cost.specs.FromSilence.{BoundsMovesAfter};
 
 use crate::Net;
 use crate::cost::is_disturbance;
 use indexed_state::IndexedState;
-use net_state::Disturb;
+use net_state::StateWriter;
 use rule_machine::Event;
 use silent_cost::SilentCost;
 
 /// What an event would cost a silent network, where it would be accepted; else 0.
-#[tactic(auto, using(crate::proofs::Costed::not_refused))]
+#[tactic(auto, using(crate::proofs::EventCosts::not_refused))]
 fn silent_cost_of<R: SilentCost>(state: &IndexedState<R>, event: &Event) -> u32
-    ensures { result ≡ cost_of R.table R.silent_cost state.now.state event.now }
+    ensures { result ≡ disturbance_cost R.table R.silent_cost state.now.state event.now }
 {
     // By its contract the state is sound.
     let _ = state.registers();
@@ -36,9 +36,9 @@ impl<R: SilentCost> Net<R> {
     /// It takes a look at each neighbour of at most two nodes and no memory. Nothing changes.
     pub fn silent_cost_of(&self, event: &Event) -> Option<u32>
         ensures silent { IsSome result ↔ (enabled_names R.table self.now.state ≡ []) }
-        ensures cost { IfSome result (λ most. most ≡ cost_of R.table R.silent_cost self.now.state event.now) }
+        ensures cost { IfSome result (λ most. most ≡ disturbance_cost R.table R.silent_cost self.now.state event.now) }
         ensures pays { IfSome result (λ most. BoundsMovesAfter R.table self.now.state self.now.spent event.now most) }
-        ensures less { IfSome result (λ most. most ≤ cost_of R.table R.cost self.now.state event.now + cost_of R.table R.excess self.now.state event.now) }
+        ensures less { IfSome result (λ most. most ≤ disturbance_cost R.table R.cost self.now.state event.now + disturbance_cost R.table R.excess self.now.state event.now) }
     {
         // By its contract the state is sound.
         let _ = self.registers();

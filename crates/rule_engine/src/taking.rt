@@ -3,10 +3,10 @@
 ghost use Rattle.std.specs.Prelude.{◌≡◌, ◌++◌, [], All, None, Some, MatchResult, IsTrue, if◌then◌else◌, is_some, length, option_to_list, slice_set, true};
 ghost use Rattle.enabled_set.specs.Members.{is_in};
 ghost use Rattle.rule_machine.specs.Least.{move_in};
-ghost use Rattle.rule_engine.specs.Choosing.{moves_of, refused_by, size_refusal, verdicts_refusal};
+ghost use Rattle.rule_engine.specs.ChoiceMoves.{verdict_moves, refused_by, size_refusal, verdicts_refusal};
 ghost use Rattle.rule_engine.specs.Marks.{AreClear, HasPlace};
 
-use crate::moves::Gathered;
+use crate::moves::CollectedMoves;
 use enabled_set::Marks;
 use rule_machine::{Moved, Node, Outcome, Refusal, Verdict};
 
@@ -40,7 +40,7 @@ pub(crate) fn accepted(outcome: Outcome, twice: bool) -> Result<Moved, Refusal>
 /// The marks are the nodes of the items before it. The move is added only if memory has lasted so far.
 pub(crate) fn take_outcome(
     chosen: &mut Marks,
-    gathered: &mut Gathered,
+    gathered: &mut CollectedMoves,
     node: Node,
     outcome: Outcome,
 ) -> Option<Refusal>
@@ -63,14 +63,14 @@ pub(crate) fn take_outcome(
 /// Takes the items of verdicts in order up to the first that is refused, and returns its refusal.
 fn take_up_to_refusal(
     chosen: &mut Marks,
-    gathered: &mut Gathered,
+    gathered: &mut CollectedMoves,
     verdicts: &[Verdict],
 ) -> Option<Refusal>
     requires clear { AreClear chosen.old }
     requires placed { All (λ d. HasPlace (length chosen.old) d.node d.outcome) verdicts.now }
     requires none { gathered.old.moves.items ≡ [] }
     ensures refusal { result ≡ verdicts_refusal [] verdicts.now }
-    ensures moves { result ≡ None → IsTrue gathered.new.whole → gathered.new.moves.items ≡ moves_of verdicts.now }
+    ensures moves { result ≡ None → IsTrue gathered.new.whole → gathered.new.moves.items ≡ verdict_moves verdicts.now }
     ensures len { length chosen.new ≡ length chosen.old }
 {
     for verdict in verdicts {
@@ -85,14 +85,14 @@ fn take_up_to_refusal(
 /// One look at each verdict up to that one.
 pub(crate) fn take_verdicts(
     chosen: &mut Marks,
-    gathered: &mut Gathered,
+    gathered: &mut CollectedMoves,
     verdicts: &[Verdict],
 ) -> Option<Refusal>
     requires clear { AreClear chosen.old }
     requires placed { All (λ d. HasPlace (length chosen.old) d.node d.outcome) verdicts.now }
     requires none { gathered.old.moves.items ≡ [] }
     ensures refusal { result ≡ verdicts_refusal [] verdicts.now }
-    ensures moves { result ≡ None → IsTrue gathered.new.whole → gathered.new.moves.items ≡ moves_of verdicts.now }
+    ensures moves { result ≡ None → IsTrue gathered.new.whole → gathered.new.moves.items ≡ verdict_moves verdicts.now }
     ensures kept { chosen.new ≡ chosen.old }
 {
     let refusal = take_up_to_refusal(chosen, gathered, verdicts);

@@ -1,8 +1,8 @@
 -- Bases: what is left of a run when its older entries are dropped. Logs in which bases come among entries.
 use Rattle.std.specs.Prelude.{◌≡◌, ℕ, ◌+◌, ◌≤◌, false, List, [], ◌∷◌, map, Option, None, Some}
-use Rattle.rule_machine.specs.declared.base.Start.{Start}
-use Rattle.rule_machine.specs.declared.base.Start.TheVariants.{At, Forgotten}
-use Rattle.rule_machine.specs.declared.base.Place.{Place}
+use Rattle.rule_machine.specs.declared.base.EpochStart.{EpochStart}
+use Rattle.rule_machine.specs.declared.base.EpochStart.TheVariants.{At, Forgotten}
+use Rattle.rule_machine.specs.declared.base.NodeRecord.{NodeRecord}
 use Rattle.rule_machine.specs.declared.base.Base.{Base}
 use Rattle.rule_machine.specs.Network.{Network, names, edge_list}
 use Rattle.rule_machine.specs.State.{State, IsState, pointer, flag}
@@ -11,20 +11,20 @@ use Rattle.rule_machine.specs.Answer.{Answers, spent_after}
 use Rattle.rule_machine.specs.Run.{Entry, Moment, beginning_with}
 
 -- a node of a state with its registers
-abbrev pub place_at : State → ℕ → Place
-place_at s v = record { node = v; target = pointer s v; flagged = flag s v }
+abbrev pub node_record_at : State → ℕ → NodeRecord
+node_record_at s v = record { node = v; target = pointer s v; flagged = flag s v }
 
 -- the nodes of a state, ascending
-abbrev pub places : State → List Place
-places s = map (place_at s) (names s.network)
+abbrev pub node_records : State → List NodeRecord
+node_records s = map (node_record_at s) (names s.network)
 
 -- the base at a moment after `number` entries
 abbrev pub base_of : ℕ → Moment → Base
-base_of number m = record { number = number; spent = m.spent; nodes = places m.state; edges = edge_list m.state.network }
+base_of number m = record { number = number; spent = m.spent; nodes = node_records m.state; edges = edge_list m.state.network }
 
 -- A run may begin at the base, for names up to size: the start is a state, its lines are the base's, and its
 -- spent moves and charge are within the bound of its network.
-pub record IsBegun (t : RuleTable) (bound : Network → ℕ) (size : ℕ) (base : Base) (start : Moment) : Type 0 where
+pub record IsBaseMoment (t : RuleTable) (bound : Network → ℕ) (size : ℕ) (base : Base) (start : Moment) : Type 0 where
   pub is_state : IsState start.state
   pub size_is : start.state.network.size ≡ size
   pub lines : base ≡ base_of base.number start
@@ -35,7 +35,7 @@ pub record IsBegun (t : RuleTable) (bound : Network → ℕ) (size : ℕ) (base 
 -- at a base
 abbrev pub BeginsAt : RuleTable → (Network → ℕ) → ℕ → ℕ → Option Base → Moment → Type 0
 BeginsAt t bound size first None start = start ≡ beginning_with size first
-BeginsAt t bound size first (Some base) start = IsBegun t bound size base start
+BeginsAt t bound size first (Some base) start = IsBaseMoment t bound size base start
 
 -- the number of the last entry before the kept ones
 abbrev pub dropped : Option Base → ℕ
@@ -43,29 +43,29 @@ dropped None = 0
 dropped (Some base) = base.number
 
 -- where the first epoch of the kept entries began
-abbrev pub begun_at : Option Base → Start
+abbrev pub begun_at : Option Base → EpochStart
 begun_at None = At 0
 begun_at (Some base) = Forgotten
 
 -- a part of a transcript: an entry, or a base
-pub data Part : Type 0 where
-  Told : Entry → Part
-  Kept : Base → Part
+pub data LogPart : Type 0 where
+  EntryPart : Entry → LogPart
+  BasePart : Base → LogPart
 
 -- a moment, and how many entries led to it
-pub record Stand : Type 0 where
+pub record NumberedMoment : Type 0 where
   pub moment : Moment
   pub count : ℕ
 
 -- From one numbered moment to another: the replies are answers of the machine, and a base is that of its
 -- moment.
-abbrev pub Passes : RuleTable → Stand → List Part → Stand → Type 0
+abbrev pub Passes : RuleTable → NumberedMoment → List LogPart → NumberedMoment → Type 0
 Passes t at [] end = end ≡ at
-Passes t at (Told entry ∷ log) end =
+Passes t at (EntryPart entry ∷ log) end =
     (next : State) × Answers t at.moment.state at.moment.spent entry.0 entry.1 next × Passes t (record { moment = record { state = next; spent = spent_after at.moment.spent entry.1 }; count = at.count + 1 }) log end
-Passes t at (Kept base ∷ log) end = (base ≡ base_of at.count at.moment) × Passes t at log end
+Passes t at (BasePart base ∷ log) end = (base ≡ base_of at.count at.moment) × Passes t at log end
 
-abbrev pub entries_in : List Part → List Entry
+abbrev pub entries_in : List LogPart → List Entry
 entries_in [] = []
-entries_in (Told entry ∷ log) = entry ∷ entries_in log
-entries_in (Kept base ∷ log) = entries_in log
+entries_in (EntryPart entry ∷ log) = entry ∷ entries_in log
+entries_in (BasePart base ∷ log) = entries_in log

@@ -10,7 +10,7 @@ pub mod Charge
 pub mod Refuse
 pub mod Answer
 pub mod Least
-pub mod Listed
+pub mod ListingItems
 pub mod Run
 pub mod Tables
 pub mod Base

@@ -1,7 +1,7 @@
 -- Runs: what a log of events and replies says of the machine.
 use Rattle.std.specs.Prelude.{◌≡◌, ℕ, ◌+◌, List, [], ◌∷◌, ◌++◌, length}
-use Rattle.rule_machine.specs.declared.base.Start.{Start}
-use Rattle.rule_machine.specs.declared.base.Start.TheVariants.{At}
+use Rattle.rule_machine.specs.declared.base.EpochStart.{EpochStart}
+use Rattle.rule_machine.specs.declared.base.EpochStart.TheVariants.{At}
 use Rattle.rule_machine.specs.declared.event.Event.{Event}
 use Rattle.rule_machine.specs.declared.reply.Reply.{Reply}
 use Rattle.rule_machine.specs.declared.reply.Reply.TheVariants.{Accepted, Refused, Moves, Shown, EnabledAre, Pairs, Counts}
@@ -41,7 +41,7 @@ beginning size = beginning_with size size
 -- The entries between two accepted disturbances: where they begin, their moves, and the numbers of edges and
 -- nodes.
 pub record Epoch : Type 0 where
-  pub start : Start
+  pub start : EpochStart
   pub moves : ℕ
   pub edges : ℕ
   pub nodes : ℕ
@@ -51,7 +51,7 @@ abbrev pub epoch_at : ℕ → State → Epoch
 epoch_at start s = record { start = At start; moves = 0; edges = edge_count s.network; nodes = node_count s.network }
 
 -- the epoch that began there, at a later moment
-abbrev pub open_at : Start → Moment → Epoch
+abbrev pub open_at : EpochStart → Moment → Epoch
 open_at start m =
     record { start = start; moves = m.spent; edges = edge_count m.state.network; nodes = node_count m.state.network }
 

@@ -4,7 +4,7 @@ use crate::{Edge, Listing, Node};
 
 /// A node with its registers.
 #[derive(Clone, Copy, Debug, PartialEq, Eq)]
-pub struct Place {
+pub struct NodeRecord {
     /// The node.
     pub node: Node,
     /// Its pointer; `None` for null.
@@ -21,14 +21,14 @@ pub struct Base {
     /// The moves since the last accepted disturbance, or since the start.
     pub spent: u32,
     /// The nodes with their registers, ascending by name.
-    pub nodes: Listing<Place>,
+    pub nodes: Listing<NodeRecord>,
     /// The edges, ascending by lower end, then by higher end.
     pub edges: Listing<Edge>,
 }
 
 /// The beginning of an epoch: of the entries between two accepted disturbances.
 #[derive(Clone, Copy, Debug, PartialEq, Eq)]
-pub enum Start {
+pub enum EpochStart {
     /// After the entry with this number, an accepted disturbance; 0 for the beginning of the run.
     At(u32),
     /// Before the base that the kept entries start from.

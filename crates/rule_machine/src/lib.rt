@@ -30,7 +30,7 @@ mod rules;
 mod verdict;
 
 pub use act::{Act, Moved};
-pub use base::{Base, Place, Start};
+pub use base::{Base, EpochStart, NodeRecord};
 pub use choice::{Choice, Item, MAX_ITEMS};
 pub use counts::Counts;
 pub use edge::{Edge, MAX_EDGES};

@@ -8,7 +8,7 @@ use std::marker::Model;
 
 /// The items of a listing. One item takes no memory.
 #[derive(Debug, Drop)]
-enum Held<T> {
+enum ListingItems<T> {
     One([T; 1]),
     Many(Vec<T>),
 }
@@ -16,13 +16,13 @@ enum Held<T> {
 /// A list that contracts see as its items, whatever its representation.
 #[derive(Debug, Drop)]
 pub struct Listing<T> {
-    held: Held<T>,
+    held: ListingItems<T>,
 }
 
 impl<T> Model for Listing<T> {
     ghost use Rattle.std.specs.Prelude.{List};
     ghost use Rattle.std.specs.Coded.{coded_list};
-    ghost use Rattle.rule_machine.specs.Listed.{listed};
+    ghost use Rattle.rule_machine.specs.ListingItems.{listed};
 
     ghost Value = { List T };
 
@@ -37,7 +37,7 @@ impl<T> Listing<T> {
         ensures { result ≡ item ∷ [] }
     {
         Listing {
-            held: Held::One([item]),
+            held: ListingItems::One([item]),
         }
     }
 
@@ -46,7 +46,7 @@ impl<T> Listing<T> {
         ensures { result ≡ items.items }
     {
         Listing {
-            held: Held::Many(items),
+            held: ListingItems::Many(items),
         }
     }
 
@@ -55,8 +55,8 @@ impl<T> Listing<T> {
         ensures { result.now ≡ self.now }
     {
         match &self.held {
-            Held::One(items) => items,
-            Held::Many(items) => items,
+            ListingItems::One(items) => items,
+            ListingItems::Many(items) => items,
         }
     }
 }
@@ -66,8 +66,8 @@ impl<T: Copy> Clone for Listing<T> {
 
     fn clone(&self) -> Result<Listing<T>, AllocError> {
         match &self.held {
-            Held::One([item]) => Ok(Listing::one(*item)),
-            Held::Many(items) => Ok(Listing::from_vec(copied(items)?)),
+            ListingItems::One([item]) => Ok(Listing::one(*item)),
+            ListingItems::Many(items) => Ok(Listing::from_vec(copied(items)?)),
         }
     }
 }

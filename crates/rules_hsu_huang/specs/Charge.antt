@@ -4,29 +4,29 @@ use Rattle.std.proofs.lemmas.List.Sums.{sum_by-cons}
 use Rattle.rule_machine.specs.Network.{names, edge_list}
 use Rattle.rule_machine.specs.State.{State, IsState, pointer, holds_at, is_unanswered}
 use Rattle.rule_machine.specs.Charge.{hsu_huang_charge}
-use Rattle.rule_set.specs.Standing.{ends_open, IsSameStanding}
+use Rattle.rules_api.specs.ChargeInputs.{ends_open, IsSameChargeInput}
 use Rattle.charge_laws.specs.ClosedByPointers.{hsu_huang_closes, hsu_huang_split}
 
-abbrev pub nothing : State → ℕ → ℕ
-nothing s v = 0
+abbrev pub no_flag_charge : State → ℕ → ℕ
+no_flag_charge s v = 0
 
-no_sum : (s : State) (xs : List ℕ) → sum_by (nothing s) xs ≡ 0
+no_sum : (s : State) (xs : List ℕ) → sum_by (no_flag_charge s) xs ≡ 0
 no_sum s [] = refl
-no_sum s (x ∷ xs) = let rest = no_sum s xs in let whole = sum_by-cons (nothing s) x xs in omega (arith, rest, whole)
+no_sum s (x ∷ xs) = let rest = no_sum s xs in let whole = sum_by-cons (no_flag_charge s) x xs in omega (arith, rest, whole)
 
 -- so the charge is computed from the stances and the pointers
-pub charge_without_nodes : (s : State) → IsState s → hsu_huang_charge s + 2 * count_by (hsu_huang_closes s) (names s.network) ≡ 2 * count_by (ends_open true s) (edge_list s.network) + count_by (is_unanswered s) (names s.network) + sum_by (nothing s) (names s.network)
+pub charge_without_nodes : (s : State) → IsState s → hsu_huang_charge s + 2 * count_by (hsu_huang_closes s) (names s.network) ≡ 2 * count_by (ends_open true s) (edge_list s.network) + count_by (is_unanswered s) (names s.network) + sum_by (no_flag_charge s) (names s.network)
 charge_without_nodes s good =
     let split = hsu_huang_split s good in let none = no_sum s (names s.network) in omega (arith, split, none)
 
 -- a null pointer closes nothing
-pub null_closes : (s : State) (v : ℕ) → pointer s v ≡ None → hsu_huang_closes s v ≡ false
-null_closes s v null = ap (holds_at (λ w. is_none (pointer s w))) null
+pub hsu_huang_null_closes : (s : State) (v : ℕ) → pointer s v ≡ None → hsu_huang_closes s v ≡ false
+hsu_huang_null_closes s v null = ap (holds_at (λ w. is_none (pointer s w))) null
 
 -- whether a pointer closes an edge depends on the pointer of its target
-pub closes_alike : (s u : State) (v w : ℕ) → IsState s → IsState u → pointer s v ≡ Some w → pointer u v ≡ Some w → IsSameStanding s u w → hsu_huang_closes s v ≡ hsu_huang_closes u v
-closes_alike s u v w good also at still same =
+pub hsu_huang_closes_alike : (s u : State) (v w : ℕ) → IsState s → IsState u → pointer s v ≡ Some w → pointer u v ≡ Some w → IsSameChargeInput s u w → hsu_huang_closes s v ≡ hsu_huang_closes u v
+hsu_huang_closes_alike s u v w good also at still same =
     ap (holds_at (λ x. is_none (pointer s x))) at ∙ ap is_none same.points ∙ sym (ap (holds_at (λ x. is_none (pointer u x))) still)
 
-pub light : 1 ≤ 3
-light = omega arith
+pub hsu_huang_weight_is_small : 1 ≤ 3
+hsu_huang_weight_is_small = omega arith

@@ -10,7 +10,7 @@ use Rattle.rule_machine.specs.Stable.{IsStable}
 use Rattle.machine_laws.specs.Neighbours.{option_cases, linked_back, linked_present, near_found, near_fails}
 use Rattle.machine_laws.specs.Pointers.{points_true, points_from, pointer_linked, suitor_from, suitor_some}
 use Rattle.machine_laws.specs.Writes.{if_some_at, if_some_from}
-use Rattle.machine_laws.specs.Enabled.{quiet_at, quiet_from}
+use Rattle.machine_laws.specs.EnabledNodes.{quiet_at, quiet_from}
 use Rattle.rules_hsu_huang.specs.Rule.{is_taken, has_open}
 
 module _ (s : State) (is_state : IsState s) (quiet : enabled_names hsu_huang s ≡ []) where
@@ -56,8 +56,8 @@ module _ (s : State) (is_state : IsState s) (quiet : enabled_names hsu_huang s �
       )
       (cases_Bool (has_suitor s v))
 
-pub stable_from_quiet : (s : State) → IsState s → enabled_names hsu_huang s ≡ [] → IsStable false s
-stable_from_quiet s is_state quiet = record {
+pub hsu_huang_stable_from_quiet : (s : State) → IsState s → enabled_names hsu_huang s ≡ [] → IsStable false s
+hsu_huang_stable_from_quiet s is_state quiet = record {
   answered = λ v. if_some_from (pointer s v) (λ w. pointer s w ≡ Some v) (points_back s is_state quiet v);
   covered = no_pair_free s is_state quiet;
   flagged = λ used. absurd cc;
@@ -65,8 +65,8 @@ stable_from_quiet s is_state quiet = record {
 
 -- A suitor is answered, so its target's pointer is not null. A free neighbour of a free node would be an
 -- uncovered edge. The target of a node points back.
-pub quiet_from_stable : (s : State) → IsState s → IsStable false s → enabled_names hsu_huang s ≡ []
-quiet_from_stable s is_state stable = quiet_from hsu_huang s (λ v here. elim [ Update ↦ refl | Marry ↦ no_marry v | Seduce ↦ no_seduce v | Abandon ↦ no_abandon v (pointer s v) refl ])
+pub hsu_huang_quiet_from_stable : (s : State) → IsState s → IsStable false s → enabled_names hsu_huang s ≡ []
+hsu_huang_quiet_from_stable s is_state stable = quiet_from hsu_huang s (λ v here. elim [ Update ↦ refl | Marry ↦ no_marry v | Seduce ↦ no_seduce v | Abandon ↦ no_abandon v (pointer s v) refl ])
   where
     no_marry : (v : ℕ) → (is_none (pointer s v) && has_suitor s v) ≡ false
     no_marry v =

@@ -5,18 +5,18 @@ use Rattle.rule_machine.specs.declared.act.Act.TheVariants.{Update, Marry, Seduc
 use Rattle.rule_machine.specs.State.{State, IsState, pointer, points, is_at, holds_at, has_suitor}
 use Rattle.rule_machine.specs.RuleTable.{rule_at, is_open, first_open}
 use Rattle.rule_machine.specs.HsuHuang.{hsu_huang, hsu_huang_opens}
-use Rattle.rule_set.specs.Target.{SameAt}
-use Rattle.rule_set.specs.Glance.{SameGlance}
-use Rattle.machine_laws.specs.Shown.{same_find, same_pointer, same_suitor}
+use Rattle.rules_api.specs.Target.{SameAt}
+use Rattle.rules_api.specs.LocalViews.{AgreesLocally}
+use Rattle.machine_laws.specs.LocalAgreement.{same_find, same_pointer, same_suitor}
 use Rattle.machine_laws.specs.Pointers.{pointer_linked}
 
 -- the rule of a node with this pointer, a suitor or not, an open neighbour or not, and this test for leaving
 -- a node
-abbrev pub rule_by : Option ℕ → Bool → Bool → (ℕ → Bool) → Option Act
-rule_by None true reach leaves = Some Marry
-rule_by None false true leaves = Some Seduce
-rule_by None false false leaves = None
-rule_by (Some w) suitor reach leaves = cond (leaves w) (Some Abandon) None
+abbrev pub hsu_huang_rule_by : Option ℕ → Bool → Bool → (ℕ → Bool) → Option Act
+hsu_huang_rule_by None true reach leaves = Some Marry
+hsu_huang_rule_by None false true leaves = Some Seduce
+hsu_huang_rule_by None false false leaves = None
+hsu_huang_rule_by (Some w) suitor reach leaves = cond (leaves w) (Some Abandon) None
 
 -- v leaves w, which points at a third
 abbrev pub is_taken : State → ℕ → ℕ → Bool
@@ -25,41 +25,41 @@ is_taken s v w = is_some (pointer s w) && not (points s.registers w v)
 abbrev pub has_open : State → ℕ → Bool
 has_open s v = is_some (first_open hsu_huang_opens s v)
 
-pub rule_cases : (s : State) (v : ℕ) → rule_at hsu_huang s v ≡ rule_by (pointer s v) (has_suitor s v) (has_open s v) (is_taken s v)
-rule_cases s v = cases (pointer s v) (has_suitor s v) (has_open s v) (is_taken s v)
+pub hsu_huang_rule_cases : (s : State) (v : ℕ) → rule_at hsu_huang s v ≡ hsu_huang_rule_by (pointer s v) (has_suitor s v) (has_open s v) (is_taken s v)
+hsu_huang_rule_cases s v = cases (pointer s v) (has_suitor s v) (has_open s v) (is_taken s v)
   where
-    cases : (o : Option ℕ) (suitor reach : Bool) (leaves : ℕ → Bool) → cond (is_none o && suitor) (Some Marry) (cond (is_none o && not suitor && reach) (Some Seduce) (cond (holds_at leaves o) (Some Abandon) None)) ≡ rule_by o suitor reach leaves
+    cases : (o : Option ℕ) (suitor reach : Bool) (leaves : ℕ → Bool) → cond (is_none o && suitor) (Some Marry) (cond (is_none o && not suitor && reach) (Some Seduce) (cond (holds_at leaves o) (Some Abandon) None)) ≡ hsu_huang_rule_by o suitor reach leaves
     cases None true reach leaves = refl
     cases None false true leaves = refl
     cases None false false leaves = refl
     cases (Some w) suitor reach leaves = refl
 
 -- an enabled rule is the one that the cases name
-rule_from_guard : (s : State) (v : ℕ) (act : Act) → IsTrue (hsu_huang.guard s v act) → rule_by (pointer s v) (has_suitor s v) (has_open s v) (is_taken s v) ≡ Some act
+rule_from_guard : (s : State) (v : ℕ) (act : Act) → IsTrue (hsu_huang.guard s v act) → hsu_huang_rule_by (pointer s v) (has_suitor s v) (has_open s v) (is_taken s v) ≡ Some act
 rule_from_guard s v Update h = absurd cc
 rule_from_guard s v Marry h = marries (pointer s v) (has_suitor s v) h
   where
-    marries : (o : Option ℕ) (suitor : Bool) → IsTrue (is_none o && suitor) → rule_by o suitor (has_open s v) (is_taken s v) ≡ Some Marry
+    marries : (o : Option ℕ) (suitor : Bool) → IsTrue (is_none o && suitor) → hsu_huang_rule_by o suitor (has_open s v) (is_taken s v) ≡ Some Marry
     marries None true k = refl
     marries None false k = absurd cc
     marries (Some w) suitor k = absurd cc
 rule_from_guard s v Seduce h = seduces (pointer s v) (has_suitor s v) (has_open s v) h
   where
-    seduces : (o : Option ℕ) (suitor reach : Bool) → IsTrue (is_none o && not suitor && reach) → rule_by o suitor reach (is_taken s v) ≡ Some Seduce
+    seduces : (o : Option ℕ) (suitor reach : Bool) → IsTrue (is_none o && not suitor && reach) → hsu_huang_rule_by o suitor reach (is_taken s v) ≡ Some Seduce
     seduces None true reach k = absurd cc
     seduces None false true k = refl
     seduces None false false k = absurd cc
     seduces (Some w) suitor reach k = absurd cc
 rule_from_guard s v Abandon h = abandons (pointer s v) h
   where
-    abandons : (o : Option ℕ) → IsTrue (holds_at (is_taken s v) o) → rule_by o (has_suitor s v) (has_open s v) (is_taken s v) ≡ Some Abandon
+    abandons : (o : Option ℕ) → IsTrue (holds_at (is_taken s v) o) → hsu_huang_rule_by o (has_suitor s v) (has_open s v) (is_taken s v) ≡ Some Abandon
     abandons None k = absurd cc
     abandons (Some w) k = ap (λ b. cond b (Some Abandon) None) k
 
 -- Two rules at one node: a node that marries or seduces has a null pointer, one that abandons does not; one
 -- that marries has a suitor, and one that seduces has none.
-pub one_rule_at : (s : State) (v : ℕ) (a b : Act) → IsTrue (hsu_huang.guard s v a) → IsTrue (hsu_huang.guard s v b) → a ≡ b
-one_rule_at s v a b h k =
+pub hsu_huang_one_rule_at : (s : State) (v : ℕ) (a b : Act) → IsTrue (hsu_huang.guard s v a) → IsTrue (hsu_huang.guard s v b) → a ≡ b
+hsu_huang_one_rule_at s v a b h k =
     let first = rule_from_guard s v a h in
     let second = rule_from_guard s v b k in
     cc
@@ -78,35 +78,35 @@ same_open s u v same =
 
 -- Each part of a guard is a search among the neighbours, or reads the node's pointer and its target's
 -- pointer.
-pub guard_is_local : (s u : State) (v : ℕ) (act : Act) → IsState s → IsState u → SameAt s u v → hsu_huang.guard s v act ≡ hsu_huang.guard u v act
-guard_is_local s u v Update is_state other same = refl
-guard_is_local s u v Marry is_state other same =
+pub hsu_huang_guard_is_local : (s u : State) (v : ℕ) (act : Act) → IsState s → IsState u → SameAt s u v → hsu_huang.guard s v act ≡ hsu_huang.guard u v act
+hsu_huang_guard_is_local s u v Update is_state other same = refl
+hsu_huang_guard_is_local s u v Marry is_state other same =
     ap₂ (λ o b. is_none o && b) (same_pointer s u v same) (same_suitor s u v same)
-guard_is_local s u v Seduce is_state other same =
+hsu_huang_guard_is_local s u v Seduce is_state other same =
     ap₂ (λ (b c : Bool). b && c) (ap₂ (λ o b. is_none o && not b) (same_pointer s u v same) (same_suitor s u v same)) (same_open s u v same)
-guard_is_local s u v Abandon is_state other same =
+hsu_huang_guard_is_local s u v Abandon is_state other same =
     same_taken s u v (pointer s v) is_state same refl ∙ ap (holds_at (is_taken u v)) (same_pointer s u v same)
 
 -- the test for leaving a node reads the pointer of its target
-glance_taken : (s u : State) (v : ℕ) (o : Option ℕ) → SameGlance false hsu_huang_opens s u v → pointer s v ≡ o → holds_at (is_taken s v) o ≡ holds_at (is_taken u v) o
+glance_taken : (s u : State) (v : ℕ) (o : Option ℕ) → AgreesLocally false hsu_huang_opens s u v → pointer s v ≡ o → holds_at (is_taken s v) o ≡ holds_at (is_taken u v) o
 glance_taken s u v None same e = refl
 glance_taken s u v (Some w) same e = ap (λ o. is_some o && not (is_at o v)) (same.target_pointer w e)
 
 -- only a node with a null pointer needs to know whether one suits and whether one is open
-glance_marries : (s u : State) (v : ℕ) (o : Option ℕ) → SameGlance false hsu_huang_opens s u v → pointer s v ≡ o → (is_none o && has_suitor s v) ≡ (is_none o && has_suitor u v)
+glance_marries : (s u : State) (v : ℕ) (o : Option ℕ) → AgreesLocally false hsu_huang_opens s u v → pointer s v ≡ o → (is_none o && has_suitor s v) ≡ (is_none o && has_suitor u v)
 glance_marries s u v None same e = same.suitor e
 glance_marries s u v (Some w) same e = refl
 
-glance_seduces : (s u : State) (v : ℕ) (o : Option ℕ) → SameGlance false hsu_huang_opens s u v → pointer s v ≡ o → (is_none o && not (has_suitor s v) && has_open s v) ≡ (is_none o && not (has_suitor u v) && has_open u v)
+glance_seduces : (s u : State) (v : ℕ) (o : Option ℕ) → AgreesLocally false hsu_huang_opens s u v → pointer s v ≡ o → (is_none o && not (has_suitor s v) && has_open s v) ≡ (is_none o && not (has_suitor u v) && has_open u v)
 glance_seduces s u v None same e = ap₂ (λ b c. not b && c) (same.suitor e) (same.reach e)
 glance_seduces s u v (Some w) same e = refl
 
 -- and no guard asks more than a glance
-pub guard_is_glance : (s u : State) (v : ℕ) (act : Act) → IsState s → IsState u → SameGlance false hsu_huang_opens s u v → hsu_huang.guard s v act ≡ hsu_huang.guard u v act
-guard_is_glance s u v Update is_state other same = refl
-guard_is_glance s u v Marry is_state other same =
+pub hsu_huang_guard_is_view : (s u : State) (v : ℕ) (act : Act) → IsState s → IsState u → AgreesLocally false hsu_huang_opens s u v → hsu_huang.guard s v act ≡ hsu_huang.guard u v act
+hsu_huang_guard_is_view s u v Update is_state other same = refl
+hsu_huang_guard_is_view s u v Marry is_state other same =
     glance_marries s u v (pointer s v) same refl ∙ ap (λ o. is_none o && has_suitor u v) same.own_pointer
-guard_is_glance s u v Seduce is_state other same =
+hsu_huang_guard_is_view s u v Seduce is_state other same =
     glance_seduces s u v (pointer s v) same refl ∙ ap (λ o. is_none o && not (has_suitor u v) && has_open u v) same.own_pointer
-guard_is_glance s u v Abandon is_state other same =
+hsu_huang_guard_is_view s u v Abandon is_state other same =
     glance_taken s u v (pointer s v) same refl ∙ ap (holds_at (is_taken u v)) same.own_pointer

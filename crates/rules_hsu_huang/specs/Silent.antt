@@ -5,11 +5,11 @@ use Rattle.rule_machine.specs.State.{State}
 use Rattle.rule_machine.specs.HsuHuang.{hsu_huang}
 use Rattle.charge_laws.specs.Costs.{hsu_huang_cost}
 use Rattle.silence_laws.specs.Costs.{silent_cost}
-use Rattle.silence_laws.specs.Less.{silent_cost_is_less}
+use Rattle.silence_laws.specs.CostComparison.{silent_cost_is_less}
 use Rattle.silent_cost.specs.FromSilence.{ExceedsAtMost}
 
 abbrev pub no_excess : State → Event → ℕ
 no_excess s event = 0
 
-pub cost_is_less : ExceedsAtMost hsu_huang silent_cost hsu_huang_cost no_excess
-cost_is_less s good stable event = let less = silent_cost_is_less s good stable event in omega (arith, less)
+pub hsu_huang_cost_is_less : ExceedsAtMost hsu_huang silent_cost hsu_huang_cost no_excess
+hsu_huang_cost_is_less s good stable event = let less = silent_cost_is_less s good stable event in omega (arith, less)

@@ -8,7 +8,7 @@ ghost use Rattle.charge_laws.specs.Degrees.{degree};
 ghost use Rattle.charge_laws.specs.Costs.{hsu_huang_cost, hsu_huang_point_cost};
 
 use rule_machine::Node;
-use rule_set::{Touched, points_at};
+use rules_api::{Touched, points_at};
 
 /// Returns how many other edges the second node has, if the first points at it, else 0.
 fn other_edges<T: Touched>(touched: &T, v: Node, w: Node) -> u32
@@ -32,7 +32,7 @@ pub(crate) fn unlink_cost<T: Touched>(touched: &T, a: Node, b: Node) -> u32
     2 * (other_edges(touched, a, b) + other_edges(touched, b, a))
 }
 
-#[tactic(auto, using(charge_laws::specs::Present::target_present))]
+#[tactic(auto, using(charge_laws::specs::PresentNodes::target_present))]
 pub(crate) fn point_cost<T: Touched>(touched: &T, v: Node) -> u32
     requires state { IsState (T.state touched.now) }
     requires present { IsTrue (present (T.state touched.now).network v) }
@@ -46,7 +46,7 @@ pub(crate) fn point_cost<T: Touched>(touched: &T, v: Node) -> u32
     }
 }
 
-#[tactic(auto, using(charge_laws::specs::Present::target_present))]
+#[tactic(auto, using(charge_laws::specs::PresentNodes::target_present))]
 pub(crate) fn leave_cost<T: Touched>(touched: &T, v: Node) -> u32
     requires state { IsState (T.state touched.now) }
     requires present { IsTrue (present (T.state touched.now).network v) }

@@ -2,7 +2,7 @@
 
 use crate::cost::{leave_cost, point_cost, unlink_cost};
 use rule_machine::{Act, Event, Node};
-use rule_set::{BadTarget, Local, Rules, Standing, Touched};
+use rules_api::{BadTarget, ChargeInput, Local, Rules, Touched};
 
 /// Hsu and Huang's algorithm of 1992: one node moves at a time, and no flags are used.
 #[derive(Clone, Copy, Debug, PartialEq, Eq)]
@@ -13,7 +13,7 @@ impl Rules for HsuHuang {
     ghost use Rattle.charge_laws.specs.ClosedByPointers.{hsu_huang_closes};
     ghost use Rattle.charge_laws.specs.Costs.{hsu_huang_cost};
     ghost use Rattle.rule_machine.specs.HsuHuang.{hsu_huang};
-    ghost use Rattle.rules_hsu_huang.specs.Charge.{nothing};
+    ghost use Rattle.rules_hsu_huang.specs.Charge.{no_flag_charge};
     ghost use Rattle.rules_hsu_huang.specs.Laws.{hsu_huang_laws};
 
     ghost table = { hsu_huang };
@@ -22,15 +22,15 @@ impl Rules for HsuHuang {
 
     ghost FLAGS = { false };
 
-    ghost ABOVE = { false };
+    ghost COURTS_HIGHER_ONLY = { false };
 
     ghost NODE_WEIGHT = { 1 };
 
-    ghost COURTED_CLOSE = { true };
+    ghost COURTED_PAIR_CLOSES_EDGE = { true };
 
     ghost closes = { hsu_huang_closes };
 
-    ghost adds = { nothing };
+    ghost adds = { no_flag_charge };
 
     ghost cost = { hsu_huang_cost };
 
@@ -40,11 +40,11 @@ impl Rules for HsuHuang {
 
     const FLAGS: bool = false;
 
-    const ABOVE: bool = false;
+    const COURTS_HIGHER_ONLY: bool = false;
 
     const NODE_WEIGHT: u64 = 1;
 
-    const COURTED_CLOSE: bool = true;
+    const COURTED_PAIR_CLOSES_EDGE: bool = true;
 
     fn opens(pointer: Option<Node>, _flag: bool) -> bool {
         pointer.is_none()
@@ -80,15 +80,15 @@ impl Rules for HsuHuang {
         }
     }
 
-    fn closes(_node: Node, target: &Standing) -> bool {
+    fn closes(_node: Node, target: &ChargeInput) -> bool {
         target.pointer.is_none()
     }
 
-    fn node_charge(_: &Standing) -> u8 {
+    fn node_charge(_: &ChargeInput) -> u8 {
         0
     }
 
-    #[tactic(auto, using(charge_laws::specs::Present::first_present, charge_laws::specs::Present::second_present, charge_laws::specs::Present::pointer_present, charge_laws::specs::Present::leaver_present))]
+    #[tactic(auto, using(charge_laws::specs::PresentNodes::first_present, charge_laws::specs::PresentNodes::second_present, charge_laws::specs::PresentNodes::pointer_present, charge_laws::specs::PresentNodes::leaver_present))]
     fn cost<T: Touched>(touched: &T, event: &Event) -> u32 {
         match event {
             Event::Link(_, _) => 2,

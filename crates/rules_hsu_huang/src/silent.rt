@@ -56,7 +56,7 @@ fn pair_cost<V: SilentView>(view: &V, v: Node, partner: Node, target: Option<Nod
 }
 
 /// Of a pointer that is written.
-#[tactic(auto, using(charge_laws::specs::Present::target_present))]
+#[tactic(auto, using(charge_laws::specs::PresentNodes::target_present))]
 fn point_cost<V: SilentView>(view: &V, v: Node, target: Option<Node>) -> u32
     requires state { IsState (V.state view.now) }
     requires present { IsTrue (present (V.state view.now).network v) }
@@ -70,7 +70,7 @@ fn point_cost<V: SilentView>(view: &V, v: Node, target: Option<Node>) -> u32
 }
 
 /// Of a node that goes.
-#[tactic(auto, using(charge_laws::specs::Present::target_present))]
+#[tactic(auto, using(charge_laws::specs::PresentNodes::target_present))]
 fn leave_cost<V: SilentView>(view: &V, v: Node) -> u32
     requires state { IsState (V.state view.now) }
     requires present { IsTrue (present (V.state view.now).network v) }
@@ -85,13 +85,13 @@ fn leave_cost<V: SilentView>(view: &V, v: Node) -> u32
 impl SilentCost for HsuHuang {
     ghost use Rattle.silence_laws.specs.Costs as costs;
     ghost use Rattle.silence_laws.specs.Pays as pays;
-    ghost use Rattle.rules_hsu_huang.specs.Silent.{no_excess, cost_is_less};
+    ghost use Rattle.rules_hsu_huang.specs.Silent.{no_excess, hsu_huang_cost_is_less};
 
     ghost silent_cost = { costs.silent_cost };
 
     ghost excess = { no_excess };
 
-    #[tactic(auto, using(silent_cost::specs::Present::lower_present, silent_cost::specs::Present::upper_present, charge_laws::specs::Present::first_present, charge_laws::specs::Present::second_present, charge_laws::specs::Present::pointer_present, charge_laws::specs::Present::leaver_present))]
+    #[tactic(auto, using(silent_cost::specs::Present::lower_present, silent_cost::specs::Present::upper_present, charge_laws::specs::PresentNodes::first_present, charge_laws::specs::PresentNodes::second_present, charge_laws::specs::PresentNodes::pointer_present, charge_laws::specs::PresentNodes::leaver_present))]
     fn silent_cost<V: SilentView>(view: &V, event: &Event) -> u32 {
         match event {
             Event::Link(a, b) => link_cost(view, *a, *b),
@@ -106,5 +106,5 @@ impl SilentCost for HsuHuang {
 
     ghost silent_cost_pays = { pays.silent_cost_pays };
 
-    ghost silent_cost_is_less = { cost_is_less };
+    ghost silent_cost_is_less = { hsu_huang_cost_is_less };
 }

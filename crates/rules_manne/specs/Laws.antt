@@ -2,16 +2,16 @@
 use Rattle.std.specs.Prelude.{true, false, refl}
 use Rattle.rule_machine.specs.Manne.{manne}
 use Rattle.rule_machine.specs.Charge.{manne_node_charge}
-use Rattle.rule_set.specs.RulesLaws.{RulesLaws}
+use Rattle.rules_api.specs.RulesLaws.{RulesLaws}
 use Rattle.charge_laws.specs.Asks.{manne_asks}
 use Rattle.charge_laws.specs.ClosedByPointers.{manne_closes}
 use Rattle.charge_laws.specs.Costs.{manne_cost}
 use Rattle.charge_laws.specs.CostsOfRuns.{manne_disturbed}
 use Rattle.charge_laws.specs.Laws.{manne_charged}
 use Rattle.charge_laws.specs.Tables.{manne_table, manne_flagless}
-use Rattle.rules_manne.specs.Charge.{adds_alike, closes_alike, counted, light, null_closes}
-use Rattle.rules_manne.specs.Rule.{guard_is_glance, guard_is_local, one_rule_at}
-use Rattle.rules_manne.specs.Quiet.{stable_from_quiet, quiet_from_stable}
+use Rattle.rules_manne.specs.Charge.{adds_alike, manne_closes_alike, charge_is_counted, manne_weight_is_small, manne_null_closes}
+use Rattle.rules_manne.specs.Rule.{manne_guard_is_view, manne_guard_is_local, manne_one_rule_at}
+use Rattle.rules_manne.specs.Quiet.{manne_stable_from_quiet, manne_quiet_from_stable}
 
 pub manne_laws : RulesLaws manne false true true 3 false manne_closes manne_node_charge manne_cost
 manne_laws = record {
@@ -19,16 +19,16 @@ manne_laws = record {
   uses_flags = refl;
   table = manne_table;
   asks = manne_asks;
-  is_local = guard_is_local;
-  is_glance = guard_is_glance;
-  one_rule = one_rule_at;
+  is_local = manne_guard_is_local;
+  is_glance = manne_guard_is_view;
+  one_rule = manne_one_rule_at;
   no_update = manne_flagless;
-  quiet_is_stable = stable_from_quiet;
-  stable_is_quiet = quiet_from_stable;
-  charge_counts = counted;
-  null_closes_none = null_closes;
-  near = record { closes_by_target = closes_alike; adds_by_standing = adds_alike };
-  is_light = light;
+  quiet_is_stable = manne_stable_from_quiet;
+  stable_is_quiet = manne_quiet_from_stable;
+  charge_counts = charge_is_counted;
+  null_closes_none = manne_null_closes;
+  near = record { closes_by_target = manne_closes_alike; adds_by_standing = adds_alike };
+  is_light = manne_weight_is_small;
   charged = manne_charged;
   disturbances_cost = manne_disturbed;
 }

@@ -1,4 +1,4 @@
-pub mod Greatest
+pub mod GreatestTarget
 pub mod Rule
 pub mod Target
 pub mod Quiet

@@ -10,7 +10,7 @@ use Rattle.rule_machine.specs.Stable.{IsStable}
 use Rattle.machine_laws.specs.Neighbours.{option_cases, present_range, linked_back, linked_present, linked_apart, near_found, near_fails}
 use Rattle.machine_laws.specs.Pointers.{points_true, points_from, pointer_linked, suitor_from, suitor_some, married_from, null_unmarried}
 use Rattle.machine_laws.specs.Writes.{if_some_at, if_some_from}
-use Rattle.machine_laws.specs.Enabled.{quiet_at, quiet_from}
+use Rattle.machine_laws.specs.EnabledNodes.{quiet_at, quiet_from}
 use Rattle.rules_manne.specs.Rule.{is_lost, courts, flag_from_settled, settled_from_flag}
 
 -- a test of four parts
@@ -107,8 +107,8 @@ module _ (s : State) (is_state : IsState s) (quiet : enabled_names manne s ≡ [
       )
       (cases_order v w)
 
-pub stable_from_quiet : (s : State) → IsState s → enabled_names manne s ≡ [] → IsStable true s
-stable_from_quiet s is_state quiet = record {
+pub manne_stable_from_quiet : (s : State) → IsState s → enabled_names manne s ≡ [] → IsStable true s
+manne_stable_from_quiet s is_state quiet = record {
   answered = λ v. if_some_from (pointer s v) (λ w. pointer s w ≡ Some v) (λ w there. points_back s is_state quiet (s.network.size + 1) v w (omega arith) there);
   covered = no_pair_free s is_state quiet;
   flagged = λ used v here. right_flag s is_state quiet v here;
@@ -116,8 +116,8 @@ stable_from_quiet s is_state quiet = record {
 
 -- Each flag is right. A suitor is answered, so its target's pointer is not null. A free neighbour of a free
 -- node would be an uncovered edge. The target of a node points back.
-pub quiet_from_stable : (s : State) → IsState s → IsStable true s → enabled_names manne s ≡ []
-quiet_from_stable s is_state stable = quiet_from manne s (λ v here. elim [ Update ↦ no_update v here | Marry ↦ no_marry v | Seduce ↦ no_seduce v | Abandon ↦ no_abandon v ])
+pub manne_quiet_from_stable : (s : State) → IsState s → IsStable true s → enabled_names manne s ≡ []
+manne_quiet_from_stable s is_state stable = quiet_from manne s (λ v here. elim [ Update ↦ no_update v here | Marry ↦ no_marry v | Seduce ↦ no_seduce v | Abandon ↦ no_abandon v ])
   where
     no_update : (v : ℕ) → IsTrue (present s.network v) → not (is_settled s v) ≡ false
     no_update v here = ap not (settled_from_flag (married s v) (flag s v) (stable.flagged refl v here))

@@ -7,20 +7,20 @@ use Rattle.rule_machine.specs.Network.{neighbours}
 use Rattle.rule_machine.specs.State.{State, IsState, pointer, flag, points, is_at, holds_at, has_suitor, is_settled}
 use Rattle.rule_machine.specs.RuleTable.{rule_at}
 use Rattle.rule_machine.specs.Manne.{manne, manne_opens, may_court}
-use Rattle.rule_set.specs.Target.{SameAt}
-use Rattle.rule_set.specs.Glance.{SameGlance}
-use Rattle.machine_laws.specs.Shown.{same_find, same_pointer, same_suitor, same_married}
+use Rattle.rules_api.specs.Target.{SameAt}
+use Rattle.rules_api.specs.LocalViews.{AgreesLocally}
+use Rattle.machine_laws.specs.LocalAgreement.{same_find, same_pointer, same_suitor, same_married}
 use Rattle.machine_laws.specs.Pointers.{pointer_linked}
-use Rattle.rules_manne.specs.Greatest.{greatest, greatest_reaches}
+use Rattle.rules_manne.specs.GreatestTarget.{greatest, greatest_reaches}
 
 -- the rule of a node that is settled or not, with this pointer, a suitor or not, one to court or not, and
 -- this test for leaving a node
-abbrev pub rule_by : Bool → Option ℕ → Bool → Bool → (ℕ → Bool) → Option Act
-rule_by false target suitor court leaves = Some Update
-rule_by true None true court leaves = Some Marry
-rule_by true None false true leaves = Some Seduce
-rule_by true None false false leaves = None
-rule_by true (Some w) suitor court leaves = cond (leaves w) (Some Abandon) None
+abbrev pub manne_rule_by : Bool → Option ℕ → Bool → Bool → (ℕ → Bool) → Option Act
+manne_rule_by false target suitor court leaves = Some Update
+manne_rule_by true None true court leaves = Some Marry
+manne_rule_by true None false true leaves = Some Seduce
+manne_rule_by true None false false leaves = None
+manne_rule_by true (Some w) suitor court leaves = cond (leaves w) (Some Abandon) None
 
 -- v leaves w, which does not point back and never will: it is flagged, or not above v
 abbrev pub is_lost : State → ℕ → ℕ → Bool
@@ -29,18 +29,18 @@ is_lost s v w = not (points s.registers w v) && (flag s w || nat_le w v)
 abbrev pub courts : State → ℕ → Bool
 courts s v = is_some (find (may_court s v) (neighbours s.network v))
 
-pub rule_cases : (s : State) (v : ℕ) → rule_at manne s v ≡ rule_by (is_settled s v) (pointer s v) (has_suitor s v) (courts s v) (is_lost s v)
-rule_cases s v = cases (is_settled s v) (pointer s v) (has_suitor s v) (courts s v) (is_lost s v)
+pub manne_rule_cases : (s : State) (v : ℕ) → rule_at manne s v ≡ manne_rule_by (is_settled s v) (pointer s v) (has_suitor s v) (courts s v) (is_lost s v)
+manne_rule_cases s v = cases (is_settled s v) (pointer s v) (has_suitor s v) (courts s v) (is_lost s v)
   where
-    cases : (settled : Bool) (o : Option ℕ) (suitor court : Bool) (leaves : ℕ → Bool) → cond (not settled) (Some Update) (cond (settled && is_none o && suitor) (Some Marry) (cond (settled && is_none o && not suitor && court) (Some Seduce) (cond (settled && holds_at leaves o) (Some Abandon) None))) ≡ rule_by settled o suitor court leaves
+    cases : (settled : Bool) (o : Option ℕ) (suitor court : Bool) (leaves : ℕ → Bool) → cond (not settled) (Some Update) (cond (settled && is_none o && suitor) (Some Marry) (cond (settled && is_none o && not suitor && court) (Some Seduce) (cond (settled && holds_at leaves o) (Some Abandon) None))) ≡ manne_rule_by settled o suitor court leaves
     cases settled o suitor court leaves = grind arith
 
 -- the rule of a settled node that points nowhere
-pub null_rule : (s : State) (v : ℕ) (suitor court : Bool) → IsState s → is_settled s v ≡ true → pointer s v ≡ None → has_suitor s v ≡ suitor → is_some (greatest s v) ≡ court → rule_at manne s v ≡ rule_by true None suitor court (is_lost s v)
+pub null_rule : (s : State) (v : ℕ) (suitor court : Bool) → IsState s → is_settled s v ≡ true → pointer s v ≡ None → has_suitor s v ≡ suitor → is_some (greatest s v) ≡ court → rule_at manne s v ≡ manne_rule_by true None suitor court (is_lost s v)
 null_rule s v suitor court is_state settled null suits reaches =
-    rule_cases s v
-    ∙ ap₂ (λ b o. rule_by b o (has_suitor s v) (courts s v) (is_lost s v)) settled null
-    ∙ ap₂ (λ b c. rule_by true None b c (is_lost s v)) suits (greatest_reaches s v is_state.is_network ∙ reaches)
+    manne_rule_cases s v
+    ∙ ap₂ (λ b o. manne_rule_by b o (has_suitor s v) (courts s v) (is_lost s v)) settled null
+    ∙ ap₂ (λ b c. manne_rule_by true None b c (is_lost s v)) suits (greatest_reaches s v is_state.is_network ∙ reaches)
 
 -- a node is settled exactly if its flag is whether it is married
 pub flag_from_settled : (married flag : Bool) → cond married flag (not flag) ≡ true → flag ≡ married
@@ -54,22 +54,22 @@ pub settled_from_test : (married flag : Bool) → not (beq flag married) ≡ fal
 settled_from_test married flag h = grind arith
 
 -- an enabled rule is the one that the cases name
-rule_from_guard : (s : State) (v : ℕ) (act : Act) → IsTrue (manne.guard s v act) → rule_by (is_settled s v) (pointer s v) (has_suitor s v) (courts s v) (is_lost s v) ≡ Some act
+rule_from_guard : (s : State) (v : ℕ) (act : Act) → IsTrue (manne.guard s v act) → manne_rule_by (is_settled s v) (pointer s v) (has_suitor s v) (courts s v) (is_lost s v) ≡ Some act
 rule_from_guard s v Update h = updates (is_settled s v) h
   where
-    updates : (settled : Bool) → IsTrue (not settled) → rule_by settled (pointer s v) (has_suitor s v) (courts s v) (is_lost s v) ≡ Some Update
+    updates : (settled : Bool) → IsTrue (not settled) → manne_rule_by settled (pointer s v) (has_suitor s v) (courts s v) (is_lost s v) ≡ Some Update
     updates true k = absurd cc
     updates false k = refl
 rule_from_guard s v Marry h = marries (is_settled s v) (pointer s v) (has_suitor s v) h
   where
-    marries : (settled : Bool) (o : Option ℕ) (suitor : Bool) → IsTrue (settled && is_none o && suitor) → rule_by settled o suitor (courts s v) (is_lost s v) ≡ Some Marry
+    marries : (settled : Bool) (o : Option ℕ) (suitor : Bool) → IsTrue (settled && is_none o && suitor) → manne_rule_by settled o suitor (courts s v) (is_lost s v) ≡ Some Marry
     marries false o suitor k = absurd cc
     marries true None true k = refl
     marries true None false k = absurd cc
     marries true (Some w) suitor k = absurd cc
 rule_from_guard s v Seduce h = seduces (is_settled s v) (pointer s v) (has_suitor s v) (courts s v) h
   where
-    seduces : (settled : Bool) (o : Option ℕ) (suitor court : Bool) → IsTrue (settled && is_none o && not suitor && court) → rule_by settled o suitor court (is_lost s v) ≡ Some Seduce
+    seduces : (settled : Bool) (o : Option ℕ) (suitor court : Bool) → IsTrue (settled && is_none o && not suitor && court) → manne_rule_by settled o suitor court (is_lost s v) ≡ Some Seduce
     seduces false o suitor court k = absurd cc
     seduces true None true court k = absurd cc
     seduces true None false true k = refl
@@ -77,7 +77,7 @@ rule_from_guard s v Seduce h = seduces (is_settled s v) (pointer s v) (has_suito
     seduces true (Some w) suitor court k = absurd cc
 rule_from_guard s v Abandon h = abandons (is_settled s v) (pointer s v) h
   where
-    abandons : (settled : Bool) (o : Option ℕ) → IsTrue (settled && holds_at (is_lost s v) o) → rule_by settled o (has_suitor s v) (courts s v) (is_lost s v) ≡ Some Abandon
+    abandons : (settled : Bool) (o : Option ℕ) → IsTrue (settled && holds_at (is_lost s v) o) → manne_rule_by settled o (has_suitor s v) (courts s v) (is_lost s v) ≡ Some Abandon
     abandons false o k = absurd cc
     abandons true None k = absurd cc
     abandons true (Some w) k = ap (λ b. cond b (Some Abandon) None) k
@@ -85,8 +85,8 @@ rule_from_guard s v Abandon h = abandons (is_settled s v) (pointer s v) h
 -- Two rules at one node: one that updates has a wrong flag, and the others a right one. One that marries or
 -- seduces has a null pointer, one that abandons does not. One that marries has a suitor, and one that seduces
 -- has none.
-pub one_rule_at : (s : State) (v : ℕ) (a b : Act) → IsTrue (manne.guard s v a) → IsTrue (manne.guard s v b) → a ≡ b
-one_rule_at s v a b h k =
+pub manne_one_rule_at : (s : State) (v : ℕ) (a b : Act) → IsTrue (manne.guard s v a) → IsTrue (manne.guard s v b) → a ≡ b
+manne_one_rule_at s v a b h k =
     let first = rule_from_guard s v a h in
     let second = rule_from_guard s v b k in
     cc
@@ -112,26 +112,26 @@ same_lost s u v (Some w) is_state same e =
 
 -- Each part of a guard is a search among the neighbours, or reads the registers of the node and of its
 -- target.
-pub guard_is_local : (s u : State) (v : ℕ) (act : Act) → IsState s → IsState u → SameAt s u v → manne.guard s v act ≡ manne.guard u v act
-guard_is_local s u v Update is_state other same = ap not (same_settled s u v same)
-guard_is_local s u v Marry is_state other same =
+pub manne_guard_is_local : (s u : State) (v : ℕ) (act : Act) → IsState s → IsState u → SameAt s u v → manne.guard s v act ≡ manne.guard u v act
+manne_guard_is_local s u v Update is_state other same = ap not (same_settled s u v same)
+manne_guard_is_local s u v Marry is_state other same =
     ap₂ (λ (b c : Bool). b && c) (ap₂ (λ b o. b && is_none o) (same_settled s u v same) (same_pointer s u v same)) (same_suitor s u v same)
-guard_is_local s u v Seduce is_state other same =
+manne_guard_is_local s u v Seduce is_state other same =
     ap₂ (λ (b c : Bool). b && c)
     (ap₂ (λ b c. b && not c) (ap₂ (λ b o. b && is_none o) (same_settled s u v same) (same_pointer s u v same)) (same_suitor s u v same))
     (same_courts s u v same)
-guard_is_local s u v Abandon is_state other same =
+manne_guard_is_local s u v Abandon is_state other same =
     ap₂ (λ (b c : Bool). b && c) (same_settled s u v same) (same_lost s u v (pointer s v) is_state same refl ∙ ap (holds_at (is_lost u v)) (same_pointer s u v same))
 
 -- a local view determines each part of a guard
-glance_settled : (s u : State) (v : ℕ) → SameGlance true manne_opens s u v → is_settled s v ≡ is_settled u v
+glance_settled : (s u : State) (v : ℕ) → AgreesLocally true manne_opens s u v → is_settled s v ≡ is_settled u v
 glance_settled s u v same = ap₂ (λ (m f : Bool). cond m f (not f)) same.marriage same.own_flag
 
-glance_courts : (s u : State) (v : ℕ) → IsState s → IsState u → SameGlance true manne_opens s u v → pointer s v ≡ None → courts s v ≡ courts u v
+glance_courts : (s u : State) (v : ℕ) → IsState s → IsState u → AgreesLocally true manne_opens s u v → pointer s v ≡ None → courts s v ≡ courts u v
 glance_courts s u v is_state other same null =
     greatest_reaches s v is_state.is_network ∙ same.reach null ∙ sym (greatest_reaches u v other.is_network)
 
-glance_lost : (s u : State) (v : ℕ) (o : Option ℕ) → SameGlance true manne_opens s u v → pointer s v ≡ o → holds_at (is_lost s v) o ≡ holds_at (is_lost u v) o
+glance_lost : (s u : State) (v : ℕ) (o : Option ℕ) → AgreesLocally true manne_opens s u v → pointer s v ≡ o → holds_at (is_lost s v) o ≡ holds_at (is_lost u v) o
 glance_lost s u v None same e = refl
 glance_lost s u v (Some w) same e =
     ap₂ (λ o f. not (is_at o v) && (f || nat_le w v)) (same.target_pointer w e) (same.target_flag w e)
@@ -149,15 +149,15 @@ glance_seduces (Some w) true suitor suitor' court court' same reach = refl
 glance_seduces (Some w) false suitor suitor' court court' same reach = refl
 
 -- and no guard asks more than a glance
-pub guard_is_glance : (s u : State) (v : ℕ) (act : Act) → IsState s → IsState u → SameGlance true manne_opens s u v → manne.guard s v act ≡ manne.guard u v act
-guard_is_glance s u v Update is_state other same = ap not (glance_settled s u v same)
-guard_is_glance s u v Marry is_state other same =
+pub manne_guard_is_view : (s u : State) (v : ℕ) (act : Act) → IsState s → IsState u → AgreesLocally true manne_opens s u v → manne.guard s v act ≡ manne.guard u v act
+manne_guard_is_view s u v Update is_state other same = ap not (glance_settled s u v same)
+manne_guard_is_view s u v Marry is_state other same =
     ap₂ (λ b o. b && is_none o && has_suitor s v) (glance_settled s u v same) same.own_pointer
     ∙ glance_marries (pointer u v) (is_settled u v) (has_suitor s v) (has_suitor u v) (λ null. same.suitor (same.own_pointer ∙ null))
-guard_is_glance s u v Seduce is_state other same =
+manne_guard_is_view s u v Seduce is_state other same =
     ap₂ (λ b o. b && is_none o && not (has_suitor s v) && courts s v) (glance_settled s u v same) same.own_pointer
     ∙ glance_seduces (pointer u v) (is_settled u v) (has_suitor s v) (has_suitor u v) (courts s v) (courts u v)
     (λ null. same.suitor (same.own_pointer ∙ null))
     (λ null. glance_courts s u v is_state other same (same.own_pointer ∙ null))
-guard_is_glance s u v Abandon is_state other same =
+manne_guard_is_view s u v Abandon is_state other same =
     ap₂ (λ (b c : Bool). b && c) (glance_settled s u v same) (glance_lost s u v (pointer s v) same refl ∙ ap (holds_at (is_lost u v)) same.own_pointer)

@@ -13,5 +13,5 @@ use Rattle.silent_cost.specs.FromSilence.{ExceedsAtMost}
 abbrev pub gained_and_gone : State → Event → ℕ
 gained_and_gone s event = 2 * most_gained s event + nodes_gone event
 
-pub cost_is_less : ExceedsAtMost manne manne_silent_cost manne_cost gained_and_gone
-cost_is_less s good stable event = let less = manne_silent_cost_is_less s good stable event in omega (arith, less)
+pub manne_cost_is_less : ExceedsAtMost manne manne_silent_cost manne_cost gained_and_gone
+manne_cost_is_less s good stable event = let less = manne_silent_cost_is_less s good stable event in omega (arith, less)

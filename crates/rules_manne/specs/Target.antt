@@ -7,12 +7,12 @@ use Rattle.rule_machine.specs.Network.{linked, neighbours}
 use Rattle.rule_machine.specs.State.{State, IsState, pointer, flag, is_at, suits, first_suitor, has_suitor, is_settled}
 use Rattle.rule_machine.specs.RuleTable.{rule_at, least_target}
 use Rattle.rule_machine.specs.Manne.{manne, may_court}
-use Rattle.rule_set.specs.Target.{target_by, target_at}
+use Rattle.rules_api.specs.Target.{target_by, target_at}
 use Rattle.machine_laws.specs.Neighbours.{option_cases, near_none, near_some, near_found, near_fails, near_agree}
 use Rattle.machine_laws.specs.Pointers.{none_is, null_unmarried}
 use Rattle.machine_laws.specs.Writes.{some_from_is_at, is_at_from_some}
-use Rattle.rules_manne.specs.Greatest.{greatest, greatest_none, greatest_some}
-use Rattle.rules_manne.specs.Rule.{rule_by, rule_cases, null_rule, is_lost, courts}
+use Rattle.rules_manne.specs.GreatestTarget.{greatest, greatest_none, greatest_some}
+use Rattle.rules_manne.specs.Rule.{manne_rule_by, manne_rule_cases, null_rule, is_lost, courts}
 
 -- the test of the neighbours above w that v may court
 abbrev above : State → ℕ → ℕ → ℕ → Bool
@@ -68,8 +68,8 @@ seduce_allowed s v w is_state =
     (cases_Bool (manne.allowed s v Seduce w))
 
 -- the least suitor, and the one neighbour that is allowed to be seduced
-pub least_suitor : (s : State) (v : ℕ) → least_target manne s v Marry ≡ first_suitor s v
-least_suitor s v =
+pub manne_least_suitor : (s : State) (v : ℕ) → least_target manne s v Marry ≡ first_suitor s v
+manne_least_suitor s v =
     near_agree s.network (manne.allowed s v Marry) (suits s v) v (λ w h. ap (λ b. b && suits s v w) h)
 
 pub least_greatest : (s : State) (v : ℕ) → IsState s → least_target manne s v Seduce ≡ greatest s v
@@ -88,11 +88,11 @@ least_greatest s v is_state =
     (option_cases (greatest s v))
 
 -- whether v points nowhere and is not flagged
-abbrev pub is_free : State → ℕ → Bool
-is_free s v = is_none (pointer s v) && not (flag s v)
+abbrev pub is_free_node : State → ℕ → Bool
+is_free_node s v = is_none (pointer s v) && not (flag s v)
 
 -- the rule of a free node: it is unmarried, so its flag is right
-free_rule : (s : State) (v : ℕ) → IsState s → is_free s v ≡ true → rule_at manne s v ≡ rule_by true None (has_suitor s v) (is_some (greatest s v)) (is_lost s v)
+free_rule : (s : State) (v : ℕ) → IsState s → is_free_node s v ≡ true → rule_at manne s v ≡ manne_rule_by true None (has_suitor s v) (is_some (greatest s v)) (is_lost s v)
 free_rule s v is_state h =
     let parts = and_parts _ _ h in
     let null = none_is (pointer s v) (not-true _ parts.0) in
@@ -100,30 +100,30 @@ free_rule s v is_state h =
     null_rule s v (has_suitor s v) (is_some (greatest s v)) is_state settled null refl refl
 
 -- the rule of one that is not free takes no target
-bound_rule : (s : State) (v : ℕ) → is_free s v ≡ false → IsSome (rule_at manne s v) → (rule_at manne s v ≡ Some Update) ⊎ (rule_at manne s v ≡ Some Abandon)
+bound_rule : (s : State) (v : ℕ) → is_free_node s v ≡ false → IsSome (rule_at manne s v) → (rule_at manne s v ≡ Some Update) ⊎ (rule_at manne s v ≡ Some Abandon)
 bound_rule s v h enabled =
-    let by = rule_cases s v in
+    let by = manne_rule_cases s v in
     cases (is_settled s v) (pointer s v) (flag s v) refl refl refl h (subst (λ o. IsSome o) by enabled) by
   where
     leaves : (b : Bool) → IsSome (cond b (Some Abandon) None) → cond b (Some Abandon) None ≡ Some Abandon
     leaves true k = refl
     leaves false k = absurd cc
 
-    cases : (settled : Bool) (o : Option ℕ) (f : Bool) → is_settled s v ≡ settled → pointer s v ≡ o → flag s v ≡ f → (is_none o && not f) ≡ false → IsSome (rule_by settled o (has_suitor s v) (courts s v) (is_lost s v)) → rule_at manne s v ≡ rule_by settled o (has_suitor s v) (courts s v) (is_lost s v) → (rule_at manne s v ≡ Some Update) ⊎ (rule_at manne s v ≡ Some Abandon)
+    cases : (settled : Bool) (o : Option ℕ) (f : Bool) → is_settled s v ≡ settled → pointer s v ≡ o → flag s v ≡ f → (is_none o && not f) ≡ false → IsSome (manne_rule_by settled o (has_suitor s v) (courts s v) (is_lost s v)) → rule_at manne s v ≡ manne_rule_by settled o (has_suitor s v) (courts s v) (is_lost s v) → (rule_at manne s v ≡ Some Update) ⊎ (rule_at manne s v ≡ Some Abandon)
     cases false o f p q r k some e = inl e
     cases true None true p q r k some e =
         let wrong : is_settled s v ≡ false = ap₂ (λ m b. cond m b (not b)) (null_unmarried s v q) r in absurd cc
     cases true None false p q r k some e = absurd cc
     cases true (Some w) f p q r k some e = inr (e ∙ leaves (is_lost s v w) some)
 
-pub bound_target : (s : State) (v : ℕ) → is_free s v ≡ false → IsSome (rule_at manne s v) → target_at manne s v None ≡ Some None
+pub bound_target : (s : State) (v : ℕ) → is_free_node s v ≡ false → IsSome (rule_at manne s v) → target_at manne s v None ≡ Some None
 bound_target s v h enabled =
     ⊎_elim
     (λ e. ap (option_and_then (target_by manne s v None)) e ∙ ap Some (near_fails s.network (manne.allowed s v Update) v (λ x k. refl)))
     (λ e. ap (option_and_then (target_by manne s v None)) e ∙ ap Some (near_fails s.network (manne.allowed s v Abandon) v (λ x k. refl)))
     (bound_rule s v h enabled)
 
-pub bound_wish : (s : State) (v w : ℕ) → is_free s v ≡ false → IsSome (rule_at manne s v) → target_at manne s v (Some w) ≡ None
+pub bound_wish : (s : State) (v w : ℕ) → is_free_node s v ≡ false → IsSome (rule_at manne s v) → target_at manne s v (Some w) ≡ None
 bound_wish s v w h enabled =
     ⊎_elim
     (λ e. ap (option_and_then (target_by manne s v (Some w))) e)
@@ -131,12 +131,12 @@ bound_wish s v w h enabled =
     (bound_rule s v h enabled)
 
 -- a free node takes its first suitor, else the greatest neighbour that it may court
-pub free_target : (s : State) (v : ℕ) → IsState s → is_free s v ≡ true → IsSome (rule_at manne s v) → target_at manne s v None ≡ Some (option_or (first_suitor s v) (greatest s v))
-free_target s v is_state h enabled =
+pub manne_free_target : (s : State) (v : ℕ) → IsState s → is_free_node s v ≡ true → IsSome (rule_at manne s v) → target_at manne s v None ≡ Some (option_or (first_suitor s v) (greatest s v))
+manne_free_target s v is_state h enabled =
     let by = free_rule s v is_state h in
-    ap (option_and_then (target_by manne s v None)) by ∙ cases (first_suitor s v) (greatest s v) (least_suitor s v) (least_greatest s v is_state) (subst (λ o. IsSome o) by enabled)
+    ap (option_and_then (target_by manne s v None)) by ∙ cases (first_suitor s v) (greatest s v) (manne_least_suitor s v) (least_greatest s v is_state) (subst (λ o. IsSome o) by enabled)
   where
-    cases : (suitor court : Option ℕ) → least_target manne s v Marry ≡ suitor → least_target manne s v Seduce ≡ court → IsSome (rule_by true None (is_some suitor) (is_some court) (is_lost s v)) → option_and_then (target_by manne s v None) (rule_by true None (is_some suitor) (is_some court) (is_lost s v)) ≡ Some (option_or suitor court)
+    cases : (suitor court : Option ℕ) → least_target manne s v Marry ≡ suitor → least_target manne s v Seduce ≡ court → IsSome (manne_rule_by true None (is_some suitor) (is_some court) (is_lost s v)) → option_and_then (target_by manne s v None) (manne_rule_by true None (is_some suitor) (is_some court) (is_lost s v)) ≡ Some (option_or suitor court)
     cases (Some w) court p q k = ap Some p
     cases None (Some w) p q k = ap Some q
     cases None None p q k = absurd cc
@@ -145,8 +145,8 @@ free_target s v is_state h enabled =
 abbrev pub may_point : State → ℕ → ℕ → Bool
 may_point s v w = (linked s.network v w && suits s v w) || (is_none (first_suitor s v) && is_at (greatest s v) w)
 
-pub free_wish : (s : State) (v w : ℕ) → IsState s → is_free s v ≡ true → IsSome (rule_at manne s v) → target_at manne s v (Some w) ≡ cond (may_point s v w) (Some (Some w)) None
-free_wish s v w is_state h enabled =
+pub manne_free_wish : (s : State) (v w : ℕ) → IsState s → is_free_node s v ≡ true → IsSome (rule_at manne s v) → target_at manne s v (Some w) ≡ cond (may_point s v w) (Some (Some w)) None
+manne_free_wish s v w is_state h enabled =
     let by = free_rule s v is_state h in
     ap (option_and_then (target_by manne s v (Some w))) by ∙ cases (has_suitor s v) (greatest s v) (linked s.network v w && suits s v w) refl (seduce_allowed s v w is_state) suitor (subst (λ o. IsSome o) by enabled)
   where
@@ -155,7 +155,7 @@ free_wish s v w is_state h enabled =
         let parts = and_parts _ _ k in
         ap is_some (near_found s.network (suits s v) v w is_state.is_network parts.0 parts.1).1
 
-    cases : (a : Bool) (o : Option ℕ) (c : Bool) → manne.allowed s v Marry w ≡ c → manne.allowed s v Seduce w ≡ is_at o w → (IsTrue c → a ≡ true) → IsSome (rule_by true None a (is_some o) (is_lost s v)) → option_and_then (target_by manne s v (Some w)) (rule_by true None a (is_some o) (is_lost s v)) ≡ cond (c || (not a && is_at o w)) (Some (Some w)) None
+    cases : (a : Bool) (o : Option ℕ) (c : Bool) → manne.allowed s v Marry w ≡ c → manne.allowed s v Seduce w ≡ is_at o w → (IsTrue c → a ≡ true) → IsSome (manne_rule_by true None a (is_some o) (is_lost s v)) → option_and_then (target_by manne s v (Some w)) (manne_rule_by true None a (is_some o) (is_lost s v)) ≡ cond (c || (not a && is_at o w)) (Some (Some w)) None
     cases true o true p q k some = ap (λ t. cond t (Some (Some w)) None) p
     cases true o false p q k some = ap (λ t. cond t (Some (Some w)) None) p
     cases false (Some x) true p q k some = let no = k refl in absurd cc

@@ -5,11 +5,11 @@ ghost use Rattle.std.specs.Option.{option_or};
 ghost use Rattle.rule_machine.specs.Network.{linked};
 ghost use Rattle.rule_machine.specs.State.{IsState, is_at, suits, first_suitor};
 ghost use Rattle.rule_machine.specs.RuleTable.{last_open_above};
-ghost use Rattle.rules_manne.specs.Target.{is_free};
+ghost use Rattle.rules_manne.specs.Target.{is_free_node};
 
 use crate::cost::{flag_cost, leave_cost, point_cost, unlink_cost};
 use rule_machine::{Act, Event, Node};
-use rule_set::{BadTarget, Local, Rules, Standing, Touched};
+use rules_api::{BadTarget, ChargeInput, Local, Rules, Touched};
 
 /// The algorithm of Manne, Mjelde, Pilard and Tixeuil of 2009.
 ///
@@ -31,11 +31,11 @@ impl Rules for Manne {
 
     ghost FLAGS = { true };
 
-    ghost ABOVE = { true };
+    ghost COURTS_HIGHER_ONLY = { true };
 
     ghost NODE_WEIGHT = { 3 };
 
-    ghost COURTED_CLOSE = { false };
+    ghost COURTED_PAIR_CLOSES_EDGE = { false };
 
     ghost closes = { manne_closes };
 
@@ -49,11 +49,11 @@ impl Rules for Manne {
 
     const FLAGS: bool = true;
 
-    const ABOVE: bool = true;
+    const COURTS_HIGHER_ONLY: bool = true;
 
     const NODE_WEIGHT: u64 = 3;
 
-    const COURTED_CLOSE: bool = false;
+    const COURTED_PAIR_CLOSES_EDGE: bool = false;
 
     fn opens(pointer: Option<Node>, flag: bool) -> bool {
         pointer.is_none() && !flag
@@ -86,14 +86,14 @@ impl Rules for Manne {
         }
     }
 
-    fn closes(node: Node, target: &Standing) -> bool {
+    fn closes(node: Node, target: &ChargeInput) -> bool {
         if target.flag || target.is_married {
             return false;
         }
         node < target.node
     }
 
-    fn node_charge(node: &Standing) -> u8 {
+    fn node_charge(node: &ChargeInput) -> u8 {
         match (node.is_married, node.flag) {
             (true, true) => 0,
             (true, false) | (false, false) => 1,
@@ -101,7 +101,7 @@ impl Rules for Manne {
         }
     }
 
-    #[tactic(auto, using(charge_laws::specs::Present::first_present, charge_laws::specs::Present::second_present, charge_laws::specs::Present::pointer_present, charge_laws::specs::Present::flagged_present, charge_laws::specs::Present::leaver_present))]
+    #[tactic(auto, using(charge_laws::specs::PresentNodes::first_present, charge_laws::specs::PresentNodes::second_present, charge_laws::specs::PresentNodes::pointer_present, charge_laws::specs::PresentNodes::flagged_present, charge_laws::specs::PresentNodes::leaver_present))]
     fn cost<T: Touched>(touched: &T, event: &Event) -> u32 {
         match event {
             Event::Link(_, _) => 2,
@@ -120,7 +120,7 @@ impl Rules for Manne {
 fn is_free<L: Local>(local: &L, v: Node) -> bool
     requires at { L.at local.now ≡ v }
     requires state { IsState (L.state local.now) }
-    ensures { result ≡ is_free (L.state local.now) v }
+    ensures { result ≡ is_free_node (L.state local.now) v }
 {
     local.pointer(v).is_none() && !local.flag(v)
 }

@@ -55,7 +55,7 @@ fn pair_cost<V: SilentView>(view: &V, v: Node, partner: Node, target: Option<Nod
 }
 
 /// Of a pointer that is written.
-#[tactic(auto, using(charge_laws::specs::Present::target_present))]
+#[tactic(auto, using(charge_laws::specs::PresentNodes::target_present))]
 fn point_cost<V: SilentView>(view: &V, v: Node, target: Option<Node>) -> u32
     requires state { IsState (V.state view.now) }
     requires present { IsTrue (present (V.state view.now).network v) }
@@ -78,7 +78,7 @@ fn flag_cost<V: SilentView>(view: &V, v: Node, value: bool) -> u32
 }
 
 /// Of a node that goes.
-#[tactic(auto, using(charge_laws::specs::Present::target_present, machine_laws::specs::Pointers::null_unmarried))]
+#[tactic(auto, using(charge_laws::specs::PresentNodes::target_present, machine_laws::specs::Pointers::null_unmarried))]
 fn leave_cost<V: SilentView>(view: &V, v: Node) -> u32
     requires state { IsState (V.state view.now) }
     requires present { IsTrue (present (V.state view.now).network v) }
@@ -93,13 +93,13 @@ fn leave_cost<V: SilentView>(view: &V, v: Node) -> u32
 impl SilentCost for Manne {
     ghost use Rattle.silence_laws.specs.Costs.{manne_silent_cost};
     ghost use Rattle.silence_laws.specs.MannePays.{manne_silent_cost_pays};
-    ghost use Rattle.rules_manne.specs.Silent.{gained_and_gone, cost_is_less};
+    ghost use Rattle.rules_manne.specs.Silent.{gained_and_gone, manne_cost_is_less};
 
     ghost silent_cost = { manne_silent_cost };
 
     ghost excess = { gained_and_gone };
 
-    #[tactic(auto, using(silent_cost::specs::Present::lower_present, silent_cost::specs::Present::upper_present, charge_laws::specs::Present::first_present, charge_laws::specs::Present::second_present, charge_laws::specs::Present::pointer_present, charge_laws::specs::Present::flagged_present, charge_laws::specs::Present::leaver_present))]
+    #[tactic(auto, using(silent_cost::specs::Present::lower_present, silent_cost::specs::Present::upper_present, charge_laws::specs::PresentNodes::first_present, charge_laws::specs::PresentNodes::second_present, charge_laws::specs::PresentNodes::pointer_present, charge_laws::specs::PresentNodes::flagged_present, charge_laws::specs::PresentNodes::leaver_present))]
     fn silent_cost<V: SilentView>(view: &V, event: &Event) -> u32 {
         match event {
             Event::Link(a, b) => link_cost(view, *a, *b),
@@ -114,5 +114,5 @@ impl SilentCost for Manne {
 
     ghost silent_cost_pays = { manne_silent_cost_pays };
 
-    ghost silent_cost_is_less = { cost_is_less };
+    ghost silent_cost_is_less = { manne_cost_is_less };
 }

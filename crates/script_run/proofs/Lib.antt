@@ -1,3 +1,3 @@
-pub mod Shifting
-pub mod Running
-pub mod Standing
+pub mod TextShift
+pub mod RunEnds
+pub mod RunProgress

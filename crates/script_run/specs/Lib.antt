@@ -1,7 +1,7 @@
 pub mod Outcome
 pub mod Line
-pub mod Halted
+pub mod RunEnds
 pub mod Input
-pub mod Asked
-pub mod Reading
-pub mod Whole
+pub mod RunOptions
+pub mod ReadProgress
+pub mod WholeLines

@@ -4,10 +4,10 @@ use Rattle.rule_machine.specs.declared.event.Event.{Event}
 use Rattle.rule_machine.specs.RuleTable.{RuleTable}
 use Rattle.script_text.specs.declared.command.Command.{Command}
 use Rattle.script_text.specs.Script.{Progress, EventDoes, CommandDoes, CommandFills, LineDoes, IsBadLine, MeetsFullLog}
-use Rattle.line_run.specs.Line.{progress_of}
-use Rattle.line_run.specs.declared.run.Run.{Run}
-use Rattle.line_run.specs.declared.stop.Stop.{Stop}
-use Rattle.line_run.specs.declared.stop.Stop.TheVariants.{BadLine, LogFull}
+use Rattle.run_session.specs.Line.{progress_of}
+use Rattle.run_session.specs.declared.run.Run.{Run}
+use Rattle.run_session.specs.declared.stop.LineError.{LineError}
+use Rattle.run_session.specs.declared.stop.LineError.TheVariants.{BadLine, LogFull}
 
 -- a text has grown
 abbrev pub Grows : List ℕ → List ℕ → Type 0
@@ -26,19 +26,19 @@ CommandGrows t limit command before after (Ok false) = CommandFills t limit comm
 CommandGrows t limit command before after (Err want) = Grows before.text after.text
 
 -- the line was carried out, is bad, or met a full log; if memory ran out, some text was added
-abbrev pub LineGrows : {E : Type 0} → RuleTable → ℕ → ℕ → List ℕ → Progress → Progress → Result (Option Stop) E → Type 0
+abbrev pub LineGrows : {E : Type 0} → RuleTable → ℕ → ℕ → List ℕ → Progress → Progress → Result (Option LineError) E → Type 0
 LineGrows t limit number line before after (Ok None) = LineDoes t limit line before after
 LineGrows t limit number line before after (Ok (Some (BadLine n))) = (n ≡ number) × IsBadLine line × (after ≡ before)
 LineGrows t limit number line before after (Ok (Some LogFull)) = MeetsFullLog t limit line before after
 LineGrows t limit number line before after (Err want) = Grows before.text after.text
 
 -- the same, but if memory ran out, no text was added
-abbrev pub LineEnds : {E : Type 0} → RuleTable → ℕ → ℕ → List ℕ → Progress → Progress → Result (Option Stop) E → Type 0
-LineEnds t limit number line before after (Ok None) = LineDoes t limit line before after
-LineEnds t limit number line before after (Ok (Some (BadLine n))) = (n ≡ number) × IsBadLine line × (after ≡ before)
-LineEnds t limit number line before after (Ok (Some LogFull)) = MeetsFullLog t limit line before after
-LineEnds t limit number line before after (Err want) = after.text ≡ before.text
+abbrev pub LineEndsWhole : {E : Type 0} → RuleTable → ℕ → ℕ → List ℕ → Progress → Progress → Result (Option LineError) E → Type 0
+LineEndsWhole t limit number line before after (Ok None) = LineDoes t limit line before after
+LineEndsWhole t limit number line before after (Ok (Some (BadLine n))) = (n ≡ number) × IsBadLine line × (after ≡ before)
+LineEndsWhole t limit number line before after (Ok (Some LogFull)) = MeetsFullLog t limit line before after
+LineEndsWhole t limit number line before after (Err want) = after.text ≡ before.text
 
 -- the line with this number was carried out, from one run to the next
-abbrev pub CarriesLine : {R E : Type 0} → RuleTable → Run R → Run R → ℕ → List ℕ → Result (Option Stop) E → Type 0
-CarriesLine t old new number line result = LineEnds t old.recorder.limit number line (progress_of old) (progress_of new) result
+abbrev pub CarriesLine : {R E : Type 0} → RuleTable → Run R → Run R → ℕ → List ℕ → Result (Option LineError) E → Type 0
+CarriesLine t old new number line result = LineEndsWhole t old.recorder.limit number line (progress_of old) (progress_of new) result

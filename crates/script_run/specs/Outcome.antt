@@ -5,13 +5,13 @@ use Rattle.rule_machine.specs.declared.rules.RuleSet.{RuleSet}
 use Rattle.rule_machine.specs.RuleTable.{RuleTable}
 use Rattle.rule_machine.specs.Tables.{table_of}
 use Rattle.script_text.specs.Script.{Progress, LinesDo, IsBadLine, MeetsFullLog, lines_of}
-use Rattle.line_run.specs.Beginning.{beginning}
-use Rattle.byte_streams.specs.Beginning.{AppendsBeginning}
+use Rattle.run_session.specs.RunStart.{first_progress}
+use Rattle.byte_streams.specs.PartialOutput.{AppendsBeginning}
 use Rattle.script_run.specs.declared.fault.RunFault.{RunFault}
 use Rattle.script_run.specs.declared.fault.RunFault.TheVariants.{BadLine, LogFull, Read, Write, Memory, Pool}
 
 -- the lines before the one with this number lead to the end, and it comes next
-pub record StopsAt (t : RuleTable) (limit : ℕ) (lines : List (List ℕ)) (start : Progress) (n : ℕ) (line : List ℕ) (end : Progress) : Type 0 where
+pub record StopsAtLine (t : RuleTable) (limit : ℕ) (lines : List (List ℕ)) (start : Progress) (n : ℕ) (line : List ℕ) (end : Progress) : Type 0 where
   pub before : List (List ℕ)
   pub behind : List (List ℕ)
   pub splits : lines ≡ before ++ line ∷ behind
@@ -21,38 +21,38 @@ pub record StopsAt (t : RuleTable) (limit : ℕ) (lines : List (List ℕ)) (star
 -- the line with this number is no command
 abbrev pub StopsAtBadLine : RuleTable → ℕ → List (List ℕ) → Progress → ℕ → Progress → Type 0
 StopsAtBadLine t limit lines start number end =
-    (line : List ℕ) × StopsAt t limit lines start number line end × IsBadLine line
+    (line : List ℕ) × StopsAtLine t limit lines start number line end × IsBadLine line
 
 -- some line is a command that meets a full log, which is the end
 abbrev pub StopsAtFullLog : RuleTable → ℕ → List (List ℕ) → Progress → Progress → Type 0
 StopsAtFullLog t limit lines start end =
-    (number : ℕ) × (line : List ℕ) × (before : Progress) × StopsAt t limit lines start number line before × MeetsFullLog t limit line before end
+    (number : ℕ) × (line : List ℕ) × (before : Progress) × StopsAtLine t limit lines start number line before × MeetsFullLog t limit line before end
 
 -- some first lines lead to the end
-abbrev pub LeadsTo : RuleTable → ℕ → List (List ℕ) → Progress → Progress → Type 0
-LeadsTo t limit lines start end = (n : ℕ) × LinesDo t limit (take n lines) start end
+abbrev pub LinesLeadTo : RuleTable → ℕ → List (List ℕ) → Progress → Progress → Type 0
+LinesLeadTo t limit lines start end = (n : ℕ) × LinesDo t limit (take n lines) start end
 
 -- some first lines lead to the end, or a line after them that meets a full log
-abbrev pub Reaches : RuleTable → ℕ → List (List ℕ) → Progress → Progress → Type 0
-Reaches t limit lines start end = LeadsTo t limit lines start end ⊎ StopsAtFullLog t limit lines start end
+abbrev pub LinesReach : RuleTable → ℕ → List (List ℕ) → Progress → Progress → Type 0
+LinesReach t limit lines start end = LinesLeadTo t limit lines start end ⊎ StopsAtFullLog t limit lines start end
 
 -- P holds of the text of all lines, of those before a bad line or a full log, or of some first lines if the
 -- reader failed; Q holds of the text of some first lines if the writer failed or memory ran out
-abbrev pub Ends : RuleTable → ℕ → List (List ℕ) → Progress → Result Unit RunFault → (List ℕ → Type 0) → (List ℕ → Type 0) → Type 0
-Ends t limit lines start (Ok done) P Q = (end : Progress) × LinesDo t limit lines start end × P end.text
-Ends t limit lines start (Err (BadLine number)) P Q = (end : Progress) × StopsAtBadLine t limit lines start number end × P end.text
-Ends t limit lines start (Err LogFull) P Q = (end : Progress) × StopsAtFullLog t limit lines start end × P end.text
-Ends t limit lines start (Err Read) P Q = (end : Progress) × LeadsTo t limit lines start end × P end.text
-Ends t limit lines start (Err Write) P Q = (end : Progress) × Reaches t limit lines start end × Q end.text
-Ends t limit lines start (Err Memory) P Q = (end : Progress) × Reaches t limit lines start end × Q end.text
-Ends t limit lines start (Err (Pool why)) P Q = ⊥
+abbrev pub EndsScript : RuleTable → ℕ → List (List ℕ) → Progress → Result Unit RunFault → (List ℕ → Type 0) → (List ℕ → Type 0) → Type 0
+EndsScript t limit lines start (Ok done) P Q = (end : Progress) × LinesDo t limit lines start end × P end.text
+EndsScript t limit lines start (Err (BadLine number)) P Q = (end : Progress) × StopsAtBadLine t limit lines start number end × P end.text
+EndsScript t limit lines start (Err LogFull) P Q = (end : Progress) × StopsAtFullLog t limit lines start end × P end.text
+EndsScript t limit lines start (Err Read) P Q = (end : Progress) × LinesLeadTo t limit lines start end × P end.text
+EndsScript t limit lines start (Err Write) P Q = (end : Progress) × LinesReach t limit lines start end × Q end.text
+EndsScript t limit lines start (Err Memory) P Q = (end : Progress) × LinesReach t limit lines start end × Q end.text
+EndsScript t limit lines start (Err (Pool why)) P Q = ⊥
 
 -- from this start the script was run under the rules of a table, and the writer has what Ends says
 abbrev pub EndsFrom : RuleTable → ℕ → Progress → List ℕ → Option (List ℕ) → Option (List ℕ) → Result Unit RunFault → Type 0
-EndsFrom t limit start script old new result = Ends t limit (lines_of script) start result (Appends old new) (AppendsBeginning old new)
+EndsFrom t limit start script old new result = EndsScript t limit (lines_of script) start result (Appends old new) (AppendsBeginning old new)
 
 -- the script was run, and the writer has exactly the header, the machine's entries and the bases of the
 -- checkpoints; after a reader's fault those of some first lines, and after a writer's or memory's fault a
 -- beginning of them
-abbrev pub IsOutcome : RuleSet → ℕ → ℕ → ℕ → List ℕ → Option (List ℕ) → Option (List ℕ) → Result Unit RunFault → Type 0
-IsOutcome rules nodes present limit script old new result = EndsFrom (table_of rules) limit (beginning rules nodes present) script old new result
+abbrev pub IsRunOutcome : RuleSet → ℕ → ℕ → ℕ → List ℕ → Option (List ℕ) → Option (List ℕ) → Result Unit RunFault → Type 0
+IsRunOutcome rules nodes present limit script old new result = EndsFrom (table_of rules) limit (first_progress rules nodes present) script old new result

@@ -1,35 +1,35 @@
 //! How far a script was carried out.
 
 ghost use Rattle.std.specs.Prelude.{◌≡◌};
-ghost use Rattle.script_run.specs.Halted.{ended};
+ghost use Rattle.script_run.specs.RunEnds.{run_result};
 
 use crate::RunFault;
-use line_run::Stop;
+use run_session::LineError;
 
 /// How far a script was carried out.
 #[derive(Clone, Copy)]
-pub enum Halt {
+pub enum RunEnd {
     /// To its end.
     Whole,
     /// Up to the line that stopped it.
-    Stopped(Stop),
+    Stopped(LineError),
     /// Up to a read that failed.
     Unread,
     /// Until memory ran out.
     Memory,
 }
 
-impl Halt {
+impl RunEnd {
     /// The result of a run that came this far.
     pub fn told(self) -> Result<(), RunFault>
-        ensures { result ≡ ended self }
+        ensures { result ≡ run_result self }
     {
         match self {
-            Halt::Whole => Ok(()),
-            Halt::Stopped(Stop::BadLine { line }) => Err(RunFault::BadLine { line }),
-            Halt::Stopped(Stop::LogFull) => Err(RunFault::LogFull),
-            Halt::Unread => Err(RunFault::Read),
-            Halt::Memory => Err(RunFault::Memory),
+            RunEnd::Whole => Ok(()),
+            RunEnd::Stopped(LineError::BadLine { line }) => Err(RunFault::BadLine { line }),
+            RunEnd::Stopped(LineError::LogFull) => Err(RunFault::LogFull),
+            RunEnd::Unread => Err(RunFault::Read),
+            RunEnd::Memory => Err(RunFault::Memory),
         }
     }
 }

@@ -1,6 +1,6 @@
 //! The run of a script: bytes in, transcript out.
 //!
-//! `run` reads a script piece by piece and carries out each line as `line_run` does. Before each read it has
+//! `run` reads a script piece by piece and carries out each line as `run_session` does. Before each read it has
 //! written and flushed the text of all whole lines, so a program can talk to it. At `Ok` the writer has
 //! exactly the header, the machine's entries for the lines (each with the least free targets), and the bases
 //! of the checkpoints. The clause `outcome` says what it has after each fault. The transcript is the same

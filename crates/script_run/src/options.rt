@@ -30,7 +30,7 @@ pub struct Options {
 }
 
 impl Options {
-    ghost use Rattle.script_run.specs.Asked.{asked_of, usual};
+    ghost use Rattle.script_run.specs.RunOptions.{asked_of, usual};
 
     /// A run on the nodes 1 to `nodes`, all present; `None` above 65,535.
     ///

@@ -2,20 +2,20 @@
 
 ghost use Rattle.std.specs.Prelude.{◌≡◌, ◌<◌, ◌≤◌, ◌+◌, ◌^◌, ◌++◌, ℕ, List, [], Option, true, length, IfOk, IfSome, IsNone, OnErr, OnOk};
 ghost use Rattle.script_text.specs.Script.{Progress, lines_of};
-ghost use Rattle.script_run.specs.declared.halt.Halt.TheVariants.{Whole, Unread};
-ghost use Rattle.script_run.specs.Halted.{Halts, Hands};
-ghost use Rattle.line_run.specs.Line.{progress_of};
+ghost use Rattle.script_run.specs.declared.halt.RunEnd.TheVariants.{Whole, Unread};
+ghost use Rattle.script_run.specs.RunEnds.{EndsReading, SplitsOutput};
+ghost use Rattle.run_session.specs.Line.{progress_of};
 ghost use Rattle.script_run.specs.Line.{CarriesLine};
-ghost use Rattle.script_run.specs.Reading.{Stands, CarriesPiece, extent};
+ghost use Rattle.script_run.specs.ReadProgress.{IsReadUpTo, CarriesPiece, extent};
 
-use crate::halt::Halt;
-use crate::reading::Reading;
+use crate::halt::RunEnd;
+use crate::reading::ReadProgress;
 use crate::runner::Run;
 use crate::writing::hand_over;
-use byte_streams::{OutputFault, Writes, split_line};
-use line_run::Stop;
+use byte_streams::{FailStopWriter, OutputFault, split_line};
 use rule_machine::Want;
-use rule_set::Rules;
+use rules_api::Rules;
+use run_session::LineError;
 use script_text::MAX_LINE;
 use std::alloc::Global;
 use std::io::Write;
@@ -28,9 +28,9 @@ impl<R: Rules + Sync> Run<R> {
         &mut self,
         rt: &T,
         alloc: Global,
-        reading: &mut Reading,
+        reading: &mut ReadProgress,
         end: &[u8],
-    ) -> Result<Option<Stop>, Want>
+    ) -> Result<Option<LineError>, Want>
         requires { reading.old.lines + 1 < 2 ^ 64 }
         ensures ends { CarriesLine R.table self.old.line self.new.line (reading.old.lines + 1) (reading.old.begun.items ++ end.now) result }
         ensures limit { self.new.line.recorder.limit ≡ self.old.line.recorder.limit }
@@ -58,10 +58,10 @@ impl<R: Rules + Sync> Run<R> {
         &mut self,
         rt: &T,
         alloc: Global,
-        reading: &mut Reading,
+        reading: &mut ReadProgress,
         piece: &[u8],
-        writer: &mut Writes<Out>,
-    ) -> Result<Option<Halt>, OutputFault>
+        writer: &mut FailStopWriter<Out>,
+    ) -> Result<Option<RunEnd>, OutputFault>
         requires { extent reading.old + length piece.now < 2 ^ 64 }
         ensures piece { CarriesPiece R.table self.old.line.recorder.limit piece.now reading.old reading.new
             (progress_of self.old.line) (progress_of self.new.line) (Out.contents writer.old.writer) (Out.contents writer.new.writer) result }
@@ -75,19 +75,19 @@ impl<R: Rules + Sync> Run<R> {
         while let Some((end, behind)) = split_line(rest) {
             match self.carry_out_ended(rt, alloc, reading, end) {
                 Ok(None) => {}
-                Ok(Some(stop)) => return Ok(Some(Halt::Stopped(stop))),
-                Err(_) => return Ok(Some(Halt::Memory)),
+                Ok(Some(stop)) => return Ok(Some(RunEnd::Stopped(stop))),
+                Err(_) => return Ok(Some(RunEnd::Memory)),
             }
             hand_over(writer, &mut self.line.text)?;
             rest = behind;
         }
         if reading.begun.len() + rest.len() > MAX_LINE {
             let line = reading.lines + 1;
-            return Ok(Some(Halt::Stopped(Stop::BadLine { line })));
+            return Ok(Some(RunEnd::Stopped(LineError::BadLine { line })));
         }
         match reading.begun.extend_from_slice(rest) {
             Ok(()) => Ok(None),
-            Err(_) => Ok(Some(Halt::Memory)),
+            Err(_) => Ok(Some(RunEnd::Memory)),
         }
     }
 
@@ -96,22 +96,22 @@ impl<R: Rules + Sync> Run<R> {
         &mut self,
         rt: &T,
         alloc: Global,
-        reading: &Reading,
-    ) -> Halt
+        reading: &ReadProgress,
+    ) -> RunEnd
         requires { reading.now.lines + 1 < 2 ^ 64 }
         ensures reads { result ≡ Unread → ⊥ }
         ensures last { (start : Progress) (old known : Option (List ℕ)) (read : List ℕ)
-            → Stands R.table self.old.line.recorder.limit start old read reading.now.begun.items [] reading.now.lines (progress_of self.old.line) known
-            → Halts R.table self.old.line.recorder.limit (lines_of read) start result (λ text. Hands old known text self.new.line.text.items) }
+            → IsReadUpTo R.table self.old.line.recorder.limit start old read reading.now.begun.items [] reading.now.lines (progress_of self.old.line) known
+            → EndsReading R.table self.old.line.recorder.limit (lines_of read) start result (λ text. SplitsOutput old known text self.new.line.text.items) }
         ensures limit { self.new.line.recorder.limit ≡ self.old.line.recorder.limit }
     {
         if reading.begun.is_empty() {
-            return Halt::Whole;
+            return RunEnd::Whole;
         }
         match self.carry_out(rt, alloc, reading.lines + 1, &reading.begun) {
-            Ok(None) => Halt::Whole,
-            Ok(Some(stop)) => Halt::Stopped(stop),
-            Err(_) => Halt::Memory,
+            Ok(None) => RunEnd::Whole,
+            Ok(Some(stop)) => RunEnd::Stopped(stop),
+            Err(_) => RunEnd::Memory,
         }
     }
 }

@@ -2,26 +2,26 @@
 
 ghost use Rattle.std.specs.Prelude.{◌≡◌, ◌<◌, ◌≤◌, ◌+◌, [], length, take, IfOk, OnErr, OnOk};
 ghost use Rattle.std.specs.Io.KnownBytes.{Consumes, IsAtEnd, Keeps};
-ghost use Rattle.byte_streams.specs.Ended.{IsEnded};
+ghost use Rattle.byte_streams.specs.StreamEnds.{IsEnded};
 
-use byte_streams::{InputFault, Reads};
+use byte_streams::{CountingReader, InputFault};
 use std::alloc::Global;
 use std::io::Read;
 
 /// How many whole lines were found, and what was read of the line after them.
 #[derive(Drop)]
-pub struct Reading {
+pub struct ReadProgress {
     pub lines: u64,
     pub begun: Vec<u8>,
 }
 
-impl Reading {
+impl ReadProgress {
     /// A script before its first read.
-    pub fn new(alloc: Global) -> Reading
+    pub fn new(alloc: Global) -> ReadProgress
         ensures lines { result.lines ≡ 0 }
         ensures begun { result.begun.items ≡ [] }
     {
-        Reading {
+        ReadProgress {
             lines: 0,
             begun: Vec::new(alloc),
         }
@@ -32,7 +32,7 @@ impl Reading {
 ///
 /// 0 bytes come only at the reader's end. `Read` if the read fails; it is not retried.
 pub fn read_on<In: Read>(
-    reader: &mut Reads<In>,
+    reader: &mut CountingReader<In>,
     chunk: &mut [u8],
     _unwritten: &[u8],
 ) -> Result<usize, InputFault>

@@ -4,24 +4,24 @@ ghost use Rattle.std.specs.Prelude.{◌≡◌, true, IfOk, IfSome, OnErr};
 ghost use Rattle.std.specs.Io.KnownBytes.{Appends, IsAtEnd};
 ghost use Rattle.script_text.specs.Command.{Says};
 ghost use Rattle.script_text.specs.Script.{Progress, lines_of};
-ghost use Rattle.byte_streams.specs.Beginning.{AppendsBeginning};
-ghost use Rattle.byte_streams.specs.Ended.{IsEnded};
-ghost use Rattle.script_run.specs.Halted.{Halts, Hands, answered};
-ghost use Rattle.line_run.specs.Beginning.{beginning};
-ghost use Rattle.line_run.specs.Line.{progress_of};
+ghost use Rattle.byte_streams.specs.PartialOutput.{AppendsBeginning};
+ghost use Rattle.byte_streams.specs.StreamEnds.{IsEnded};
+ghost use Rattle.script_run.specs.RunEnds.{EndsReading, SplitsOutput, answered};
+ghost use Rattle.run_session.specs.RunStart.{first_progress};
+ghost use Rattle.run_session.specs.Line.{progress_of};
 ghost use Rattle.script_run.specs.Line.{CommandGrows, LineGrows, CarriesLine};
-ghost use Rattle.script_run.specs.declared.halt.Halt.TheVariants.{Whole, Unread};
-ghost use Rattle.script_run.specs.Outcome.{EndsFrom, LeadsTo};
-ghost use Rattle.script_run.specs.Whole.{DoesWholeLines};
+ghost use Rattle.script_run.specs.declared.halt.RunEnd.TheVariants.{Whole, Unread};
+ghost use Rattle.script_run.specs.Outcome.{EndsFrom, LinesLeadTo};
+ghost use Rattle.script_run.specs.WholeLines.{DoesWholeLines};
 
 use crate::Options;
-use crate::halt::Halt;
-use crate::reading::{Reading, read_on};
+use crate::halt::RunEnd;
+use crate::reading::{ReadProgress, read_on};
 use crate::writing::hand_over_all;
-use byte_streams::{OutputFault, Reads, Writes, chunk_of};
-use line_run::{Run as LineRun, Stop};
+use byte_streams::{CountingReader, FailStopWriter, OutputFault, chunk_of};
 use rule_machine::{Event, Want};
-use rule_set::Rules;
+use rules_api::Rules;
+use run_session::{LineError, Run as LineRun};
 use script_text::{Command, read_line_into};
 use std::alloc::Global;
 use std::io::{Read, Write};
@@ -40,7 +40,7 @@ pub struct Run<R: Rules> {
 
 impl<R: Rules> Run<R> {
     fn new(alloc: Global, options: &Options) -> Result<Run<R>, Want>
-        ensures begins { IfOk result (λ run. progress_of run.line ≡ beginning options.now.rules options.now.nodes options.now.present) }
+        ensures begins { IfOk result (λ run. progress_of run.line ≡ first_progress options.now.rules options.now.nodes options.now.present) }
         ensures limit { IfOk result (λ run. run.line.recorder.limit ≡ options.now.limit) }
         ensures workers { IfOk result (λ run. run.workers ≡ options.now.workers) }
     {
@@ -82,7 +82,7 @@ impl<R: Rules + Sync> Run<R> {
         alloc: Global,
         number: u64,
         line: &[u8],
-    ) -> Result<Option<Stop>, Want>
+    ) -> Result<Option<LineError>, Want>
         ensures ends { LineGrows R.table self.old.line.recorder.limit number line.now (progress_of self.old.line) (progress_of self.new.line) result }
         ensures limit { self.new.line.recorder.limit ≡ self.old.line.recorder.limit }
     {
@@ -91,11 +91,11 @@ impl<R: Rules + Sync> Run<R> {
         }
         let mut command = Command::Checkpoint;
         if !read_line_into(alloc, line, &mut command)? {
-            return Ok(Some(Stop::BadLine { line: number }));
+            return Ok(Some(LineError::BadLine { line: number }));
         }
         match self.follow(rt, alloc, &command, line) {
             Ok(true) => Ok(None),
-            Ok(false) => Ok(Some(Stop::LogFull)),
+            Ok(false) => Ok(Some(LineError::LogFull)),
             Err(want) => Err(want),
         }
     }
@@ -109,7 +109,7 @@ impl<R: Rules + Sync> Run<R> {
         alloc: Global,
         number: u64,
         line: &[u8],
-    ) -> Result<Option<Stop>, Want>
+    ) -> Result<Option<LineError>, Want>
         ensures ends { LineGrows R.table self.old.line.recorder.limit number line.now (progress_of self.old.line) (progress_of self.new.line) result }
         ensures limit { self.new.line.recorder.limit ≡ self.old.line.recorder.limit }
     {
@@ -128,7 +128,7 @@ impl<R: Rules + Sync> Run<R> {
         alloc: Global,
         number: u64,
         line: &[u8],
-    ) -> Result<Option<Stop>, Want>
+    ) -> Result<Option<LineError>, Want>
         ensures ends { CarriesLine R.table self.old.line self.new.line number line.now result }
         ensures limit { self.new.line.recorder.limit ≡ self.old.line.recorder.limit }
     {
@@ -147,30 +147,30 @@ impl<R: Rules + Sync> Run<R> {
         &mut self,
         rt: &T,
         alloc: Global,
-        reader: &mut Reads<In>,
-        writer: &mut Writes<Out>,
-    ) -> Result<Halt, OutputFault>
+        reader: &mut CountingReader<In>,
+        writer: &mut FailStopWriter<Out>,
+    ) -> Result<RunEnd, OutputFault>
         ensures ok { IfOk result (λ end. IfSome (In.remaining reader.old.reader) (λ script.
-            Halts R.table self.old.line.recorder.limit (lines_of script) (progress_of self.old.line) end
-            (λ text. Hands (Out.contents writer.old.writer) (Out.contents writer.new.writer) text self.new.line.text.items))) }
+            EndsReading R.table self.old.line.recorder.limit (lines_of script) (progress_of self.old.line) end
+            (λ text. SplitsOutput (Out.contents writer.old.writer) (Out.contents writer.new.writer) text self.new.line.text.items))) }
         ensures fault { OnErr result (IfSome (In.remaining reader.old.reader) (λ script. (end : Progress)
-            × LeadsTo R.table self.old.line.recorder.limit (lines_of script) (progress_of self.old.line) end
+            × LinesLeadTo R.table self.old.line.recorder.limit (lines_of script) (progress_of self.old.line) end
             × AppendsBeginning (Out.contents writer.old.writer) (Out.contents writer.new.writer) end.text)) }
         ensures whole { IfOk result (λ end. end ≡ Unread → DoesWholeLines R.table self.old.line.recorder.limit (progress_of self.old.line)
             (In.remaining reader.old.reader) (In.remaining reader.new.reader)
-            (λ text. Hands (Out.contents writer.old.writer) (Out.contents writer.new.writer) text self.new.line.text.items)) }
+            (λ text. SplitsOutput (Out.contents writer.old.writer) (Out.contents writer.new.writer) text self.new.line.text.items)) }
         ensures read { IfOk result (λ end. end ≡ Whole → IsAtEnd (In.remaining reader.new.reader)) }
         ensures unread { IfOk result (λ end. end ≡ Unread → IsEnded reader.new.failed reader.new.count) }
         ensures unwritten { OnErr result (writer.new.failed ≡ true) }
     {
         let Ok(mut chunk) = chunk_of(alloc) else {
-            return Ok(Halt::Memory);
+            return Ok(RunEnd::Memory);
         };
-        let mut reading = Reading::new(alloc);
+        let mut reading = ReadProgress::new(alloc);
         loop {
             hand_over_all(writer, &mut self.line.text)?;
             let Ok(len) = read_on(reader, &mut chunk, &self.line.text) else {
-                return Ok(Halt::Unread);
+                return Ok(RunEnd::Unread);
             };
             if len == 0 {
                 return Ok(self.carry_out_last(rt, alloc, &reading));
@@ -192,21 +192,21 @@ impl<R: Rules + Sync> Run<R> {
 pub fn run_on<R: Rules + Sync, In: Read, Out: Write, T: Threads + Wait + Sync>(
     rt: &T,
     alloc: Global,
-    reader: &mut Reads<In>,
-    writer: &mut Writes<Out>,
+    reader: &mut CountingReader<In>,
+    writer: &mut FailStopWriter<Out>,
     options: &Options,
-) -> Result<Halt, OutputFault>
+) -> Result<RunEnd, OutputFault>
     ensures outcome { IfSome (In.remaining reader.old.reader) (λ script.
-        EndsFrom R.table options.now.limit (beginning options.now.rules options.now.nodes options.now.present) script
+        EndsFrom R.table options.now.limit (first_progress options.now.rules options.now.nodes options.now.present) script
         (Out.contents writer.old.writer) (Out.contents writer.new.writer) (answered result)) }
-    ensures whole { IfOk result (λ end. end ≡ Unread → DoesWholeLines R.table options.now.limit (beginning options.now.rules options.now.nodes options.now.present)
+    ensures whole { IfOk result (λ end. end ≡ Unread → DoesWholeLines R.table options.now.limit (first_progress options.now.rules options.now.nodes options.now.present)
         (In.remaining reader.old.reader) (In.remaining reader.new.reader) (Appends (Out.contents writer.old.writer) (Out.contents writer.new.writer))) }
     ensures read { IfOk result (λ end. end ≡ Whole → IsAtEnd (In.remaining reader.new.reader)) }
     ensures unread { IfOk result (λ end. end ≡ Unread → IsEnded reader.new.failed reader.new.count) }
     ensures unwritten { OnErr result (writer.new.failed ≡ true) }
 {
     let Ok(mut run) = Run::<R>::new(alloc, options) else {
-        return Ok(Halt::Memory);
+        return Ok(RunEnd::Memory);
     };
     let end = run.carry_out_all(rt, alloc, reader, writer)?;
     writer.finish(&run.line.text)?;

@@ -2,16 +2,16 @@
 
 ghost use Rattle.std.specs.Prelude.{◌≡◌, true, OnOk, IfSome, IsErrOf};
 ghost use Rattle.std.specs.Io.KnownBytes.{Appends, IsAtEnd};
-ghost use Rattle.byte_streams.specs.Ended.{IsEnded};
+ghost use Rattle.byte_streams.specs.StreamEnds.{IsEnded};
 ghost use Rattle.script_run.specs.declared.fault.RunFault.TheVariants.{Read as Unread, Write as Unwritten};
 ghost use Rattle.rule_machine.specs.Tables.{table_of};
-ghost use Rattle.line_run.specs.Beginning.{beginning};
-ghost use Rattle.script_run.specs.Outcome.{IsOutcome};
-ghost use Rattle.script_run.specs.Whole.{DoesWholeLines};
+ghost use Rattle.run_session.specs.RunStart.{first_progress};
+ghost use Rattle.script_run.specs.Outcome.{IsRunOutcome};
+ghost use Rattle.script_run.specs.WholeLines.{DoesWholeLines};
 
 use crate::runner::run_on;
 use crate::{Options, RunFault};
-use byte_streams::{Reads, Writes};
+use byte_streams::{CountingReader, FailStopWriter};
 use rule_machine::RuleSet;
 use rules_hsu_huang::HsuHuang;
 use rules_manne::Manne;
@@ -42,14 +42,14 @@ use std::thread::Threads;
 pub fn run<In: Read, Out: Write, T: Threads + Wait + Sync>(
     rt: &T,
     alloc: Global,
-    reader: &mut Reads<In>,
-    writer: &mut Writes<Out>,
+    reader: &mut CountingReader<In>,
+    writer: &mut FailStopWriter<Out>,
     options: &Options,
 ) -> Result<(), RunFault>
     ensures outcome { IfSome (In.remaining reader.old.reader) (λ script.
-        IsOutcome options.now.rules options.now.nodes options.now.present options.now.limit script
+        IsRunOutcome options.now.rules options.now.nodes options.now.present options.now.limit script
         (Out.contents writer.old.writer) (Out.contents writer.new.writer) result) }
-    ensures whole { IsErrOf result Unread → DoesWholeLines (table_of options.now.rules) options.now.limit (beginning options.now.rules options.now.nodes options.now.present)
+    ensures whole { IsErrOf result Unread → DoesWholeLines (table_of options.now.rules) options.now.limit (first_progress options.now.rules options.now.nodes options.now.present)
         (In.remaining reader.old.reader) (In.remaining reader.new.reader) (Appends (Out.contents writer.old.writer) (Out.contents writer.new.writer)) }
     ensures read { OnOk result (IsAtEnd (In.remaining reader.new.reader)) }
     ensures unread { IsErrOf result Unread → IsEnded reader.new.failed reader.new.count }

@@ -3,14 +3,14 @@
 ghost use Rattle.std.specs.Prelude.{◌≡◌, ◌<◌, ◌/◌, ◌↔◌, IsOk, IsTrue, length, max, min};
 ghost use Rattle.rule_machine.specs.declared.event.Event.TheVariants.{Step};
 ghost use Rattle.line_text.specs.EventText.{event_text};
-ghost use Rattle.line_run.specs.Line.{progress_of};
+ghost use Rattle.run_session.specs.Line.{progress_of};
 ghost use Rattle.script_run.specs.Line.{StepEnds};
 
 use crate::paying_workers;
 use crate::runner::Run;
 use line_text::put_entry_of_line;
 use rule_machine::{Choice, Want};
-use rule_set::Rules;
+use rules_api::Rules;
 use std::alloc::{AllocError, Global};
 use std::sync::Wait;
 use std::thread::Threads;

@@ -1,7 +1,7 @@
 pub mod Words
 pub mod Once
 pub mod Lengths
-pub mod Ending
-pub mod Lining
-pub mod Counting
+pub mod LineEnds
+pub mod TextLines
+pub mod ScriptCounts
 pub mod Silence

@@ -18,8 +18,8 @@ use Rattle.script_text.specs.declared.command.Command.{Command}
 use Rattle.script_text.specs.declared.command.Command.TheVariants.{Tell, Drive, Scramble, Checkpoint}
 use Rattle.script_text.specs.declared.command.Turns.{Turns}
 use Rattle.script_text.specs.Command.{IsTurns, IsCommand, turns_text, command_text, Says}
-use Rattle.seeded_turns.specs.Drawn.{Draws, seeded_stream, drawn_step, drawn_fault}
-use Rattle.script_text.specs.Script.{Progress, IsEntry, TurnDoes, TurnsDo, CommandDoes, LineDoes, LinesDo}
+use Rattle.seeded_turns.specs.DrawnEvents.{Draws, seeded_stream, drawn_step, drawn_fault}
+use Rattle.script_text.specs.Script.{Progress, AppendsEntry, TurnDoes, TurnsDo, CommandDoes, LineDoes, LinesDo}
 
 turns_of : ℕ → ℕ → Turns
 turns_of s c = record { seed = s; count = c }
@@ -79,7 +79,7 @@ same_progress p q r m n x =
     ∙ ap (λ (z : ℕ). progress_of q.rules q.moment z p.text) n ∙ ap (λ (z : List ℕ). progress_of q.rules q.moment q.count z) x
 
 -- an event leads to one progress
-entry_once : (t : RuleTable) (event : Event) (before after other : Progress) → IsEntry t event before after → IsEntry t event before other → after ≡ other
+entry_once : (t : RuleTable) (event : Event) (before after other : Progress) → AppendsEntry t event before after → AppendsEntry t event before other → after ≡ other
 entry_once t event before after other p q = same_progress after other (p.rules ∙ sym q.rules) (p.moment ∙ sym q.moment) (p.count ∙ sym q.count) (p.text ∙ sym q.text)
 
 -- a turn leads to one progress, if the later ones do

@@ -9,18 +9,18 @@ use Rattle.rule_machine.specs.Least.{state_after}
 use Rattle.rule_machine.specs.State.{State, IsState}
 use Rattle.rule_machine.specs.Run.{Moment}
 use Rattle.rule_machine.specs.RuleTable.{RuleTable, enabled_names}
-use Rattle.machine_laws.specs.Accepted.{state_after_keeps}
+use Rattle.machine_laws.specs.AcceptedEvents.{state_after_keeps}
 use Rattle.machine_laws.specs.LeastMoves.{IsTable}
 use Rattle.machine_laws.specs.Neighbours.{option_cases}
-use Rattle.charge_laws.specs.Charged.{IsCharged}
-use Rattle.daemon.specs.Drawn.{drawn}
+use Rattle.charge_laws.specs.ChargeWords.{IsCharged}
+use Rattle.daemon.specs.DrawnChoices.{choice_drawn}
 use Rattle.drive_laws.proofs.Turns.{turn_rests, turn_pays, zero_is_quiet}
-use Rattle.seeded_turns.specs.Drawn.{Draws, seeded_stream, drawn_step, drawn_fault}
+use Rattle.seeded_turns.specs.DrawnEvents.{Draws, seeded_stream, drawn_step, drawn_fault}
 use Rattle.script_text.specs.declared.command.Command.{Command}
 use Rattle.script_text.specs.declared.command.Command.TheVariants.{Tell, Drive, Scramble, Checkpoint}
 use Rattle.script_text.specs.declared.command.Turns.{Turns}
 use Rattle.script_text.specs.Command.{Says, command_text}
-use Rattle.script_text.specs.Script.{Progress, IsEntry, TurnDoes, TurnsDo, CommandDoes, LineDoes, LinesDo}
+use Rattle.script_text.specs.Script.{Progress, AppendsEntry, TurnDoes, TurnsDo, CommandDoes, LineDoes, LinesDo}
 use Rattle.script_text.proofs.Once.{head_of, says_once}
 
 -- what the turns after the first do
@@ -36,14 +36,14 @@ turns_end_silent t weight table charged limit (suc turns) stream before after go
     (λ none.
     let same : after ≡ before = subst (λ o. TurnDoes t (option_map (λ items. Step items) o) (Others t limit turns stream before after) before after) none does in
     subst (λ (at : Progress). enabled_names t at.moment.state ≡ []) (sym same) (turn_rests t before.moment.state stream none))
-    (λ (some : (items : List Item) × (drawn t.central (enabled_names t before.moment.state) stream).0 ≡ Some items).
+    (λ (some : (items : List Item) × (choice_drawn t.central (enabled_names t before.moment.state) stream).0 ≡ Some items).
     let goes : TurnDoes t (Some (Step some.0)) (Others t limit turns stream before after) before after = subst (λ o. TurnDoes t (option_map (λ items. Step items) o) (Others t limit turns stream before after) before after) some.1 does in
     let pays = turn_pays t weight table charged before.moment.state good stream some.0 some.1 in
     let lands : goes.0.moment.state ≡ state_after t before.moment.state (Step some.0) = ap (λ m. m.state) goes.1.moment in
     let falls = pays.falls in
     let left = ap t.charge lands in
     turns_end_silent t weight table charged limit turns (drawn_step t before.moment.state stream).1 goes.0 after (subst IsState (sym lands) pays.is_state) (omega (arith, falls, left, few)) goes.2)
-    (option_cases (drawn t.central (enabled_names t before.moment.state) stream).0)
+    (option_cases (choice_drawn t.central (enabled_names t before.moment.state) stream).0)
 
 -- a line
 pub line_ends_silent : (t : RuleTable) (weight : ℕ) → IsTable t → IsCharged t weight → (limit : ℕ) (line : List ℕ) (turns : Turns) (before after : Progress) → Says line (Drive turns) → LineDoes t limit line before after → IsState before.moment.state → t.charge before.moment.state ≤ turns.count → enabled_names t after.moment.state ≡ []
@@ -57,7 +57,7 @@ line_ends_silent t weight table charged limit (b ∷ line) turns before after sa
 
 -- ---- behind other lines
 
-entry_keeps : (t : RuleTable) → IsTable t → (event : Event) (before after : Progress) → IsState before.moment.state → IsEntry t event before after → IsState after.moment.state
+entry_keeps : (t : RuleTable) → IsTable t → (event : Event) (before after : Progress) → IsState before.moment.state → AppendsEntry t event before after → IsState after.moment.state
 entry_keeps t table event before after good entry =
     subst (λ (m : Moment). IsState m.state) (sym entry.moment) (state_after_keeps t table before.moment.state good event)
 

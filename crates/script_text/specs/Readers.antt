@@ -32,8 +32,8 @@ IsReaderFault number known Read = Unit {0}
 IsReaderFault number known Memory = Unit {0}
 
 -- why scripts were not read
-abbrev pub IsFault : List (Option (List ℕ)) → TextsFault → Type 0
-IsFault texts TooManyScripts = 64 < length texts
-IsFault texts (BadLine script line) = FirstBadScript 1 texts script line
-IsFault texts Read = texts ≢ []
-IsFault texts Memory = Unit {0}
+abbrev pub IsTextsFault : List (Option (List ℕ)) → TextsFault → Type 0
+IsTextsFault texts TooManyScripts = 64 < length texts
+IsTextsFault texts (BadLine script line) = FirstBadScript 1 texts script line
+IsTextsFault texts Read = texts ≢ []
+IsTextsFault texts Memory = Unit {0}

@@ -12,7 +12,7 @@ use Rattle.line_text.specs.BaseText.{base_text}
 use Rattle.script_text.specs.declared.command.Command.{Command}
 use Rattle.script_text.specs.declared.command.Command.TheVariants.{Tell, Drive, Scramble, Checkpoint}
 use Rattle.script_text.specs.Command.{Says, SaysNothing}
-use Rattle.seeded_turns.specs.Drawn.{Draws, seeded_stream, drawn_step, drawn_fault}
+use Rattle.seeded_turns.specs.DrawnEvents.{Draws, seeded_stream, drawn_step, drawn_fault}
 
 -- a byte put before the first line
 abbrev pub onto_first : ℕ → List (List ℕ) → List (List ℕ)
@@ -33,7 +33,7 @@ pub record Progress : Type 0 where
   pub text : List ℕ
 
 -- the machine carries out the event, and its entry is appended to the text
-pub record IsEntry (t : RuleTable) (event : Event) (before after : Progress) : Type 0 where
+pub record AppendsEntry (t : RuleTable) (event : Event) (before after : Progress) : Type 0 where
   pub rules : after.rules ≡ before.rules
   pub moment : after.moment ≡ moment_after t before.moment event
   pub count : after.count ≡ before.count + 1
@@ -41,12 +41,12 @@ pub record IsEntry (t : RuleTable) (event : Event) (before after : Progress) : T
 
 -- an event makes an entry while there are fewer than the limit
 abbrev pub EventDoes : RuleTable → ℕ → Event → Progress → Progress → Type 0
-EventDoes t limit event before after = (before.count < limit) × IsEntry t event before after
+EventDoes t limit event before after = (before.count < limit) × AppendsEntry t event before after
 
 -- one turn: without an event it ends the turns; an event makes an entry, and the other turns follow
 abbrev pub TurnDoes : RuleTable → Option Event → (Progress → Type 0) → Progress → Progress → Type 0
 TurnDoes t None Others before after = after ≡ before
-TurnDoes t (Some event) Others before after = (next : Progress) × IsEntry t event before next × Others next
+TurnDoes t (Some event) Others before after = (next : Progress) × AppendsEntry t event before next × Others next
 
 -- at most this many turns, while there are fewer entries than the limit; each draws its event in the state
 -- reached
@@ -56,15 +56,15 @@ TurnsDo draws t limit (suc turns) stream before after =
     (before.count < limit) × TurnDoes t (draws t before.moment.state stream).0 (λ next. TurnsDo draws t limit turns (draws t before.moment.state stream).1 next after) before after
 
 -- the lines of the state's base are appended; a base is no entry, so the next entry's number follows on
-abbrev pub checkpointed : Progress → Progress
-checkpointed at = record at { text = at.text ++ base_text at.rules at.moment.state.network.size (base_of at.count at.moment) }
+abbrev pub with_checkpoint : Progress → Progress
+with_checkpoint at = record at { text = at.text ++ base_text at.rules at.moment.state.network.size (base_of at.count at.moment) }
 
 -- what a command does
 abbrev pub CommandDoes : RuleTable → ℕ → Command → Progress → Progress → Type 0
 CommandDoes t limit (Tell event) before after = EventDoes t limit event before after
 CommandDoes t limit (Drive turns) before after = TurnsDo drawn_step t limit turns.count (seeded_stream turns.seed) before after
 CommandDoes t limit (Scramble turns) before after = TurnsDo drawn_fault t limit turns.count (seeded_stream turns.seed) before after
-CommandDoes t limit Checkpoint before after = after ≡ checkpointed before
+CommandDoes t limit Checkpoint before after = after ≡ with_checkpoint before
 
 -- an empty line does nothing; any other is a command
 abbrev pub LineDoes : RuleTable → ℕ → List ℕ → Progress → Progress → Type 0
@@ -87,7 +87,7 @@ IsFull limit before after = (limit ≤ before.count) × (after ≡ before)
 -- a turn after which a later one meets a full log
 abbrev pub TurnFills : RuleTable → Option Event → (Progress → Type 0) → Progress → Type 0
 TurnFills t None Others before = ⊥
-TurnFills t (Some event) Others before = (next : Progress) × IsEntry t event before next × Others next
+TurnFills t (Some event) Others before = (next : Progress) × AppendsEntry t event before next × Others next
 
 -- one of the turns meets a full log, after those before it; it draws nothing
 abbrev pub TurnsFill : Draws → RuleTable → ℕ → ℕ → Stream → Progress → Progress → Type 0

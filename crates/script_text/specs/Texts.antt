@@ -8,14 +8,14 @@ use Rattle.script_text.specs.declared.fault.TextFault.{TextFault}
 use Rattle.script_text.specs.declared.fault.TextFault.TheVariants.{BadLine, Memory}
 
 -- the greatest line number that a script stores; it also represents every greater one
-abbrev pub last_number : ℕ
-last_number = 4294967295
+abbrev pub greatest_number : ℕ
+greatest_number = 4294967295
 
 -- what the line with this number adds to the script: its command, or nothing if it is empty
 abbrev pub LineHolds : ℕ → List ℕ → List ScriptLine → Type 0
 LineHolds number [] own = own ≡ []
 LineHolds number (b ∷ line) own =
-    (command : Command) × Says (b ∷ line) command × (own ≡ record { line = min number last_number; command = command } ∷ [])
+    (command : Command) × Says (b ∷ line) command × (own ≡ record { line = min number greatest_number; command = command } ∷ [])
 
 -- what the lines add in turn, numbered from this number
 abbrev pub LinesHold : ℕ → List (List ℕ) → List ScriptLine → Type 0

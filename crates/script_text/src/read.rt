@@ -1,7 +1,7 @@
 //! Reading one line of a script.
 
 ghost use Rattle.std.specs.Prelude.{IfOk, MatchOption};
-ghost use Rattle.line_text.specs.Reading.{Reads, kept_if};
+ghost use Rattle.line_text.specs.Parsing.{ParsesAs, kept_if};
 ghost use Rattle.script_text.specs.Command.{IsTurns, turns_text, Says, SaysNothing, SaysNoTurns};
 
 use crate::{Command, MAX_TURNS, Turns};
@@ -12,7 +12,7 @@ use std::alloc::Global;
 
 /// Reads a seed and a number of turns.
 fn read_turns(bytes: &[u8]) -> Option<Turns>
-    ensures { Reads IsTurns turns_text bytes.now result }
+    ensures { ParsesAs IsTurns turns_text bytes.now result }
 {
     let Some(at) = memchr(b' ', bytes) else {
         return None;

@@ -3,10 +3,10 @@
 ghost use Rattle.std.specs.Prelude.{◌<◌, ◌≤◌, ◌+◌, ◌↔◌, length, map, IfOk, IfErr, IsErrOf, IfSome};
 ghost use Rattle.script_text.specs.declared.fault.TextsFault.TheVariants.{TooManyScripts};
 ghost use Rattle.script_text.specs.Texts.{TextHolds};
-ghost use Rattle.script_text.specs.Readers.{AllHold, IsFault, IsReaderFault};
+ghost use Rattle.script_text.specs.Readers.{AllHold, IsTextsFault, IsReaderFault};
 
 use crate::{Script, TextFault, TextsFault, read_text};
-use byte_streams::{InputFault, Reads, read_whole};
+use byte_streams::{CountingReader, InputFault, read_whole};
 use std::alloc::Global;
 use std::io::Read;
 
@@ -17,7 +17,7 @@ fn read_from<In: Read + Drop>(alloc: Global, number: u32, reader: In) -> Result<
     ensures script { IfOk result (λ script. IfSome (In.remaining reader) (λ text. TextHolds text script)) }
     ensures fault { IfErr result (IsReaderFault number (In.remaining reader)) }
 {
-    let mut reader = Reads::new(reader);
+    let mut reader = CountingReader::new(reader);
     let text = match read_whole(alloc, &mut reader) {
         Ok(text) => text,
         Err(InputFault::Read) => return Err(TextsFault::Read),
@@ -36,7 +36,7 @@ fn read_from<In: Read + Drop>(alloc: Global, number: u32, reader: In) -> Result<
 fn read_each<In: Read + Drop>(alloc: Global, readers: Vec<In>) -> Result<Vec<Script>, TextsFault>
     requires { length readers.items ≤ 64 }
     ensures scripts { IfOk result (λ scripts. AllHold (map In.remaining readers.items) scripts.items) }
-    ensures fault { IfErr result (IsFault (map In.remaining readers.items)) }
+    ensures fault { IfErr result (IsTextsFault (map In.remaining readers.items)) }
 {
     let mut scripts = Vec::new(alloc);
     let mut number: u32 = 0;
@@ -66,7 +66,7 @@ pub fn read_scripts<In: Read + Drop>(
     ensures scripts { IfOk result (λ scripts. AllHold (map In.remaining readers.items) scripts.items) }
     ensures few { IfOk result (λ scripts. length scripts.items ≤ 64) }
     ensures many { IsErrOf result TooManyScripts ↔ (64 < length readers.items) }
-    ensures fault { IfErr result (IsFault (map In.remaining readers.items)) }
+    ensures fault { IfErr result (IsTextsFault (map In.remaining readers.items)) }
 {
     if readers.len() > MAX_SCRIPTS {
         return Err(TextsFault::TooManyScripts);

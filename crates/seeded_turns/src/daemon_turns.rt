@@ -1,7 +1,7 @@
 //! The turns of a seeded daemon.
 
 ghost use Rattle.std.specs.Prelude.{◌≡◌};
-ghost use Rattle.seeded_turns.specs.Drawn.{pcg32_stream, seeded_stream, drawn_step};
+ghost use Rattle.seeded_turns.specs.DrawnEvents.{pcg32_stream, seeded_stream, drawn_step};
 
 use crate::EventSource;
 use daemon::{Daemon, Seeded};

@@ -1,7 +1,7 @@
 //! The turns of a seeded injector.
 
 ghost use Rattle.std.specs.Prelude.{◌≡◌};
-ghost use Rattle.seeded_turns.specs.Drawn.{pcg32_stream, seeded_stream, drawn_fault};
+ghost use Rattle.seeded_turns.specs.DrawnEvents.{pcg32_stream, seeded_stream, drawn_fault};
 
 use crate::EventSource;
 use fault_injector::Injector;

@@ -2,7 +2,7 @@
 
 ghost use Rattle.std.specs.Prelude.{◌≡◌, IfOk, OnErr};
 ghost use Rattle.rand_core.specs.Stream.{Stream};
-ghost use Rattle.seeded_turns.specs.Drawn.{Draws};
+ghost use Rattle.seeded_turns.specs.DrawnEvents.{Draws};
 
 use rule_engine::{Event, Net, Rules, Want};
 

@@ -1,11 +1,11 @@
 pub mod Changes
 pub mod Costs
 pub mod Laws
-pub mod Gained
-pub mod Left
-pub mod Unreached
-pub mod Cheaper
-pub mod Less
-pub mod Turned
+pub mod GainedPairs
+pub mod LeftPairs
+pub mod UnreachedNodes
+pub mod OpenedEdges
+pub mod CostComparison
+pub mod TurnedPointers
 pub mod Pays
 pub mod MannePays

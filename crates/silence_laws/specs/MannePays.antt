@@ -15,13 +15,13 @@ use Rattle.rule_machine.specs.Stable.{IsStable}
 use Rattle.rule_machine.specs.Refuse.{refusal_of}
 use Rattle.rule_machine.specs.Answer.{Answers, AnswersBy}
 use Rattle.rule_machine.specs.Run.{Entry, Moment, Run}
-use Rattle.machine_laws.specs.Keeps.{leave_keeps, unlink_keeps}
+use Rattle.machine_laws.specs.StatePreservation.{leave_keeps, unlink_keeps}
 use Rattle.machine_laws.specs.Pointers.{married_from, married_some, null_unmarried, points_from}
 use Rattle.machine_laws.specs.Runs.{answers_keep, runs_end_in_states}
-use Rattle.charge_laws.specs.Charged.{IsUndisturbed, moves_in}
+use Rattle.charge_laws.specs.ChargeWords.{IsUndisturbed, moves_in}
 use Rattle.charge_laws.specs.Costs.{manne_cost, manne_leave_cost, manne_point_cost}
 use Rattle.charge_laws.specs.CostsOfRuns.{leave_has, manne_disturbed, point_parts}
-use Rattle.charge_laws.specs.Counting.{IsIn, sum_add, sum_le}
+use Rattle.charge_laws.specs.ListCounts.{IsIn, sum_add, sum_le}
 use Rattle.charge_laws.specs.Degrees.{degree, none_count, once}
 use Rattle.charge_laws.specs.HsuHuangEdits.{leave_waits, leave_within, unlink_waits, unlink_within}
 use Rattle.charge_laws.specs.Laws.{manne_charged, moves_are_paid}
@@ -31,22 +31,22 @@ use Rattle.charge_laws.specs.Members.{edges_contain, names_present, names_withou
 use Rattle.charge_laws.specs.StableCharge.{an_end_paired}
 use Rattle.charge_laws.specs.Stances.{is_paired, paired_is, stance}
 use Rattle.charge_laws.specs.Tables.{manne_table}
-use Rattle.charge_laws.specs.Touched.{IsWithin, WaitsOnly}
+use Rattle.charge_laws.specs.DisturbedPairs.{IsSubNetwork, WaitsOnly}
 use Rattle.containment_laws.specs.AtRest.{all_rest, rest_is_stable}
-use Rattle.containment_laws.specs.Contained.{answered_mild, disturbed_rests, mild_weds, run_keeps_network}
+use Rattle.containment_laws.specs.Containment.{answered_mild, disturbed_rests, mild_weds, run_keeps_network}
 use Rattle.containment_laws.specs.Edits.{IsMild, mutual_is}
 use Rattle.containment_laws.specs.Partings.{none_parted}
 use Rattle.containment_laws.specs.Proved.{manne_contains}
 use Rattle.containment_laws.specs.Reach.{is_hit, is_parted, parts_a_pair}
 use Rattle.silence_laws.specs.Changes.{most_gained, most_lost, nodes_gone}
-use Rattle.silence_laws.specs.Cheaper.{edges_few, is_edge_to, is_single_edge, is_touched, leave_apart, one_le, or_le, single_few, touched_few, touched_single, unlink_apart, unlink_who}
+use Rattle.silence_laws.specs.OpenedEdges.{edges_few, is_edge_to, is_single_edge, is_edge_touched, leave_apart, one_le, or_le, single_few, touched_few, touched_single, unlink_apart, unlink_who}
 use Rattle.silence_laws.specs.Costs.{manne_silent_cost, manne_silent_point_cost, single_neighbours, single_neighbours_at}
-use Rattle.silence_laws.specs.Gained.{few_are_gained}
+use Rattle.silence_laws.specs.GainedPairs.{few_are_gained}
 use Rattle.silence_laws.specs.Laws.{ManneSilentCostIsLess, ManneSilentCostPays}
-use Rattle.silence_laws.specs.Left.{few_are_lost, nodes_left}
-use Rattle.silence_laws.specs.Less.{partner_less, rewriting_changes_nothing}
-use Rattle.silence_laws.specs.Turned.{marked_few, waits}
-use Rattle.silence_laws.specs.Unreached.{answer_at, none_courted, none_waits, unreached_from}
+use Rattle.silence_laws.specs.LeftPairs.{few_are_lost, nodes_left}
+use Rattle.silence_laws.specs.CostComparison.{partner_less, rewriting_changes_nothing}
+use Rattle.silence_laws.specs.TurnedPointers.{marked_few, waits}
+use Rattle.silence_laws.specs.UnreachedNodes.{answer_at, none_courted, none_waits, unreached_from}
 
 -- both ends are parted
 abbrev pub is_inner : State → Event → ℕ × ℕ → Bool
@@ -82,15 +82,15 @@ module _ (s : State) (event : Event) (s' : State) (good : IsState s) (good' : Is
   swap false true h = refl
   swap false false h = refl
 
-  pub manne_silent_grows : IsWithin s.network s'.network → (marked : ℕ → Bool) → WaitsOnly (pointer s) (pointer s') marked → ((x : ℕ) → is_hit s event x ≡ false) → manne_charge s' ≤ manne_charge s + 2 * (count_by (is_touched s event) (edge_list s'.network) + count_by (is_inner s event) (edge_list s'.network)) + count_by marked (names s'.network) + 2 * count_by (is_parted s event) (names s'.network)
+  pub manne_silent_grows : IsSubNetwork s.network s'.network → (marked : ℕ → Bool) → WaitsOnly (pointer s) (pointer s') marked → ((x : ℕ) → is_hit s event x ≡ false) → manne_charge s' ≤ manne_charge s + 2 * (count_by (is_edge_touched s event) (edge_list s'.network) + count_by (is_inner s event) (edge_list s'.network)) + count_by marked (names s'.network) + 2 * count_by (is_parted s event) (names s'.network)
   manne_silent_grows within marked waits unhit =
       let es = edge_list s'.network in
-      let grows = manne_grows s s' within (λ e. is_touched s event e || is_inner s event e) marked (is_parted s event)
+      let grows = manne_grows s s' within (λ e. is_edge_touched s event e || is_inner s event e) marked (is_parted s event)
       (λ x y there free was.
       let ends = edges_contain s'.network (x, y) there in
       let has_x = good'.is_network.low_present x y ends in
       let has_y = good'.is_network.high_present x y ends in
-      let both = or_parts (is_touched s event (x, y)) (is_inner s event (x, y)) free in
+      let both = or_parts (is_edge_touched s event (x, y)) (is_inner s event (x, y)) free in
       let sides = or_parts (is_parted s event x && not (married s y)) (is_parted s event y && not (married s x)) both.0 in
       an_end_paired true s good stable (x, y) (within.edges (x, y) there) (IsTrue (manne_closed s' (x, y)))
       (λ h. closes x y (one_weds x y (wed x h) has_x has_y sides.0 both.1))
@@ -100,8 +100,8 @@ module _ (s : State) (event : Event) (s' : State) (good : IsState s) (good' : Is
       let has = names_present s'.network x there in
       let had = names_present s.network x (within.nodes x there) in
       ((λ is. weds x is kept has), mild.flags x has (λ uses. stable.flagged uses x had) (unhit x))) in
-      let le = sum_le (λ e. cond (is_touched s event e || is_inner s event e) 1 0) (λ e. cond (is_touched s event e) 1 0 + cond (is_inner s event e) 1 0) es (λ e there. or_le (is_touched s event e || is_inner s event e) (is_touched s event e) (is_inner s event e) (or_cases (is_touched s event e) (is_inner s event e))) in
-      let both = sum_add (λ e. cond (is_touched s event e) 1 0) (λ e. cond (is_inner s event e) 1 0) es in
+      let le = sum_le (λ e. cond (is_edge_touched s event e || is_inner s event e) 1 0) (λ e. cond (is_edge_touched s event e) 1 0 + cond (is_inner s event e) 1 0) es (λ e there. or_le (is_edge_touched s event e || is_inner s event e) (is_edge_touched s event e) (is_inner s event e) (or_cases (is_edge_touched s event e) (is_inner s event e))) in
+      let both = sum_add (λ e. cond (is_edge_touched s event e) 1 0) (λ e. cond (is_inner s event e) 1 0) es in
       omega (arith, grows, le, both)
     where
       wed : (x : ℕ) → IsTrue (is_paired (stance (pointer s) x)) → married s x ≡ true
@@ -155,7 +155,7 @@ leave_few s a p good stable has mild at =
     let xs = names s'.network in
     let within = leave_within s a good has in
     let grows = manne_silent_grows s (Leave a) s' good good' stable mild within (λ x. false) (leave_waits s a) (λ x. refl) in
-    let le = sum_le (λ e. cond (is_touched s (Leave a) e) 1 0) (λ e. cond (is_single_edge s p e) 1 0) es (λ e there. one_le (is_touched s (Leave a) e) (is_single_edge s p e) (touched_single s (Leave a) p e who)) in
+    let le = sum_le (λ e. cond (is_edge_touched s (Leave a) e) 1 0) (λ e. cond (is_single_edge s p e) 1 0) es (λ e there. one_le (is_edge_touched s (Leave a) e) (is_single_edge s p e) (touched_single s (Leave a) p e who)) in
     let first = single_few s s' good good' within p in
     let inner = none_inner s (Leave a) es (leave_apart s a good') in
     let marks = none_count (λ (x : ℕ). false) xs (λ x there. refl) in
@@ -172,7 +172,7 @@ turned_few s v u target good stable at back away near good' mild =
     let es = edge_list s.network in
     let xs = names s.network in
     let calm : IsStable false s = record { answered = stable.answered; covered = stable.covered; flagged = λ uses. absurd (true≢false (sym uses)) } in
-    let within : IsWithin s.network (after_point s v target).network = record { edges = λ e h. h; nodes = λ x h. h } in
+    let within : IsSubNetwork s.network (after_point s v target).network = record { edges = λ e h. h; nodes = λ x h. h } in
     let grows = manne_silent_grows s (Point v target) (after_point s v target) good good' stable mild within (λ x. (is_some target && nat_eq v x) || nat_eq u x) (waits s v u target good calm at back away near good') (unhit target) in
     let marks = marked_few s v u target good calm at back away near good' in
     let few = touched_few s (Point v target) v u es (who target) in

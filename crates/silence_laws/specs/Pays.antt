@@ -21,14 +21,14 @@ use Rattle.charge_laws.specs.CostsOfRuns.{hsu_huang_disturbed, leave_has, point_
 use Rattle.charge_laws.specs.Laws.{hsu_huang_charged, moves_are_paid}
 use Rattle.charge_laws.specs.StableCharge.{hsu_huang_stable_is_zero}
 use Rattle.charge_laws.specs.Tables.{hsu_huang_table}
-use Rattle.containment_laws.specs.Contained.{answered_mild}
+use Rattle.containment_laws.specs.Containment.{answered_mild}
 use Rattle.containment_laws.specs.Edits.{IsMild}
-use Rattle.silence_laws.specs.Cheaper.{leave_few, unlink_few}
+use Rattle.silence_laws.specs.OpenedEdges.{leave_few, unlink_few}
 use Rattle.silence_laws.specs.Costs.{silent_cost, silent_point_cost, single_neighbours, single_neighbours_but}
 use Rattle.silence_laws.specs.Laws.{SilentCostPays, TurnedCostsLess}
-use Rattle.silence_laws.specs.Less.{null_point_cost, pair_point_cost, partner_less, rewriting_changes_nothing}
-use Rattle.silence_laws.specs.Turned.{far_few, turned_few}
-use Rattle.silence_laws.specs.Unreached.{answer_at, unreached_from, unreached_is_silent}
+use Rattle.silence_laws.specs.CostComparison.{null_point_cost, pair_point_cost, partner_less, rewriting_changes_nothing}
+use Rattle.silence_laws.specs.TurnedPointers.{far_few, turned_few}
+use Rattle.silence_laws.specs.UnreachedNodes.{answer_at, unreached_from, unreached_is_silent}
 
 -- ---- an edge comes
 

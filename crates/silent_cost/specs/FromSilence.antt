@@ -7,7 +7,7 @@ use Rattle.rule_machine.specs.State.{State, IsState}
 use Rattle.rule_machine.specs.Stable.{IsStable}
 use Rattle.rule_machine.specs.RuleTable.{RuleTable}
 use Rattle.rule_machine.specs.Run.{Entry, Moment, Run}
-use Rattle.charge_laws.specs.Charged.{IsUndisturbed, moves_in}
+use Rattle.charge_laws.specs.ChargeWords.{IsUndisturbed, moves_in}
 
 -- If the event is accepted, no run after it has more moves until the next disturbance, whether it ends silent or not.
 abbrev pub BoundsMovesAfter : RuleTable → State → ℕ → Event → ℕ → Type 0

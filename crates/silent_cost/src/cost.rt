@@ -8,7 +8,7 @@ ghost use Rattle.silent_cost.specs.FromSilence.{ExceedsAtMost, PaysFromSilence};
 
 use crate::SilentView;
 use rule_machine::Event;
-use rule_set::Rules;
+use rules_api::Rules;
 
 /// Rules that bound the moves after one disturbance of a silent network.
 pub trait SilentCost: Rules {

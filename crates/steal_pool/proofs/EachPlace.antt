@@ -4,33 +4,33 @@ use Rattle.std.specs.Prelude.{if◌then◌else◌, slice_get, Some}
 use Rattle.std.specs.List.{sum_by, range_with_len}
 use Rattle.std.proofs.lemmas.List.{map-append}
 use Rattle.std.proofs.lemmas.List.Sums.{sum_by-append, sum_by_push}
-use Rattle.place_deque.specs.declared.block.Block.{Block}
-use Rattle.place_deque.specs.declared.end.DequeEnd.{DequeEnd}
-use Rattle.place_deque.specs.declared.ledger.Ledger.{Ledger}
-use Rattle.place_deque.specs.Ledgers.{ledger, places, places_in, ArePlaces, AreAllPlaces}
-use Rattle.place_deque.specs.Ends.{end_taken, AreJoined}
+use Rattle.index_deque.specs.declared.block.Block.{Block}
+use Rattle.index_deque.specs.declared.end.DequeEnd.{DequeEnd}
+use Rattle.index_deque.specs.declared.ledger.Ledger.{Ledger}
+use Rattle.index_deque.specs.Ledgers.{ledger, first_places, places_in, ArePlaces, AreAllPlaces}
+use Rattle.index_deque.specs.Ends.{end_taken, AreJoined}
 use Rattle.rule_machine.specs.declared.choice.Item.{Item}
 use Rattle.rule_machine.specs.declared.verdict.Verdict.{Verdict}
 use Rattle.rule_machine.specs.State.{State}
 use Rattle.rule_machine.specs.RuleTable.{RuleTable}
-use Rattle.rule_engine.specs.Choosing.{verdicts_of}
+use Rattle.rule_engine.specs.ChoiceMoves.{verdicts_of}
 use Rattle.steal_pool.specs.declared.hand.Hand.{Hand}
-use Rattle.steal_pool.specs.declared.hand.Judged.{Judged}
+use Rattle.steal_pool.specs.declared.hand.Share.{Share}
 use Rattle.steal_pool.specs.Hands.{hand_number, judged_places, all_taken, AreOf, AreJudged}
 use Rattle.steal_pool.specs.Once.{times, StandOnce, AllStandOnce, places_of}
-use Rattle.steal_pool.proofs.Laying.{more_numbers, place_from}
+use Rattle.steal_pool.proofs.VerdictTables.{more_numbers, place_from}
 
 -- one more number below which a place can be
 one_below : (place count : ℕ) → (if nat_lt place count then 1 else 0) + cond (nat_eq place count) 1 0 ≡ (if nat_lt place (count + 1) then 1 else 0)
 one_below place count = grind arith
 
 -- each place below the count occurs once among all of them
-pub each_once : (count place : ℕ) → times place (places count) ≡ (if nat_lt place count then 1 else 0)
+pub each_once : (count place : ℕ) → times place (first_places count) ≡ (if nat_lt place count then 1 else 0)
 each_once zero place = grind arith
 each_once (suc count) place =
     let weight : ℕ → ℕ = λ x. cond (nat_eq place x) 1 0 in
     let next : count + 1 ≡ suc count = omega arith in
-    ap (sum_by weight) (more_numbers 0 count count (suc count) (omega arith) (omega arith)) ∙ sum_by_push weight (places count) count ∙ ap (λ n. n + weight count) (each_once count place) ∙ one_below place count ∙ ap (λ (n : ℕ). if nat_lt place n then 1 else 0) next
+    ap (sum_by weight) (more_numbers 0 count count (suc count) (omega arith) (omega arith)) ∙ sum_by_push weight (first_places count) count ∙ ap (λ n. n + weight count) (each_once count place) ∙ one_below place count ∙ ap (λ (n : ℕ). if nat_lt place n then 1 else 0) next
 
 pub some_stand : (count : ℕ) (taken : List ℕ) → ArePlaces count taken → StandOnce count taken
 some_stand count taken are = λ place. omega (arith, are (λ x. cond (nat_eq place x) 1 0), each_once count place)
@@ -55,22 +55,22 @@ no_item [] verdicts are = refl
 no_item (p ∷ ps) [] are = absurd cc
 no_item (p ∷ ps) (v ∷ vs) are = absurd cc
 
-none_taken : (t : RuleTable) (s : State) (shares : List Judged) → All (AreJudged t s []) shares → all_taken shares ≡ []
+none_taken : (t : RuleTable) (s : State) (shares : List Share) → All (AreJudged t s []) shares → all_taken shares ≡ []
 none_taken t s [] all = refl
 none_taken t s (x ∷ xs) all =
     ap (λ (l : List ℕ). l ++ all_taken xs) (no_item (judged_places x) _ (all 0 x (omega arith))) ∙ none_taken t s xs (λ k d within. all (suc k) d (omega arith))
 
-pub none_stand : (t : RuleTable) (s : State) (items : List Item) (shares : List Judged) → length items ≡ 0 → All (AreJudged t s items) shares → AllStandOnce (length items) (all_taken shares ++ [])
+pub none_stand : (t : RuleTable) (s : State) (items : List Item) (shares : List Share) → length items ≡ 0 → All (AreJudged t s items) shares → AllStandOnce (length items) (all_taken shares ++ [])
 none_stand t s [] shares none all = all_stand 0 (all_taken shares ++ []) (λ h. omega (arith, ap (sum_by h) (none_taken t s shares all), sum_by-append h (all_taken shares) []))
 none_stand t s (i ∷ is) shares none all = absurd (omega (arith, none))
 
 -- what was taken by one share more
-last_taken : (h : ℕ → ℕ) (xs : List Judged) (x : Judged) → sum_by h (all_taken (xs ++ x ∷ [])) ≡ sum_by h (all_taken xs) + sum_by h (judged_places x)
+last_taken : (h : ℕ → ℕ) (xs : List Share) (x : Share) → sum_by h (all_taken (xs ++ x ∷ [])) ≡ sum_by h (all_taken xs) + sum_by h (judged_places x)
 last_taken h [] x = omega (arith, sum_by-append h (judged_places x) [])
 last_taken h (y ∷ ys) x = omega (arith, last_taken h ys x, sum_by-append h (judged_places y) (all_taken ys), sum_by-append h (judged_places y) (all_taken (ys ++ x ∷ [])))
 
 -- the end of one share more
-pub moves_taken : (h : ℕ → ℕ) (ends ends' : List DequeEnd) (shares rest all : List Judged) (share : Judged) → ends' ≡ ends ++ share.end ∷ [] → shares ≡ rest ++ share ∷ [] → sum_by (λ e. sum_by h (end_taken e)) ends + sum_by h (all_taken shares) ≡ sum_by h (all_taken all) → sum_by (λ e. sum_by h (end_taken e)) ends' + sum_by h (all_taken rest) ≡ sum_by h (all_taken all)
+pub moves_taken : (h : ℕ → ℕ) (ends ends' : List DequeEnd) (shares rest all : List Share) (share : Share) → ends' ≡ ends ++ share.end ∷ [] → shares ≡ rest ++ share ∷ [] → sum_by (λ e. sum_by h (end_taken e)) ends + sum_by h (all_taken shares) ≡ sum_by h (all_taken all) → sum_by (λ e. sum_by h (end_taken e)) ends' + sum_by h (all_taken rest) ≡ sum_by h (all_taken all)
 moves_taken h ends ends' shares rest all share more less same =
     let weigh : DequeEnd → ℕ = λ e. sum_by h (end_taken e) in
     let to : sum_by weigh ends' ≡ sum_by weigh ends + weigh share.end = ap (sum_by weigh) more ∙ sum_by_push weigh ends share.end in
@@ -78,7 +78,7 @@ moves_taken h ends ends' shares rest all share more less same =
     omega arith
 
 -- what is taken once all shares are joined, and what they took, are all places
-pub all_merged : (count : ℕ) (shares : List Judged) (ends : List DequeEnd) (v : Ledger) (left : List ℕ) → AreJoined count ends v → ((h : ℕ → ℕ) → sum_by (λ e. sum_by h (end_taken e)) ends ≡ sum_by h (all_taken shares)) → AreAllPlaces count (v.taken ++ left) → AllStandOnce count (all_taken shares ++ left)
+pub all_merged : (count : ℕ) (shares : List Share) (ends : List DequeEnd) (v : Ledger) (left : List ℕ) → AreJoined count ends v → ((h : ℕ → ℕ) → sum_by (λ e. sum_by h (end_taken e)) ends ≡ sum_by h (all_taken shares)) → AreAllPlaces count (v.taken ++ left) → AllStandOnce count (all_taken shares ++ left)
 all_merged count shares ends v left joined same all = all_stand count (all_taken shares ++ left) (λ h. omega (arith, joined.taken h, same h, all h, sum_by-append h v.taken left, sum_by-append h (all_taken shares) left))
 
 -- one more block after those taken since

@@ -1,2 +1,2 @@
-pub mod Laying
+pub mod VerdictTables
 mod EachPlace

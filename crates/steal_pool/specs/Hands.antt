@@ -1,35 +1,35 @@
 -- Hands and shares in contracts.
 use Rattle.std.specs.Prelude.{◌≡◌, ℕ, List, [], ◌∷◌, ◌++◌, map, Some, slice_get, All}
-use Rattle.place_deque.specs.Ends.{Hold, end_hold, end_taken}
+use Rattle.index_deque.specs.Ends.{EndView, end_hold, end_taken}
 use Rattle.rule_machine.specs.declared.choice.Item.{Item}
 use Rattle.rule_machine.specs.declared.verdict.Verdict.{Verdict}
 use Rattle.rule_machine.specs.State.{State}
 use Rattle.rule_machine.specs.RuleTable.{RuleTable}
-use Rattle.rule_engine.specs.Choosing.{verdicts_of}
+use Rattle.rule_engine.specs.ChoiceMoves.{verdicts_of}
 use Rattle.steal_pool.specs.declared.hand.Hand.{Hand}
-use Rattle.steal_pool.specs.declared.hand.Judged.{Judged}
+use Rattle.steal_pool.specs.declared.hand.Share.{Share}
 
 -- the deque of a hand, how many places were put on it, and its part of the whole
-abbrev pub hand_hold : Hand → Hold
+abbrev pub hand_hold : Hand → EndView
 hand_hold hand = end_hold hand.end
 
 -- a worker's number
 abbrev pub hand_number : Hand → ℕ
 hand_number hand = hand.worker
 
-abbrev pub judged_hold : Judged → Hold
+abbrev pub judged_hold : Share → EndView
 judged_hold share = end_hold share.end
 
 -- the places that the worker took, in that order
-abbrev pub judged_places : Judged → List ℕ
+abbrev pub judged_places : Share → List ℕ
 judged_places share = end_taken share.end
 
 -- the places that the workers of these shares took, one worker after another
-abbrev pub all_taken : List Judged → List ℕ
+abbrev pub all_taken : List Share → List ℕ
 all_taken [] = []
 all_taken (share ∷ shares) = judged_places share ++ all_taken shares
 
-abbrev pub judged_verdicts : Judged → List Verdict
+abbrev pub judged_verdicts : Share → List Verdict
 judged_verdicts share = share.verdicts.items
 
 -- these verdicts are those of `all` at these places
@@ -41,9 +41,9 @@ abbrev pub GoOnWith : List Verdict → List ℕ → List Verdict → List Verdic
 GoOnWith all places old new = (taken : List ℕ) → AreOf all taken old → AreOf all (taken ++ places) new
 
 -- the share has the verdict of each place that was taken, and no other
-abbrev pub AreJudged : RuleTable → State → List Item → Judged → Type 0
+abbrev pub AreJudged : RuleTable → State → List Item → Share → Type 0
 AreJudged t s items share = AreOf (verdicts_of t s items) (judged_places share) (judged_verdicts share)
 
 -- these are the shares of the hands, in their order, each with its verdicts
-abbrev pub AreShares : RuleTable → State → List Item → List Hand → List Judged → Type 0
+abbrev pub AreShares : RuleTable → State → List Item → List Hand → List Share → Type 0
 AreShares t s items hands shares = (map judged_hold shares ≡ map hand_hold hands) × All (AreJudged t s items) shares

@@ -1,4 +1,4 @@
 pub mod Faults
 pub mod Once
 pub mod Hands
-pub mod Laid
+pub mod VerdictTables

@@ -2,12 +2,12 @@
 
 ghost use Rattle.std.specs.Prelude.{◌≡◌, ◌<◌, ◌≤◌, length, map, min, IfOk, IfErr};
 ghost use Rattle.std.specs.List.{range_with_len};
-ghost use Rattle.place_deque.specs.Ends.{AreAllEnds};
-ghost use Rattle.steal_pool.specs.Faults.{Explains};
+ghost use Rattle.index_deque.specs.Ends.{AreAllEnds};
+ghost use Rattle.steal_pool.specs.Faults.{ExplainsPoolFault};
 ghost use Rattle.steal_pool.specs.Hands.{hand_hold, hand_number};
 
 use crate::{Hand, PoolFault};
-use place_deque::ends;
+use index_deque::ends;
 use rule_engine::{Choice, Want};
 use std::alloc::Global;
 
@@ -22,7 +22,7 @@ pub fn hands(alloc: Global, choice: &Choice, workers: u32) -> Result<Vec<Hand>, 
     ensures number { IfOk result (λ hands. (0 < workers) × (length hands.items ≡ min workers 64)) }
     ensures all { IfOk result (λ hands. AreAllEnds (length choice.now) (map hand_hold hands.items)) }
     ensures numbered { IfOk result (λ hands. map hand_number hands.items ≡ range_with_len 0 (length hands.items)) }
-    ensures fault { IfErr result (Explains workers) }
+    ensures fault { IfErr result (ExplainsPoolFault workers) }
 {
     if workers == 0 {
         return Err(PoolFault::ZeroWorkers);

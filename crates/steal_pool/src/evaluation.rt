@@ -2,12 +2,12 @@
 
 ghost use Rattle.std.specs.Prelude.{◌≡◌, ◌<◌, ◌≤◌, length, map, All, IfOk, IfErr};
 ghost use Rattle.std.specs.Thread.{IsSync};
-ghost use Rattle.rule_engine.specs.Choosing.{verdicts_of};
-ghost use Rattle.steal_pool.specs.Faults.{Explains};
+ghost use Rattle.rule_engine.specs.ChoiceMoves.{verdicts_of};
+ghost use Rattle.steal_pool.specs.Faults.{ExplainsPoolFault};
 ghost use Rattle.steal_pool.specs.Hands.{hand_hold, judged_hold, AreJudged, AreShares};
 
 use crate::dealing::{MAX_WORKERS, deal};
-use crate::{Gate, Hand, Judged, PoolFault, merge};
+use crate::{Gate, Hand, PoolFault, Share, merge};
 use rule_engine::{Choice, Net, Rules, Verdict, Want};
 use std::alloc::Global;
 use std::sync::Wait;
@@ -28,7 +28,7 @@ pub fn evaluate<R: Rules + Sync, G: Gate + Sync, T: Threads + Wait + Sync>(
 ) -> Result<Vec<Verdict>, PoolFault>
     ensures some { IfOk result (λ _. 0 < workers) }
     ensures verdicts { IfOk result (λ verdicts. verdicts.items ≡ verdicts_of R.table net.now.state choice.now) }
-    ensures fault { IfErr result (Explains workers) }
+    ensures fault { IfErr result (ExplainsPoolFault workers) }
 {
     if workers == 0 {
         return Err(PoolFault::ZeroWorkers);
@@ -69,7 +69,7 @@ fn work_all<R: Rules + Sync, G: Gate + Sync, T: Threads + Wait + Sync>(
     choice: &Choice,
     gate: &G,
     mut low: Vec<Hand>,
-) -> Result<Vec<Judged>, Want>
+) -> Result<Vec<Share>, Want>
     requires { All (λ hand. (hand_hold hand).count ≡ length choice.now) low.items }
     ensures hold { IfOk result (λ shares. map judged_hold shares.items ≡ map hand_hold low.items) }
     ensures judged { IfOk result (λ shares. All (AreJudged R.table net.now.state choice.now) shares.items) }
@@ -80,11 +80,11 @@ fn work_all<R: Rules + Sync, G: Gate + Sync, T: Threads + Wait + Sync>(
     let high = low.split_off(low.len() / 2)?;
     let (ours, theirs) = join(
         rt,
-        move || -> Result<Vec<Judged>, Want>
+        move || -> Result<Vec<Share>, Want>
             requires { IsSync T.row × IsSync G.row × IsSync R.row × All (λ hand. (hand_hold hand).count ≡ length choice.now) low.items }
             ensures { IfOk result (λ shares. AreShares R.table net.entry.now.state choice.entry.now low.items shares.items) }
         { work_all(rt, net, choice, gate, low) },
-        move || -> Result<Vec<Judged>, Want>
+        move || -> Result<Vec<Share>, Want>
             requires { IsSync T.row × IsSync G.row × IsSync R.row × All (λ hand. (hand_hold hand).count ≡ length choice.now) high.items }
             ensures { IfOk result (λ shares. AreShares R.table net.entry.now.state choice.entry.now high.items shares.items) }
         { work_all(rt, net, choice, gate, high) },
@@ -101,7 +101,7 @@ fn work_first<R: Rules, G: Gate, W: Wait>(
     choice: &Choice,
     gate: &G,
     mut hands: Vec<Hand>,
-) -> Result<Vec<Judged>, Want>
+) -> Result<Vec<Share>, Want>
     requires few { length hands.items < 2 }
     requires choice { All (λ hand. (hand_hold hand).count ≡ length choice.now) hands.items }
     ensures hold { IfOk result (λ shares. map judged_hold shares.items ≡ map hand_hold hands.items) }

@@ -1,10 +1,10 @@
 //! One worker's end of the work, before and after.
 
 ghost use Rattle.std.specs.Prelude.{◌≡◌, []};
-ghost use Rattle.place_deque.specs.Ends.{end_hold, end_taken};
+ghost use Rattle.index_deque.specs.Ends.{end_hold, end_taken};
 ghost use Rattle.steal_pool.specs.Once.{StandOnce, places_of};
 
-use place_deque::DequeEnd;
+use index_deque::DequeEnd;
 use rule_engine::Verdict;
 use std::alloc::Global;
 
@@ -19,7 +19,7 @@ pub struct Hand {
 
 /// The verdicts of the places that one worker took, each judged once, with its end of the deque.
 #[derive(Drop)]
-pub struct Judged {
+pub struct Share {
     pub(crate) end: DequeEnd,
     pub(crate) verdicts: Vec<Verdict>,
     ghost taken: { places_of verdicts.items ≡ end_taken end },

@@ -27,5 +27,5 @@ pub use dealing::{MAX_WORKERS, hands};
 pub use evaluation::evaluate;
 pub use fault::PoolFault;
 pub use gate::{Gate, NoGate};
-pub use hand::{Hand, Judged};
+pub use hand::{Hand, Share};
 pub use merging::merge;

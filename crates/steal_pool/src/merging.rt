@@ -2,15 +2,15 @@
 
 ghost use Rattle.std.specs.Prelude.{◌≡◌, ◌<◌, ◌≤◌, ℕ, List, ◌++◌, length, map, All, IfOk};
 ghost use Rattle.std.specs.List.{sum_by};
-ghost use Rattle.place_deque.specs.Ends.{end_hold, end_taken, owner_ledger, AreAllEnds};
-ghost use Rattle.place_deque.specs.Ledgers.{block_places, AreAllPlaces};
-ghost use Rattle.rule_engine.specs.Choosing.{verdicts_of};
+ghost use Rattle.index_deque.specs.Ends.{end_hold, end_taken, owner_ledger, AreAllEnds};
+ghost use Rattle.index_deque.specs.Ledgers.{block_places, AreAllPlaces};
+ghost use Rattle.rule_engine.specs.ChoiceMoves.{verdicts_of};
 ghost use Rattle.steal_pool.specs.Hands.{all_taken, judged_hold, AreJudged};
-ghost use Rattle.steal_pool.specs.Laid.{laid, Fit, IsRight, IsRightWith, taken_by, taken_in};
+ghost use Rattle.steal_pool.specs.VerdictTables.{laid, HavePlacesBelow, IsVerdictTable, IsRightWith, taken_by, taken_in};
 ghost use Rattle.steal_pool.specs.Once.{AllStandOnce};
 
-use crate::Judged;
-use place_deque::{Block, DequeEnd, Owner, gather};
+use crate::Share;
+use index_deque::{Block, DequeEnd, Owner, gather};
 use rule_engine::{Choice, Net, Outcome, Rules, Verdict, Want};
 use std::alloc::Global;
 
@@ -21,7 +21,7 @@ use std::alloc::Global;
 /// `AllocError` if memory runs out; the shares are used up then.
 pub fn merge<R: Rules>(
     alloc: Global,
-    shares: Vec<Judged>,
+    shares: Vec<Share>,
     net: &Net<R>,
     choice: &Choice,
 ) -> Result<Vec<Verdict>, Want>
@@ -48,7 +48,7 @@ pub fn merge<R: Rules>(
 // Writes the verdicts of all shares at their places, and returns the ends of the shares.
 fn lay_out<R: Rules>(
     alloc: Global,
-    mut shares: Vec<Judged>,
+    mut shares: Vec<Share>,
     net: &Net<R>,
     choice: &Choice,
     table: &mut [Verdict],
@@ -57,12 +57,12 @@ fn lay_out<R: Rules>(
     requires all { AreAllEnds (length choice.now) (map judged_hold shares.items) }
     requires judged { All (AreJudged R.table net.now.state choice.now) shares.items }
     ensures all { IfOk result (λ ends. AreAllEnds (length choice.now) (map end_hold ends.items)) }
-    ensures right { IfOk result (λ ends. IsRight (verdicts_of R.table net.now.state choice.now) table.new (taken_by ends.items)) }
+    ensures right { IfOk result (λ ends. IsVerdictTable (verdicts_of R.table net.now.state choice.now) table.new (taken_by ends.items)) }
     ensures taken { IfOk result (λ ends. (h : ℕ → ℕ) → sum_by (λ e. sum_by h (end_taken e)) ends.items ≡ sum_by h (all_taken shares.items)) }
 {
     let mut ends = Vec::with_capacity(alloc, shares.len())?;
     while let Some(share) = shares.pop() {
-        let Judged { end, verdicts } = share;
+        let Share { end, verdicts } = share;
         lay(table, &verdicts);
         ends.push(end)?;
     }
@@ -70,7 +70,7 @@ fn lay_out<R: Rules>(
 }
 
 fn lay(table: &mut [Verdict], verdicts: &[Verdict])
-    requires { Fit (length table.old) verdicts.now }
+    requires { HavePlacesBelow (length table.old) verdicts.now }
     ensures { table.new ≡ laid table.old verdicts.now }
 {
     for verdict in verdicts {
@@ -82,7 +82,7 @@ fn lay(table: &mut [Verdict], verdicts: &[Verdict])
 fn judge_left<R: Rules>(mut owner: Owner, net: &Net<R>, choice: &Choice, table: &mut [Verdict])
     requires whole { (owner_ledger owner).parts ≡ 64 }
     requires count { (owner_ledger owner).count ≡ length choice.now }
-    requires right { IsRight (verdicts_of R.table net.now.state choice.now) table.old (taken_in (owner_ledger owner)) }
+    requires right { IsVerdictTable (verdicts_of R.table net.now.state choice.now) table.old (taken_in (owner_ledger owner)) }
     ensures verdicts { table.new ≡ verdicts_of R.table net.now.state choice.now }
     ensures places { (left : List ℕ) × AreAllPlaces (length choice.now) ((owner_ledger owner).taken ++ left) }
 {

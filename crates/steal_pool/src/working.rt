@@ -1,13 +1,13 @@
 //! What a worker does.
 
 ghost use Rattle.std.specs.Prelude.{◌≡◌, ◌≤◌, ◌+◌, ◌-◌, length, IfOk, vec_capacity};
-ghost use Rattle.place_deque.specs.Ledgers.{block_places};
-ghost use Rattle.rule_engine.specs.Choosing.{verdicts_of};
+ghost use Rattle.index_deque.specs.Ledgers.{block_places};
+ghost use Rattle.rule_engine.specs.ChoiceMoves.{verdicts_of};
 ghost use Rattle.steal_pool.specs.Hands.{hand_hold, judged_hold, judged_places, judged_verdicts, AreJudged, GoOnWith};
 ghost use Rattle.steal_pool.specs.Once.{StandOnce, places_of};
 
-use crate::{Gate, Hand, Judged};
-use place_deque::Block;
+use crate::{Gate, Hand, Share};
+use index_deque::Block;
 use rule_engine::{Choice, Net, Rules, Verdict, Want};
 use std::sync::Wait;
 
@@ -31,7 +31,7 @@ impl Hand {
         net: &Net<R>,
         choice: &Choice,
         gate: &G,
-    ) -> Result<Judged, Want>
+    ) -> Result<Share, Want>
         requires choice { (hand_hold self).count ≡ length choice.now }
         ensures hold { IfOk result (λ share. judged_hold share ≡ hand_hold self) }
         ensures judged { IfOk result (AreJudged R.table net.now.state choice.now) }
@@ -49,7 +49,7 @@ impl Hand {
         }
         // Unused room is freed at once, so that the next list need not ask the system for more.
         verdicts.shrink_to_fit();
-        Ok(Judged { end, verdicts })
+        Ok(Share { end, verdicts })
     }
 }
 
@@ -73,7 +73,7 @@ fn judge_block<R: Rules, G: Gate, W: Wait>(
     }
 }
 
-impl Judged {
+impl Share {
     /// What `Net::verdict` returns for each place that the worker took, once, in the order taken.
     pub fn verdicts(&self) -> &[Verdict]
         ensures verdicts { result.now ≡ judged_verdicts self.now }

@@ -1,8 +1,8 @@
 pub mod Wholes
-pub mod Recording
-pub mod Rising
-pub mod Fitting
-pub mod Running
+pub mod RecordedEvents
+pub mod AscendingNumbers
+pub mod ReplyKinds
+pub mod LogGrowth
 pub mod Once
-pub mod Telling
-pub mod Upheld
+pub mod EpochPaths
+pub mod HeadlineProof

@@ -4,7 +4,7 @@ use Rattle.rule_machine.specs.State.{State}
 use Rattle.rule_machine.specs.RuleTable.{RuleTable}
 use Rattle.rule_machine.specs.Answer.{spent_after}
 use Rattle.rule_machine.specs.Run.{Entry, Moment, Run}
-use Rattle.machine_laws.specs.Determined.{answers_once}
+use Rattle.machine_laws.specs.Determinism.{answers_once}
 use Rattle.charge_laws.specs.Epochs.{IsPath}
 
 pub run_once : (t : RuleTable) (start : Moment) (log : List Entry) (end last : Moment) → Run t start log end → Run t start log last → end ≡ last

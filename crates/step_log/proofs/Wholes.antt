@@ -3,10 +3,10 @@ use Rattle.std.proofs.Common.{◌≡◌, ℕ, None, ap, subst, arith}
 use Rattle.rule_machine.specs.RuleTable.{RuleTable}
 use Rattle.rule_machine.specs.Run.{Run}
 use Rattle.step_log.specs.Log.{Log, IsLog}
-use Rattle.step_log.specs.Held.{Held, kept_of, log_of}
-use Rattle.step_log.specs.Kept.{Kept, IsKept, log_in, moment_in, whole}
+use Rattle.step_log.specs.JournalViews.{JournalView, kept_of, undropped_log}
+use Rattle.step_log.specs.RetainedLogs.{RetainedLog, IsRetainedRun, log_in, moment_in, whole}
 
-pub whole_is_log : (t : RuleTable) (weight : ℕ) (log : Log) → IsKept t weight (whole log) → IsLog t log
+pub whole_is_log : (t : RuleTable) (weight : ℕ) (log : Log) → IsRetainedRun t weight (whole log) → IsLog t log
 whole_is_log t weight log is = record {
   run = subst (λ m. Run t m log.entries (moment_in (whole log))) is.begins is.run;
   size = is.size;
@@ -14,12 +14,12 @@ whole_is_log t weight log is = record {
   limit = is.limit;
 }
 
-pub kept_whole : (kept : Kept) → kept.base ≡ None → kept ≡ whole (log_in kept)
+pub kept_whole : (kept : RetainedLog) → kept.base ≡ None → kept ≡ whole (log_in kept)
 kept_whole kept none = ap (λ base. record { state = kept.state; spent = kept.spent; base = base; entries = kept.entries; limit = kept.limit; present = kept.present }) none
 
-pub kept_is_log : (t : RuleTable) (weight : ℕ) (kept : Kept) → kept.base ≡ None → IsKept t weight kept → IsLog t (log_in kept)
-kept_is_log t weight kept none is = whole_is_log t weight (log_in kept) (subst (IsKept t weight) (kept_whole kept none) is)
+pub kept_is_log : (t : RuleTable) (weight : ℕ) (kept : RetainedLog) → kept.base ≡ None → IsRetainedRun t weight kept → IsLog t (log_in kept)
+kept_is_log t weight kept none is = whole_is_log t weight (log_in kept) (subst (IsRetainedRun t weight) (kept_whole kept none) is)
 
 -- so it is of a journal as contracts see it
-pub held_is_log : (t : RuleTable) (weight : ℕ) (inside held : Held) → inside ≡ held → IsKept t weight (kept_of inside) → held.base ≡ None → IsLog t (log_of held)
-held_is_log t weight inside held is kept none = kept_is_log t weight (kept_of held) none (subst (λ (h : Held). IsKept t weight (kept_of h)) is kept)
+pub held_is_log : (t : RuleTable) (weight : ℕ) (inside held : JournalView) → inside ≡ held → IsRetainedRun t weight (kept_of inside) → held.base ≡ None → IsLog t (undropped_log held)
+held_is_log t weight inside held is kept none = kept_is_log t weight (kept_of held) none (subst (λ (h : JournalView). IsRetainedRun t weight (kept_of h)) is kept)

@@ -1,7 +1,7 @@
 -- The epochs of a log, and those that a journal keeps of them.
 use Rattle.std.specs.Prelude.{◌≡◌, ℕ, ◌+◌, ◌*◌, ◌≤◌, List, [], ◌∷◌, ◌++◌, map}
-use Rattle.rule_machine.specs.declared.base.Start.{Start}
-use Rattle.rule_machine.specs.declared.base.Start.TheVariants.{At}
+use Rattle.rule_machine.specs.declared.base.EpochStart.{EpochStart}
+use Rattle.rule_machine.specs.declared.base.EpochStart.TheVariants.{At}
 use Rattle.rule_machine.specs.declared.reply.Reply.{Reply}
 use Rattle.rule_machine.specs.declared.reply.Reply.TheVariants.{Accepted}
 use Rattle.rule_machine.specs.State.{State}
@@ -11,7 +11,7 @@ use Rattle.rule_machine.specs.Run.{Entry, Moment, epochs_by, epochs_from, open_a
 use Rattle.rule_machine.specs.Base.{begun_at, dropped}
 use Rattle.charge_laws.specs.Epochs.{IsPath}
 use Rattle.step_log.specs.declared.epoch.Epoch.{Epoch}
-use Rattle.step_log.specs.Kept.{Kept, Begins}
+use Rattle.step_log.specs.RetainedLogs.{RetainedLog, Begins}
 
 -- as the definitions of runs have it
 abbrev pub of_run : Epoch → EpochOf
@@ -23,7 +23,7 @@ ended_by Accepted e = e ∷ []
 ended_by other e = []
 
 -- the start of the epoch that is current after the entry with this number
-abbrev pub begun_by : Reply → ℕ → Start → Start
+abbrev pub begun_by : Reply → ℕ → EpochStart → EpochStart
 begun_by Accepted number begun = At number
 begun_by other number begun = begun
 
@@ -44,7 +44,7 @@ path_end start (step ∷ path) = path_end (record { state = step.1; spent = spen
 
 -- The entries, numbered from `number`, lead from `start` to `end` by a path. If the first epoch began at
 -- `began`, `over` are the epochs that are over along it, and the current one began at `begun`.
-pub record IsTold (t : RuleTable) (number : ℕ) (began : Start) (start : Moment) (log : List Entry) (end : Moment) (over : List EpochOf) (begun : Start) : Type 0 where
+pub record IsEpochPath (t : RuleTable) (number : ℕ) (began : EpochStart) (start : Moment) (log : List Entry) (end : Moment) (over : List EpochOf) (begun : EpochStart) : Type 0 where
   pub path : List (Entry × State)
   pub entries : map (λ step. step.0) path ≡ log
   pub is_path : IsPath t start path
@@ -53,17 +53,17 @@ pub record IsTold (t : RuleTable) (number : ℕ) (began : Start) (start : Moment
   pub goes_on : open_in number (open_at began start) path ≡ open_at begun end
 
 -- at most twice the edges, plus a weight for each node, as moves
-abbrev pub IsBounded : ℕ → Epoch → Type 0
-IsBounded weight e = e.moves ≤ 2 * e.edges + weight * e.nodes
+abbrev pub IsEpochWithinBound : ℕ → Epoch → Type 0
+IsEpochWithinBound weight e = e.moves ≤ 2 * e.edges + weight * e.nodes
 
 -- the epochs along a path of what is kept, from its start
-abbrev pub epochs_along : Kept → Moment → List (Entry × State) → List EpochOf
+abbrev pub epochs_along : RetainedLog → Moment → List (Entry × State) → List EpochOf
 epochs_along kept start path = epochs_from (dropped kept.base + 1) (open_at (begun_at kept.base) start) path
 
 -- The epochs of what is kept of a log are those of the definitions, for any states that the machine may have
 -- had after its entries; and such states exist. With a base, the first epoch began before it and includes the
 -- moves spent there.
-pub record AreEpochs (t : RuleTable) (weight : ℕ) (kept : Kept) (epochs : List Epoch) : Type 0 where
+pub record AreEpochs (t : RuleTable) (weight : ℕ) (kept : RetainedLog) (epochs : List Epoch) : Type 0 where
   pub exact : (start : Moment) (path : List (Entry × State)) → Begins t weight kept start → map (λ step. step.0) path ≡ kept.entries → IsPath t start path → map of_run epochs ≡ epochs_along kept start path
   pub start : Moment
   pub begins : Begins t weight kept start

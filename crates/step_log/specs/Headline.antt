@@ -5,11 +5,11 @@ use Rattle.rule_machine.specs.State.{State}
 use Rattle.rule_machine.specs.RuleTable.{RuleTable, enabled_names}
 use Rattle.rule_machine.specs.Stable.{IsStable, IsMaximalMatching, mutual_pairs}
 use Rattle.rule_machine.specs.Run.{Entry, Moment, Run}
-use Rattle.charge_laws.specs.Charged.{IsUndisturbed, moves_in}
-use Rattle.charge_laws.specs.Epochs.{IsPath, IsBounded}
-use Rattle.rule_engine.specs.Kept.{IsAnswered}
+use Rattle.charge_laws.specs.ChargeWords.{IsUndisturbed, moves_in}
+use Rattle.charge_laws.specs.Epochs.{IsPath, IsBoundedEpoch}
+use Rattle.rule_engine.specs.EngineStates.{IsAnswered}
 use Rattle.step_log.specs.Epochs.{epochs_along}
-use Rattle.step_log.specs.Kept.{Kept, Begins, moment_in}
+use Rattle.step_log.specs.RetainedLogs.{RetainedLog, Begins, moment_in}
 
 -- No rule is enabled exactly if the network is stable; its mutual pairs then are a maximal matching. If every
 -- pointer is null or answered and the flags are right, they are one only if it is stable.
@@ -20,7 +20,7 @@ pub record IsQuietWhereStable (t : RuleTable) (s : State) : Type 0 where
 
 -- From their beginning, the opening state or a base, these entries are a run of the rule machine to this
 -- moment.
-abbrev pub LeadsTo : RuleTable → ℕ → Kept → List Entry → Moment → Type 0
+abbrev pub LeadsTo : RuleTable → ℕ → RetainedLog → List Entry → Moment → Type 0
 LeadsTo t weight kept entries m = (start : Moment) × Begins t weight kept start × Run t start entries m
 
 -- * run: what is kept of the log is a run of the rule machine to the network's state; moves of one step read
@@ -30,10 +30,10 @@ LeadsTo t weight kept entries m = (start : Moment) × Begins t weight kept start
 --   prefix's end, and that is at most twice the edges plus the weight for each node;
 -- * epochs: so no epoch has more moves, for any states that the entries may lead through; moves before a base
 --   count.
-pub record Upholds (t : RuleTable) (weight : ℕ) (kept : Kept) : Type 0 where
+pub record Upholds (t : RuleTable) (weight : ℕ) (kept : RetainedLog) : Type 0 where
   pub run : LeadsTo t weight kept kept.entries (moment_in kept)
   pub quiet : (before after : List Entry) (m : Moment) → before ++ after ≡ kept.entries → LeadsTo t weight kept before m → IsQuietWhereStable t m.state
   pub budget : (before calm after : List Entry) (m n : Moment) → before ++ (calm ++ after) ≡ kept.entries → LeadsTo t weight kept before m → LeadsTo t weight kept (before ++ calm) n → IsUndisturbed calm
       → (moves_in calm + t.charge n.state ≤ t.charge m.state) × (t.charge m.state ≤ 2 * edge_count m.state.network + weight * node_count m.state.network)
   pub epochs : (start : Moment) (path : List (Entry × State)) → Begins t weight kept start → map (λ step. step.0) path ≡ kept.entries → IsPath t start path
-      → All (IsBounded weight) (epochs_along kept start path)
+      → All (IsBoundedEpoch weight) (epochs_along kept start path)

@@ -1,6 +1,6 @@
 pub mod Recording
 pub mod Log
-pub mod Kept
+pub mod RetainedLogs
 pub mod Epochs
-pub mod Held
+pub mod JournalViews
 pub mod Headline

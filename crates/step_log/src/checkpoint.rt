@@ -4,14 +4,14 @@ ghost use Rattle.std.specs.Prelude.{◌≡◌, ◌≤◌, [], IfOk, OnOk, OnErr,
 ghost use Rattle.line_text.specs.BaseText.{base_text};
 ghost use Rattle.rule_machine.specs.Base.{dropped};
 ghost use Rattle.rule_machine.specs.declared.base.Base.{Base};
-ghost use Rattle.step_log.specs.Held.{kept_of};
-ghost use Rattle.step_log.specs.Kept.{checkpointed, last_number};
+ghost use Rattle.step_log.specs.JournalViews.{kept_of};
+ghost use Rattle.step_log.specs.RetainedLogs.{checkpointed, last_number};
 
 use crate::Journal;
 use crate::epoch::Epochs;
 use line_text::put_base;
 use rule_engine::{Rules, Want};
-use rule_machine::{RuleSet, Start};
+use rule_machine::{EpochStart, RuleSet};
 
 impl<R: Rules> Journal<R> {
     /// Makes the present state the base of the log, drops all entries, and returns the base's number.
@@ -29,7 +29,7 @@ impl<R: Rules> Journal<R> {
         let number = self.len();
         let base = self.net.base(number)?;
         let entries = Vec::new(self.alloc);
-        let epochs = Epochs::new(self.alloc, Start::Forgotten);
+        let epochs = Epochs::new(self.alloc, EpochStart::Forgotten);
         self.base = Some(base);
         self.entries = entries;
         self.epochs = epochs;

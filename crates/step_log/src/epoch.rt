@@ -1,13 +1,13 @@
 //! The entries between two accepted disturbances.
 
 ghost use Rattle.std.specs.Prelude.{◌≡◌, ◌<◌, ◌++◌, [], ◌∷◌, IfOk, OnOk, length, map, vec_capacity};
-ghost use Rattle.rule_engine.specs.Prepared.{moment_of};
+ghost use Rattle.rule_engine.specs.PreparedEvents.{net_moment};
 ghost use Rattle.rule_machine.specs.declared.reply.Reply.TheVariants.{Accepted};
 ghost use Rattle.rule_machine.specs.Run.{open_at};
 ghost use Rattle.step_log.specs.Epochs.{begun_by, ended_by, of_run};
 
 use rule_engine::{Net, Reply, Rules, Want};
-use rule_machine::Start;
+use rule_machine::EpochStart;
 use std::alloc::Global;
 
 /// The moves between two accepted disturbances, the start or the end, and the network's size.
@@ -15,7 +15,7 @@ use std::alloc::Global;
 #[derive(Clone, Copy, Debug, PartialEq, Eq)]
 pub struct Epoch {
     /// Where it began: at an accepted disturbance, at the start, or before the base, in dropped entries.
-    pub start: Start,
+    pub start: EpochStart,
     /// How many moves there were, with those spent before a base.
     pub moves: u32,
     /// How many edges there were after the disturbance.
@@ -26,8 +26,8 @@ pub struct Epoch {
 
 impl Epoch {
     /// The epoch that began at `start`, up to now.
-    fn up_to_now<R: Rules>(start: Start, net: &Net<R>) -> Epoch
-        ensures { of_run result ≡ open_at start (moment_of net.now) }
+    fn up_to_now<R: Rules>(start: EpochStart, net: &Net<R>) -> Epoch
+        ensures { of_run result ≡ open_at start (net_moment net.now) }
     {
         let store = net.store();
         Epoch {
@@ -44,11 +44,11 @@ impl Epoch {
 #[derive(Drop)]
 pub(crate) struct Epochs {
     pub over: Vec<Epoch>,
-    pub begun: Start,
+    pub begun: EpochStart,
 }
 
 impl Epochs {
-    pub fn new(alloc: Global, begun: Start) -> Epochs
+    pub fn new(alloc: Global, begun: EpochStart) -> Epochs
         ensures over { result.over.items ≡ [] }
         ensures room { vec_capacity result.over ≡ 0 }
         ensures begun { result.begun ≡ begun }
@@ -75,18 +75,18 @@ impl Epochs {
     /// The network is still as before the entry. Takes no memory.
     pub fn turn<R: Rules>(&mut self, number: u32, reply: &Reply, net: &Net<R>)
         requires { reply.now ≡ Accepted → length self.old.over.items < vec_capacity self.old.over }
-        ensures over { map of_run self.new.over.items ≡ map of_run self.old.over.items ++ ended_by reply.now (open_at self.old.begun (moment_of net.now)) }
+        ensures over { map of_run self.new.over.items ≡ map of_run self.old.over.items ++ ended_by reply.now (open_at self.old.begun (net_moment net.now)) }
         ensures begun { self.new.begun ≡ begun_by reply.now number self.old.begun }
     {
         if let Reply::Accepted = reply {
             self.over.push(Epoch::up_to_now(self.begun, net)).unwrap();
-            self.begun = Start::At(number);
+            self.begun = EpochStart::At(number);
         }
     }
 
     /// All epochs in order, the last up to now.
     pub fn list<R: Rules>(&self, alloc: Global, net: &Net<R>) -> Result<Vec<Epoch>, Want>
-        ensures { IfOk result (λ epochs. map of_run epochs.items ≡ map of_run self.now.over.items ++ open_at self.now.begun (moment_of net.now) ∷ []) }
+        ensures { IfOk result (λ epochs. map of_run epochs.items ≡ map of_run self.now.over.items ++ open_at self.now.begun (net_moment net.now) ∷ []) }
     {
         let mut epochs = Vec::with_capacity(alloc, self.over.len() + 1)?;
         epochs.extend_from_slice(&self.over)?;

@@ -1,30 +1,30 @@
 //! A network with its log.
 
 ghost use Rattle.std.specs.Prelude.{◌≡◌, ◌<◌, ◌≤◌, ◌+◌, ◌-◌, ◌*◌, ◌⊎◌, ◌↔◌, All, length, min, IfOk, IfErr, OnOk, OnErr, IsErrOf, IsTrue, None, Some, slice_get, vec_capacity};
-ghost use Rattle.graph_store.specs.Fault.{nodes_fault, Explains};
+ghost use Rattle.graph_store.specs.Fault.{nodes_fault, ExplainsGraphFault};
 ghost use Rattle.rule_machine.specs.declared.event.Event.TheVariants.{Step};
 ghost use Rattle.rule_machine.specs.RuleTable.{rule_at};
-ghost use Rattle.rule_engine.specs.Choosing.{verdicts_of};
-ghost use Rattle.rule_engine.specs.Costs.{cost_of, BoundsGrowth};
-ghost use Rattle.rule_engine.specs.Reached.{reach_of, Spares};
+ghost use Rattle.rule_engine.specs.ChoiceMoves.{verdicts_of};
+ghost use Rattle.rule_engine.specs.Costs.{disturbance_cost, BoundsGrowth};
+ghost use Rattle.rule_engine.specs.DisturbanceReach.{reach_of, Spares};
 ghost use Rattle.containment_laws.specs.Reach.{reach_size};
 ghost use Rattle.containment_laws.specs.Rest.{is_at_rest};
 ghost use Rattle.step_log.specs.declared.fault.RecordFault.TheVariants.{LogFull};
 ghost use Rattle.step_log.specs.declared.fault.NoEntry.TheVariants.{Forgotten, Beyond};
-ghost use Rattle.step_log.specs.Epochs.{AreEpochs, IsBounded};
+ghost use Rattle.step_log.specs.Epochs.{AreEpochs, IsEpochWithinBound};
 ghost use Rattle.rule_machine.specs.Base.{dropped};
 ghost use Rattle.rule_machine.specs.Network.{node_count, edge_count};
 ghost use Rattle.rule_machine.specs.Stable.{IsStable};
 ghost use Rattle.step_log.specs.Log.{max_entries, IsLog, empty_log, empty_log_with};
-ghost use Rattle.step_log.specs.Kept.{IsKept, last_number, whole, kept_with, next_receipt};
-ghost use Rattle.step_log.specs.Held.{IsReady, kept_of, log_of};
+ghost use Rattle.step_log.specs.RetainedLogs.{IsRetainedRun, last_number, whole, kept_with, next_receipt};
+ghost use Rattle.step_log.specs.JournalViews.{IsNextReceipt, kept_of, undropped_log};
 ghost use Rattle.step_log.specs.Headline.{Upholds};
 
 use crate::epoch::Epochs;
 use crate::{Epoch, MAX_ENTRIES, NoEntry, Prepared, Receipt, RecordFault};
 use log_entry::Entry;
 use rule_engine::{Choice, Event, GraphFault, Net, Node, Reply, Rules, Verdict, Want};
-use rule_machine::{Base, Start};
+use rule_machine::{Base, EpochStart};
 use std::alloc::Global;
 use std::marker::Model;
 use std::mem::size_of;
@@ -51,9 +51,9 @@ impl<R: Rules> Model for Journal<R> {
     ghost use Rattle.std.specs.Prelude.{◌-◌, length, vec_capacity};
     ghost use Rattle.std.specs.Coded.{codes};
     ghost use Rattle.rule_machine.specs.State.{state_code};
-    ghost use Rattle.step_log.specs.Held.{Held, IsJournal, kept_at};
+    ghost use Rattle.step_log.specs.JournalViews.{JournalView, IsJournal, kept_at};
 
-    ghost Value = { Held };
+    ghost Value = { JournalView };
 
     ghost coded = { Prim.hlevel (codes, state_code) };
 
@@ -78,7 +78,7 @@ impl<R: Rules> Journal<R> {
     pub fn new(alloc: Global, nodes: u32) -> Result<Journal<R>, GraphFault>
         ensures ok { IfOk result (λ journal. kept_of journal ≡ whole (empty_log nodes max_entries)) }
         ensures small { OnOk result (nodes ≤ 65535) }
-        ensures fault { IfErr result (λ fault. Explains (nodes_fault nodes) fault) }
+        ensures fault { IfErr result (λ fault. ExplainsGraphFault (nodes_fault nodes) fault) }
     {
         Journal::with_limit(alloc, nodes, MAX_ENTRIES)
     }
@@ -87,7 +87,7 @@ impl<R: Rules> Journal<R> {
     pub fn with_limit(alloc: Global, nodes: u32, limit: u32) -> Result<Journal<R>, GraphFault>
         ensures ok { IfOk result (λ journal. kept_of journal ≡ whole (empty_log nodes (min limit max_entries))) }
         ensures small { OnOk result (nodes ≤ 65535) }
-        ensures fault { IfErr result (λ fault. Explains (nodes_fault nodes) fault) }
+        ensures fault { IfErr result (λ fault. ExplainsGraphFault (nodes_fault nodes) fault) }
     {
         Journal::with_present(alloc, nodes, nodes, limit)
     }
@@ -103,7 +103,7 @@ impl<R: Rules> Journal<R> {
         requires within { present ≤ nodes }
         ensures ok { IfOk result (λ journal. kept_of journal ≡ whole (empty_log_with nodes present (min limit max_entries))) }
         ensures small { OnOk result (nodes ≤ 65535) }
-        ensures fault { IfErr result (λ fault. Explains (nodes_fault nodes) fault) }
+        ensures fault { IfErr result (λ fault. ExplainsGraphFault (nodes_fault nodes) fault) }
     {
         Ok(Journal {
             alloc,
@@ -112,15 +112,15 @@ impl<R: Rules> Journal<R> {
             entries: Vec::new(alloc),
             limit: limit.min(MAX_ENTRIES),
             present,
-            epochs: Epochs::new(alloc, Start::At(0)),
+            epochs: Epochs::new(alloc, EpochStart::At(0)),
         })
     }
 
     /// The number of the last entry, kept or dropped; 0 before the first.
     pub fn len(&self) -> u32
         ensures number { result ≡ last_number (kept_of self.now) }
-        ensures run { IsKept R.table R.NODE_WEIGHT (kept_of self.now) }
-        ensures log { self.now.base ≡ None → IsLog R.table (log_of self.now) }
+        ensures run { IsRetainedRun R.table R.NODE_WEIGHT (kept_of self.now) }
+        ensures log { self.now.base ≡ None → IsLog R.table (undropped_log self.now) }
     {
         self.dropped() + self.entries.len() as u32
     }
@@ -149,8 +149,8 @@ impl<R: Rules> Journal<R> {
         ensures state { result.now.state ≡ self.now.state }
         ensures spent { result.now.spent ≡ self.now.spent }
         ensures room { result.now.room ≡ self.now.room }
-        ensures run { IsKept R.table R.NODE_WEIGHT (kept_of self.now) }
-        ensures log { self.now.base ≡ None → IsLog R.table (log_of self.now) }
+        ensures run { IsRetainedRun R.table R.NODE_WEIGHT (kept_of self.now) }
+        ensures log { self.now.base ≡ None → IsLog R.table (undropped_log self.now) }
         ensures upheld { Upholds R.table R.NODE_WEIGHT (kept_of self.now) }
     {
         &self.net
@@ -176,7 +176,7 @@ impl<R: Rules> Journal<R> {
     /// The most that an event, if it were recorded now, would add to the charge, in moves.
     /// Records nothing. See `Net::cost_of`, also for the cost.
     pub fn cost_of(&self, event: &Event) -> u32
-        ensures cost { result ≡ cost_of R.table R.cost self.now.state event.now }
+        ensures cost { result ≡ disturbance_cost R.table R.cost self.now.state event.now }
         ensures grows { BoundsGrowth R.table self.now.state self.now.spent event.now result }
     {
         self.net().cost_of(event)
@@ -205,7 +205,7 @@ impl<R: Rules> Journal<R> {
     /// `AllocError` if memory runs out. They are copied from a list kept as the log grows.
     pub fn epochs(&self) -> Result<Vec<Epoch>, Want>
         ensures epochs { IfOk result (λ epochs. AreEpochs R.table R.NODE_WEIGHT (kept_of self.now) epochs.items) }
-        ensures bound { IfOk result (λ epochs. All (IsBounded R.NODE_WEIGHT) epochs.items) }
+        ensures bound { IfOk result (λ epochs. All (IsEpochWithinBound R.NODE_WEIGHT) epochs.items) }
     {
         self.epochs.list(self.alloc, &self.net)
     }
@@ -223,7 +223,7 @@ impl<R: Rules> Journal<R> {
     /// Faults are those of `record`.
     pub fn prepare(&mut self, event: Event) -> Result<Prepared, RecordFault>
         ensures receipt { IfOk result (λ prepared. prepared ≡ next_receipt R.table (kept_of self.old) event) }
-        ensures ready { IfOk result (λ prepared. IsReady R.table self.new prepared) }
+        ensures ready { IfOk result (λ prepared. IsNextReceipt R.table self.new prepared) }
         ensures full { IsErrOf result LogFull ↔ (last_number (kept_of self.old) ≡ self.old.limit) }
         ensures kept { kept_of self.new ≡ kept_of self.old }
     {
@@ -243,7 +243,7 @@ impl<R: Rules> Journal<R> {
     ) -> Result<Prepared, RecordFault>
         requires { verdicts.now ≡ verdicts_of R.table self.old.state choice }
         ensures receipt { IfOk result (λ prepared. prepared ≡ next_receipt R.table (kept_of self.old) (Step choice)) }
-        ensures ready { IfOk result (λ prepared. IsReady R.table self.new prepared) }
+        ensures ready { IfOk result (λ prepared. IsNextReceipt R.table self.new prepared) }
         ensures full { IsErrOf result LogFull ↔ (last_number (kept_of self.old) ≡ self.old.limit) }
         ensures kept { kept_of self.new ≡ kept_of self.old }
     {
@@ -256,7 +256,7 @@ impl<R: Rules> Journal<R> {
     /// Carries out and records what this journal has prepared, and returns the receipt. Takes no memory.
     /// The journal must have recorded nothing and made no checkpoint since.
     pub fn commit(&mut self, prepared: Prepared) -> Receipt
-        requires { IsReady R.table self.old prepared }
+        requires { IsNextReceipt R.table self.old prepared }
         ensures receipt { result ≡ prepared }
         ensures log { kept_of self.new ≡ kept_with R.table (kept_of self.old) prepared.event }
     {

@@ -7,21 +7,21 @@ ghost use Rattle.rule_machine.specs.Network.{node_count, edge_count};
 ghost use Rattle.rule_machine.specs.Run.{Entry, Moment};
 ghost use Rattle.rule_machine.specs.RuleTable.{RuleTable};
 ghost use Rattle.rule_machine.specs.State.{State};
-ghost use Rattle.charge_laws.specs.Charged.{IsUndisturbed, moves_in};
+ghost use Rattle.charge_laws.specs.ChargeWords.{IsUndisturbed, moves_in};
 ghost use Rattle.charge_laws.specs.Epochs.{IsPath};
 ghost use Rattle.step_log.specs.Epochs.{epochs_along};
 ghost use Rattle.step_log.specs.Headline.{Upholds, LeadsTo};
-ghost use Rattle.step_log.specs.Kept.{Kept, Begins};
+ghost use Rattle.step_log.specs.RetainedLogs.{RetainedLog, Begins};
 
 /// Between two disturbances a log has at most 2m + n moves under `hh` and 2m + 3n under `manne`.
 /// Here m edges and n nodes are those at the time; the remaining charge counts too.
 /// Rules: Hsu and Huang (1992); Manne, Mjelde, Pilard and Tixeuil (2009).
 pub fn budgets_by_name()
-    ensures hsu_huang { (kept : Kept) → Upholds hsu_huang 1 kept
+    ensures hsu_huang { (kept : RetainedLog) → Upholds hsu_huang 1 kept
         → (before calm after : List Entry) (m n : Moment) → before ++ (calm ++ after) ≡ kept.entries
         → LeadsTo hsu_huang 1 kept before m → LeadsTo hsu_huang 1 kept (before ++ calm) n → IsUndisturbed calm
         → moves_in calm + hsu_huang.charge n.state ≤ 2 * edge_count m.state.network + node_count m.state.network }
-    ensures manne { (kept : Kept) → Upholds manne 3 kept
+    ensures manne { (kept : RetainedLog) → Upholds manne 3 kept
         → (before calm after : List Entry) (m n : Moment) → before ++ (calm ++ after) ≡ kept.entries
         → LeadsTo manne 3 kept before m → LeadsTo manne 3 kept (before ++ calm) n → IsUndisturbed calm
         → moves_in calm + manne.charge n.state ≤ 2 * edge_count m.state.network + 3 * node_count m.state.network }
@@ -29,17 +29,17 @@ pub fn budgets_by_name()
 
 /// Each epoch of a log, with m edges and n nodes, has at most as many moves.
 pub fn epochs_by_name()
-    ensures hsu_huang { (kept : Kept) → Upholds hsu_huang 1 kept
+    ensures hsu_huang { (kept : RetainedLog) → Upholds hsu_huang 1 kept
         → (start : Moment) (path : List (Entry × State)) → Begins hsu_huang 1 kept start → map (λ step. step.0) path ≡ kept.entries → IsPath hsu_huang start path
         → All (λ epoch. epoch.moves ≤ 2 * epoch.edges + epoch.nodes) (epochs_along kept start path) }
-    ensures manne { (kept : Kept) → Upholds manne 3 kept
+    ensures manne { (kept : RetainedLog) → Upholds manne 3 kept
         → (start : Moment) (path : List (Entry × State)) → Begins manne 3 kept start → map (λ step. step.0) path ≡ kept.entries → IsPath manne start path
         → All (λ epoch. epoch.moves ≤ 2 * epoch.edges + 3 * epoch.nodes) (epochs_along kept start path) }
 {}
 
 /// Each prefix of the kept entries leads to exactly one moment.
 pub fn beginnings_lead_somewhere()
-    ensures { (t : RuleTable) (weight : ℕ) (kept : Kept) → Upholds t weight kept
+    ensures { (t : RuleTable) (weight : ℕ) (kept : RetainedLog) → Upholds t weight kept
         → (before after : List Entry) → before ++ after ≡ kept.entries
         → (m : Moment) × LeadsTo t weight kept before m × ((n : Moment) → LeadsTo t weight kept before n → n ≡ m) }
 {}

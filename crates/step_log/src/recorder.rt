@@ -1,13 +1,13 @@
 //! A network whose entries are numbered.
 
 ghost use Rattle.std.specs.Prelude.{◌≡◌, ◌<◌, ◌≤◌, ◌+◌, ◌++◌, ◌*◌, ◌↔◌, min, IfOk, IfErr, IfSome, OnOk, OnErr, IsErrOf, IsTrue};
-ghost use Rattle.graph_store.specs.Fault.{nodes_fault, Explains};
+ghost use Rattle.graph_store.specs.Fault.{nodes_fault, ExplainsGraphFault};
 ghost use Rattle.rule_machine.specs.declared.event.Event.TheVariants.{Step};
 ghost use Rattle.rule_machine.specs.Network.{node_count, edge_count};
 ghost use Rattle.rule_machine.specs.Stable.{IsStable};
 ghost use Rattle.rule_machine.specs.Answer.{Answers};
 ghost use Rattle.rule_machine.specs.Least.{reply_of};
-ghost use Rattle.rule_engine.specs.Choosing.{verdicts_of};
+ghost use Rattle.rule_engine.specs.ChoiceMoves.{verdicts_of};
 ghost use Rattle.line_text.specs.EntryText.{entry_line};
 ghost use Rattle.line_text.specs.EventText.{event_text};
 ghost use Rattle.step_log.specs.declared.fault.RecordFault.TheVariants.{LogFull};
@@ -48,7 +48,7 @@ impl<R: Rules> Recorder<R> {
     pub fn new(alloc: Global, nodes: u32) -> Result<Recorder<R>, GraphFault>
         ensures ok { IfOk result (λ recorder. recorder ≡ opening_recording nodes max_entries) }
         ensures small { OnOk result (nodes ≤ 65535) }
-        ensures fault { IfErr result (λ fault. Explains (nodes_fault nodes) fault) }
+        ensures fault { IfErr result (λ fault. ExplainsGraphFault (nodes_fault nodes) fault) }
     {
         Recorder::with_limit(alloc, nodes, MAX_ENTRIES)
     }
@@ -57,7 +57,7 @@ impl<R: Rules> Recorder<R> {
     pub fn with_limit(alloc: Global, nodes: u32, limit: u32) -> Result<Recorder<R>, GraphFault>
         ensures ok { IfOk result (λ recorder. recorder ≡ opening_recording nodes (min limit max_entries)) }
         ensures small { OnOk result (nodes ≤ 65535) }
-        ensures fault { IfErr result (λ fault. Explains (nodes_fault nodes) fault) }
+        ensures fault { IfErr result (λ fault. ExplainsGraphFault (nodes_fault nodes) fault) }
     {
         Recorder::with_present(alloc, nodes, nodes, limit)
     }
@@ -73,7 +73,7 @@ impl<R: Rules> Recorder<R> {
         requires within { present ≤ nodes }
         ensures ok { IfOk result (λ recorder. recorder ≡ opening_recording_with nodes present (min limit max_entries)) }
         ensures small { OnOk result (nodes ≤ 65535) }
-        ensures fault { IfErr result (λ fault. Explains (nodes_fault nodes) fault) }
+        ensures fault { IfErr result (λ fault. ExplainsGraphFault (nodes_fault nodes) fault) }
     {
         Ok(Recorder {
             net: Net::with_present(alloc, nodes, present)?,

@@ -2,7 +2,7 @@
 
 ghost use Rattle.std.specs.Prelude.{◌≡◌, ◌≤◌, ◌+◌, ◌↔◌, [], IfSome, IsSome};
 ghost use Rattle.rule_machine.specs.RuleTable.{enabled_names};
-ghost use Rattle.rule_engine.specs.Costs.{cost_of};
+ghost use Rattle.rule_engine.specs.Costs.{disturbance_cost};
 ghost use Rattle.silent_cost.specs.FromSilence.{BoundsMovesAfter};
 
 use crate::{Journal, Recorder};
@@ -16,9 +16,9 @@ impl<R: SilentCost> Recorder<R> {
     /// Nothing is recorded. It takes the looks of `Net::silent_cost_of`.
     pub fn silent_cost_of(&self, event: &Event) -> Option<u32>
         ensures silent { IsSome result ↔ (enabled_names R.table self.now.state ≡ []) }
-        ensures cost { IfSome result (λ most. most ≡ cost_of R.table R.silent_cost self.now.state event.now) }
+        ensures cost { IfSome result (λ most. most ≡ disturbance_cost R.table R.silent_cost self.now.state event.now) }
         ensures pays { IfSome result (λ most. BoundsMovesAfter R.table self.now.state self.now.spent event.now most) }
-        ensures less { IfSome result (λ most. most ≤ cost_of R.table R.cost self.now.state event.now + cost_of R.table R.excess self.now.state event.now) }
+        ensures less { IfSome result (λ most. most ≤ disturbance_cost R.table R.cost self.now.state event.now + disturbance_cost R.table R.excess self.now.state event.now) }
     {
         self.net.silent_cost_of(event)
     }
@@ -33,9 +33,9 @@ impl<R: SilentCost> Journal<R> {
     /// Nothing is recorded. It takes the looks of `Net::silent_cost_of`.
     pub fn silent_cost_of(&self, event: &Event) -> Option<u32>
         ensures silent { IsSome result ↔ (enabled_names R.table self.now.state ≡ []) }
-        ensures cost { IfSome result (λ most. most ≡ cost_of R.table R.silent_cost self.now.state event.now) }
+        ensures cost { IfSome result (λ most. most ≡ disturbance_cost R.table R.silent_cost self.now.state event.now) }
         ensures pays { IfSome result (λ most. BoundsMovesAfter R.table self.now.state self.now.spent event.now most) }
-        ensures less { IfSome result (λ most. most ≤ cost_of R.table R.cost self.now.state event.now + cost_of R.table R.excess self.now.state event.now) }
+        ensures less { IfSome result (λ most. most ≤ disturbance_cost R.table R.cost self.now.state event.now + disturbance_cost R.table R.excess self.now.state event.now) }
     {
         self.net.silent_cost_of(event)
     }

@@ -5,12 +5,12 @@ use Rattle.std.proofs.lemmas.Bool.{and_parts, cases_eq, eq-eqb, false_from_ne_tr
 use Rattle.rule_machine.specs.Network.{Network, IsNetwork, linked, neighbours}
 use Rattle.rule_machine.specs.State.{State, IsState, suits, has_suitor, first_suitor}
 use Rattle.rule_machine.specs.RuleTable.{is_open}
-use Rattle.rule_set.specs.Glance.{is_reached}
+use Rattle.rules_api.specs.LocalViews.{is_reached}
 use Rattle.machine_laws.specs.Neighbours.{near_found, near_some, linked_back, linked_present, present_range}
 use Rattle.suitor_index.specs.declared.tally.Tally.{Tally}
 use Rattle.suitor_index.specs.Tallies.{suitor_count, tally_at, name_if, IsLoneSuitor}
-use Rattle.suitor_index.specs.Told.{one_if}
-use Rattle.suitor_index.proofs.Near.{near_turn}
+use Rattle.suitor_index.specs.TallyChanges.{one_if}
+use Rattle.suitor_index.proofs.NeighbourSums.{near_turn}
 use Rattle.suitor_index.proofs.Sums.{count_some, count_none, count_one, count_reverse}
 
 pub suitors_counted : (above : Bool) (opens : Option ℕ → Bool → Bool) (s : State) (v : ℕ) (t : Tally) → t ≡ tally_at above opens s v → nat_lt 0 t.suitors ≡ has_suitor s v

@@ -5,13 +5,13 @@ use Rattle.std.proofs.lemmas.Bool.{cases_eq, eq-eqb, ne_eqb}
 use Rattle.rule_machine.specs.Network.{Network, linked, neighbours, present}
 use Rattle.rule_machine.specs.State.{Registers, points, pointer_of, flag_of}
 use Rattle.suitor_index.specs.declared.tally.Tally.{Tally}
-use Rattle.net_state.specs.Held.{state_of}
-use Rattle.rule_set.specs.Glance.{asks_for}
+use Rattle.net_state.specs.StateViews.{state_of}
+use Rattle.rules_api.specs.LocalViews.{asks_for}
 use Rattle.suitor_index.specs.Tallies.{tally_of, tally_at, IsIndexOf}
-use Rattle.suitor_index.specs.Told.{one_if, IsOpenTo}
-use Rattle.suitor_index.proofs.Near.{term, near_turn, near_same}
-use Rattle.suitor_index.proofs.Reached.{open_is}
-use Rattle.suitor_index.proofs.Turned.{tally_is}
+use Rattle.suitor_index.specs.TallyChanges.{one_if, IsOpenTo}
+use Rattle.suitor_index.proofs.NeighbourSums.{term, near_turn, near_same}
+use Rattle.suitor_index.proofs.OpenTargets.{open_is}
+use Rattle.suitor_index.proofs.OtherTallies.{tally_is}
 
 -- the second network is the first with the edge between a and b, which no pointer crosses
 pub record IsEdgeMore (net more : Network) (r : Registers) (a b : ℕ) : Type 0 where

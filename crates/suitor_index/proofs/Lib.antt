@@ -1,10 +1,10 @@
 pub mod Loops
 pub mod Sums
 pub mod Counts
-pub mod Near
-pub mod Reached
-pub mod Turned
-pub mod Changed
+pub mod NeighbourSums
+pub mod OpenTargets
+pub mod OtherTallies
+pub mod NodeChanges
 pub mod Ends
-pub mod Linked
+pub mod EdgeAddition
 pub mod Nodes

@@ -8,9 +8,9 @@ use Rattle.std.proofs.lemmas.List.{get_or-take, get_or_default, length-take}
 use Rattle.std.proofs.lemmas.List.Folds.{Any-from_list_any, list_any_none, list_any_more, list_any_at}
 use Rattle.std.proofs.lemmas.List.Kept.{AllPairs-from_increasing}
 use Rattle.suitor_index.specs.declared.tally.Tally.{Tally}
-use Rattle.rule_set.specs.Glance.{asks_for}
+use Rattle.rules_api.specs.LocalViews.{asks_for}
 use Rattle.suitor_index.specs.Tallies.{tally_of}
-use Rattle.suitor_index.specs.Told.{CanTurn, IsTurned, one_if}
+use Rattle.suitor_index.specs.TallyChanges.{CanTurn, IsTurned, one_if}
 
 -- two tests that don't both pass are counted one after the other
 one_or : (a b : Bool) → (b ≡ true → a ≡ false) → one_if (a || b) ≡ one_if a + one_if b

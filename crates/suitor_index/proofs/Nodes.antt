@@ -8,12 +8,12 @@ use Rattle.rule_machine.specs.State.{State, Registers, IsState, opening_with, su
 use Rattle.rule_machine.specs.RuleTable.{is_open}
 use Rattle.machine_laws.specs.Edges.{contains-empty, present_other, with_node_is_network}
 use Rattle.machine_laws.specs.Neighbours.{linked_present, neighbours_range, present_range}
-use Rattle.machine_laws.specs.Keeps.{opening_is_state}
+use Rattle.machine_laws.specs.StatePreservation.{opening_is_state}
 use Rattle.suitor_index.specs.declared.tally.Tally.{Tally}
-use Rattle.net_state.specs.Held.{state_of}
-use Rattle.rule_set.specs.Glance.{asks_for}
-use Rattle.suitor_index.specs.Tallies.{nothing, tally_of, tally_at, name_if, IsIndexOf, IsIndexed}
-use Rattle.suitor_index.proofs.Reached.{open_is}
+use Rattle.net_state.specs.StateViews.{state_of}
+use Rattle.rules_api.specs.LocalViews.{asks_for}
+use Rattle.suitor_index.specs.Tallies.{empty_tally, tally_of, tally_at, name_if, IsIndexOf, IsIndexed}
+use Rattle.suitor_index.proofs.OpenTargets.{open_is}
 
 -- what a scan of these nodes counts
 abbrev tally_over : Bool → (Option ℕ → Bool → Bool) → Network → Registers → ℕ → List ℕ → Tally
@@ -44,26 +44,26 @@ none_pass p [] h = refl
 none_pass p (x ∷ xs) h = ap (λ b. cond b (x ∷ filter p xs) (filter p xs)) (h x) ∙ none_pass p xs h
 
 -- all counts of a node without an edge are 0
-pub nothing_counted : (above : Bool) (opens : Option ℕ → Bool → Bool) (net : Network) (r : Registers) (v : ℕ) → ((w : ℕ) → linked net v w ≡ false) → tally_at above opens (state_of net r) v ≡ nothing
+pub nothing_counted : (above : Bool) (opens : Option ℕ → Bool → Bool) (net : Network) (r : Registers) (v : ℕ) → ((w : ℕ) → linked net v w ≡ false) → tally_at above opens (state_of net r) v ≡ empty_tally
 nothing_counted above opens net r v apart =
     over_all above opens net r v ∙ ap (tally_over above opens net r v) (none_pass (linked net v) (filter (present net) (range_with_len 1 net.size)) apart)
 
 -- the place of a name that becomes present is cleared
-pub index_joined : (above : Bool) (opens : Option ℕ → Bool → Bool) (net : Network) (r : Registers) (v : ℕ) (tallies : List Tally) → IsState (state_of net r) → 1 ≤ v → v ≤ net.size → present net v ≡ false → IsIndexOf above opens (state_of net r) tallies → IsIndexOf above opens (state_of (with_node net v) r) (set tallies v nothing)
+pub index_joined : (above : Bool) (opens : Option ℕ → Bool → Bool) (net : Network) (r : Registers) (v : ℕ) (tallies : List Tally) → IsState (state_of net r) → 1 ≤ v → v ≤ net.size → present net v ≡ false → IsIndexOf above opens (state_of net r) tallies → IsIndexOf above opens (state_of (with_node net v) r) (set tallies v empty_tally)
 index_joined above opens net r v tallies good low high absent index =
     let places = index.places in
     let is_network = with_node_is_network net v low good.is_network in
     let apart : (w : ℕ) → linked net v w ≡ false = λ w. false_from_ne_true (linked net v w) (λ h. true≢false (sym (linked_present net v w good.is_network h) ∙ absent)) in
     record {
-      places = length-set tallies v nothing ∙ index.places;
+      places = length-set tallies v empty_tally ∙ index.places;
       counted = λ k has.
           ⊎_elim
           (λ (here : k ≡ v).
-          ap (tally_of (set tallies v nothing)) here
-          ∙ get_or-set_same tallies v nothing nothing (omega arith)
+          ap (tally_of (set tallies v empty_tally)) here
+          ∙ get_or-set_same tallies v empty_tally empty_tally (omega arith)
           ∙ sym (ap (tally_at above opens (state_of (with_node net v) r)) here ∙ nothing_counted above opens (with_node net v) r v apart))
           (λ (other : k ≢ v).
-          get_or-set_other tallies v k nothing nothing other
+          get_or-set_other tallies v k empty_tally empty_tally other
           ∙ index.counted k (sym (present_other net v true k other) ∙ has)
           ∙ tally_stays above opens net (set net.here v true) r k good.is_network is_network)
           (cases_eq k v);
@@ -79,15 +79,15 @@ index_parted above opens net r v tallies good now was index = record {
 }
 
 -- at first there is no edge, and all counts are 0
-pub indexed_at_first : (above : Bool) (opens : Option ℕ → Bool → Bool) (size count : ℕ) (s : State) (tallies : List Tally) → size ≤ 65535 → s ≡ opening_with size count → tallies ≡ replicate (size + 1) nothing → IsIndexed above opens s tallies
+pub indexed_at_first : (above : Bool) (opens : Option ℕ → Bool → Bool) (size count : ℕ) (s : State) (tallies : List Tally) → size ≤ 65535 → s ≡ opening_with size count → tallies ≡ replicate (size + 1) empty_tally → IsIndexed above opens s tallies
 indexed_at_first above opens size count s tallies few at all =
     subst (λ (t : State). IsIndexed above opens t tallies) (sym at) (subst (IsIndexed above opens (opening_with size count)) (sym all) record {
       is_state = opening_is_state size count;
       index = record {
-        places = length-replicate (size + 1) nothing;
+        places = length-replicate (size + 1) empty_tally;
         counted = λ v here.
             let within = present_range (opening_with size count).network v here in
-            get_or-replicate (size + 1) v nothing nothing (let high : v ≤ size = within.1 in omega arith)
+            get_or-replicate (size + 1) v empty_tally empty_tally (let high : v ≤ size = within.1 in omega arith)
             ∙ sym (nothing_counted above opens (opening_with size count).network (opening_with size count).registers v (λ w. contains-empty (edge v w)));
       };
       few = few;

@@ -3,15 +3,15 @@ use Rattle.std.specs.Prelude.{◌≡◌, ℕ, ◌+◌, ◌≤◌, Bool, true, fa
 use Rattle.std.specs.List.{count_by, sum_by}
 use Rattle.rule_machine.specs.Network.{linked, present, neighbours}
 use Rattle.rule_machine.specs.State.{State, IsState, suits}
-use Rattle.rule_set.specs.Glance.{is_reached}
+use Rattle.rules_api.specs.LocalViews.{is_reached}
 use Rattle.suitor_index.specs.declared.tally.Tally.{Tally}
 
 -- all counts are 0
-abbrev pub nothing : Tally
-nothing = record { suitors = 0; reached = 0; sum = 0 }
+abbrev pub empty_tally : Tally
+empty_tally = record { suitors = 0; reached = 0; sum = 0 }
 
 abbrev pub tally_of : List Tally → ℕ → Tally
-tally_of tallies v = slice_index_or tallies v nothing
+tally_of tallies v = slice_index_or tallies v empty_tally
 
 -- a name that counts if it passes the test
 abbrev pub name_if : (ℕ → Bool) → ℕ → ℕ

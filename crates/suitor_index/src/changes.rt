@@ -2,25 +2,25 @@
 
 ghost use Rattle.std.specs.Prelude.{◌≡◌, ◌<◌, ◌≤◌, ◌&&◌, IfErr, IfSome, IsTrue, None, OnOk, false, true, length, nat_eq, not, slice_set};
 ghost use Rattle.std.specs.Bool.{beq};
-ghost use Rattle.graph_store.specs.Ends.{end_at};
-ghost use Rattle.graph_store.specs.Fault.{link_fault, Explains};
+ghost use Rattle.graph_store.specs.EdgeStances.{end_at};
+ghost use Rattle.graph_store.specs.Fault.{link_fault, ExplainsGraphFault};
 ghost use Rattle.graph_store.specs.Graph.{HasRoomFor};
 ghost use Rattle.rule_machine.specs.Disturbance.{after_link, after_point, after_flag, after_join};
 ghost use Rattle.rule_machine.specs.Network.{present, linked};
 ghost use Rattle.rule_machine.specs.RuleTable as RuleTable;
 ghost use Rattle.rule_machine.specs.State.{IsState, pointer, flag};
-ghost use Rattle.rule_set.specs.Glance.{asks_for};
+ghost use Rattle.rules_api.specs.LocalViews.{asks_for};
 ghost use Rattle.suitor_index.specs.Tallies.{tally_of};
-ghost use Rattle.suitor_index.specs.Told.{IsOpenTo};
+ghost use Rattle.suitor_index.specs.TallyChanges.{IsOpenTo};
 
 use crate::SuitorIndex;
 use crate::scan::is_reached;
 use crate::table::{close_at, court, leave, open_at, turn};
 use crate::tally::{NOTHING, Tally};
-use graph_store::{End, GraphFault};
-use net_state::{Disturb, NetState};
+use graph_store::{EdgeStance, GraphFault};
+use net_state::{NetState, StateWriter};
 use rule_machine::Node;
-use rule_set::Rules;
+use rules_api::Rules;
 
 /// What a write of a node's pointer changed.
 #[derive(Clone, Copy)]
@@ -37,7 +37,7 @@ impl<R: Rules> SuitorIndex<R> {
     /// Errors and cost: as for `NetState::reserve_link`. The state never changes.
     pub fn reserve_link(&mut self, a: Node, b: Node) -> Result<(), GraphFault>
         ensures ok { OnOk result ((link_fault self.old.state.network a b ≡ None) × HasRoomFor self.new.room a b) }
-        ensures fault { IfErr result (λ fault. Explains (link_fault self.old.state.network a b) fault) }
+        ensures fault { IfErr result (λ fault. ExplainsGraphFault (link_fault self.old.state.network a b) fault) }
         ensures kept { self.new.state ≡ self.old.state }
         ensures ends { self.new.ends ≡ self.old.ends }
     {
@@ -126,18 +126,18 @@ impl<R: Rules> SuitorIndex<R> {
     /// Sets the stance of a name towards its edges; at first every name shuts them.
     ///
     /// Cost: one look if the stance is the same as before, else one at each neighbour; no memory.
-    pub fn turn(&mut self, v: Node, end: End)
+    pub fn set_stance(&mut self, v: Node, end: EdgeStance)
         requires { v ≤ self.old.state.network.size }
         ensures told { end_at self.new.ends v ≡ end }
         ensures ends { self.new.ends ≡ slice_set self.old.ends v end }
         ensures state { self.new.state ≡ self.old.state }
         ensures room { self.new.room ≡ self.old.room }
     {
-        self.net.turn(v, end);
+        self.net.set_stance(v, end);
     }
 }
 
-impl<R: Rules> Disturb for SuitorIndex<R> {
+impl<R: Rules> StateWriter for SuitorIndex<R> {
     ghost state = { λ n. n.state };
 
     ghost ends = { λ n. n.ends };
@@ -155,15 +155,15 @@ impl<R: Rules> Disturb for SuitorIndex<R> {
     }
 
     /// Cost: the shift, and at most one count at each end.
-    fn take_out(&mut self, a: Node, b: Node) {
-        self.net.take_out(a, b);
+    fn remove_edge(&mut self, a: Node, b: Node) {
+        self.net.remove_edge(a, b);
         let tallies = self.tallies.as_mut_slice();
         discount_end::<R>(tallies, b, a, &self.net);
         discount_end::<R>(tallies, a, b, &self.net);
     }
 
-    fn free_name(&mut self, v: Node) {
-        self.net.free_name(v);
+    fn remove_node(&mut self, v: Node) {
+        self.net.remove_node(v);
     }
 }
 
@@ -171,8 +171,8 @@ impl<R: Rules> Disturb for SuitorIndex<R> {
 fn count_end<R: Rules>(tallies: &mut [Tally], w: Node, v: Node, net: &NetState)
     requires known { v ≤ net.now.state.network.size }
     requires within { w < length tallies.old }
-    requires room { (asks_for R.ABOVE w v && R.table.opens (pointer net.now.state v) (flag net.now.state v)) ≡ true → (tally_of tallies.old w).reached < 65535 }
-    ensures { IsOpenTo (λ k. (asks_for R.ABOVE w v && R.table.opens (pointer net.now.state v) (flag net.now.state v)) && nat_eq k w) tallies.old tallies.new }
+    requires room { (asks_for R.COURTS_HIGHER_ONLY w v && R.table.opens (pointer net.now.state v) (flag net.now.state v)) ≡ true → (tally_of tallies.old w).reached < 65535 }
+    ensures { IsOpenTo (λ k. (asks_for R.COURTS_HIGHER_ONLY w v && R.table.opens (pointer net.now.state v) (flag net.now.state v)) && nat_eq k w) tallies.old tallies.new }
 {
     if is_reached::<R>(net, w, v) {
         open_at(tallies, w);
@@ -183,8 +183,8 @@ fn count_end<R: Rules>(tallies: &mut [Tally], w: Node, v: Node, net: &NetState)
 fn discount_end<R: Rules>(tallies: &mut [Tally], w: Node, v: Node, net: &NetState)
     requires known { v ≤ net.now.state.network.size }
     requires within { w < length tallies.old }
-    requires counted { (asks_for R.ABOVE w v && R.table.opens (pointer net.now.state v) (flag net.now.state v)) ≡ true → 1 ≤ (tally_of tallies.old w).reached }
-    ensures { IsOpenTo (λ k. (asks_for R.ABOVE w v && R.table.opens (pointer net.now.state v) (flag net.now.state v)) && nat_eq k w) tallies.new tallies.old }
+    requires counted { (asks_for R.COURTS_HIGHER_ONLY w v && R.table.opens (pointer net.now.state v) (flag net.now.state v)) ≡ true → 1 ≤ (tally_of tallies.old w).reached }
+    ensures { IsOpenTo (λ k. (asks_for R.COURTS_HIGHER_ONLY w v && R.table.opens (pointer net.now.state v) (flag net.now.state v)) && nat_eq k w) tallies.new tallies.old }
 {
     if is_reached::<R>(net, w, v) {
         close_at(tallies, w);

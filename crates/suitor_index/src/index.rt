@@ -1,12 +1,12 @@
 //! Queries of a network with its index.
 
 ghost use Rattle.std.specs.Prelude.{◌≡◌, ◌≢◌, ◌≤◌, ◌&&◌, IfErr, IfOk, IsTrue, MatchOption, OnOk, is_some, not};
-ghost use Rattle.graph_store.specs.Fault.{nodes_fault, Explains};
+ghost use Rattle.graph_store.specs.Fault.{nodes_fault, ExplainsGraphFault};
 ghost use Rattle.rule_machine.specs.Network.{present, linked};
 ghost use Rattle.rule_machine.specs.State.{IsState, opening_with, suits, has_suitor, first_suitor};
 ghost use Rattle.rule_machine.specs.RuleTable as RuleTable;
 ghost use Rattle.rule_machine.specs.RuleTable.{is_open, first_open, last_open_above};
-ghost use Rattle.rule_set.specs.Glance.{reaches_beside};
+ghost use Rattle.rules_api.specs.LocalViews.{reaches_beside};
 ghost use Rattle.suitor_index.specs.Tallies.{suitor_count, tally_at, IsLoneSuitor};
 
 use crate::scan;
@@ -14,7 +14,7 @@ use crate::tally::{NOTHING, Tally};
 use graph_store::GraphFault;
 use net_state::NetState;
 use rule_machine::Node;
-use rule_set::{Rules, asks_for};
+use rules_api::{Rules, asks_for};
 use std::alloc::Global;
 use std::marker::{Model, PhantomData};
 
@@ -29,16 +29,16 @@ pub struct SuitorIndex<R: Rules> {
 }
 
 impl<R: Rules> Model for SuitorIndex<R> {
-    ghost use Rattle.net_state.specs.Held.{Held, held_code};
+    ghost use Rattle.net_state.specs.StateViews.{StateView, held_code};
     ghost use Rattle.suitor_index.specs.Tallies.{IsIndexed};
 
-    ghost Value = { Held };
+    ghost Value = { StateView };
 
     ghost coded = { held_code };
 
     ghost view = { λ n. n.net };
 
-    ghost invariant = { λ n. IsIndexed R.ABOVE R.table.opens n.net.state n.tallies.items };
+    ghost invariant = { λ n. IsIndexed R.COURTS_HIGHER_ONLY R.table.opens n.net.state n.tallies.items };
 }
 
 impl<R: Rules> SuitorIndex<R> {
@@ -54,7 +54,7 @@ impl<R: Rules> SuitorIndex<R> {
         requires within { present ≤ nodes }
         ensures ok { IfOk result (λ index. index.state ≡ opening_with nodes present) }
         ensures small { OnOk result (nodes ≤ 65535) }
-        ensures fault { IfErr result (λ fault. Explains (nodes_fault nodes) fault) }
+        ensures fault { IfErr result (λ fault. ExplainsGraphFault (nodes_fault nodes) fault) }
     {
         let net = NetState::with_present(alloc, nodes, present)?;
         let Ok(tallies) = vec![in alloc; NOTHING; nodes as usize + 1] else {
@@ -80,7 +80,7 @@ impl<R: Rules> SuitorIndex<R> {
     // The counts of a node.
     fn tally(&self, v: Node) -> Tally
         requires { IsTrue (present self.now.state.network v) }
-        ensures value { result ≡ tally_at R.ABOVE R.table.opens self.now.state v }
+        ensures value { result ≡ tally_at R.COURTS_HIGHER_ONLY R.table.opens self.now.state v }
         ensures sound { IsState self.now.state }
         ensures few { self.now.state.network.size ≤ 65535 }
     {
@@ -103,7 +103,7 @@ impl<R: Rules> SuitorIndex<R> {
         requires { IsTrue (present self.now.state.network v) }
         ensures { result ≡ is_some (first_open R.table.opens self.now.state v) }
     {
-        if R::ABOVE {
+        if R::COURTS_HIGHER_ONLY {
             self.first_open(v).is_some()
         } else {
             self.tally(v).reached > 0
@@ -118,7 +118,7 @@ impl<R: Rules> SuitorIndex<R> {
         requires { IsTrue (present self.now.state.network v) }
         ensures { result ≡ is_some (last_open_above R.table.opens self.now.state v) }
     {
-        if R::ABOVE {
+        if R::COURTS_HIGHER_ONLY {
             self.tally(v).reached > 0
         } else {
             self.last_open_above(v).is_some()
@@ -128,11 +128,11 @@ impl<R: Rules> SuitorIndex<R> {
     /// Whether no neighbour but `v` that the guard of `w` asks for is open. One look.
     ///
     /// `v` is a neighbour of `w`, and `is_open` is whether `v` is open.
-    pub fn relies_on(&self, w: Node, v: Node, is_open: bool) -> bool
+    pub fn is_only_open_neighbour(&self, w: Node, v: Node, is_open: bool) -> bool
         requires present { IsTrue (present self.now.state.network w) }
         requires linked { IsTrue (linked self.now.state.network w v) }
         requires open { is_open ≡ RuleTable.is_open R.table.opens self.now.state v }
-        ensures { result ≡ not (reaches_beside R.ABOVE R.table.opens self.now.state w v) }
+        ensures { result ≡ not (reaches_beside R.COURTS_HIGHER_ONLY R.table.opens self.now.state w v) }
     {
         self.tally(w).has_none_but(asks_for::<R>(w, v) && is_open)
     }
@@ -173,7 +173,7 @@ impl<R: Rules> SuitorIndex<R> {
         requires { IsTrue (present self.now.state.network v) }
         ensures { result ≡ first_open R.table.opens self.now.state v }
     {
-        if !R::ABOVE && self.tally(v).reached == 0 {
+        if !R::COURTS_HIGHER_ONLY && self.tally(v).reached == 0 {
             return None;
         }
         scan::first_open::<R>(self.net.neighbours(v), &self.net)
@@ -187,7 +187,7 @@ impl<R: Rules> SuitorIndex<R> {
         requires { IsTrue (present self.now.state.network v) }
         ensures { result ≡ last_open_above R.table.opens self.now.state v }
     {
-        if R::ABOVE && self.tally(v).reached == 0 {
+        if R::COURTS_HIGHER_ONLY && self.tally(v).reached == 0 {
             return None;
         }
         scan::last_open_above::<R>(self.net.neighbours(v), &self.net, v)

@@ -1,13 +1,13 @@
 //! Scans of a node's neighbours.
 
 ghost use Rattle.std.specs.Prelude.{◌≡◌, ◌≤◌, ◌&&◌, All, find, nat_lt, reverse, IsTrue};
-ghost use Rattle.rule_set.specs.Glance.{asks_for};
+ghost use Rattle.rules_api.specs.LocalViews.{asks_for};
 ghost use Rattle.rule_machine.specs.Network.{present};
 ghost use Rattle.rule_machine.specs.State.{points, pointer, flag};
 
 use net_state::NetState;
 use rule_machine::Node;
-use rule_set::{Rules, asks_for};
+use rules_api::{Rules, asks_for};
 
 pub(crate) fn first_pointing_at(nodes: &[Node], net: &NetState, v: Node) -> Option<Node>
     ensures { result ≡ find (λ w. points net.now.state.registers w v) nodes.now }
@@ -30,7 +30,7 @@ pub(crate) fn is_open<R: Rules>(net: &NetState, w: Node) -> bool
 /// Whether `w` is open, and one that the guard of `v` asks for.
 pub(crate) fn is_reached<R: Rules>(net: &NetState, v: Node, w: Node) -> bool
     requires known { w ≤ net.now.state.network.size }
-    ensures { result ≡ (asks_for R.ABOVE v w && R.table.opens (pointer net.now.state w) (flag net.now.state w)) }
+    ensures { result ≡ (asks_for R.COURTS_HIGHER_ONLY v w && R.table.opens (pointer net.now.state w) (flag net.now.state w)) }
 {
     asks_for::<R>(v, w) && is_open::<R>(net, w)
 }

@@ -3,19 +3,19 @@
 ghost use Rattle.std.specs.Prelude.{◌≡◌, ℕ, ◌<◌, ◌≤◌, ◌&&◌, true, IfSome, length, nat_eq};
 ghost use Rattle.std.specs.List.{list_any};
 ghost use Rattle.std.specs.List.Sorted.{IsStrictlyIncreasing};
-ghost use Rattle.rule_set.specs.Glance.{asks_for};
+ghost use Rattle.rules_api.specs.LocalViews.{asks_for};
 ghost use Rattle.suitor_index.specs.Tallies.{tally_of};
-ghost use Rattle.suitor_index.specs.Told.{IsCourted, IsOpenTo, HasSuitor, HasRoomFor, CanTurn, IsTurned};
+ghost use Rattle.suitor_index.specs.TallyChanges.{AddsSuitor, IsOpenTo, HasSuitor, HasTallyRoom, CanTurn, IsTurned};
 
 use crate::tally::Tally;
 use rule_machine::Node;
-use rule_set::{Rules, asks_for};
+use rules_api::{Rules, asks_for};
 
 /// Removes `v` from the suitors of the node that its pointer was at.
 pub(crate) fn leave(tallies: &mut [Tally], pointer: Option<Node>, v: Node)
     requires within { IfSome pointer (λ w. w < length tallies.old) }
     requires counted { IfSome pointer (λ w. HasSuitor v (tally_of tallies.old w)) }
-    ensures { IsCourted pointer v tallies.new tallies.old }
+    ensures { AddsSuitor pointer v tallies.new tallies.old }
 {
     if let Some(w) = pointer {
         tallies[w.place()].suitors -= 1;
@@ -26,8 +26,8 @@ pub(crate) fn leave(tallies: &mut [Tally], pointer: Option<Node>, v: Node)
 /// Adds `v` to the suitors of the node that its pointer is at.
 pub(crate) fn court(tallies: &mut [Tally], pointer: Option<Node>, v: Node)
     requires within { IfSome pointer (λ w. w < length tallies.old) }
-    requires room { IfSome pointer (λ w. HasRoomFor v (tally_of tallies.old w)) }
-    ensures { IsCourted pointer v tallies.old tallies.new }
+    requires room { IfSome pointer (λ w. HasTallyRoom v (tally_of tallies.old w)) }
+    ensures { AddsSuitor pointer v tallies.old tallies.new }
 {
     if let Some(w) = pointer {
         tallies[w.place()].suitors += 1;
@@ -72,8 +72,8 @@ fn turn_at(tallies: &mut [Tally], w: Node, was: bool, is: bool)
 pub(crate) fn turn<R: Rules>(tallies: &mut [Tally], nodes: &[Node], v: Node, was: bool, is: bool)
     requires rising { IsStrictlyIncreasing nodes.now }
     requires within { (k : ℕ) → list_any (nat_eq k) nodes.now ≡ true → k < length tallies.old }
-    requires turns { (k : ℕ) → (list_any (nat_eq k) nodes.now && asks_for R.ABOVE k v) ≡ true → CanTurn was is (tally_of tallies.old k) }
-    ensures { IsTurned (λ k. list_any (nat_eq k) nodes.now && asks_for R.ABOVE k v) was is tallies.old tallies.new }
+    requires turns { (k : ℕ) → (list_any (nat_eq k) nodes.now && asks_for R.COURTS_HIGHER_ONLY k v) ≡ true → CanTurn was is (tally_of tallies.old k) }
+    ensures { IsTurned (λ k. list_any (nat_eq k) nodes.now && asks_for R.COURTS_HIGHER_ONLY k v) was is tallies.old tallies.new }
 {
     if was == is {
         return;

@@ -1,7 +1,7 @@
 //! The counts of a node.
 
 ghost use Rattle.std.specs.Prelude.{◌≡◌, nat_le};
-ghost use Rattle.suitor_index.specs.Told.{one_if};
+ghost use Rattle.suitor_index.specs.TallyChanges.{one_if};
 
 /// A node's counts: suitors, open neighbours that its guard asks for, and the sum of suitors' names.
 ///

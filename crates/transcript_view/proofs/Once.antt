@@ -5,14 +5,14 @@ use Rattle.rule_machine.specs.State.{State}
 use Rattle.auditor.specs.declared.epoch.CostedEpoch.{CostedEpoch}
 use Rattle.transcript_view.specs.Picture.{picture_of}
 use Rattle.transcript_view.specs.Table.{epoch_table}
-use Rattle.transcript_view.specs.Views.{IsPicture, IsPictureOf, IsTable, IsTableOf, SameView}
+use Rattle.transcript_view.specs.Views.{IsPicture, IsPictureOf, IsEpochTable, IsTableOf, SameView}
 use Rattle.transcript_view.specs.declared.view.View.{View}
 use Rattle.transcript_view.specs.declared.view.View.TheVariants.{Text, Refused, TooFew, Forgotten}
 use Rattle.auditor.specs.declared.damage.Damage.{Damage}
 use Rattle.auditor.specs.Damage.{IsDamage}
-use Rattle.auditor.proofs.Ending.{damage_once, no_damage}
-use Rattle.auditor.proofs.Apart.{good_no_damage, good_not_few, good_not_forgotten, few_once, few_no_damage, few_not_forgotten, forgotten_once, forgotten_no_damage}
-use Rattle.auditor.proofs.Level.{state_once, epochs_once}
+use Rattle.auditor.proofs.TextEnds.{damage_once, no_damage}
+use Rattle.auditor.proofs.SingleVerdicts.{good_no_damage, good_not_few, good_not_forgotten, few_once, few_no_damage, few_not_forgotten, forgotten_once, forgotten_no_damage}
+use Rattle.auditor.proofs.EqualPrefixes.{state_once, epochs_once}
 
 text_once : (bytes : List ℕ) (last : Option ℕ) (text also : List ℕ) → IsPictureOf bytes last text → IsPictureOf bytes last also → text ≡ also
 text_once bytes last text also x y =
@@ -47,7 +47,7 @@ picture_once bytes last (Forgotten n m) (Refused e) x y = forgotten_no_damage by
 picture_once bytes last (Forgotten n m) (TooFew k l) x y = few_not_forgotten bytes last k l n m y x
 picture_once bytes last (Forgotten n m) (Forgotten k l) x y = forgotten_once bytes last n k m l x y
 
-pub table_once : (bytes : List ℕ) (view also : View) → IsTable bytes view → IsTable bytes also → SameView view also
+pub table_once : (bytes : List ℕ) (view also : View) → IsEpochTable bytes view → IsEpochTable bytes also → SameView view also
 table_once bytes (Text a) (Text b) x y = rows_once bytes a.items b.items x y
 table_once bytes (Text a) (Refused d) x y = no_table bytes a.items d x y
 table_once bytes (Refused d) (Text b) x y = no_table bytes b.items d y x

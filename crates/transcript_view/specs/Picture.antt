@@ -43,10 +43,10 @@ abbrev pub above : Network → ℕ → List ℕ
 above net v = filter (nat_lt v) (neighbours net v)
 
 -- the edges from a node to its higher neighbours, ascending
-abbrev pub edges_at : State → ℕ → List ℕ
-edges_at s v = flat_map (edge_line s v) (above s.network v)
+abbrev pub edge_lines_at : State → ℕ → List ℕ
+edge_lines_at s v = flat_map (edge_line s v) (above s.network v)
 
 -- the nodes ascending, then the edges ascending by their lower ends
 abbrev pub picture_of : RuleSet → State → List ℕ
 picture_of rules s =
-    codes "graph matching {\n" ++ flat_map (node_line (table_of rules) s) (names s.network) ++ flat_map (edges_at s) (names s.network) ++ codes "}\n"
+    codes "graph matching {\n" ++ flat_map (node_line (table_of rules) s) (names s.network) ++ flat_map (edge_lines_at s) (names s.network) ++ codes "}\n"

@@ -1,8 +1,8 @@
 -- The table of epochs: a header, and a line for each epoch in order.
 use Rattle.std.specs.Prelude.{ℕ, List, ◌++◌, Option, None, Some, codes}
 use Rattle.std.specs.List.{flat_map}
-use Rattle.rule_machine.specs.declared.base.Start.{Start}
-use Rattle.rule_machine.specs.declared.base.Start.TheVariants.{At, Forgotten}
+use Rattle.rule_machine.specs.declared.base.EpochStart.{EpochStart}
+use Rattle.rule_machine.specs.declared.base.EpochStart.TheVariants.{At, Forgotten}
 use Rattle.rule_machine.specs.declared.rules.RuleSet.{RuleSet}
 use Rattle.line_text.specs.Words.{number_text}
 use Rattle.auditor.specs.declared.epoch.CostedEpoch.{CostedEpoch}
@@ -13,7 +13,7 @@ abbrev pub cell : ℕ → List ℕ
 cell n = number_text n ++ codes ","
 
 -- the entry that began an epoch; none if it began before the transcript's opening base
-abbrev pub start_cell : Start → List ℕ
+abbrev pub start_cell : EpochStart → List ℕ
 start_cell (At number) = cell number
 start_cell Forgotten = codes "-,"
 

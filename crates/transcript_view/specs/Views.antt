@@ -4,8 +4,8 @@ use Rattle.rule_machine.specs.declared.rules.RuleSet.{RuleSet}
 use Rattle.rule_machine.specs.State.{State}
 use Rattle.auditor.specs.Damage.{IsDamage}
 use Rattle.auditor.specs.declared.epoch.CostedEpoch.{CostedEpoch}
-use Rattle.auditor.specs.Epochs.{AreEpochs, IsWithinItsBound, epochs_in}
-use Rattle.auditor.specs.Reached.{HasForgotten, HasTooFew, IsMetDamage, IsStateAfter}
+use Rattle.auditor.specs.Epochs.{AreCostedEpochs, IsWithinItsBound, epochs_in}
+use Rattle.auditor.specs.EntryWindows.{HasDroppedEntry, HasTooFew, IsMetDamage, IsStateAfter}
 use Rattle.transcript_view.specs.Picture.{picture_of}
 use Rattle.transcript_view.specs.declared.view.View.{View}
 use Rattle.transcript_view.specs.declared.view.View.TheVariants.{Text, Refused, TooFew, Forgotten}
@@ -22,7 +22,7 @@ pub record IsPictureOf (bytes : List ℕ) (last : Option ℕ) (text : List ℕ) 
 pub record IsTableOf (bytes : List ℕ) (text : List ℕ) : Type 0 where
   pub rules : RuleSet
   pub rows : List CostedEpoch
-  pub are : AreEpochs bytes rules rows
+  pub are : AreCostedEpochs bytes rules rows
   pub bounded : All (IsWithinItsBound rules) (epochs_in rows)
   pub text_is : text ≡ epoch_table rules rows
 
@@ -32,14 +32,14 @@ abbrev pub IsPicture : List ℕ → Option ℕ → View → Type 0
 IsPicture bytes last (Text text) = IsPictureOf bytes last text.items
 IsPicture bytes last (Refused damage) = IsMetDamage bytes last damage
 IsPicture bytes last (TooFew asked entries) = HasTooFew bytes last asked entries
-IsPicture bytes last (Forgotten asked base) = HasForgotten bytes last asked base
+IsPicture bytes last (Forgotten asked base) = HasDroppedEntry bytes last asked base
 
 -- the epochs are listed, or the bytes have the damage
-abbrev pub IsTable : List ℕ → View → Type 0
-IsTable bytes (Text text) = IsTableOf bytes text.items
-IsTable bytes (Refused damage) = IsDamage bytes damage
-IsTable bytes (TooFew asked entries) = ⊥
-IsTable bytes (Forgotten asked base) = ⊥
+abbrev pub IsEpochTable : List ℕ → View → Type 0
+IsEpochTable bytes (Text text) = IsTableOf bytes text.items
+IsEpochTable bytes (Refused damage) = IsDamage bytes damage
+IsEpochTable bytes (TooFew asked entries) = ⊥
+IsEpochTable bytes (Forgotten asked base) = ⊥
 
 -- two views are equal: in their texts, damages or numbers
 abbrev pub SameView : View → View → Type 0

@@ -3,10 +3,10 @@
 ghost use Rattle.std.specs.Prelude.{◌≡◌, ◌++◌, ◌∷◌, [], IsTrue, OnOk, filter};
 ghost use Rattle.std.specs.List.{flat_map};
 ghost use Rattle.rule_machine.specs.Network.{names, present};
-ghost use Rattle.transcript_view.specs.Picture.{edge_line, edges_at, style_text};
+ghost use Rattle.transcript_view.specs.Picture.{edge_line, edge_lines_at, style_text};
 
 use crate::words::put_name;
-use judge::Judge;
+use reply_checker::Judge;
 use rule_machine::{Node, Want};
 
 // Writes how an edge is drawn: `forward` if its lower end points along it, `back` if its higher end does.
@@ -34,7 +34,7 @@ fn put_edge(out: &mut Vec<u8>, judge: &Judge, a: Node, b: Node) -> Result<(), Wa
 // Writes a line for each edge from `v` to a higher node.
 fn put_edges_at(out: &mut Vec<u8>, judge: &Judge, v: Node) -> Result<(), Want>
     requires { IsTrue (present judge.now.network v) }
-    ensures { OnOk result (out.new.items ≡ out.old.items ++ edges_at judge.now v) }
+    ensures { OnOk result (out.new.items ≡ out.old.items ++ edge_lines_at judge.now v) }
 {
     for &w in judge.neighbours(v) {
         if v < w {
@@ -47,7 +47,7 @@ fn put_edges_at(out: &mut Vec<u8>, judge: &Judge, v: Node) -> Result<(), Want>
 #[tactic(auto, using(crate::proofs::Names::drawn, crate::proofs::Names::left_out))]
 fn put_edges_if_present(out: &mut Vec<u8>, judge: &Judge, v: Node) -> Result<(), Want>
     ensures { OnOk result (out.new.items ≡ out.old.items
-        ++ flat_map (edges_at judge.now) (filter (present judge.now.network) (v ∷ []))) }
+        ++ flat_map (edge_lines_at judge.now) (filter (present judge.now.network) (v ∷ []))) }
 {
     if judge.has(v) {
         return put_edges_at(out, judge, v);
@@ -57,7 +57,7 @@ fn put_edges_if_present(out: &mut Vec<u8>, judge: &Judge, v: Node) -> Result<(),
 
 /// Writes a line for each edge, ascending.
 pub(crate) fn put_edges(out: &mut Vec<u8>, judge: &Judge) -> Result<(), Want>
-    ensures { OnOk result (out.new.items ≡ out.old.items ++ flat_map (edges_at judge.now) (names judge.now.network)) }
+    ensures { OnOk result (out.new.items ≡ out.old.items ++ flat_map (edge_lines_at judge.now) (names judge.now.network)) }
 {
     for name in 1..judge.capacity() + 1 {
         let v = Node::new(name).unwrap();

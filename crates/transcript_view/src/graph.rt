@@ -5,7 +5,7 @@ ghost use Rattle.transcript_view.specs.Picture.{picture_of};
 
 use crate::edges::put_edges;
 use crate::nodes::put_nodes;
-use judge::Judge;
+use reply_checker::Judge;
 use rule_machine::{RuleSet, Want};
 use std::alloc::Global;
 

@@ -2,7 +2,7 @@
 
 ghost use Rattle.std.specs.Prelude.{ℕ, List, Option};
 ghost use Rattle.transcript_view.specs.declared.view.View.{View};
-ghost use Rattle.transcript_view.specs.Views.{IsPicture, IsTable, SameView};
+ghost use Rattle.transcript_view.specs.Views.{IsPicture, IsEpochTable, SameView};
 
 /// A text has at most one picture after an entry, and at most one table of epochs.
 ///
@@ -10,5 +10,5 @@ ghost use Rattle.transcript_view.specs.Views.{IsPicture, IsTable, SameView};
 /// place of the table, one damage.
 pub fn one_view()
     ensures picture { (bytes : List ℕ) (last : Option ℕ) (view also : View) → IsPicture bytes last view → IsPicture bytes last also → SameView view also }
-    ensures table { (bytes : List ℕ) (view also : View) → IsTable bytes view → IsTable bytes also → SameView view also }
+    ensures table { (bytes : List ℕ) (view also : View) → IsEpochTable bytes view → IsEpochTable bytes also → SameView view also }
 {}

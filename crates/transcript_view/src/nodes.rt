@@ -7,7 +7,7 @@ ghost use Rattle.rule_machine.specs.Tables.{table_of};
 ghost use Rattle.transcript_view.specs.Picture.{fill_text, node_line, rule_text};
 
 use crate::words::{put_act, put_name};
-use judge::Judge;
+use reply_checker::Judge;
 use rule_machine::{Act, Node, RuleSet, Want};
 
 // Writes the rule that is enabled at a node, if any is.

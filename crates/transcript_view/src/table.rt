@@ -6,7 +6,7 @@ ghost use Rattle.transcript_view.specs.Table.{cell, cost_text, epoch_row, epoch_
 
 use auditor::{CostedEpoch, Epochs};
 use itoa::Buffer;
-use rule_machine::{RuleSet, Start, Want};
+use rule_machine::{EpochStart, RuleSet, Want};
 use std::alloc::Global;
 
 fn put_number(out: &mut Vec<u8>, number: u64) -> Result<(), Want>
@@ -23,12 +23,12 @@ fn put_cell(out: &mut Vec<u8>, number: u64) -> Result<(), Want>
     out.extend_from_slice(b",")
 }
 
-fn put_start(out: &mut Vec<u8>, start: Start) -> Result<(), Want>
+fn put_start(out: &mut Vec<u8>, start: EpochStart) -> Result<(), Want>
     ensures { OnOk result (out.new.items ≡ out.old.items ++ start_cell start) }
 {
     match start {
-        Start::At(number) => put_cell(out, u64::from(number)),
-        Start::Forgotten => out.extend_from_slice(b"-,"),
+        EpochStart::At(number) => put_cell(out, u64::from(number)),
+        EpochStart::Forgotten => out.extend_from_slice(b"-,"),
     }
 }
 

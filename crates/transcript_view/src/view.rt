@@ -1,7 +1,7 @@
 //! The views of a transcript.
 
 ghost use Rattle.std.specs.Prelude.{IfOk};
-ghost use Rattle.transcript_view.specs.Views.{IsPicture, IsTable};
+ghost use Rattle.transcript_view.specs.Views.{IsPicture, IsEpochTable};
 
 use crate::picture;
 use crate::table::epoch_table;
@@ -46,7 +46,7 @@ pub fn view_picture(alloc: Global, bytes: &[u8], last: Option<u32>) -> Result<Vi
 ///
 /// Fails only if memory runs out. Costs the audit, and a line for each epoch.
 pub fn view_epochs(alloc: Global, bytes: &[u8]) -> Result<View, Want>
-    ensures { IfOk result (IsTable bytes.now) }
+    ensures { IfOk result (IsEpochTable bytes.now) }
 {
     match epochs_of(alloc, bytes) {
         Ok(epochs) => Ok(View::Text(epoch_table(alloc, &epochs)?)),

@@ -4,21 +4,21 @@ ghost use Rattle.std.specs.Prelude.{◌≡◌, ◌+◌, ◌<◌, ◌≤◌, ◌+
 ghost use mathlib.Core.List.{IsPrefix};
 ghost use Rattle.step_log.specs.Log.{IsLog, recorded, receipt_of};
 ghost use Rattle.locked_net.specs.Receipts.{HasNoteOf, front_of, seen_by, noted};
-ghost use Rattle.locked_net.specs.Desks.{KeepsKey};
+ghost use Rattle.locked_net.specs.PublishedJournals.{KeepsKey};
 ghost use Rattle.locked_net.specs.Calls.{call_fault};
 ghost use Rattle.locked_net.specs.declared.call_fault.CallFault.TheVariants.{Memory};
 
 use super::Clerk;
 use crate::CallFault;
-use crate::desk::{Desk, Recorded};
-use board::Note;
+use crate::desk::{PublishedJournal, RecordedEvent};
 use rule_engine::{Event, Reply, Rules};
+use snapshots::Note;
 use std::sync::Wait;
 use step_log::Receipt;
 
 impl Clerk {
     /// Whether it may call: `Behind` if the log holds fewer entries than it has seen, then `LogFull`.
-    pub(crate) fn may_call<R: Rules>(&self, desk: &Desk<R>) -> Result<(), CallFault>
+    pub(crate) fn may_call<R: Rules>(&self, desk: &PublishedJournal<R>) -> Result<(), CallFault>
         ensures run { IsLog R.table desk.now.log }
         ensures free { OnOk result (call_fault (front_of self.now.receipts) desk.now.log ≡ None) }
         ensures few { OnOk result (seen_by self.now ≤ length desk.now.log.entries) }
@@ -32,7 +32,7 @@ impl Clerk {
     pub(crate) fn record_on<R: Rules, W: Wait>(
         &mut self,
         rt: &W,
-        desk: &mut Desk<R>,
+        desk: &mut PublishedJournal<R>,
         event: Event,
     ) -> Result<Reply, CallFault>
         requires { call_fault (front_of self.old.receipts) desk.old.log ≡ None }
@@ -53,7 +53,7 @@ impl Clerk {
     }
 }
 
-pub(crate) fn admit<R: Rules>(desk: &Desk<R>, seen: u32) -> Result<(), CallFault>
+pub(crate) fn admit<R: Rules>(desk: &PublishedJournal<R>, seen: u32) -> Result<(), CallFault>
     ensures run { IsLog R.table desk.now.log }
     ensures ok { OnOk result (call_fault seen desk.now.log ≡ None) }
     ensures fault { IfErr result (λ fault. call_fault seen desk.now.log ≡ Some fault) }
@@ -72,14 +72,14 @@ pub(crate) fn admit<R: Rules>(desk: &Desk<R>, seen: u32) -> Result<(), CallFault
 pub(super) fn keep(
     receipts: &mut Vec<Receipt>,
     note: &mut Option<Note>,
-    recorded: Recorded,
+    recorded: RecordedEvent,
 ) -> Reply
     requires room { length receipts.old.items < vec_capacity receipts.old }
     ensures receipt { receipts.new.items ≡ receipts.old.items ++ recorded.receipt ∷ [] }
     ensures note { note.new ≡ Some recorded.note }
     ensures reply { result ≡ recorded.reply }
 {
-    let Recorded {
+    let RecordedEvent {
         receipt,
         reply,
         note: told,

@@ -2,7 +2,7 @@
 
 ghost use Rattle.std.specs.Prelude.{◌≡◌, Some, IfOk, IfErr, OnErr};
 ghost use Rattle.locked_net.specs.Calls.{MayRefuseCheckpoint};
-ghost use Rattle.locked_net.specs.Choosing.{HoldsAll, RefusesCheckpoint};
+ghost use Rattle.locked_net.specs.ChosenEvents.{HoldsAll, RefusesCheckpoint};
 ghost use Rattle.locked_net.specs.Nets.{setting_of};
 ghost use Rattle.locked_net.specs.Receipts.{front_of, greater_base};
 

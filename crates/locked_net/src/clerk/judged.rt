@@ -2,17 +2,17 @@
 
 ghost use Rattle.std.specs.Prelude.{◌≡◌, ◌+◌, ◌++◌, ◌∷◌, [], length, None, IfOk, IfErr, OnOk, OnErr};
 ghost use Rattle.rule_machine.specs.declared.event.Event.TheVariants.{Step};
-ghost use Rattle.rule_engine.specs.Choosing.{verdicts_of};
+ghost use Rattle.rule_engine.specs.ChoiceMoves.{verdicts_of};
 ghost use Rattle.step_log.specs.Log.{recorded, receipt_of};
 ghost use Rattle.locked_net.specs.Receipts.{HasNoteOf, front_of};
-ghost use Rattle.locked_net.specs.Desks.{KeepsKey};
+ghost use Rattle.locked_net.specs.PublishedJournals.{KeepsKey};
 ghost use Rattle.locked_net.specs.Calls.{call_fault};
 ghost use Rattle.locked_net.specs.declared.call_fault.CallFault.TheVariants.{Memory};
 
 use super::Clerk;
 use super::calls::keep;
 use crate::CallFault;
-use crate::desk::Desk;
+use crate::desk::PublishedJournal;
 use rule_engine::{Choice, Reply, Rules, Verdict};
 use std::sync::Wait;
 
@@ -21,7 +21,7 @@ impl Clerk {
     pub(crate) fn record_judged<R: Rules, W: Wait>(
         &mut self,
         rt: &W,
-        desk: &mut Desk<R>,
+        desk: &mut PublishedJournal<R>,
         choice: Choice,
         verdicts: &[Verdict],
     ) -> Result<Reply, CallFault>

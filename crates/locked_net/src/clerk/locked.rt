@@ -5,7 +5,7 @@ ghost use Rattle.rule_machine.specs.declared.event.Event.TheVariants.{Step};
 ghost use Rattle.locked_net.specs.Nets.{book_of, setting_of};
 ghost use Rattle.locked_net.specs.Receipts.{HasNoteOf, front_of, seen_by};
 ghost use Rattle.locked_net.specs.Calls.{MayAnswer, Keeps, KeepsStep, KeepsFault, MayAnswerStep};
-ghost use Rattle.locked_net.specs.Choosing.{ByDaemon, ByInjector, ClerkTakes, NoneIfEmpty, Refuses, RefusesStep};
+ghost use Rattle.locked_net.specs.ChosenEvents.{ByDaemon, ByInjector, ClerkTakes, NoneIfEmpty, Refuses, RefusesStep};
 ghost use Rattle.locked_net.specs.declared.call_fault.CallFault.TheVariants.{Memory};
 
 use super::Clerk;

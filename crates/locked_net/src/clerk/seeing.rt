@@ -6,7 +6,7 @@ ghost use Rattle.locked_net.specs.Receipts.{HasNoteOf, IsOfBook, noted};
 
 use super::Clerk;
 use crate::ending::begins;
-use board::Note;
+use snapshots::Note;
 
 impl Clerk {
     /// Takes in another note of its network: its own note then includes the logs of both.

@@ -3,8 +3,8 @@
 ghost use Rattle.std.specs.Prelude.{◌≡◌, ◌<◌, ◌++◌, ◌∷◌, [], None, IfOk, IfErr, OnOk, OnErr};
 ghost use Rattle.step_log.specs.Log.{recorded, receipt_of};
 ghost use Rattle.locked_net.specs.Receipts.{HasNoteOf, front_of, seen_by};
-ghost use Rattle.locked_net.specs.Desks.{KeepsKey};
-ghost use Rattle.locked_net.specs.Calls.{call_fault, Explains};
+ghost use Rattle.locked_net.specs.PublishedJournals.{KeepsKey};
+ghost use Rattle.locked_net.specs.Calls.{call_fault, ExplainsCallFault};
 
 use crate::{CallFault, Clerk, HeldNet};
 use rule_engine::{Event, Reply, Rules};
@@ -27,7 +27,7 @@ impl<R: Rules> HeldNet<'_, R> {
         ensures key { KeepsKey self.old self.new }
         ensures seen { OnOk result (call_fault (front_of clerk.old.receipts) self.old.log ≡ None) }
         ensures above { OnOk result (seen_by clerk.old < front_of clerk.new.receipts) }
-        ensures fault { IfErr result (λ fault. Explains (call_fault (seen_by clerk.old) self.old.log) fault) }
+        ensures fault { IfErr result (λ fault. ExplainsCallFault (call_fault (seen_by clerk.old) self.old.log) fault) }
         ensures kept { OnErr result ((clerk.new ≡ clerk.old) × (self.new ≡ self.old)) }
     {
         clerk.may_call(&self.desk)?;

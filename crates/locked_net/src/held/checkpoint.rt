@@ -1,8 +1,8 @@
 //! A checkpoint of a network whose lock is held.
 
 ghost use Rattle.std.specs.Prelude.{◌≡◌, ◌≤◌, length, Some, IfOk, IfErr, OnOk, OnErr};
-ghost use Rattle.locked_net.specs.Desks.{based};
-ghost use Rattle.locked_net.specs.Calls.{checkpoint_fault, Explains};
+ghost use Rattle.locked_net.specs.PublishedJournals.{based};
+ghost use Rattle.locked_net.specs.Calls.{checkpoint_fault, ExplainsCallFault};
 ghost use Rattle.locked_net.specs.Receipts.{front_of, greater_base};
 
 use crate::{CallFault, Clerk, HeldNet};
@@ -15,7 +15,7 @@ impl<R: Rules> HeldNet<'_, R> {
         ensures held { OnOk result (self.new ≡ based self.old) }
         ensures base { IfOk result (λ number. clerk.new ≡ record clerk.old { base = greater_base clerk.old.base (Some number) }) }
         ensures seen { IfOk result (λ number. front_of clerk.old.receipts ≤ number) }
-        ensures fault { IfErr result (λ fault. Explains (checkpoint_fault (front_of clerk.old.receipts) self.old.log) fault) }
+        ensures fault { IfErr result (λ fault. ExplainsCallFault (checkpoint_fault (front_of clerk.old.receipts) self.old.log) fault) }
         ensures kept { OnErr result ((clerk.new ≡ clerk.old) × (self.new ≡ self.old)) }
     {
         let (front, seen) = (self.desk.len(), clerk.front());

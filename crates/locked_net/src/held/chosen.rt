@@ -4,9 +4,9 @@ ghost use Rattle.std.specs.Prelude.{◌≡◌, ◌≢◌, ◌<◌, ◌↔◌, No
 ghost use mathlib.Core.List.{IsPrefix};
 ghost use Rattle.rule_machine.specs.Network.{node_count};
 ghost use Rattle.locked_net.specs.Receipts.{HasNoteOf, front_of, seen_by, noted};
-ghost use Rattle.locked_net.specs.Desks.{KeepsKey};
-ghost use Rattle.locked_net.specs.Calls.{call_fault, Explains, Drives, Breaks};
-ghost use Rattle.locked_net.specs.Choosing.{ByDaemon, ByInjector, ChoosesOn};
+ghost use Rattle.locked_net.specs.PublishedJournals.{KeepsKey};
+ghost use Rattle.locked_net.specs.Calls.{call_fault, ExplainsCallFault, Drives, Breaks};
+ghost use Rattle.locked_net.specs.ChosenEvents.{ByDaemon, ByInjector, ChoosesOn};
 ghost use Rattle.locked_net.specs.declared.call_fault.CallFault.TheVariants.{Memory};
 
 use crate::{CallFault, Clerk, HeldNet};
@@ -34,7 +34,7 @@ impl<R: Rules> HeldNet<'_, R> {
         ensures key { KeepsKey self.old self.new }
         ensures seen { OnOk result (call_fault (front_of clerk.old.receipts) self.old.log ≡ None) }
         ensures above { IfOk result (λ told. IfSome told (λ _. seen_by clerk.old < front_of clerk.new.receipts)) }
-        ensures fault { IfErr result (λ fault. Explains (call_fault (seen_by clerk.old) self.old.log) fault) }
+        ensures fault { IfErr result (λ fault. ExplainsCallFault (call_fault (seen_by clerk.old) self.old.log) fault) }
         ensures kept { OnErr result ((clerk.new ≡ clerk.old) × (self.new ≡ self.old)) }
         ensures unasked { IfErr result (λ fault. (fault ≢ Memory) → daemon.new ≡ daemon.old) }
     {
@@ -63,7 +63,7 @@ impl<R: Rules> HeldNet<'_, R> {
         ensures key { KeepsKey self.old self.new }
         ensures seen { OnOk result (call_fault (front_of clerk.old.receipts) self.old.log ≡ None) }
         ensures above { IfOk result (λ told. IfSome told (λ _. seen_by clerk.old < front_of clerk.new.receipts)) }
-        ensures fault { IfErr result (λ fault. Explains (call_fault (seen_by clerk.old) self.old.log) fault) }
+        ensures fault { IfErr result (λ fault. ExplainsCallFault (call_fault (seen_by clerk.old) self.old.log) fault) }
         ensures kept { OnErr result ((clerk.new ≡ clerk.old) × (self.new ≡ self.old)) }
         ensures unasked { IfErr result (λ fault. (fault ≢ Memory) → injector.new ≡ injector.old) }
     {

@@ -4,7 +4,7 @@ ghost use Rattle.std.specs.Prelude.{◌≡◌, ◌<◌, ◌++◌, ◌∷◌, [],
 ghost use Rattle.rule_machine.specs.declared.event.Event.TheVariants.{Step};
 ghost use Rattle.step_log.specs.Log.{recorded, receipt_of};
 ghost use Rattle.locked_net.specs.Receipts.{HasNoteOf, front_of, seen_by};
-ghost use Rattle.locked_net.specs.Desks.{KeepsKey};
+ghost use Rattle.locked_net.specs.PublishedJournals.{KeepsKey};
 ghost use Rattle.locked_net.specs.Calls.{call_fault, ExplainsStep};
 
 use crate::{Clerk, HeldNet, StepFault};

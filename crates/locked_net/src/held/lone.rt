@@ -3,13 +3,13 @@
 ghost use Rattle.std.specs.Prelude.{◌≡◌, ◌++◌, ◌∷◌, [], None, Some, IfErr, OnOk, OnErr};
 ghost use Rattle.step_log.specs.Log.{IsLog, recorded, receipt_of};
 ghost use Rattle.locked_net.specs.Receipts.{HasNoteOf, front_of};
-ghost use Rattle.locked_net.specs.Desks.{KeepsKey};
-ghost use Rattle.locked_net.specs.Calls.{call_fault, Explains};
-ghost use Rattle.locked_net.specs.Roamed.{KeepsNote};
-ghost use Rattle.locked_net.specs.Roaming.{mover, lone_step, log_after_turn, receipts_of_turn, fault_of_turn, FaultInTurn};
+ghost use Rattle.locked_net.specs.PublishedJournals.{KeepsKey};
+ghost use Rattle.locked_net.specs.Calls.{call_fault, ExplainsCallFault};
+ghost use Rattle.locked_net.specs.RoamResults.{KeepsNote};
+ghost use Rattle.locked_net.specs.RoamTurns.{mover, lone_step, log_after_turn, receipts_of_turn, fault_of_turn, FaultInTurn};
 
 use crate::clerk::admit;
-use crate::desk::Desk;
+use crate::desk::PublishedJournal;
 use crate::{CallFault, Clerk, HeldNet};
 use rule_engine::{Choice, Event, Item, Node, Rules};
 use std::sync::Wait;
@@ -48,7 +48,7 @@ impl<R: Rules> HeldNet<'_, R> {
         ensures base { clerk.new.base ≡ clerk.old.base }
         ensures key { KeepsKey self.old self.new }
         ensures seen { OnOk result (call_fault (front_of clerk.old.receipts) self.old.log ≡ None) }
-        ensures fault { IfErr result (λ fault. Explains (call_fault (front_of clerk.old.receipts) self.old.log) fault) }
+        ensures fault { IfErr result (λ fault. ExplainsCallFault (call_fault (front_of clerk.old.receipts) self.old.log) fault) }
         ensures kept { OnErr result ((clerk.new ≡ clerk.old) × (self.new ≡ self.old)) }
     {
         admit(&self.desk, clerk.front())?;
@@ -60,7 +60,7 @@ impl<R: Rules> HeldNet<'_, R> {
 
 /// The node whose turn it is: the (turn mod count)-th enabled one, ascending from 0; `None` if none is
 /// enabled.
-fn next_mover<R: Rules>(desk: &Desk<R>, turn: u32) -> Option<Node>
+fn next_mover<R: Rules>(desk: &PublishedJournal<R>, turn: u32) -> Option<Node>
     ensures mover { result ≡ mover R.table desk.now.log.state turn }
     ensures run { IsLog R.table desk.now.log }
 {

@@ -1,16 +1,16 @@
 //! Looks at a network whose lock is held.
 
 ghost use Rattle.std.specs.Prelude.{◌≡◌, IfOk};
-ghost use Rattle.rule_engine.specs.Costs.{cost_of, BoundsGrowth};
+ghost use Rattle.rule_engine.specs.Costs.{disturbance_cost, BoundsGrowth};
 
 use crate::{HeldNet, SeenCost};
-use board::{NoPlace, Note, Reader, Runs};
 use rule_engine::{Event, Rules};
+use snapshots::{NoPlace, Note, Reader, Runs};
 
 impl<R: Rules> HeldNet<'_, R> {
     /// What an event would cost, with a note of the log: `LockedNet::cost_of` under a held lock.
     pub fn cost_of(&self, event: &Event) -> SeenCost
-        ensures cost { result.cost ≡ cost_of R.table R.cost self.now.log.state event.now }
+        ensures cost { result.cost ≡ disturbance_cost R.table R.cost self.now.log.state event.now }
         ensures grows { BoundsGrowth R.table self.now.log.state self.now.log.spent event.now result.cost }
         ensures note { (result.note.log ≡ self.now.log.entries) × (result.note.book ≡ self.now.name.book) }
     {

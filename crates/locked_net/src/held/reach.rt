@@ -3,7 +3,7 @@
 ghost use Rattle.std.specs.Prelude.{◌≡◌, IfOk, IsTrue, None};
 ghost use Rattle.rule_machine.specs.RuleTable.{rule_at};
 ghost use Rattle.containment_laws.specs.Rest.{is_at_rest};
-ghost use Rattle.rule_engine.specs.Reached.{reach_of, Spares};
+ghost use Rattle.rule_engine.specs.DisturbanceReach.{reach_of, Spares};
 
 use crate::{HeldNet, SeenReach, SeenRest};
 use rule_engine::{Event, Node, Rules, Want};

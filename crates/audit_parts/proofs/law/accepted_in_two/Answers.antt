@@ -1,4 +1,4 @@
-use Rattle.audit_parts.proofs.Proved.{joined_is_accepted, parts_are_accepted}
+use Rattle.audit_parts.proofs.PartLaws.{joined_is_accepted, parts_are_accepted}
 use Rattle.audit_parts.proofs.law.accepted_in_two.Goals as goal
 
 pub returns-clause-joined : goal.returns-clause-joined

@@ -1,4 +1,4 @@
-use Rattle.audit_parts.proofs.Proved.{bases_are_seams}
+use Rattle.audit_parts.proofs.PartLaws.{bases_are_seams}
 use Rattle.audit_parts.proofs.law.bases_are_seams.Goals as goal
 
 pub returns : goal.returns

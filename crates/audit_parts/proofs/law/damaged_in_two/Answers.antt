@@ -1,4 +1,4 @@
-use Rattle.audit_parts.proofs.Proved.{first_damage_stays, second_damage_moves}
+use Rattle.audit_parts.proofs.PartLaws.{first_damage_stays, second_damage_moves}
 use Rattle.audit_parts.proofs.law.damaged_in_two.Goals as goal
 
 pub returns-clause-first : goal.returns-clause-first

@@ -1,4 +1,4 @@
-use Rattle.audit_parts.proofs.Proved.{all_parts_are_accepted, parts_are_judged}
+use Rattle.audit_parts.proofs.PartLaws.{all_parts_are_accepted, parts_are_judged}
 use Rattle.audit_parts.proofs.law.judged_in_parts.Goals as goal
 
 pub returns-clause-judged : goal.returns-clause-judged

@@ -1,4 +1,4 @@
-use Rattle.audit_parts.proofs.Proved.{joined_judged}
+use Rattle.audit_parts.proofs.PartLaws.{joined_judged}
 use Rattle.audit_parts.proofs.verdicts.join.Goals as goal
 
 pub returns-clause-judged : goal.returns-clause-judged

@@ -1,11 +1,11 @@
 use Rattle.std.proofs.Common.{◌+◌, ◌≤◌, length}
-use Rattle.auditor.specs.Replays.{IsAt, IsCompared}
-use Rattle.auditor.proofs.Turning.{IsListed}
+use Rattle.auditor.specs.TranscriptCursors.{IsCursorAt, IsCompared}
+use Rattle.auditor.proofs.EpochSteps.{IsListed}
 use Rattle.auditor.proofs.epoch_list.epochs_of.Given as goal
 
 abbrev pub invariant-loop-rest : goal.invariant-loop-rest
 invariant-loop-rest l = record {
-  at : IsAt l.bytes l.replay l.rest;
+  at : IsCursorAt l.bytes l.replay l.rest;
   compared : IsCompared l.replay l.rest;
   listed : IsListed l.bytes l.replay.rules l.replay.size l.replay.audit l.rest l.list.items l.row;
   few : l.row.epoch.moves ≤ l.replay.audit.counted.moves + 4294967295;

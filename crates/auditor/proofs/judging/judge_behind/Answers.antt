@@ -1,7 +1,7 @@
 use Rattle.std.proofs.Common.{◌≡◌, ◌∙◌, ◌++◌, ℕ, List, [], sym, ap, subst, arith}
 use Rattle.std.proofs.lemmas.List.{nil_from_length}
-use Rattle.auditor.specs.Replays.{IsAt, IsCompared}
-use Rattle.auditor.proofs.Reading.{compared_more, for_on}
+use Rattle.auditor.specs.TranscriptCursors.{IsCursorAt, IsCompared}
+use Rattle.auditor.proofs.PieceReading.{compared_more, for_on}
 use Rattle.auditor.proofs.judging.judge_behind.Goals as goal
 
 pub judge_parts-requires-clause-compared : goal.judge_parts-requires-clause-compared
@@ -10,7 +10,7 @@ judge_parts-requires-clause-compared c =
 
 pub returns-then-not-is_empty-clause-at : goal.returns-then-not-is_empty-clause-at
 returns-then-not-is_empty-clause-at c =
-    for_on c.judge_parts.result _ _ c.judge_parts.ensures.at (λ on read at. on read (subst (IsAt read c.args.run.now) (sym c.in_ok-extend_from_slice.ensures.items) at))
+    for_on c.judge_parts.result _ _ c.judge_parts.ensures.at (λ on read at. on read (subst (IsCursorAt read c.args.run.now) (sym c.in_ok-extend_from_slice.ensures.items) at))
 
 pub pass_parts-requires-clause-compared : goal.pass_parts-requires-clause-compared
 pass_parts-requires-clause-compared c =
@@ -23,5 +23,5 @@ returns-in_ok-extend_from_slice-in-Ok-clause-at c read at =
     let held = c.args.held.now.items in
     let rest = c.in-Ok.rest.now in
     let none : held ≡ [] = nil_from_length held (grind arith) in
-    let on = c.in-Ok.ensures.at read (subst (λ (l : List ℕ). IsAt read c.args.run.now (l ++ c.args.bytes.now)) none at) in
-    subst (IsAt read c.pass_parts.new.self) (sym (c.in_ok-extend_from_slice-in-Ok.ensures.items ∙ ap (λ (l : List ℕ). l ++ rest) none)) on
+    let on = c.in-Ok.ensures.at read (subst (λ (l : List ℕ). IsCursorAt read c.args.run.now (l ++ c.args.bytes.now)) none at) in
+    subst (IsCursorAt read c.pass_parts.new.self) (sym (c.in_ok-extend_from_slice-in-Ok.ensures.items ∙ ap (λ (l : List ℕ). l ++ rest) none)) on

@@ -1,6 +1,6 @@
 use Rattle.std.proofs.Common.{◌++◌, sym, subst}
-use Rattle.auditor.specs.Replays.{IsCompared}
-use Rattle.auditor.proofs.Reading.{at_on, compared_more, fault_less, for_err, for_on, halves, somewhere_less, somewhere_on}
+use Rattle.auditor.specs.TranscriptCursors.{IsCompared}
+use Rattle.auditor.proofs.PieceReading.{at_on, compared_more, fault_less, for_err, for_on, halves, somewhere_less, somewhere_on}
 use Rattle.auditor.proofs.judging.judge_piece.Goals as goal
 
 pub returns-in_default-clause-compared : goal.returns-in_default-clause-compared

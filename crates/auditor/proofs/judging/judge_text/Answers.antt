@@ -1,5 +1,5 @@
 use Rattle.std.proofs.Common.{arith}
-use Rattle.auditor.proofs.Going.{begun_at, compared_none, first_judged}
+use Rattle.auditor.proofs.WholeTranscripts.{begun_at, compared_none, first_judged}
 use Rattle.auditor.proofs.judging.judge_text.Goals as goal
 
 pub judge_whole-requires-clause-at : goal.judge_whole-requires-clause-at

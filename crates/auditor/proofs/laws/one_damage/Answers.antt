@@ -1,4 +1,4 @@
-use Rattle.auditor.proofs.Ending.{damage_once}
+use Rattle.auditor.proofs.TextEnds.{damage_once}
 use Rattle.auditor.proofs.laws.one_damage.Goals as goal
 
 pub returns : goal.returns

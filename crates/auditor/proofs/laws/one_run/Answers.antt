@@ -1,4 +1,4 @@
-use Rattle.auditor.proofs.Ending.{run_once}
+use Rattle.auditor.proofs.TextEnds.{run_once}
 use Rattle.auditor.proofs.laws.one_run.Goals as goal
 
 pub returns : goal.returns

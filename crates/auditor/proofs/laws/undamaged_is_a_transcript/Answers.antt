@@ -1,4 +1,4 @@
-use Rattle.auditor.proofs.Undamaged.{undamaged_accepted}
+use Rattle.auditor.proofs.DamageAbsence.{undamaged_accepted}
 use Rattle.auditor.proofs.laws.undamaged_is_a_transcript.Goals as goal
 
 pub returns : goal.returns

@@ -1,4 +1,4 @@
-use Rattle.auditor.specs.Replays.{AreSameUpTo}
+use Rattle.auditor.specs.TranscriptCursors.{AreSameUpTo}
 use Rattle.auditor.proofs.lines.common_len.Given as goal
 
 abbrev pub invariant-loop-i : goal.invariant-loop-i

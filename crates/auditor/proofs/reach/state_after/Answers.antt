@@ -1,8 +1,8 @@
 use Rattle.std.proofs.Common.{◌≡◌, ◌<◌, ◌⊎◌, ◌∙◌, ℕ, ap, [], false, true, length, subst, sym, inl, inr, eqb-true, rules}
 use Rattle.std.proofs.lemmas.List.{nil_from_length}
-use Rattle.auditor.specs.Reached.{HasForgotten, IsWithin, falls_short}
-use Rattle.auditor.proofs.Arriving.{forgotten_fault, further_within, part_fault, ended, ended_early}
-use Rattle.auditor.proofs.Going.{begun_at, compared_none, passed_at, passed_compared, passed_shorter}
+use Rattle.auditor.specs.EntryWindows.{HasDroppedEntry, IsAskedWithin, falls_short}
+use Rattle.auditor.proofs.CursorPositions.{forgotten_fault, further_within, part_fault, ended, ended_early}
+use Rattle.auditor.proofs.WholeTranscripts.{begun_at, compared_none, passed_at, passed_compared, passed_shorter}
 use Rattle.auditor.proofs.reach.state_after.Goals as goal
 use Rattle.auditor.proofs.reach.state_after.Goals.{then-loop-replay-test+else-falls_short, else-loop-replay-test}
 
@@ -10,7 +10,7 @@ pub returns-in-Some-clause-fault : goal.returns-in-Some-clause-fault
 returns-in-Some-clause-fault c =
     let replay = c.in-Ok.begun.0 in
     let base = c.number-base.ensures in
-    subst (λ (n : ℕ). HasForgotten c.args.bytes.now c.args.last c.in-Some.asked n) (sym base)
+    subst (λ (n : ℕ). HasDroppedEntry c.args.bytes.now c.args.last c.in-Some.asked n) (sym base)
     (forgotten_fault c.args.bytes.now replay.rules replay.size replay.begun replay.audit c.in-Ok.begun.1.now c.args.last c.in-Some.asked c.in-Ok.ensures.begins.opened c.in-Some.ensures.0 (subst (λ (n : ℕ). c.in-Some.asked < n) base c.in-Some.ensures.1))
 
 pub loop-replay-init : goal.loop-replay-init
@@ -21,7 +21,7 @@ loop-replay-init c =
     record {
       at = begun_at c.args.bytes.now replay rest begins;
       compared = compared_none replay rest begins.unwanted begins.none_same;
-      within = subst (IsWithin c.args.last) c.number-base.ensures c.in_default.ensures;
+      within = subst (IsAskedWithin c.args.last) c.number-base.ensures c.in_default.ensures;
     }
 
 pub loop-replay-smaller : goal.loop-replay-smaller

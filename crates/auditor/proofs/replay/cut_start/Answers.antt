@@ -1,6 +1,6 @@
 use Rattle.std.proofs.Common.{ℕ, ◌+◌, ap, arith}
-use Rattle.auditor.proofs.Counted.{feeds_few}
-use Rattle.auditor.proofs.Passing.{cut_base, cut_header}
+use Rattle.auditor.proofs.LineCounts.{feeds_few}
+use Rattle.auditor.proofs.NextParts.{cut_base, cut_header}
 use Rattle.auditor.proofs.replay.cut_start.Goals as goal
 
 pub overflow_add-line : goal.overflow_add-line

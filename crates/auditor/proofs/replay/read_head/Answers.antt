@@ -1,4 +1,4 @@
-use Rattle.auditor.proofs.Opened.{no_head}
+use Rattle.auditor.proofs.ReadOpenings.{no_head}
 use Rattle.auditor.proofs.replay.read_head.Goals as goal
 
 pub returns-in_default : goal.returns-in_default

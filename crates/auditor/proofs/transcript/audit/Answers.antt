@@ -1,4 +1,4 @@
-use Rattle.auditor.proofs.Exact.{for_known, heard_accepted, heard_accepts, heard_damage, heard_names}
+use Rattle.auditor.proofs.VerdictUniqueness.{for_known, heard_accepted, heard_accepts, heard_damage, heard_names}
 use Rattle.auditor.proofs.transcript.audit.Goals as goal
 
 pub returns-clause-accepted : goal.returns-clause-accepted

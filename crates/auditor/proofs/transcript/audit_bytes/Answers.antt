@@ -1,4 +1,4 @@
-use Rattle.auditor.proofs.Exact.{judged_accepts, judged_names}
+use Rattle.auditor.proofs.VerdictUniqueness.{judged_accepts, judged_names}
 use Rattle.auditor.proofs.transcript.audit_bytes.Goals as goal
 
 pub returns-clause-accepts_runs : goal.returns-clause-accepts_runs

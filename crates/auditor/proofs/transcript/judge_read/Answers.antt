@@ -1,9 +1,9 @@
 use Rattle.std.proofs.Common.{◌≡◌, ◌∙◌, ◌++◌, ℕ, List, [], Option, None, Some, IfSome, Err, inl, inr, length, take, refl, sym, arith}
 use Rattle.std.proofs.KnownBytes.{Consumes-nil, Consumes-whole}
-use Rattle.auditor.specs.Verdict.{IsHeard}
+use Rattle.auditor.specs.Verdict.{IsAuditResult}
 use Rattle.auditor.specs.declared.fault.AuditFault.TheVariants.{Read}
 use Rattle.byte_streams.specs.declared.input_fault.InputFault.TheVariants as input
-use Rattle.auditor.proofs.Reading.{consumed_more, consumed_none, of_consumed, refilled}
+use Rattle.auditor.proofs.PieceReading.{consumed_more, consumed_none, of_consumed, refilled}
 use Rattle.auditor.proofs.transcript.judge_read.Goals as goal
 
 pub loop-len-init : goal.loop-len-init
@@ -14,7 +14,7 @@ returns-then-len-eq0-clause-heard g c =
     let left = g.In.Read.remaining in
     let i = c.loop-len.invariant in
     let consumed = consumed_none (left c.args.reader.now.reader) (left c.loop-len.reader.reader) (left c.read.new.self.reader) i.read c.read.new.buf c.in-Ok-read.len i.consumed c.if-len-eq0.true c.in-Ok-read.ensures.bytes in
-    Consumes-whole (left c.args.reader.now.reader) (left c.read.new.self.reader) i.read (λ bytes. IsHeard bytes c.tell.result) consumed (c.in-Ok-read.ensures.end c.if-len-eq0.true)
+    Consumes-whole (left c.args.reader.now.reader) (left c.read.new.self.reader) i.read (λ bytes. IsAuditResult bytes c.tell.result) consumed (c.in-Ok-read.ensures.end c.if-len-eq0.true)
     (inl (c.finish.result, c.finish.ensures.judged i.read i.is, c.tell.ensures.told))
 
 pub returns-in-Err-clause-heard : goal.returns-in-Err-clause-heard
@@ -24,7 +24,7 @@ returns-in-Err-clause-heard g c =
     let full : length c.read.new.buf ≡ c.loop-len.chunk.len = grind arith in
     let same : c.read.new.buf ≡ c.deref.result.now = sym (refilled c.loop-len.chunk.len c.read.new.buf c.loop-len.chunk.items full) ∙ sym c.deref.ensures.value in
     let consumed = consumed_more (left c.args.reader.now.reader) (left c.loop-len.reader.reader) (left c.read.new.self.reader) i.read c.read.new.buf c.deref.result.now c.in-Ok-read.len i.consumed same c.in-Ok-read.ensures.bytes in
-    of_consumed (left c.args.reader.now.reader) (left c.read.new.self.reader) (i.read ++ take c.in-Ok-read.len c.deref.result.now) (λ bytes. IsHeard bytes c.tell-in-Err.result) consumed
+    of_consumed (left c.args.reader.now.reader) (left c.read.new.self.reader) (i.read ++ take c.in-Ok-read.len c.deref.result.now) (λ bytes. IsAuditResult bytes c.tell-in-Err.result) consumed
     (λ more. inl (Err c.in-Err.fault, c.in-Err.ensures.fault i.read more i.is, c.tell-in-Err.ensures.told))
 
 pub loop-len-preserved : goal.loop-len-preserved
@@ -43,7 +43,7 @@ loop-len-preserved g c =
     }
 
 -- a failed read is heard of whatever bytes
-failed : (bytes : Option (List ℕ)) → IfSome bytes (λ all. IsHeard all (Err Read))
+failed : (bytes : Option (List ℕ)) → IfSome bytes (λ all. IsAuditResult all (Err Read))
 failed None = tt
 failed (Some all) = inr (input.Read, refl)
 

@@ -1,13 +1,13 @@
 use Rattle.std.proofs.Common.{◌≡◌, ◌-◌, ℕ, List, length}
 use Rattle.std.specs.Io.KnownBytes.{Consumes}
-use Rattle.auditor.specs.Fed.{IsFed}
+use Rattle.auditor.specs.AuditPieces.{HasReadPieces}
 use Rattle.auditor.proofs.transcript.judge_read.Given as goal
 
 abbrev pub invariant-loop-len : goal.invariant-loop-len
 invariant-loop-len g l = record {
   read : List ℕ;
   consumed : Consumes (g.In.Read.remaining l.fn.reader.reader) (g.In.Read.remaining l.reader.reader) read;
-  is : IsFed read l.audit;
+  is : HasReadPieces read l.audit;
   room : length l.chunk.items ≡ 65536;
 }
 

@@ -1,5 +1,5 @@
 use Rattle.std.proofs.Common.{take, arith}
-use Rattle.byte_streams.proofs.Cutting.{first_line-none, first_line-then, line_found, line_whole}
+use Rattle.byte_streams.proofs.FirstLines.{first_line-none, first_line-then, line_found, line_whole}
 use Rattle.byte_streams.proofs.lines.split_line.Goals as goal
 
 pub returns-in_default-clause-line : goal.returns-in_default-clause-line

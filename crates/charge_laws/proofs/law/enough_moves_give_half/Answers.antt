@@ -1,7 +1,7 @@
 use Rattle.std.proofs.Common.{true, false}
 use Rattle.rule_machine.specs.HsuHuang.{hsu_huang}
 use Rattle.rule_machine.specs.Manne.{manne}
-use Rattle.machine_laws.specs.Half.{stable_is_half}
+use Rattle.machine_laws.specs.HalfMatchings.{stable_is_half}
 use Rattle.machine_laws.specs.Runs.{runs_end_in_states}
 use Rattle.charge_laws.specs.Tables.{hsu_huang_table, manne_table}
 use Rattle.charge_laws.specs.Laws.{hsu_huang_settles, manne_settles}

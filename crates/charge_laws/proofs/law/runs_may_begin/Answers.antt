@@ -1,6 +1,6 @@
 use Rattle.rule_machine.specs.HsuHuang.{hsu_huang}
 use Rattle.rule_machine.specs.Manne.{manne}
-use Rattle.charge_laws.specs.Begun as begun
+use Rattle.charge_laws.specs.RunsFromBases as begun
 use Rattle.charge_laws.specs.Tables.{hsu_huang_table, manne_table, hsu_huang_flagless, manne_flagless}
 use Rattle.charge_laws.specs.Laws.{hsu_huang_charged, manne_charged}
 use Rattle.charge_laws.proofs.law.runs_may_begin.Goals as goal

@@ -1,9 +1,9 @@
 use Rattle.std.proofs.Common.{◌≤◌}
 use Rattle.rule_machine.specs.HsuHuang.{hsu_huang}
 use Rattle.rule_machine.specs.Manne.{manne}
-use Rattle.charge_laws.specs.Inside.{hsu_huang_inside, manne_inside}
+use Rattle.charge_laws.specs.PresentMovers.{hsu_huang_inside, manne_inside}
 use Rattle.charge_laws.specs.Laws.{hsu_huang_charged, manne_charged}
-use Rattle.charge_laws.specs.Silent.{charge_budget, driven_is_quiet}
+use Rattle.charge_laws.specs.SilentRuns.{charge_budget, driven_is_quiet}
 use Rattle.charge_laws.specs.Tables.{hsu_huang_table, manne_table}
 use Rattle.charge_laws.proofs.silence.long_runs_end_silent.Goals as goal
 

@@ -1,7 +1,7 @@
 use Rattle.rule_machine.specs.HsuHuang.{hsu_huang}
 use Rattle.rule_machine.specs.Manne.{manne}
-use Rattle.charge_laws.specs.Inside.{hsu_huang_inside, manne_inside}
-use Rattle.charge_laws.specs.Silent.{quiet_stays}
+use Rattle.charge_laws.specs.PresentMovers.{hsu_huang_inside, manne_inside}
+use Rattle.charge_laws.specs.SilentRuns.{quiet_stays}
 use Rattle.charge_laws.specs.Tables.{hsu_huang_table, manne_table}
 use Rattle.charge_laws.proofs.silence.silence_lasts.Goals as goal
 

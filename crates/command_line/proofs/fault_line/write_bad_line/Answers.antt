@@ -1,8 +1,8 @@
 use Rattle.std.proofs.Common.{◌≡◌, ◌++◌, ℕ, List, codes, subst, ◌∙◌}
 use Rattle.std.specs.Io.KnownBytes.{Appends}
 use Rattle.line_text.specs.Words.{number_text}
-use Rattle.byte_streams.specs.Beginning.{AppendsLess}
-use Rattle.byte_streams.proofs.Telling.{front_begins, less_begins, third_whole, third_begins, begins_at_err}
+use Rattle.byte_streams.specs.PartialOutput.{AppendsLess}
+use Rattle.byte_streams.proofs.SplitWrites.{front_begins, less_begins, third_whole, third_begins, begins_at_err}
 use Rattle.command_line.proofs.fault_line.write_bad_line.Goals as goal
 
 pub returns-in_err-write_whole-clause-fault : goal.returns-in_err-write_whole-clause-fault

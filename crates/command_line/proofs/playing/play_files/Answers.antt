@@ -1,4 +1,4 @@
-use Rattle.script_run.specs.Asked.{asked_of}
+use Rattle.script_run.specs.RunOptions.{asked_of}
 use Rattle.std.proofs.Common.{length}
 use Rattle.command_line.proofs.Storms.{unopened}
 use Rattle.command_line.proofs.playing.play_files.Goals as goal

@@ -1,6 +1,6 @@
 use Rattle.std.specs.Prelude.{string_bytes}
-use Rattle.command_line.specs.Heard.{heard}
-use Rattle.command_line.proofs.Shown.{some_shown}
+use Rattle.command_line.specs.WriterStates.{heard}
+use Rattle.command_line.proofs.ShownText.{some_shown}
 use Rattle.command_line.proofs.program.show.Goals as goal
 
 pub returns-clause-shown : goal.returns-clause-shown

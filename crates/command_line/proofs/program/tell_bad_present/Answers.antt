@@ -1,6 +1,6 @@
 use Rattle.std.proofs.Common.{codes}
-use Rattle.byte_streams.proofs.Telling.{either_begins}
-use Rattle.storm_call.proofs.Telling.{written_whole}
+use Rattle.byte_streams.proofs.SplitWrites.{either_begins}
+use Rattle.storm_runner.proofs.LineOutput.{written_whole}
 use Rattle.command_line.proofs.program.tell_bad_present.Goals as goal
 
 pub returns-clause-told : goal.returns-clause-told

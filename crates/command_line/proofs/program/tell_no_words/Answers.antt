@@ -4,10 +4,10 @@ use Rattle.std.specs.declared.io.ErrorKind.TheVariants.{InvalidData}
 use Rattle.std.specs.contracts.io.ErrorKind.{the_type}
 use denote.Enum.Bare.{same_true}
 use Rattle.std.specs.Io.KnownBytes.{Appends}
-use Rattle.byte_streams.specs.Beginning.{AppendsBeginning}
+use Rattle.byte_streams.specs.PartialOutput.{AppendsBeginning}
 use Rattle.command_line.specs.FaultText.{no_words_line}
-use Rattle.byte_streams.proofs.Telling.{either_begins}
-use Rattle.storm_call.proofs.Telling.{written_whole}
+use Rattle.byte_streams.proofs.SplitWrites.{either_begins}
+use Rattle.storm_runner.proofs.LineOutput.{written_whole}
 use Rattle.command_line.proofs.program.tell_no_words.Goals as goal
 
 pub returns-then-eq-clause-told : goal.returns-then-eq-clause-told

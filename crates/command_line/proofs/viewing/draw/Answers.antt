@@ -1,5 +1,5 @@
 use Rattle.transcript_view.specs.Views.{IsPicture}
-use Rattle.command_line.specs.Heard.{heard}
+use Rattle.command_line.specs.WriterStates.{heard}
 use Rattle.command_line.proofs.Input.{from_input}
 use Rattle.command_line.proofs.viewing.draw.Goals as goal
 

@@ -2,9 +2,9 @@ use Rattle.std.proofs.Common.{◌≡◌, Result, Ok, sym, subst}
 use Rattle.byte_streams.specs.declared.input_fault.InputFault.{InputFault}
 use Rattle.transcript_view.specs.declared.view.View.{View}
 use Rattle.transcript_view.specs.declared.view.View.TheVariants.{TooFew, Forgotten}
-use Rattle.command_line.specs.Heard.{heard}
-use Rattle.command_line.specs.Viewed.{TellsView, too_few_line, forgotten_line}
-use Rattle.command_line.proofs.Missing.{missed}
+use Rattle.command_line.specs.WriterStates.{heard}
+use Rattle.command_line.specs.ViewEnds.{TellsView, too_few_line, forgotten_line}
+use Rattle.command_line.proofs.MissingEntry.{missed}
 use Rattle.command_line.proofs.viewing.tell_view.Goals as goal
 
 pub returns-in-Ok-TooFew-clause-told : goal.returns-in-Ok-TooFew-clause-told

@@ -2,8 +2,8 @@ use Rattle.std.proofs.Common.{◌≡◌, ◌∙◌, ℕ, false, List, IfOk, filt
 use Rattle.rule_machine.specs.declared.event.Event.{Event}
 use Rattle.rule_machine.specs.Network.{names}
 use Rattle.containment_laws.specs.Reach.{is_in_reach, parts_a_pair}
-use Rattle.containment.specs.Candidates.{is_touched, is_kept}
-use Rattle.containment.proofs.Covered.{link_listed, write_listed, flag_listed, none_listed, unhit, no_names}
+use Rattle.containment.specs.Candidates.{is_hit_or_parted, is_kept}
+use Rattle.containment.proofs.CoveredReach.{link_listed, write_listed, flag_listed, none_listed, unhit, no_names}
 use Rattle.containment.proofs.list.list_reach.Goals as goal
 
 pub returns-in-Link : goal.returns-in-Link
@@ -11,7 +11,7 @@ returns-in-Link c =
     let s = c.args.net.now.state in
     let a = c.in-Link.a in
     let b = c.in-Link.b in
-    let same = subst (λ (e : Event). filter (is_kept (λ x. nat_eq x a) (λ x. nat_eq x b) (is_touched s e)) (names s.network) ≡ filter (is_in_reach s e) (names s.network)) (sym c.in-Link.is)
+    let same = subst (λ (e : Event). filter (is_kept (λ x. nat_eq x a) (λ x. nat_eq x b) (is_hit_or_parted s e)) (names s.network) ≡ filter (is_in_reach s e) (names s.network)) (sym c.in-Link.is)
     (link_listed s a b c.registers.ensures.sound) in
     subst (λ (ys : List ℕ). IfOk c.touched.result (λ list. list.items ≡ ys)) same
     (c.touched.ensures (λ x. nat_eq x a) (λ x. nat_eq x b) c.only.ensures c.only-in-Link.ensures)
@@ -20,7 +20,7 @@ pub returns-in-Point : goal.returns-in-Point
 returns-in-Point c =
     let s = c.args.net.now.state in
     let v = c.in-Point.v in
-    let same = subst (λ (e : Event). filter (is_kept (λ x. nat_eq x v) (λ x. false) (is_touched s e)) (names s.network) ≡ filter (is_in_reach s e) (names s.network)) (sym c.in-Point.is)
+    let same = subst (λ (e : Event). filter (is_kept (λ x. nat_eq x v) (λ x. false) (is_hit_or_parted s e)) (names s.network) ≡ filter (is_in_reach s e) (names s.network)) (sym c.in-Point.is)
     (write_listed s v c.in-Point.field-1 c.registers.ensures.sound (sym (ap (parts_a_pair s) c.in-Point.is) ∙ sym c.parts_a_pair.ensures ∙ c.if-parts_a_pair.false)) in
     subst (λ (ys : List ℕ). IfOk c.touched-in-Point.result (λ list. list.items ≡ ys)) same
     (c.touched-in-Point.ensures (λ x. nat_eq x v) (λ x. false) c.only-in-Point.ensures (no_names (names s.network)))
@@ -29,7 +29,7 @@ pub returns-in-Flag : goal.returns-in-Flag
 returns-in-Flag c =
     let s = c.args.net.now.state in
     let v = c.in-Flag.v in
-    let same = subst (λ (e : Event). filter (is_kept (λ x. nat_eq x v) (λ x. false) (is_touched s e)) (names s.network) ≡ filter (is_in_reach s e) (names s.network)) (sym c.in-Flag.is)
+    let same = subst (λ (e : Event). filter (is_kept (λ x. nat_eq x v) (λ x. false) (is_hit_or_parted s e)) (names s.network) ≡ filter (is_in_reach s e) (names s.network)) (sym c.in-Flag.is)
     (flag_listed s v c.in-Flag.field-1 c.registers.ensures.sound) in
     subst (λ (ys : List ℕ). IfOk c.touched-in-Flag.result (λ list. list.items ≡ ys)) same
     (c.touched-in-Flag.ensures (λ x. nat_eq x v) (λ x. false) c.only-in-Flag.ensures (no_names (names s.network)))

@@ -1,5 +1,5 @@
 use Rattle.std.proofs.Common.{◌∙◌, sym}
-use Rattle.containment.proofs.Absent.{absent_near}
+use Rattle.containment.proofs.AbsentNames.{absent_near}
 use Rattle.containment.proofs.list.near.Goals as goal
 
 pub returns-then-not-has : goal.returns-then-not-has

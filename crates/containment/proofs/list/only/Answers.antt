@@ -1,5 +1,5 @@
 use Rattle.std.proofs.Common.{◌∙◌, sym}
-use Rattle.containment.proofs.Absent.{only_present, only_absent}
+use Rattle.containment.proofs.AbsentNames.{only_present, only_absent}
 use Rattle.containment.proofs.list.only.Goals as goal
 
 pub returns-then-has : goal.returns-then-has

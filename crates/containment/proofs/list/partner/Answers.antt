@@ -1,6 +1,6 @@
 use Rattle.std.proofs.Common.{◌∙◌, sym}
 use Rattle.machine_laws.specs.Pointers.{none_is, null_unmarried, points_true, partner_from}
-use Rattle.containment.proofs.Absent.{absent_unmarried, lone}
+use Rattle.containment.proofs.AbsentNames.{absent_unmarried, lone}
 use Rattle.containment.proofs.list.partner.Goals as goal
 
 pub returns-then-not-has : goal.returns-then-not-has

@@ -2,17 +2,17 @@ use Rattle.std.proofs.Common.{◌≡◌, ◌∙◌, ℕ, Bool, List, [], ◌∷�
 use Rattle.rule_machine.specs.declared.node.Node.{Node}
 use Rattle.std.proofs.lemmas.Bool.{cond-true, cond-false}
 use Rattle.rule_machine.specs.Network.{names}
-use Rattle.containment.specs.Candidates.{without_head, is_touched}
-use Rattle.containment.proofs.Merging.{Remains, begun, taken, all_taken}
+use Rattle.containment.specs.Candidates.{without_head, is_hit_or_parted}
+use Rattle.containment.proofs.MergedLists.{Remains, begun, taken, all_taken}
 use Rattle.containment.proofs.list.touched.Goals.{then-is_touched+in_ok-push, else-is_touched}
 use Rattle.containment.proofs.list.touched.Goals as goal
 
 pub loop-v-init : goal.loop-v-init
-loop-v-init c = λ p q one two. begun c.args.net.now.state.network p q (is_touched c.args.net.now.state c.args.event.now) c.args.xs.now c.args.ys.now c.new-list.result.items one two c.new-list.ensures.items
+loop-v-init c = λ p q one two. begun c.args.net.now.state.network p q (is_hit_or_parted c.args.net.now.state c.args.event.now) c.args.xs.now c.args.ys.now c.new-list.result.items one two c.new-list.ensures.items
 
 pub loop-v-preserved : goal.loop-v-preserved
 loop-v-preserved c = λ p q one two.
-    let test : ℕ → Bool = is_touched c.args.net.now.state c.args.event.now in
+    let test : ℕ → Bool = is_hit_or_parted c.args.net.now.state c.args.event.now in
     let v = c.in-Some.v in
     let grown : c.if-is_touched.list.items ≡ cond (test v) (c.loop-v.list.items ++ v ∷ []) c.loop-v.list.items = elim c.if-is_touched.branch [
       | then-is_touched+in_ok-push w ↦ ap (λ (x : Vec Node Global). x.items) w.list-is ∙ w.in_ok-push.ensures.items ∙ sym (cond-true (test v) (c.loop-v.list.items ++ v ∷ []) c.loop-v.list.items (sym c.is_touched.ensures ∙ w.if-is_touched.true))
@@ -23,5 +23,5 @@ loop-v-preserved c = λ p q one two.
     (taken (names c.args.net.now.state.network) p q test c.loop-v.first.now c.loop-v.second.now c.loop-v.list.items c.if-is_touched.list.items v (c.loop-v.invariant p q one two) (sym c.least_head.ensures ∙ c.in-Some.is) grown))
 
 pub returns : goal.returns
-returns c = λ p q one two. all_taken (names c.args.net.now.state.network) p q (is_touched c.args.net.now.state c.args.event.now) c.loop-v.first.now c.loop-v.second.now c.loop-v.list.items
+returns c = λ p q one two. all_taken (names c.args.net.now.state.network) p q (is_hit_or_parted c.args.net.now.state c.args.event.now) c.loop-v.first.now c.loop-v.second.now c.loop-v.list.items
     (c.loop-v.invariant p q one two) (sym c.least_head.ensures ∙ c.in_default.is)

@@ -1,6 +1,6 @@
 use Rattle.std.proofs.Common.{◌∙◌, sym}
 use Rattle.containment_laws.specs.Reach.{is_parted}
-use Rattle.containment.proofs.Absent.{absent_alone}
+use Rattle.containment.proofs.AbsentNames.{absent_alone}
 use Rattle.containment.proofs.reach.is_beside_parted.Goals as goal
 
 pub returns-then-not-has : goal.returns-then-not-has

@@ -1,5 +1,5 @@
 use Rattle.std.proofs.Common.{◌∙◌, sym}
-use Rattle.containment.proofs.Absent.{absent_at_rest}
+use Rattle.containment.proofs.AbsentNames.{absent_at_rest}
 use Rattle.containment.proofs.rest.is_at_rest.Goals as goal
 
 pub returns-then-not-has : goal.returns-then-not-has

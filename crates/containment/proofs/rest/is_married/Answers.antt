@@ -1,5 +1,5 @@
 use Rattle.std.proofs.Common.{◌∙◌, sym}
-use Rattle.containment.proofs.Absent.{absent_unmarried}
+use Rattle.containment.proofs.AbsentNames.{absent_unmarried}
 use Rattle.containment.proofs.rest.is_married.Goals as goal
 
 pub returns-then-not-has : goal.returns-then-not-has

@@ -1,7 +1,7 @@
 use Rattle.std.proofs.Common.{rules, ◌≡◌, ◌≤◌, length, take, true, ap, sym, ◌∙◌, arith}
-use Rattle.daemon.specs.Lawful.{plain}
-use Rattle.daemon.specs.Played.{named_of, first_or_all}
-use Rattle.daemon.proofs.Play.{plain_first, chosen_few, made}
+use Rattle.daemon.specs.DaemonLaws.{plain}
+use Rattle.daemon.specs.RecordedLists.{named_of, first_or_all}
+use Rattle.daemon.proofs.RecordedPlay.{plain_first, chosen_few, made}
 use Rattle.daemon.proofs.recorded.choice_of.Goals as goal
 use Rattle.daemon.proofs.recorded.choice_of.Goals.{then-central, else-central}
 

@@ -1,6 +1,6 @@
 use Rattle.std.proofs.Common.{◌≡◌, ◌<◌, length, map, get_or, ap, sym, ◌∙◌, arith}
 use Rattle.std.proofs.lemmas.List.{get_or-map, length-map}
-use Rattle.daemon.proofs.Play.{played_take, played_skip}
+use Rattle.daemon.proofs.RecordedPlay.{played_take, played_skip}
 use Rattle.daemon.proofs.recorded.play.Goals as goal
 
 pub returns-in-Some-clause-played : goal.returns-in-Some-clause-played

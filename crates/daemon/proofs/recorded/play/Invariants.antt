@@ -1,5 +1,5 @@
 use Rattle.std.proofs.Common.{◌≡◌, drop, map}
-use Rattle.daemon.specs.Played.{played}
+use Rattle.daemon.specs.RecordedLists.{played}
 use Rattle.daemon.proofs.recorded.play.Given as goal
 
 abbrev pub invariant-loop-place : goal.invariant-loop-place

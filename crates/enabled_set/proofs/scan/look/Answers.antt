@@ -1,7 +1,7 @@
 use Rattle.std.proofs.Common.{◌%◌, ap, ◌∙◌}
-use Rattle.enabled_set.specs.Members.{has_bit, is_on}
+use Rattle.enabled_set.specs.Members.{has_bit, is_bit_on}
 use Rattle.enabled_set.proofs.scan.look.Goals as goal
 
 pub returns : goal.returns
-unfolding is_on
+unfolding is_bit_on
 returns c = c.bit_is_set.ensures ∙ ap (λ word. has_bit word (c.args.place % 64)) c.word_at.ensures

@@ -1,12 +1,12 @@
 use Rattle.std.proofs.Common.{◌≡◌, ◌+◌, ◌*◌, ℕ, ap, arith}
-use Rattle.enabled_set.specs.Members.{is_on}
+use Rattle.enabled_set.specs.Members.{is_bit_on}
 use Rattle.enabled_set.specs.Counts.{tally}
 use Rattle.enabled_set.proofs.Passes.{word_ones, words_step, ones_few}
 use Rattle.enabled_set.proofs.Halves.{passed_none, passed_more, passed_all}
 use Rattle.enabled_set.proofs.scan.pass_words.Goals as goal
 
 pub loop-at-init : goal.loop-at-init
-loop-at-init c = record { scan = passed_none (λ n. tally (is_on c.args.words.now) (64 * n)) c.args.from c.args.to_pass; few = omega arith }
+loop-at-init c = record { scan = passed_none (λ n. tally (is_bit_on c.args.words.now) (64 * n)) c.args.from c.args.to_pass; few = omega arith }
 
 pub overflow_add-sum : goal.overflow_add-sum
 overflow_add-sum c =
@@ -17,7 +17,7 @@ pub loop-at-preserved : goal.loop-at-preserved
 loop-at-preserved c =
     let behind = c.spot_behind-spot in
     let few = c.loop-at.invariant.few in
-    let bits : ℕ → ℕ = λ n. tally (is_on c.args.words.now) (64 * n) in
+    let bits : ℕ → ℕ = λ n. tally (is_bit_on c.args.words.now) (64 * n) in
     record {
       scan = passed_more bits c.args.from c.loop-at.at c.loop-at.spot.place c.loop-at.spot.left c.loop-at.sum c.args.to_pass _ behind.result.place behind.result.left c.loop-at.invariant.scan (words_step c.args.words.now c.loop-at.at (omega (arith, c.type_inv.words c.loop-at.at))) behind.ensures.stays_place behind.ensures.stays_left behind.ensures.moves_place behind.ensures.moves_left;
       few = omega (arith, ones_few c.args.words.now c.loop-at.at (omega (arith, c.type_inv.words c.loop-at.at)));
@@ -25,7 +25,7 @@ loop-at-preserved c =
 
 pub returns : goal.returns
 returns c =
-    let bits : ℕ → ℕ = λ n. tally (is_on c.args.words.now) (64 * n) in
+    let bits : ℕ → ℕ = λ n. tally (is_bit_on c.args.words.now) (64 * n) in
     let scan = c.loop-at.invariant.scan in
     let passed = scan.passed in
     let high = scan.high in

@@ -1,11 +1,11 @@
 use Rattle.std.proofs.Common.{◌+◌, ◌*◌, ◌≤◌}
-use Rattle.enabled_set.specs.Members.{is_on}
+use Rattle.enabled_set.specs.Members.{is_bit_on}
 use Rattle.enabled_set.specs.Counts.{tally}
 use Rattle.enabled_set.proofs.Halves.{IsPassed}
 use Rattle.enabled_set.proofs.scan.pass_words.Given as goal
 
 abbrev pub invariant-loop-at : goal.invariant-loop-at
 invariant-loop-at l = record {
-  scan : IsPassed (λ n. tally (is_on l.words) (64 * n)) l.from l.at l.spot.place l.spot.left l.sum l.to_pass;
+  scan : IsPassed (λ n. tally (is_bit_on l.words) (64 * n)) l.from l.at l.spot.place l.spot.left l.sum l.to_pass;
   few : l.sum + 65535 * l.from ≤ 65535 * l.at;
 }

@@ -1,6 +1,6 @@
 use Rattle.std.proofs.Common.{sym, ◌∙◌, arith}
-use Rattle.entry_grammar.specs.Reading.{registers_text}
-use Rattle.entry_grammar.proofs.Marked.{marked_once}
+use Rattle.entry_grammar.specs.Parsing.{registers_text}
+use Rattle.entry_grammar.proofs.MarkedNames.{marked_once}
 use Rattle.entry_grammar.proofs.base_line.read_place.Goals as goal
 
 pub returns-in_default-read_registers : goal.returns-in_default-read_registers

@@ -2,7 +2,7 @@ use Rattle.std.proofs.lemmas.Grind.{common_steps}
 use Rattle.std.proofs.Common.{◌≡◌, ◌++◌, sym, ◌∙◌, arith}
 use Rattle.line_text.specs.Words.{number_text}
 use Rattle.line_text.proofs.Digits.{name_once}
-use Rattle.entry_grammar.proofs.Marked.{marked_once}
+use Rattle.entry_grammar.proofs.MarkedNames.{marked_once}
 use Rattle.entry_grammar.proofs.tokens.read_pair.Goals as goal
 
 pub returns-in_default-read_name : goal.returns-in_default-read_name

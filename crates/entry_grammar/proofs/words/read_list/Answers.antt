@@ -1,5 +1,5 @@
 use Rattle.std.proofs.Common.{◌≡◌, length, arith}
-use Rattle.entry_grammar.proofs.Joined.{none_empty}
+use Rattle.entry_grammar.proofs.JoinedWords.{none_empty}
 use Rattle.entry_grammar.proofs.words.read_list.Goals as goal
 
 pub returns-then-is_empty : goal.returns-then-is_empty

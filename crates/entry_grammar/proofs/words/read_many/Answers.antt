@@ -1,5 +1,5 @@
 use Rattle.std.proofs.Common.{◌≡◌, List, [], ◌∷◌, ◌++◌, refl, sym, subst, arith}
-use Rattle.entry_grammar.proofs.Joined.{SoFar, SoFar-more, word_cut}
+use Rattle.entry_grammar.proofs.JoinedWords.{SoFar, SoFar-more, word_cut}
 use Rattle.entry_grammar.proofs.words.read_many.Goals as goal
 
 pub loop-word-preserved : goal.loop-word-preserved

@@ -1,5 +1,5 @@
 use Rattle.std.proofs.Common.{length}
-use Rattle.entry_grammar.proofs.Joined.{SoFar}
+use Rattle.entry_grammar.proofs.JoinedWords.{SoFar}
 use Rattle.entry_grammar.proofs.words.read_many.Given as goal
 
 abbrev pub invariant-loop-word : goal.invariant-loop-word

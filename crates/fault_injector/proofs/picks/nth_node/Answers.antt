@@ -2,7 +2,7 @@ use Rattle.std.proofs.Common.{◌≡◌, ◌+◌, ◌≤◌, SomeIff, refl, sym,
 use Rattle.std.specs.Option.{IsSome}
 use Rattle.std.proofs.lemmas.Option.{slice_get-get_or, get_or_from_slice_get}
 use Rattle.rule_machine.specs.Network.{names, node_count}
-use Rattle.fault_injector.proofs.Whole.{name_at}
+use Rattle.fault_injector.proofs.FullNetworks.{name_at}
 use Rattle.fault_injector.proofs.picks.nth_node.Goals as goal
 
 pub returns-then-nodes-capacity : goal.returns-then-nodes-capacity

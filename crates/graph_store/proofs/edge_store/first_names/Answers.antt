@@ -1,6 +1,6 @@
 use Rattle.std.proofs.Common.{◌≡◌, ◌+◌, ◌-◌, ◌≤◌, length, true, slice_set, set, SomeIff, arith, ap, ◌∙◌, subst}
 use Rattle.rule_machine.specs.Network.{first_names}
-use Rattle.graph_store.proofs.Present.{first_names_len, first_names_none, first_names_more}
+use Rattle.graph_store.proofs.PresentRows.{first_names_len, first_names_none, first_names_more}
 use Rattle.graph_store.proofs.edge_store.first_names.Goals as goal
 
 pub loop-name-init : goal.loop-name-init

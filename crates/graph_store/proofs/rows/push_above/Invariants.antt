@@ -1,5 +1,5 @@
 use Rattle.std.proofs.Common.{◌≡◌, ◌++◌, take}
-use Rattle.graph_store.proofs.Listed.{pairs_of}
+use Rattle.graph_store.proofs.PairLists.{pairs_of}
 use Rattle.graph_store.proofs.rows.push_above.Given as goal
 
 abbrev pub invariant-loop-w : goal.invariant-loop-w

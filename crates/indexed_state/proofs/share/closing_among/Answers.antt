@@ -2,10 +2,10 @@ use Rattle.std.proofs.Common.{◌&&◌, ◌∙◌, ◌≤◌, ℕ, Bool, cond, c
 use Rattle.std.proofs.lemmas.List.{take_all}
 use Rattle.rule_machine.specs.Network.{neighbours}
 use Rattle.rule_machine.specs.State.{points}
-use Rattle.net_state.specs.Held.{Held}
+use Rattle.net_state.specs.StateViews.{StateView}
 use Rattle.enabled_set.proofs.Sums.{one_byte}
-use Rattle.indexed_state.proofs.Named.{few_neighbours}
-use Rattle.indexed_state.proofs.Summed.{counted_more, few_bytes}
+use Rattle.indexed_state.proofs.NodeScans.{few_neighbours}
+use Rattle.indexed_state.proofs.ContributionSums.{counted_more, few_bytes}
 use Rattle.indexed_state.proofs.share.closing_among.Goals as goal
 
 pub overflow_add-closing : goal.overflow_add-closing
@@ -13,7 +13,7 @@ overflow_add-closing g c =
     let net = c.net.result.now.state.network in
     let near = few_neighbours net c.args.node.now.node in
     let all = ap length c.neighbours-w-items.ensures.all in
-    let few = subst (λ (h : Held). h.state.network.size ≤ 65535) (sym c.net.ensures.value) c.net.ensures.few in
+    let few = subst (λ (h : StateView). h.state.network.size ≤ 65535) (sym c.net.ensures.value) c.net.ensures.few in
     let so_far = c.loop-w.invariant.few in
     omega (arith, near, all, few, so_far, c.loop-w-test.true, c.from-closing.ensures, few_bytes c.closes_edge.result)
 
@@ -32,4 +32,4 @@ returns g c =
     let v = c.args.node.now.node in
     c.loop-w.invariant.count
     ∙ ap (count_by (λ x. points c.args.index.now.state.registers x v && g.R.Rules.closes c.args.index.now.state x))
-    (take_all c.loop-w.w-index c.neighbours-w-items.result.now (omega arith) ∙ c.neighbours-w-items.ensures.all ∙ ap (λ (h : Held). neighbours h.state.network v) c.net.ensures.value)
+    (take_all c.loop-w.w-index c.neighbours-w-items.result.now (omega arith) ∙ c.neighbours-w-items.ensures.all ∙ ap (λ (h : StateView). neighbours h.state.network v) c.net.ensures.value)

@@ -1,4 +1,4 @@
-use Rattle.line_text.proofs.Growing.{err_then}
+use Rattle.line_text.proofs.TextGrowth.{err_then}
 use Rattle.line_text.proofs.base.append_base.Goals as goal
 
 pub returns-clause-err : goal.returns-clause-err

@@ -1,4 +1,4 @@
-use Rattle.line_text.proofs.Growing.{Extends-then, Extends-by, on_err}
+use Rattle.line_text.proofs.TextGrowth.{Extends-then, Extends-by, on_err}
 use Rattle.line_text.proofs.base.put_lines.Goals as goal
 
 pub returns-in_err-put_line-clause-err : goal.returns-in_err-put_line-clause-err

@@ -1,7 +1,7 @@
 use Rattle.std.proofs.Common.{◌≡◌, ◌++◌, take}
-use Rattle.line_text.specs.Words.{ended}
+use Rattle.line_text.specs.Words.{lines_with_ends}
 use Rattle.line_text.proofs.base.put_lines.Given as goal
 
 abbrev pub invariant-loop-line : goal.invariant-loop-line
 invariant-loop-line g l =
-    l.out.items ≡ l.fn.out.items ++ ended g.L.Line.text (take l.line-index l.lines)
+    l.out.items ≡ l.fn.out.items ++ lines_with_ends g.L.Line.text (take l.line-index l.lines)

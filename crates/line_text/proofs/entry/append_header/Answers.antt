@@ -1,4 +1,4 @@
-use Rattle.line_text.proofs.Growing.{Extends-then, Extends-by, on_err}
+use Rattle.line_text.proofs.TextGrowth.{Extends-then, Extends-by, on_err}
 use Rattle.line_text.proofs.entry.append_header.Goals as goal
 
 pub returns-in_err-extend_from_slice-2-clause-err : goal.returns-in_err-extend_from_slice-2-clause-err

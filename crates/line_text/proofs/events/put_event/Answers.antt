@@ -1,4 +1,4 @@
-use Rattle.line_text.proofs.Growing.{err_then}
+use Rattle.line_text.proofs.TextGrowth.{err_then}
 use Rattle.line_text.proofs.events.put_event.Goals as goal
 
 pub returns-in_ok-extend_from_slice-in-Link-clause-err : goal.returns-in_ok-extend_from_slice-in-Link-clause-err

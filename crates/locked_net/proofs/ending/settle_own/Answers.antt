@@ -1,12 +1,12 @@
 use Rattle.std.proofs.Common.{List, refl, sym, subst}
 use Rattle.std.specs.List.{All}
 use mathlib.Core.List.{IsPrefix}
-use Rattle.step_log.specs.Held.{Held, kept_of}
-use Rattle.locked_net.specs.Above.{IsPartNoted}
+use Rattle.step_log.specs.JournalViews.{JournalView, kept_of}
+use Rattle.locked_net.specs.RetainedParts.{IsPartNoted}
 use Rattle.locked_net.specs.Nets.{book_of, setting_of}
 use Rattle.locked_net.specs.Receipts.{ClerkView, noted}
-use Rattle.locked_net.specs.Settled.{Unsettles}
-use Rattle.locked_net.proofs.Noting.{part_noted, holds_at_ok, holds_at_err}
+use Rattle.locked_net.specs.Settlements.{Unsettles}
+use Rattle.locked_net.proofs.ClerkNotes.{part_noted, holds_at_ok, holds_at_err}
 use Rattle.locked_net.proofs.ending.settle_own.Goals as goal
 
 pub returns-clause-noted : goal.returns-clause-noted
@@ -16,7 +16,7 @@ returns-clause-noted g c =
     let last = c.into_noted-journal.result.1 in
     let begin = subst (λ (clerks : List ClerkView). All (λ clerk. IsPrefix (noted clerk.note) last.log) clerks) c.deref.ensures.value (c.if-not-all_begin.ensures.yes refl) in
     let own : IsPartNoted setting (kept_of journal) c.args.clerks.items = part_noted setting (book_of c.args.net) (kept_of journal) last c.args.clerks.items c.into_noted-journal.ensures.published begin in
-    holds_at_ok (λ (h : Held). IsPartNoted setting (kept_of h) c.args.clerks.items) journal c.settle_journal.result own c.settle_journal.ensures.same
+    holds_at_ok (λ (h : JournalView). IsPartNoted setting (kept_of h) c.args.clerks.items) journal c.settle_journal.result own c.settle_journal.ensures.same
 
 pub returns-clause-back_noted : goal.returns-clause-back_noted
 returns-clause-back_noted g c =
@@ -27,7 +27,7 @@ returns-clause-back_noted g c =
     let own : IsPartNoted setting (kept_of journal) c.args.clerks.items = part_noted setting (book_of c.args.net) (kept_of journal) last c.args.clerks.items c.into_noted-journal.ensures.published begin in
     let told = c.settle_journal.ensures in
     holds_at_err c.settle_journal.result told.back told.back
-    (λ unsettled same _ why. subst (λ (h : Held). IsPartNoted setting (kept_of h) c.args.clerks.items) (sym same) own)
+    (λ unsettled same _ why. subst (λ (h : JournalView). IsPartNoted setting (kept_of h) c.args.clerks.items) (sym same) own)
 
 pub returns-clause-fault : goal.returns-clause-fault
 returns-clause-fault g c =
@@ -35,4 +35,4 @@ returns-clause-fault g c =
     holds_at_err c.settle_journal.result told.fault told.back
     (λ unsettled unsettles same.
     subst (λ (clerks : List ClerkView). Unsettles (kept_of unsettled.journal) clerks unsettled.why) c.deref-2.ensures.value
-    (subst (λ (h : Held). Unsettles (kept_of h) c.deref-2.result.now unsettled.why) (sym same) unsettles))
+    (subst (λ (h : JournalView). Unsettles (kept_of h) c.deref-2.result.now unsettled.why) (sym same) unsettles))

@@ -1,6 +1,6 @@
 use Rattle.locked_net.specs.Nets.{book_of, setting_of}
 use Rattle.locked_net.proofs.Ends.{parts_kept, notes_stay}
-use Rattle.locked_net.proofs.Stays.{first_roamed, first_taken, may_stop}
+use Rattle.locked_net.proofs.RoamReceipts.{first_roamed, first_taken, may_stop}
 use Rattle.locked_net.proofs.roaming.roam.Goals as goal
 
 pub returns-in-None-clause-roamed : goal.returns-in-None-clause-roamed

@@ -1,9 +1,9 @@
 use Rattle.std.proofs.Common.{◌≡◌, length, refl, ap, subst, arith}
 use Rattle.std.proofs.lemmas.Option.{slice_get_read}
-use Rattle.step_log.specs.Held.{kept_of}
-use Rattle.locked_net.specs.Settled.{IsEntryAbove}
-use Rattle.locked_net.specs.Marks.{IsMarked}
-use Rattle.locked_net.proofs.Marking.{standing, place_more, clerk_more, stranger_found}
+use Rattle.step_log.specs.JournalViews.{kept_of}
+use Rattle.locked_net.specs.Settlements.{IsEntryAbove}
+use Rattle.locked_net.specs.Marks.{AreReceiptMarks}
+use Rattle.locked_net.proofs.ReceiptMarks.{standing, place_more, clerk_more, stranger_found}
 use Rattle.locked_net.proofs.settling.first_stranger.Goals as goal
 
 pub returns-then-taken-number : goal.returns-then-taken-number
@@ -27,4 +27,4 @@ returns g c =
     let same : length c.receipts-receipt-items.result.now ≡ length c.index-clerks-clerk.result.receipts = ap length c.receipts-receipt-items.ensures.receipts in
     let all : c.loop-place.place ≡ length c.index-clerks-clerk.result.receipts = omega (arith, same, c.loop-place-test.false, c.loop-place.auto.place-end) in
     clerk_more (kept_of c.args.journal.now) c.args.clerks.now c.args.clerk c.index-clerks-clerk.result c.loop-place.taken of_clerk c.receipts-receipt-items.ensures.rise
-    (subst (λ place. IsMarked (kept_of c.args.journal.now) c.args.clerks.now c.args.clerk place c.loop-place.taken) all c.loop-place.invariant)
+    (subst (λ place. AreReceiptMarks (kept_of c.args.journal.now) c.args.clerks.now c.args.clerk place c.loop-place.taken) all c.loop-place.invariant)

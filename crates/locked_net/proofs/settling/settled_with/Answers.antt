@@ -1,9 +1,9 @@
 use Rattle.std.proofs.Common.{rules, ◌≡◌, length, refl, subst, ◌∙◌, arith}
-use Rattle.step_log.specs.Held.{kept_of}
-use Rattle.step_log.specs.Kept.{last_number}
-use Rattle.locked_net.specs.Settled.{receipt_count, greatest_base, base_number}
-use Rattle.locked_net.specs.Marks.{IsMarked}
-use Rattle.locked_net.proofs.Marking.{settles, place_within}
+use Rattle.step_log.specs.JournalViews.{kept_of}
+use Rattle.step_log.specs.RetainedLogs.{last_number}
+use Rattle.locked_net.specs.Settlements.{receipt_count, greatest_base, base_number}
+use Rattle.locked_net.specs.Marks.{AreReceiptMarks}
+use Rattle.locked_net.proofs.ReceiptMarks.{settles, place_within}
 use Rattle.locked_net.proofs.settling.settled_with.Goals as goal
 
 pub stranger-requires : goal.stranger-requires
@@ -18,4 +18,4 @@ returns-clause-settled g c =
     let counted : receipt_count c.args.clerks.now ≡ last_number kept = c.if-not-has_count.ensures.0 refl ∙ c.len-len.ensures.number in
     let based : base_number kept.base ≡ greatest_base c.args.clerks.now = search rules in
     settles kept c.args.clerks.now c.loop-clerk.taken counted based
-    (subst (λ k. IsMarked kept c.args.clerks.now k 0 c.loop-clerk.taken) all c.loop-clerk.invariant)
+    (subst (λ k. AreReceiptMarks kept c.args.clerks.now k 0 c.loop-clerk.taken) all c.loop-clerk.invariant)

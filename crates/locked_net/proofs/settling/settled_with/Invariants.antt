@@ -1,6 +1,6 @@
-use Rattle.step_log.specs.Held.{kept_of}
-use Rattle.locked_net.specs.Marks.{IsMarked}
+use Rattle.step_log.specs.JournalViews.{kept_of}
+use Rattle.locked_net.specs.Marks.{AreReceiptMarks}
 use Rattle.locked_net.proofs.settling.settled_with.Given as goal
 
 abbrev pub invariant-loop-clerk : goal.invariant-loop-clerk
-invariant-loop-clerk g l = IsMarked (kept_of l.journal) l.clerks l.clerk 0 l.taken
+invariant-loop-clerk g l = AreReceiptMarks (kept_of l.journal) l.clerks l.clerk 0 l.taken

@@ -1,4 +1,4 @@
-use Rattle.locked_net.proofs.Exact.{settled_not_refused}
+use Rattle.locked_net.proofs.SettlementFaults.{settled_not_refused}
 use Rattle.locked_net.proofs.settling.settling_is_exact.Goals as goal
 
 pub returns : goal.returns

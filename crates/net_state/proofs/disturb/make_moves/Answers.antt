@@ -13,5 +13,5 @@ carried s u good moves network wrote =
 
 pub returns : goal.returns
 returns g c =
-    carried (g.D.Disturb.state c.args.it.now) (g.D.Disturb.state c.write_pointers.new.it) c.net.ensures.sound c.args.moves.now (c.write_pointers.ensures.network ∙ c.write_flags.ensures.network)
+    carried (g.D.StateWriter.state c.args.it.now) (g.D.StateWriter.state c.write_pointers.new.it) c.net.ensures.sound c.args.moves.now (c.write_pointers.ensures.network ∙ c.write_flags.ensures.network)
     (c.write_pointers.ensures.registers ∙ ap (λ r. fold pointer_written r c.args.moves.now) c.write_flags.ensures.registers)

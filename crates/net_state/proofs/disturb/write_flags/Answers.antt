@@ -24,19 +24,19 @@ no_flag r v Abandon other = refl
 pub loop-moved-preserved : goal.loop-moved-preserved
 loop-moved-preserved g c =
     let m = c.moved-item.result in
-    let s = g.D.Disturb.state c.loop-moved.it in
+    let s = g.D.StateWriter.state c.loop-moved.it in
     elim c.if-eq.branch [
       | then-eq w ↦
           let married = w.married-married.ensures ∙ ap (λ r. is_answered_at r m.node) (w.registers.ensures.value ∙ ap (λ (u : State). u.registers) w.net.ensures.state) in
           record {
             rest = read_more c.args.moves.now c.loop-moved.moved-index m _ _ _ c.loop-moved-test.true c.moved-item.is c.loop-moved.invariant.rest
-                (ap (λ n. (g.D.Disturb.state n).registers) w.it-is ∙ ap (λ (u : State). u.registers) w.set_flag.ensures.value
+                (ap (λ n. (g.D.StateWriter.state n).registers) w.it-is ∙ ap (λ (u : State). u.registers) w.set_flag.ensures.value
                 ∙ ap (with_flag s.registers m.node) married
                 ∙ sym (ap (flag_read_by s.registers m.node) (let same : m.act ≡ Update = search rules in same)));
-            network = ap (λ n. (g.D.Disturb.state n).network) w.it-is ∙ ap (λ (u : State). u.network) w.set_flag.ensures.value ∙ c.loop-moved.invariant.network;
+            network = ap (λ n. (g.D.StateWriter.state n).network) w.it-is ∙ ap (λ (u : State). u.network) w.set_flag.ensures.value ∙ c.loop-moved.invariant.network;
           }
       | else-eq w ↦ record {
-        rest = read_more c.args.moves.now c.loop-moved.moved-index m _ _ _ c.loop-moved-test.true c.moved-item.is c.loop-moved.invariant.rest (ap (λ n. (g.D.Disturb.state n).registers) w.it-is ∙ no_flag s.registers m.node m.act (let other : m.act ≢ Update = search rules in other));
-        network = ap (λ n. (g.D.Disturb.state n).network) w.it-is ∙ c.loop-moved.invariant.network;
+        rest = read_more c.args.moves.now c.loop-moved.moved-index m _ _ _ c.loop-moved-test.true c.moved-item.is c.loop-moved.invariant.rest (ap (λ n. (g.D.StateWriter.state n).registers) w.it-is ∙ no_flag s.registers m.node m.act (let other : m.act ≢ Update = search rules in other));
+        network = ap (λ n. (g.D.StateWriter.state n).network) w.it-is ∙ c.loop-moved.invariant.network;
       }
     ]

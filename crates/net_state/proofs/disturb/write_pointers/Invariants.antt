@@ -4,6 +4,6 @@ use Rattle.net_state.proofs.disturb.write_pointers.Given as goal
 
 abbrev pub invariant-loop-moved : goal.invariant-loop-moved
 invariant-loop-moved g l = record {
-  rest : fold pointer_written (g.D.Disturb.state l.it).registers (drop l.moved-index l.moves) ≡ fold pointer_written (g.D.Disturb.state l.fn.it).registers l.moves;
-  network : (g.D.Disturb.state l.it).network ≡ (g.D.Disturb.state l.fn.it).network;
+  rest : fold pointer_written (g.D.StateWriter.state l.it).registers (drop l.moved-index l.moves) ≡ fold pointer_written (g.D.StateWriter.state l.fn.it).registers l.moves;
+  network : (g.D.StateWriter.state l.it).network ≡ (g.D.StateWriter.state l.fn.it).network;
 }

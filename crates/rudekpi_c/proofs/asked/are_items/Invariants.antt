@@ -1,7 +1,7 @@
 use Rattle.std.proofs.Common.{◌↔◌, map, drop}
 use Rattle.std.specs.List.{AllByRecursion}
 use Rattle.line_text.specs.EventText.{IsItem}
-use Rattle.rudekpi_c.specs.Called.{item_named}
+use Rattle.rudekpi_c.specs.CommandCalls.{item_named}
 use Rattle.rudekpi_c.proofs.asked.are_items.Given as goal
 
 abbrev pub invariant-loop-one : goal.invariant-loop-one

@@ -1,5 +1,5 @@
 use Rattle.std.proofs.Common.{◌∙◌, Some, sym, ap}
-use Rattle.rudekpi_c.proofs.Auditing.{was_fed_piece}
+use Rattle.rudekpi_c.proofs.AuditCalls.{was_fed_piece}
 use Rattle.rudekpi_c.proofs.audits.rudekpi_audit_feed.Goals as goal
 
 pub returns : goal.returns

@@ -1,5 +1,5 @@
 use Rattle.std.proofs.Common.{◌∙◌, Some, sym, ap}
-use Rattle.rudekpi_c.proofs.Auditing.{was_judged}
+use Rattle.rudekpi_c.proofs.AuditCalls.{was_judged}
 use Rattle.rudekpi_c.proofs.audits.rudekpi_audit_finish.Goals as goal
 
 pub returns-clause-ended : goal.returns-clause-ended

@@ -3,16 +3,16 @@ use Rattle.script_text.specs.declared.command.Command.{Command}
 use Rattle.script_text.specs.Command.{IsCommand}
 use Rattle.std.specs.Prelude.{SomeIff}
 use Rattle.rudekpi_c.specs.declared.session.Session.{Session}
-use Rattle.rudekpi_c.specs.Called.{Called, command_status}
-use Rattle.rudekpi_c.specs.Told.{told_of}
-use Rattle.rudekpi_c.proofs.Calling.{was_called}
+use Rattle.rudekpi_c.specs.CommandCalls.{AnswersCommand, command_status}
+use Rattle.rudekpi_c.specs.ReplyNumbers.{told_of}
+use Rattle.rudekpi_c.proofs.CommandCalls.{was_called}
 use Rattle.rudekpi_c.proofs.calls.call.Goals as goal
 
 pub returns : goal.returns
 returns c asked given =
     let both = subst (λ (o : Option Command). SomeIff o (IsCommand asked) asked) c.in-Some.is given in
     let good = subst IsCommand (sym both.1) both.0 in
-    subst (λ (k : Command). Called k c.status_of-status.result c.of.result c.args.slot.now.handle.value c.put_back.new.self.handle.value) both.1
+    subst (λ (k : Command). AnswersCommand k c.status_of-status.result c.of.result c.args.slot.now.handle.value c.put_back.new.self.handle.value) both.1
     (was_called good (record {
       from = c.in-Some-take.session.value;
       borrowed = c.deref_mut.result.now;

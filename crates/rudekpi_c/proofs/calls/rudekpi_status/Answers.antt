@@ -1,7 +1,7 @@
 use Rattle.std.proofs.Common.{refl}
 use Rattle.rule_machine.specs.declared.event.Event.TheVariants.{Status}
 use Rattle.script_text.specs.declared.command.Command.TheVariants.{Tell}
-use Rattle.rudekpi_c.proofs.Counting.{counted_of_call}
+use Rattle.rudekpi_c.proofs.StatusNumbers.{counted_of_call}
 use Rattle.rudekpi_c.proofs.calls.rudekpi_status.Goals as goal
 
 pub returns-clause-counted : goal.returns-clause-counted

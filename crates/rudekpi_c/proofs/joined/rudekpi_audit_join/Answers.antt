@@ -1,5 +1,5 @@
 use Rattle.std.proofs.Common.{inl, refl}
-use Rattle.rudekpi_c.proofs.Joining.{was_joined}
+use Rattle.rudekpi_c.proofs.JoinedVerdicts.{was_joined}
 use Rattle.rudekpi_c.proofs.joined.rudekpi_audit_join.Goals as goal
 
 pub returns : goal.returns

@@ -1,4 +1,4 @@
-use Rattle.rudekpi_c.proofs.Judging.{judged_as}
+use Rattle.rudekpi_c.proofs.AuditVerdicts.{judged_as}
 use Rattle.rudekpi_c.proofs.judged.rudekpi_audit.Goals as goal
 
 pub returns : goal.returns

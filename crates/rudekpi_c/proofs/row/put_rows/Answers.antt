@@ -1,5 +1,5 @@
 use Rattle.std.proofs.Common.{◌∙◌, ◌++◌, map, take, drop, set, ap}
-use Rattle.rudekpi_c.proofs.Rowing.{row_more}
+use Rattle.rudekpi_c.proofs.RowOutput.{row_more}
 use Rattle.rudekpi_c.proofs.row.put_rows.Goals as goal
 
 pub loop-at-preserved : goal.loop-at-preserved

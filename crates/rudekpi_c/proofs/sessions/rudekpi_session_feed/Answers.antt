@@ -1,6 +1,6 @@
 use Rattle.std.proofs.Common.{ap}
 use Rattle.rudekpi_c.specs.declared.session.Session.{Session}
-use Rattle.rudekpi_c.proofs.Feeding.{was_fed}
+use Rattle.rudekpi_c.proofs.LineCalls.{was_fed}
 use Rattle.rudekpi_c.proofs.sessions.rudekpi_session_feed.Goals as goal
 
 pub returns : goal.returns

@@ -1,5 +1,5 @@
 use Rattle.std.proofs.Common.{◌∙◌, Some, inl, refl, ap}
-use Rattle.line_run.specs.Beginning.{beginning}
+use Rattle.run_session.specs.RunStart.{first_progress}
 use Rattle.rudekpi_c.proofs.sessions.rudekpi_session_new.Goals as goal
 
 pub returns : goal.returns
@@ -10,7 +10,7 @@ returns c =
       record {
         session = c.in-Ok.session;
         is = c.put.ensures ∙ ap (λ s. Some s) c.in-Ok-new.ensures.ok;
-        stands_is = c.in-Ok.ensures.begins ∙ ap (λ r. beginning r c.args.nodes c.args.present) c.rules_named.ensures;
+        stands_is = c.in-Ok.ensures.begins ∙ ap (λ r. first_progress r c.args.nodes c.args.present) c.rules_named.ensures;
         rules_is = c.in-Ok.ensures.rules ∙ c.rules_named.ensures;
         limit_is = c.in-Ok.ensures.limit;
         lines_is = c.in-Ok.ensures.lines;

@@ -1,6 +1,6 @@
 use Rattle.std.proofs.Common.{◌∙◌, ap}
 use Rattle.rudekpi_c.specs.Session.{stands}
-use Rattle.rudekpi_c.proofs.Handing.{handed_none, handed_all}
+use Rattle.rudekpi_c.proofs.TextTransfer.{handed_none, handed_all}
 use Rattle.rudekpi_c.proofs.sessions.rudekpi_session_read.Goals as goal
 
 pub returns-then-len-out : goal.returns-then-len-out

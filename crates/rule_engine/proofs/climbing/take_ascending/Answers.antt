@@ -3,11 +3,11 @@ use Rattle.rule_machine.specs.declared.choice.Item.{Item}
 use Rattle.rule_machine.specs.declared.act.Moved.{Moved}
 use Rattle.rule_machine.specs.declared.verdict.Outcome.{Outcome}
 use Rattle.rule_machine.specs.Least.{move_in, outcome_of}
-use Rattle.rule_engine.specs.Choosing.{refused_by}
+use Rattle.rule_engine.specs.ChoiceMoves.{refused_by}
 use Rattle.rule_engine.specs.Marks.{is_named}
-use Rattle.rule_engine.proofs.Marked.{item_refused, items_refusal_more}
-use Rattle.rule_engine.proofs.Scanned.{found_next}
-use Rattle.rule_engine.proofs.Unmarked.{unnamed}
+use Rattle.rule_engine.proofs.NodeMarks.{item_refused, items_refusal_more}
+use Rattle.rule_engine.proofs.NodeScans.{found_next}
+use Rattle.rule_engine.proofs.AscendingItems.{unnamed}
 use Rattle.rule_engine.proofs.climbing.take_ascending.Goals as goal
 
 pub returns-in-Err-clause-refusal : goal.returns-in-Err-clause-refusal

@@ -1,6 +1,6 @@
 use Rattle.std.proofs.Common.{◌≡◌, [], IsTrue, take, drop}
 use Rattle.rule_machine.specs.Refuse.{items_refusal}
-use Rattle.rule_engine.specs.Choosing.{moves_by}
+use Rattle.rule_engine.specs.ChoiceMoves.{moves_by}
 use Rattle.rule_engine.proofs.climbing.take_ascending.Given as goal
 
 abbrev pub invariant-loop-item : goal.invariant-loop-item

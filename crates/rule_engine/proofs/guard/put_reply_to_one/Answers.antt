@@ -4,9 +4,9 @@ use Rattle.rule_machine.specs.declared.reply.Reply.TheVariants.{Moves}
 use Rattle.rule_machine.specs.declared.verdict.Outcome.{Outcome}
 use Rattle.rule_machine.specs.Least.{move_in, outcome_of}
 use Rattle.rule_machine.specs.Refuse.{items_refusal}
-use Rattle.rule_engine.specs.Choosing.{AreLeast, IsToldOf, moves_by, refused_by}
-use Rattle.rule_engine.proofs.Ascending.{one_least}
-use Rattle.rule_engine.proofs.Judged.{one_refusal}
+use Rattle.rule_engine.specs.ChoiceMoves.{AreLeast, IsToldOf, moves_by, refused_by}
+use Rattle.rule_engine.proofs.AscendingMoves.{one_least}
+use Rattle.rule_engine.proofs.ItemVerdicts.{one_refusal}
 use Rattle.rule_engine.proofs.guard.put_reply_to_one.Goals as goal
 
 pub returns-in-Ok : goal.returns-in-Ok

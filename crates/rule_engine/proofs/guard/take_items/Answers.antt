@@ -1,5 +1,5 @@
 use Rattle.std.proofs.Common.{◌∙◌}
-use Rattle.rule_engine.proofs.Marked.{clear_same}
+use Rattle.rule_engine.proofs.NodeMarks.{clear_same}
 use Rattle.rule_engine.proofs.guard.take_items.Goals as goal
 
 pub returns-clause-kept : goal.returns-clause-kept

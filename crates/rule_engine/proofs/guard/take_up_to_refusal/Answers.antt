@@ -6,9 +6,9 @@ use Rattle.rule_machine.specs.State.{State}
 use Rattle.rule_machine.specs.RuleTable.{RuleTable}
 use Rattle.rule_machine.specs.Least.{move_in, outcome_of}
 use Rattle.enabled_set.specs.Members.{is_in}
-use Rattle.rule_engine.specs.Choosing.{refused_by}
-use Rattle.rule_engine.proofs.Marked.{passes, item_refused, items_refusal_more, item_placed}
-use Rattle.rule_engine.proofs.Scanned.{found_next}
+use Rattle.rule_engine.specs.ChoiceMoves.{refused_by}
+use Rattle.rule_engine.proofs.NodeMarks.{passes, item_refused, items_refusal_more, item_placed}
+use Rattle.rule_engine.proofs.NodeScans.{found_next}
 use Rattle.rule_engine.proofs.guard.take_up_to_refusal.Goals as goal
 
 judged_by : (t : RuleTable) (s : State) (item : Item) (o : Outcome) (marks : List Bool) (refusal : Option Refusal) → refusal ≡ refused_by o (is_in marks item.node) → o ≡ outcome_of t s item → refused_by (outcome_of t s item) (is_in marks item.node) ≡ refusal

@@ -1,6 +1,6 @@
 use Rattle.std.proofs.Common.{◌≡◌, [], IsTrue, take, drop, length}
 use Rattle.rule_machine.specs.Refuse.{items_refusal}
-use Rattle.rule_engine.specs.Choosing.{moves_by}
+use Rattle.rule_engine.specs.ChoiceMoves.{moves_by}
 use Rattle.rule_engine.specs.Marks.{AreMarks, is_named}
 use Rattle.rule_engine.proofs.guard.take_up_to_refusal.Given as goal
 

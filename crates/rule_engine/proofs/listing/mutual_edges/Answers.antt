@@ -4,9 +4,9 @@ use Rattle.std.specs.Result.{IfOk}
 use Rattle.std.proofs.lemmas.List.Elements.{filter_passes}
 use Rattle.rule_machine.specs.Stable.{pair_above}
 use Rattle.rule_machine.specs.State.{State, Registers, IsState}
-use Rattle.indexed_state.specs.Shares.{answered_by, is_lower_end}
-use Rattle.indexed_state.proofs.Named.{found_kept, pairs_scanned}
-use Rattle.rule_engine.proofs.Scanned.{none_found}
+use Rattle.indexed_state.specs.Contributions.{answered_by, is_lower_end}
+use Rattle.indexed_state.proofs.NodeScans.{found_kept, pairs_scanned}
+use Rattle.rule_engine.proofs.NodeScans.{none_found}
 use Rattle.rule_engine.proofs.listing.mutual_edges.Goals as goal
 
 pub pairs_of-requires : goal.pairs_of-requires

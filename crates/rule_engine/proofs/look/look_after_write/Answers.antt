@@ -1,17 +1,17 @@
 use Rattle.std.proofs.Common.{◌∙◌, ◌&&◌, ◌||◌, nat_eq, ap, sym}
 use Rattle.std.proofs.Math.Bool.{or-false}
 use Rattle.rule_machine.specs.State.{State}
-use Rattle.rule_engine.specs.Looked.{is_suitor, is_touched, may_turn}
-use Rattle.rule_engine.proofs.Looked.{looked_alike, looked_both}
+use Rattle.rule_engine.specs.GuardRefresh.{is_suitor, may_change_guard, may_turn}
+use Rattle.rule_engine.proofs.GuardRefresh.{looked_alike, looked_both}
 use Rattle.rule_engine.proofs.look.look_after_write.Goals as goal
 
 pub returns-then-turned : goal.returns-then-turned
 returns-then-turned g c =
     let s : State = c.args.state.now.state in
     let t = g.R.Rules.table in
-    let above = g.R.Rules.ABOVE in
+    let above = g.R.Rules.COURTS_HIGHER_ONLY in
     let v = c.args.v in
-    looked_alike t s (λ w. (nat_eq w v || is_suitor s v w) || may_turn above t.opens s v w) (is_touched above t.opens s v c.args.turned) _ _
+    looked_alike t s (λ w. (nat_eq w v || is_suitor s v w) || may_turn above t.opens s v w) (may_change_guard above t.opens s v c.args.turned) _ _
     (λ w. ap (λ b. (nat_eq w v || is_suitor s v w) || (b && may_turn above t.opens s v w)) (sym c.if-turned.true))
     (looked_both t s (λ w. nat_eq w v || is_suitor s v w) (may_turn above t.opens s v) _ _ _
     (looked_both t s (λ w. nat_eq w v) (is_suitor s v) _ _ _ c.look_at.ensures c.look_at_suitors.ensures)
@@ -21,8 +21,8 @@ pub returns-else-turned : goal.returns-else-turned
 returns-else-turned g c =
     let s : State = c.args.state.now.state in
     let t = g.R.Rules.table in
-    let above = g.R.Rules.ABOVE in
+    let above = g.R.Rules.COURTS_HIGHER_ONLY in
     let v = c.args.v in
-    looked_alike t s (λ w. nat_eq w v || is_suitor s v w) (is_touched above t.opens s v c.args.turned) _ _
+    looked_alike t s (λ w. nat_eq w v || is_suitor s v w) (may_change_guard above t.opens s v c.args.turned) _ _
     (λ w. sym (or-false (nat_eq w v || is_suitor s v w)) ∙ ap (λ b. (nat_eq w v || is_suitor s v w) || (b && may_turn above t.opens s v w)) (sym c.if-turned.false))
     (looked_both t s (λ w. nat_eq w v) (is_suitor s v) _ _ _ c.look_at.ensures c.look_at_suitors.ensures)

@@ -1,9 +1,9 @@
 use Rattle.std.proofs.Common.{◌&&◌, nat_eq, take}
 use Rattle.std.specs.List.{list_any}
 use Rattle.rule_machine.specs.State.{suits}
-use Rattle.rule_engine.specs.Looked.{IsLookedAt}
+use Rattle.rule_engine.specs.GuardRefresh.{IsRefreshed}
 use Rattle.rule_engine.proofs.look.look_at_suitors.Given as goal
 
 abbrev pub invariant-loop-w : goal.invariant-loop-w
 invariant-loop-w g l =
-    IsLookedAt g.R.Rules.table l.state.state (λ x. list_any (λ y. nat_eq x y && suits l.state.state l.v y) (take l.w-index l.neighbours)) l.fn.enabled l.enabled
+    IsRefreshed g.R.Rules.table l.state.state (λ x. list_any (λ y. nat_eq x y && suits l.state.state l.v y) (take l.w-index l.neighbours)) l.fn.enabled l.enabled

@@ -2,10 +2,10 @@ use Rattle.std.proofs.Common.{◌≡◌, ◌∙◌, ◌&&◌, List, ℕ, true, f
 use Rattle.std.proofs.lemmas.List.{take_all}
 use Rattle.rule_machine.specs.Network.{neighbours}
 use Rattle.rule_machine.specs.State.{State}
-use Rattle.rule_set.specs.Glance.{asks_for}
-use Rattle.rule_engine.specs.Looked.{turns_with}
-use Rattle.rule_engine.proofs.Looked.{looked_alike, looked_more, looked_neighbours, looked_none}
-use Rattle.rule_engine.proofs.Turning.{looked_below}
+use Rattle.rules_api.specs.LocalViews.{asks_for}
+use Rattle.rule_engine.specs.GuardRefresh.{turns_with}
+use Rattle.rule_engine.proofs.GuardRefresh.{looked_alike, looked_more, looked_neighbours, looked_none}
+use Rattle.rule_engine.proofs.AskingOrder.{looked_below}
 use Rattle.rule_engine.proofs.look.look_where_turned.Goals as goal
 
 pub loop-w-init : goal.loop-w-init
@@ -14,7 +14,7 @@ loop-w-init g c = looked_none g.R.Rules.table c.args.state.now.state _
 pub loop-w-preserved : goal.loop-w-preserved
 loop-w-preserved g c =
     let s : State = c.args.state.now.state in
-    let above = g.R.Rules.ABOVE in
+    let above = g.R.Rules.COURTS_HIGHER_ONLY in
     let opens = g.R.Rules.table.opens in
     let v = c.args.v in
     let w = c.w-item.result in
@@ -27,7 +27,7 @@ loop-w-preserved g c =
 pub returns-then-not-asks_for : goal.returns-then-not-asks_for
 returns-then-not-asks_for g c =
     let s : State = c.args.state.now.state in
-    let above = g.R.Rules.ABOVE in
+    let above = g.R.Rules.COURTS_HIGHER_ONLY in
     let opens = g.R.Rules.table.opens in
     let v = c.args.v in
     let list : List ℕ = c.neighbours-w-items.result.now in
@@ -37,7 +37,7 @@ returns-then-not-asks_for g c =
 pub returns : goal.returns
 returns g c =
     let s : State = c.args.state.now.state in
-    let above = g.R.Rules.ABOVE in
+    let above = g.R.Rules.COURTS_HIGHER_ONLY in
     let opens = g.R.Rules.table.opens in
     let v = c.args.v in
     let list : List ℕ = c.neighbours-w-items.result.now in

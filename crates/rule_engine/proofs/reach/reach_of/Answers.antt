@@ -3,7 +3,7 @@ use Rattle.std.proofs.lemmas.Result.{IfOk-weaker}
 use Rattle.rule_machine.specs.State.{State}
 use Rattle.rule_machine.specs.Network.{names}
 use Rattle.containment_laws.specs.Reach.{is_in_reach}
-use Rattle.rule_engine.proofs.Reaching.{accepted_reach, refused_reach, few_reached}
+use Rattle.rule_engine.proofs.ReachLists.{accepted_reach, refused_reach, few_reached}
 use Rattle.rule_engine.proofs.reach.reach_of.Goals as goal
 
 pub returns-then-not-is_disturbance-clause-reach : goal.returns-then-not-is_disturbance-clause-reach

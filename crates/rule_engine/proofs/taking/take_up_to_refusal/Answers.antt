@@ -2,11 +2,11 @@ use Rattle.std.proofs.Common.{◌≡◌, cond, is_some, None, set, sym, ap, subs
 use Rattle.rule_machine.specs.declared.verdict.Verdict.{Verdict}
 use Rattle.rule_machine.specs.Least.{move_in}
 use Rattle.enabled_set.specs.Members.{is_in}
-use Rattle.rule_engine.specs.Choosing.{refused_by}
+use Rattle.rule_engine.specs.ChoiceMoves.{refused_by}
 use Rattle.rule_engine.specs.Marks.{HasPlace}
-use Rattle.rule_engine.proofs.Found.{verdicts_refusal_more}
-use Rattle.rule_engine.proofs.Marked.{passes, verdict_refused}
-use Rattle.rule_engine.proofs.Scanned.{found_next}
+use Rattle.rule_engine.proofs.GrowingLists.{verdicts_refusal_more}
+use Rattle.rule_engine.proofs.NodeMarks.{passes, verdict_refused}
+use Rattle.rule_engine.proofs.NodeScans.{found_next}
 use Rattle.rule_engine.proofs.taking.take_up_to_refusal.Goals as goal
 
 pub returns-in-Some-clause-refusal : goal.returns-in-Some-clause-refusal

@@ -1,12 +1,12 @@
 use Rattle.std.proofs.Common.{◌≡◌, [], IsTrue, take, drop, length}
-use Rattle.rule_engine.specs.Choosing.{moves_of, verdicts_refusal}
+use Rattle.rule_engine.specs.ChoiceMoves.{verdict_moves, verdicts_refusal}
 use Rattle.rule_engine.specs.Marks.{AreMarks, is_judged}
 use Rattle.rule_engine.proofs.taking.take_up_to_refusal.Given as goal
 
 abbrev pub invariant-loop-verdict : goal.invariant-loop-verdict
 invariant-loop-verdict l = record {
   rest : verdicts_refusal (take l.verdict-index l.verdicts) (drop l.verdict-index l.verdicts) ≡ verdicts_refusal [] l.verdicts;
-  moves : IsTrue l.gathered.whole → l.gathered.moves.items ≡ moves_of (take l.verdict-index l.verdicts);
+  moves : IsTrue l.gathered.whole → l.gathered.moves.items ≡ verdict_moves (take l.verdict-index l.verdicts);
   marks : AreMarks (is_judged (take l.verdict-index l.verdicts)) l.chosen;
   len : length l.chosen ≡ length l.fn.chosen;
 }

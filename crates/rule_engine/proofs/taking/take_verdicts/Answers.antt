@@ -1,5 +1,5 @@
 use Rattle.std.proofs.Common.{◌∙◌}
-use Rattle.rule_engine.proofs.Marked.{clear_same}
+use Rattle.rule_engine.proofs.NodeMarks.{clear_same}
 use Rattle.rule_engine.proofs.taking.take_verdicts.Goals as goal
 
 pub returns-clause-kept : goal.returns-clause-kept

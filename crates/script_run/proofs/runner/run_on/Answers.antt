@@ -1,14 +1,14 @@
 use Rattle.script_text.specs.Script.{lines_of}
-use Rattle.line_run.specs.Beginning.{beginning}
-use Rattle.script_run.proofs.Running.{WritesPart, WritesPart-none, Ends-failed, Ends-unwritten, Ends-finished, Whole-finished, for_any}
+use Rattle.run_session.specs.RunStart.{first_progress}
+use Rattle.script_run.proofs.RunEnds.{WritesPart, WritesPart-none, Ends-failed, Ends-unwritten, Ends-finished, Whole-finished, for_any}
 use Rattle.script_run.proofs.runner.run_on.Goals as goal
 
 pub returns-in_default-clause-outcome : goal.returns-in_default-clause-outcome
 returns-in_default-clause-outcome g c =
     let options = c.args.options.now in
     let old = g.Out.Write.contents c.args.writer.now.writer in
-    for_any (g.In.Read.remaining c.args.reader.now.reader) (λ script. WritesPart g.R.Rules.table options.limit (lines_of script) (beginning options.rules options.nodes options.present) old old)
-    (λ script. WritesPart-none g.R.Rules.table options.limit (lines_of script) (beginning options.rules options.nodes options.present) old)
+    for_any (g.In.Read.remaining c.args.reader.now.reader) (λ script. WritesPart g.R.Rules.table options.limit (lines_of script) (first_progress options.rules options.nodes options.present) old old)
+    (λ script. WritesPart-none g.R.Rules.table options.limit (lines_of script) (first_progress options.rules options.nodes options.present) old)
 
 pub returns-in_err-end-clause-outcome : goal.returns-in_err-end-clause-outcome
 returns-in_err-end-clause-outcome g c =

@@ -1,6 +1,6 @@
 use Rattle.std.proofs.Common.{◌≡◌, ◌∙◌, [], ap, arith}
 use Rattle.script_text.specs.Script.{lines_of}
-use Rattle.script_text.proofs.Ending.{lines_of-ended, lines_of-whole}
+use Rattle.script_text.proofs.LineEnds.{lines_of-ended, lines_of-whole}
 use Rattle.script_text.proofs.lines.next_line.Goals as goal
 
 pub returns-in-Some-clause-lines : goal.returns-in-Some-clause-lines

@@ -1,7 +1,7 @@
 use Rattle.std.proofs.Common.{◌∙◌, map, drop}
 use Rattle.std.proofs.lemmas.Iterator.Adapters.{YieldsList-from_vec}
 use Rattle.std.proofs.lemmas.Iterator.Consumers.{YieldsList-end}
-use Rattle.script_text.proofs.Counting.{none_left, held_all}
+use Rattle.script_text.proofs.ScriptCounts.{none_left, held_all}
 use Rattle.script_text.proofs.reading.read_each.Goals as goal
 
 pub returns-clause-scripts : goal.returns-clause-scripts

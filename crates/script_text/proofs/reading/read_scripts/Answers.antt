@@ -1,6 +1,6 @@
 use Rattle.std.proofs.Common.{map, arith}
 use Rattle.std.proofs.lemmas.List.{length-map}
-use Rattle.script_text.proofs.Counting.{few}
+use Rattle.script_text.proofs.ScriptCounts.{few}
 use Rattle.script_text.proofs.reading.read_scripts.Goals as goal
 
 pub returns-clause-few : goal.returns-clause-few

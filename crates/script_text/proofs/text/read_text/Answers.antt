@@ -1,7 +1,7 @@
 use Rattle.std.proofs.Common.{◌+◌, sym, subst, arith}
 use Rattle.script_text.specs.Script.{lines_of}
 use Rattle.script_text.specs.Texts.{TextHolds}
-use Rattle.script_text.proofs.Lining.{held, passed, held_all}
+use Rattle.script_text.proofs.TextLines.{held, passed, held_all}
 use Rattle.script_text.proofs.text.read_text.Goals as goal
 
 pub loop-line-preserved : goal.loop-line-preserved

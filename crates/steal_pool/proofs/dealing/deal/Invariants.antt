@@ -1,6 +1,6 @@
 use Rattle.std.proofs.Common.{◌≡◌, ◌+◌, ◌++◌, [], length, map, All, vec_len}
 use Rattle.std.specs.List.{range_with_len}
-use Rattle.place_deque.specs.Ends.{end_hold, end_taken, AreAllEnds}
+use Rattle.index_deque.specs.Ends.{end_hold, end_taken, AreAllEnds}
 use Rattle.steal_pool.specs.Hands.{hand_hold, hand_number}
 use Rattle.steal_pool.proofs.dealing.deal.Given as goal
 

@@ -1,13 +1,13 @@
 use Rattle.std.proofs.Common.{◌≡◌, length, All, sym, subst, rules}
-use Rattle.place_deque.specs.Ends.{Hold, AreAllEnds}
-use Rattle.place_deque.proofs.Joinings.{all_unmap}
+use Rattle.index_deque.specs.Ends.{EndView, AreAllEnds}
+use Rattle.index_deque.proofs.Joinings.{all_unmap}
 use Rattle.steal_pool.specs.declared.hand.Hand.{Hand}
 use Rattle.steal_pool.specs.Hands.{hand_hold}
 use Rattle.steal_pool.proofs.evaluation.evaluate.Goals as goal
 
 pub work_all-requires-after_bounds : goal.work_all-requires-after_bounds
 work_all-requires-after_bounds g c =
-    let held : All (λ (h : Hand). (hand_hold h).count ≡ length c.args.choice.now) c.in_ok-hands.hands.items = all_unmap hand_hold (λ (h : Hold). h.count ≡ length c.args.choice.now) c.in_ok-hands.hands.items c.in_ok-hands.ensures.all.size in
+    let held : All (λ (h : Hand). (hand_hold h).count ≡ length c.args.choice.now) c.in_ok-hands.hands.items = all_unmap hand_hold (λ (h : EndView). h.count ≡ length c.args.choice.now) c.in_ok-hands.hands.items c.in_ok-hands.ensures.all.size in
     search rules
 
 pub merge-requires-clause-all : goal.merge-requires-clause-all

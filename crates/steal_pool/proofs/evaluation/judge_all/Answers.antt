@@ -2,9 +2,9 @@ use Rattle.std.proofs.Common.{◌∷◌, ◌++◌, [], ◌<◌, length, ap, ap�
 use Rattle.std.proofs.lemmas.List.{take_all, take_more}
 use Rattle.std.proofs.lemmas.Option.{get_or_from_slice_get}
 use Rattle.rule_machine.specs.declared.verdict.Verdict.{Verdict}
-use Rattle.rule_engine.specs.Choosing.{verdicts_of}
-use Rattle.rule_engine.proofs.Judged.{length-verdicts_of}
-use Rattle.steal_pool.proofs.Laying.{verdict_there}
+use Rattle.rule_engine.specs.ChoiceMoves.{verdicts_of}
+use Rattle.rule_engine.proofs.ItemVerdicts.{length-verdicts_of}
+use Rattle.steal_pool.proofs.VerdictTables.{verdict_there}
 use Rattle.steal_pool.proofs.evaluation.judge_all.Goals as goal
 
 pub loop-place-preserved : goal.loop-place-preserved

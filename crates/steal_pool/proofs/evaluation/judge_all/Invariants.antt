@@ -1,5 +1,5 @@
 use Rattle.std.proofs.Common.{◌≡◌, take}
-use Rattle.rule_engine.specs.Choosing.{verdicts_of}
+use Rattle.rule_engine.specs.ChoiceMoves.{verdicts_of}
 use Rattle.steal_pool.proofs.evaluation.judge_all.Given as goal
 
 abbrev pub invariant-loop-place : goal.invariant-loop-place

@@ -1,14 +1,14 @@
 use Rattle.std.proofs.Common.{◌≡◌, ℕ, ◌-◌, List, ◌++◌, length}
-use Rattle.place_deque.specs.Ends.{owner_ledger}
-use Rattle.rule_engine.specs.Choosing.{verdicts_of}
-use Rattle.steal_pool.specs.Laid.{IsRight, taken_in}
+use Rattle.index_deque.specs.Ends.{owner_ledger}
+use Rattle.rule_engine.specs.ChoiceMoves.{verdicts_of}
+use Rattle.steal_pool.specs.VerdictTables.{IsVerdictTable, taken_in}
 use Rattle.steal_pool.proofs.merging.judge_left.Given as goal
 
 abbrev pub invariant-loop-block : goal.invariant-loop-block
 invariant-loop-block g l = record {
   whole : (owner_ledger l.owner).parts ≡ 64;
   count : (owner_ledger l.owner).count ≡ length l.choice;
-  right : IsRight (verdicts_of g.R.Rules.table l.net.state l.choice) l.table (taken_in (owner_ledger l.owner));
+  right : IsVerdictTable (verdicts_of g.R.Rules.table l.net.state l.choice) l.table (taken_in (owner_ledger l.owner));
   taken : (left : List ℕ) × ((owner_ledger l.owner).taken ≡ (owner_ledger l.fn.owner).taken ++ left);
 }
 

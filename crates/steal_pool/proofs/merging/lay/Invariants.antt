@@ -1,5 +1,5 @@
 use Rattle.std.proofs.Common.{◌≡◌, length, drop}
-use Rattle.steal_pool.specs.Laid.{laid}
+use Rattle.steal_pool.specs.VerdictTables.{laid}
 use Rattle.steal_pool.proofs.merging.lay.Given as goal
 
 abbrev pub invariant-loop-verdict : goal.invariant-loop-verdict

@@ -2,15 +2,15 @@ use Rattle.std.proofs.Common.{◌≡◌, ℕ, ◌+◌, List, ◌++◌, length, m
 use Rattle.std.specs.List.{sum_by}
 use Rattle.std.proofs.lemmas.List.Elements.{All-pop}
 use Rattle.std.proofs.lemmas.List.Sums.{sum_by_push}
-use Rattle.place_deque.specs.declared.end.DequeEnd.{DequeEnd}
-use Rattle.place_deque.specs.Ends.{end_hold, end_taken, AreAllEnds}
+use Rattle.index_deque.specs.declared.end.DequeEnd.{DequeEnd}
+use Rattle.index_deque.specs.Ends.{end_hold, end_taken, AreAllEnds}
 use Rattle.rule_machine.specs.declared.verdict.Verdict.{Verdict}
-use Rattle.rule_engine.specs.Choosing.{verdicts_of}
-use Rattle.rule_engine.proofs.Judged.{length-verdicts_of}
+use Rattle.rule_engine.specs.ChoiceMoves.{verdicts_of}
+use Rattle.rule_engine.proofs.ItemVerdicts.{length-verdicts_of}
 use Rattle.steal_pool.specs.Hands.{judged_hold, judged_places, judged_verdicts, AreJudged}
-use Rattle.steal_pool.specs.Laid.{at_place, taken_by, laid, Fit, IsRight}
+use Rattle.steal_pool.specs.VerdictTables.{at_place, taken_by, laid, HavePlacesBelow, IsVerdictTable}
 use Rattle.steal_pool.proofs.EachPlace.{moves_taken}
-use Rattle.steal_pool.proofs.Laying.{no_weight, fits, lays, shifted}
+use Rattle.steal_pool.proofs.VerdictTables.{no_weight, fits, lays, shifted}
 use Rattle.steal_pool.proofs.merging.lay_out.Goals as goal
 
 pub loop-share-init : goal.loop-share-init
@@ -33,8 +33,8 @@ lay-requires g c =
     let share = c.in-Some.share in
     let loop = c.loop-share.invariant in
     let judged = (All-pop (AreJudged t s items) c.loop-share.shares.items c.pop.new.self.items (Some share) c.in-Some.ensures.items loop.judged).1 in
-    subst (λ (z : List Verdict). Fit (length c.loop-share.table) z) (sym c.deref.ensures.value)
-    (subst (λ (n : ℕ). Fit n share.verdicts.items) (sym (loop.right.size ∙ length-verdicts_of t s items)) (fits t s items (judged_places share) (judged_verdicts share) judged))
+    subst (λ (z : List Verdict). HavePlacesBelow (length c.loop-share.table) z) (sym c.deref.ensures.value)
+    (subst (λ (n : ℕ). HavePlacesBelow n share.verdicts.items) (sym (loop.right.size ∙ length-verdicts_of t s items)) (fits t s items (judged_places share) (judged_verdicts share) judged))
 
 pub loop-share-preserved : goal.loop-share-preserved
 loop-share-preserved g c =
@@ -51,7 +51,7 @@ loop-share-preserved g c =
     record {
       all = shifted end_hold judged_hold (length items) before after c.loop-share.shares.items c.pop.new.self.items share.end share c.in_ok-push.ensures.items c.in-Some.ensures.items refl loop.all;
       judged = parts.0;
-      right = subst (λ (z : List Verdict). IsRight (verdicts_of t s items) z (taken_by after)) (sym (c.lay.ensures ∙ ap (laid c.loop-share.table) c.deref.ensures.value))
+      right = subst (λ (z : List Verdict). IsVerdictTable (verdicts_of t s items) z (taken_by after)) (sym (c.lay.ensures ∙ ap (laid c.loop-share.table) c.deref.ensures.value))
           (lays t s items (judged_places share) (judged_verdicts share) c.loop-share.table (taken_by before) (taken_by after) parts.1 more loop.right);
       taken = λ h. moves_taken h before after c.loop-share.shares.items c.pop.new.self.items c.args.shares.items share c.in_ok-push.ensures.items c.in-Some.ensures.items (loop.taken h);
     }

@@ -2,11 +2,11 @@ use Rattle.std.proofs.Common.{◌≡◌, ℕ, List, [], ◌++◌, length, take, 
 use lib.Seq.{take-append_seam}
 use Rattle.rule_machine.specs.declared.choice.Item.{Item}
 use Rattle.rule_machine.specs.declared.verdict.Verdict.{Verdict}
-use Rattle.place_deque.specs.Ends.{owner_ledger, AreJoined}
-use Rattle.rule_engine.specs.Choosing.{verdicts_of}
-use Rattle.rule_engine.proofs.Judged.{length-verdicts_of}
-use Rattle.steal_pool.specs.Laid.{at_place, IsRight, taken_by, taken_in}
-use Rattle.steal_pool.proofs.Laying.{reweighed}
+use Rattle.index_deque.specs.Ends.{owner_ledger, AreJoined}
+use Rattle.rule_engine.specs.ChoiceMoves.{verdicts_of}
+use Rattle.rule_engine.proofs.ItemVerdicts.{length-verdicts_of}
+use Rattle.steal_pool.specs.VerdictTables.{at_place, IsVerdictTable, taken_by, taken_in}
+use Rattle.steal_pool.proofs.VerdictTables.{reweighed}
 use Rattle.steal_pool.proofs.EachPlace.{none_stand, all_merged}
 use Rattle.steal_pool.proofs.merging.merge.Goals as goal
 
@@ -21,7 +21,7 @@ judge_left-requires-clause-right g c =
     let size : vec_len c.in_ok-verdicts.verdicts ≡ length c.lay_out.new.table = omega (arith, c.in_ok-verdicts.ensures.len, ap length c.items-2.ensures.items, c.in_ok-ends.ensures.right.size, length-verdicts_of g.R.Rules.table c.args.net.now.state c.args.choice.now) in
     let same : c.deref_mut-2.result.now ≡ c.lay_out.new.table = c.deref_mut-2.ensures.value ∙ ap (λ (n : ℕ). take n (c.lay_out.new.table ++ drop (length c.lay_out.new.table) c.in_ok-verdicts.verdicts.items)) size ∙ take-append_seam c.lay_out.new.table (drop (length c.lay_out.new.table) c.in_ok-verdicts.verdicts.items) in
     reweighed all c.deref_mut-2.result.now (taken_by c.in_ok-ends.ends.items) (taken_in (owner_ledger c.gather-owner.result)) (λ k. c.gather-owner.ensures.taken (at_place k))
-    (subst (λ (z : List Verdict). IsRight all z (taken_by c.in_ok-ends.ends.items)) (sym same) c.in_ok-ends.ensures.right)
+    (subst (λ (z : List Verdict). IsVerdictTable all z (taken_by c.in_ok-ends.ends.items)) (sym same) c.in_ok-ends.ensures.right)
 
 pub returns-clause-places : goal.returns-clause-places
 returns-clause-places g c =

@@ -1,7 +1,7 @@
 use Rattle.std.proofs.Common.{◌≡◌, ℕ, ◌+◌, ◌-◌, ◌≤◌, length}
 use Rattle.std.specs.List.{sum_by, range_with_len}
-use Rattle.rule_engine.specs.Choosing.{verdicts_of}
-use Rattle.steal_pool.specs.Laid.{at_place, IsRight}
+use Rattle.rule_engine.specs.ChoiceMoves.{verdicts_of}
+use Rattle.steal_pool.specs.VerdictTables.{at_place, IsVerdictTable}
 use Rattle.steal_pool.proofs.merging.write_block.Given as goal
 
 abbrev pub invariant-loop-place : goal.invariant-loop-place
@@ -10,5 +10,5 @@ invariant-loop-place g l =
     record {
       from : l.fn.block.first ≤ l.place;
       size : length l.table ≡ length l.choice;
-      right : (times : ℕ → ℕ) → IsRight all l.initial.table times → IsRight all l.table (λ k. times k + sum_by (at_place k) (range_with_len l.fn.block.first (l.place - l.fn.block.first)));
+      right : (times : ℕ → ℕ) → IsVerdictTable all l.initial.table times → IsVerdictTable all l.table (λ k. times k + sum_by (at_place k) (range_with_len l.fn.block.first (l.place - l.fn.block.first)));
     }

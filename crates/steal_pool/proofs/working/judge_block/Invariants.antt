@@ -1,6 +1,6 @@
 use Rattle.std.proofs.Common.{ℕ, ◌+◌, ◌-◌, ◌≤◌, List, ◌++◌, length, vec_capacity}
 use Rattle.std.specs.List.{range_with_len}
-use Rattle.rule_engine.specs.Choosing.{verdicts_of}
+use Rattle.rule_engine.specs.ChoiceMoves.{verdicts_of}
 use Rattle.steal_pool.specs.Hands.{AreOf}
 use Rattle.steal_pool.proofs.working.judge_block.Given as goal
 

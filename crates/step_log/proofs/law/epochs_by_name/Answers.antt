@@ -1,12 +1,12 @@
 use Rattle.std.proofs.Common.{◌≤◌, ◌+◌, ◌*◌, arith}
 use Rattle.std.proofs.lemmas.List.Elements.{All-weaker}
-use Rattle.charge_laws.specs.Epochs.{IsBounded}
+use Rattle.charge_laws.specs.Epochs.{IsBoundedEpoch}
 use Rattle.step_log.specs.Epochs.{epochs_along}
 use Rattle.step_log.proofs.law.epochs_by_name.Goals as goal
 
 pub returns-clause-hsu_huang : goal.returns-clause-hsu_huang
 returns-clause-hsu_huang c kept upholds start path begins same steps =
-    All-weaker (IsBounded 1) (λ epoch. epoch.moves ≤ 2 * epoch.edges + epoch.nodes) (λ epoch bounded. omega (arith, bounded))
+    All-weaker (IsBoundedEpoch 1) (λ epoch. epoch.moves ≤ 2 * epoch.edges + epoch.nodes) (λ epoch bounded. omega (arith, bounded))
     (epochs_along kept start path) (upholds.epochs start path begins same steps)
 
 pub returns-clause-manne : goal.returns-clause-manne

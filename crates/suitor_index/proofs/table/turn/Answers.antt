@@ -1,6 +1,6 @@
 use Rattle.std.proofs.Common.{◌≡◌, ◌∙◌, ◌&&◌, ℕ, Bool, true, nat_eq, take, sym, ap₂}
 use Rattle.std.specs.List.{list_any}
-use Rattle.rule_set.specs.Glance.{asks_for}
+use Rattle.rules_api.specs.LocalViews.{asks_for}
 use Rattle.suitor_index.proofs.Loops.{turned_both, turned_alike, can_turn_still, not_before, near_more, near_apart, near_there, all_ask_more, asked_so_far}
 use Rattle.suitor_index.proofs.table.turn.Goals as goal
 
@@ -9,7 +9,7 @@ turn_at-requires-clause-turns g c =
     let w = c.w-item.result in
     let nodes = c.args.nodes.now in
     let i = c.loop-w.w-index in
-    let asks : asks_for g.R.Rules.ABOVE w c.args.v ≡ true = sym c.asks_for.ensures ∙ c.if-not-asks_for.false in
+    let asks : asks_for g.R.Rules.COURTS_HIGHER_ONLY w c.args.v ≡ true = sym c.asks_for.ensures ∙ c.if-not-asks_for.false in
     can_turn_still c.args.was c.args.is (λ (k : ℕ). list_any (nat_eq k) (take i nodes)) c.args.tallies.now c.loop-w.tallies w c.loop-w.invariant.told (not_before nodes i w c.requires.rising c.loop-w-test.true c.w-item.is)
     (c.requires.turns w (ap₂ (λ (a b : Bool). a && b) (near_there nodes i w c.loop-w-test.true c.w-item.is) asks))
 
@@ -19,7 +19,7 @@ loop-w-preserved g c =
     let nodes = c.args.nodes.now in
     let i = c.loop-w.w-index in
     record {
-      ask = all_ask_more g.R.Rules.ABOVE c.args.v nodes i w c.loop-w-test.true c.w-item.is (sym c.asks_for.ensures ∙ c.if-not-asks_for.false) c.loop-w.invariant.ask;
+      ask = all_ask_more g.R.Rules.COURTS_HIGHER_ONLY c.args.v nodes i w c.loop-w-test.true c.w-item.is (sym c.asks_for.ensures ∙ c.if-not-asks_for.false) c.loop-w.invariant.ask;
       told = turned_both c.args.was c.args.is (λ k. list_any (nat_eq k) (take i nodes)) (λ k. nat_eq k w) _ _ _ _
           (λ k. near_apart nodes i w k c.requires.rising c.loop-w-test.true c.w-item.is)
           (λ k. near_more nodes i w k c.loop-w-test.true c.w-item.is)
@@ -31,6 +31,6 @@ returns-then-not-asks_for g c =
     let w = c.w-item.result in
     let nodes = c.args.nodes.now in
     let i = c.loop-w.w-index in
-    turned_alike c.args.was c.args.is (λ k. list_any (nat_eq k) (take i nodes)) (λ k. list_any (nat_eq k) nodes && asks_for g.R.Rules.ABOVE k c.args.v) c.args.tallies.now c.loop-w.tallies
-    (λ k. asked_so_far g.R.Rules.ABOVE c.args.v nodes i w k c.requires.rising c.loop-w-test.true c.w-item.is (sym c.asks_for.ensures ∙ c.if-not-asks_for.true) c.loop-w.invariant.ask)
+    turned_alike c.args.was c.args.is (λ k. list_any (nat_eq k) (take i nodes)) (λ k. list_any (nat_eq k) nodes && asks_for g.R.Rules.COURTS_HIGHER_ONLY k c.args.v) c.args.tallies.now c.loop-w.tallies
+    (λ k. asked_so_far g.R.Rules.COURTS_HIGHER_ONLY c.args.v nodes i w k c.requires.rising c.loop-w-test.true c.w-item.is (sym c.asks_for.ensures ∙ c.if-not-asks_for.true) c.loop-w.invariant.ask)
     c.loop-w.invariant.told

@@ -1,12 +1,12 @@
 use Rattle.std.proofs.Common.{nat_eq, take}
 use Rattle.std.specs.List.{list_any}
-use Rattle.suitor_index.specs.Told.{IsTurned}
+use Rattle.suitor_index.specs.TallyChanges.{IsTurned}
 use Rattle.suitor_index.proofs.Loops.{AllAsk}
 use Rattle.suitor_index.proofs.table.turn.Given as goal
 
 -- the names so far ask, and are updated
 abbrev pub invariant-loop-w : goal.invariant-loop-w
 invariant-loop-w g l = record {
-  ask : AllAsk g.R.Rules.ABOVE l.v (take l.w-index l.nodes);
+  ask : AllAsk g.R.Rules.COURTS_HIGHER_ONLY l.v (take l.w-index l.nodes);
   told : IsTurned (λ k. list_any (nat_eq k) (take l.w-index l.nodes)) l.was l.is l.fn.tallies l.tallies;
 }

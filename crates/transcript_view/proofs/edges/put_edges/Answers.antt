@@ -1,15 +1,15 @@
 use Rattle.std.proofs.Common.{◌≡◌, ◌++◌, ◌∷◌, [], ◌-◌, ◌∙◌, ap, Bool, List, ℕ, filter, arith}
 use Rattle.std.specs.List.{range_with_len, flat_map}
 use Rattle.rule_machine.specs.Network.{present}
-use Rattle.judge.proofs.Listed.{some_iff_at}
-use Rattle.transcript_view.specs.Picture.{edges_at}
+use Rattle.reply_checker.proofs.ExactAnswers.{some_iff_at}
+use Rattle.transcript_view.specs.Picture.{edge_lines_at}
 use Rattle.transcript_view.proofs.Names.{names_more}
 use Rattle.transcript_view.proofs.edges.put_edges.Goals as goal
 
 pub loop-name-preserved : goal.loop-name-preserved
 loop-name-preserved c =
     let here : ℕ → Bool = present c.args.judge.now.network in
-    let f : ℕ → List ℕ = edges_at c.args.judge.now in
+    let f : ℕ → List ℕ = edge_lines_at c.args.judge.now in
     let old = c.args.out.now.items in
     let n = c.loop-name.name in
     let so_far = old ++ flat_map f (filter here (range_with_len 1 (n - 1))) in

@@ -1,8 +1,8 @@
 use Rattle.std.proofs.Common.{◌≡◌, ◌++◌, ◌-◌, filter}
 use Rattle.std.specs.List.{range_with_len, flat_map}
 use Rattle.rule_machine.specs.Network.{present}
-use Rattle.transcript_view.specs.Picture.{edges_at}
+use Rattle.transcript_view.specs.Picture.{edge_lines_at}
 use Rattle.transcript_view.proofs.edges.put_edges.Given as goal
 
 abbrev pub invariant-loop-name : goal.invariant-loop-name
-invariant-loop-name l = l.out.items ≡ l.fn.out.items ++ flat_map (edges_at l.judge) (filter (present l.judge.network) (range_with_len 1 (l.name - 1)))
+invariant-loop-name l = l.out.items ≡ l.fn.out.items ++ flat_map (edge_lines_at l.judge) (filter (present l.judge.network) (range_with_len 1 (l.name - 1)))

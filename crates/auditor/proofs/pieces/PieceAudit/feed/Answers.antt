@@ -1,6 +1,6 @@
 use Rattle.std.proofs.Common.{◌++◌}
 use Rattle.std.proofs.Math.Logic.{∥∥₁_map}
-use Rattle.auditor.proofs.Tried.{none_by, some_read, tried_more, tried_on, tried_read, tried_still}
+use Rattle.auditor.proofs.IncrementalAudits.{none_by, some_read, tried_more, tried_on, tried_read, tried_still}
 use Rattle.auditor.proofs.pieces.PieceAudit.feed.Goals as goal
 
 pub returns-in-Some-clause-fed : goal.returns-in-Some-clause-fed

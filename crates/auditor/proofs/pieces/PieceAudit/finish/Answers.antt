@@ -1,6 +1,6 @@
 use Rattle.std.proofs.Common.{Err}
-use Rattle.auditor.proofs.Exact.{judged_accepts, judged_names}
-use Rattle.auditor.proofs.Tried.{some_read, tried_read, tried_whole}
+use Rattle.auditor.proofs.VerdictUniqueness.{judged_accepts, judged_names}
+use Rattle.auditor.proofs.IncrementalAudits.{some_read, tried_read, tried_whole}
 use Rattle.auditor.proofs.pieces.PieceAudit.finish.Goals as goal
 
 pub finish-requires : goal.finish-requires

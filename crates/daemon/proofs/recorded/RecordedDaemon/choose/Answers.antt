@@ -1,7 +1,7 @@
 use Rattle.std.proofs.Common.{rules, ◌≡◌}
 use Rattle.enabled_set.specs.Members.{members}
-use Rattle.daemon.specs.Played.{played}
-use Rattle.daemon.proofs.Play.{lawful_played, none_played}
+use Rattle.daemon.specs.RecordedLists.{played}
+use Rattle.daemon.proofs.RecordedPlay.{lawful_played, none_played}
 use Rattle.daemon.proofs.recorded.RecordedDaemon.choose.Goals as goal
 
 pub returns-clause-lawful : goal.returns-clause-lawful

@@ -1,4 +1,4 @@
-use Rattle.enabled_set.proofs.Listed.{one_fewer}
+use Rattle.enabled_set.proofs.MarkChanges.{one_fewer}
 use Rattle.enabled_set.proofs.marks.Marks.clear.Goals as goal
 
 pub loop-smaller : goal.loop-smaller

@@ -1,5 +1,5 @@
 use Rattle.std.proofs.Common.{◌+◌, arith}
-use Rattle.enabled_set.proofs.Listed.{none_listed}
+use Rattle.enabled_set.proofs.MarkChanges.{none_listed}
 use Rattle.enabled_set.proofs.marks.Marks.new.Goals as goal
 
 pub invariant_of-result : goal.invariant_of-result

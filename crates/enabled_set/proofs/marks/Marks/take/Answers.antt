@@ -1,7 +1,7 @@
 use Rattle.std.proofs.Common.{◌-◌, ◌∙◌, ℕ, false, set, sym, ap, subst, arith}
 use Rattle.enabled_set.specs.Members.{is_in}
-use Rattle.enabled_set.specs.Listed.{AreListed}
-use Rattle.enabled_set.proofs.Listed.{all_listed, at_end, none_marked}
+use Rattle.enabled_set.specs.MarkedNames.{AreListed}
+use Rattle.enabled_set.proofs.MarkChanges.{all_listed, at_end, none_marked}
 use Rattle.enabled_set.proofs.marks.Marks.take.Goals as goal
 
 pub returns-then-self-eq0-clause-none : goal.returns-then-self-eq0-clause-none

@@ -1,6 +1,6 @@
 use Rattle.std.proofs.Common.{◌≡◌, ◌-◌, ◌/◌, ◌<◌, true, false, length, set, arith, ap, sym, ◌∙◌}
-use Rattle.enabled_set.specs.Members.{is_in, is_on, places_of}
-use Rattle.enabled_set.specs.Counts.{IsCounted}
+use Rattle.enabled_set.specs.Members.{is_in, is_bit_on, first_bits}
+use Rattle.enabled_set.specs.Counts.{HasRightCounts}
 use Rattle.enabled_set.proofs.Members.{inside}
 use Rattle.enabled_set.proofs.Stretches.{count_some}
 use Rattle.enabled_set.proofs.Changes.{count_read, bit_read, put_same, total_some, counted_less}
@@ -8,29 +8,29 @@ use Rattle.enabled_set.proofs.set.EnabledSet.remove.Goals as goal
 use Rattle.enabled_set.proofs.set.EnabledSet.remove.Goals.{After-look, After-index_mut-3}
 
 -- whether the name is a member is what was looked up
-looked : (c : After-look) → is_in (places_of c.self.inside.len c.self.inside.words.items) c.place-place.result ≡ c.look.result
-looked c = c.self.invariant.same c.place-place.result ∙ ap (λ words. is_on words c.place-place.result) (sym c.deref.ensures.value) ∙ sym c.look.ensures
+looked : (c : After-look) → is_in (first_bits c.self.inside.len c.self.inside.words.items) c.place-place.result ≡ c.look.result
+looked c = c.self.invariant.same c.place-place.result ∙ ap (λ words. is_bit_on words c.place-place.result) (sym c.deref.ensures.value) ∙ sym c.look.ensures
 
 -- a member has a place
-there : (c : After-look) → c.look.result ≡ true → c.place-place.result < length (places_of c.self.inside.len c.self.inside.words.items)
-there c on = inside (places_of c.self.inside.len c.self.inside.words.items) c.place-place.result (looked c ∙ on)
+there : (c : After-look) → c.look.result ≡ true → c.place-place.result < length (first_bits c.self.inside.len c.self.inside.words.items)
+there c on = inside (first_bits c.self.inside.len c.self.inside.words.items) c.place-place.result (looked c ∙ on)
 
 -- what is written counts the set without it
-put : (c : After-index_mut-3) → c.place-place.result < length (places_of c.self.inside.len c.self.inside.words.items) → is_in (places_of c.self.inside.len c.self.inside.words.items) c.place-place.result ≡ true → IsCounted (places_of c.self.inside.len (set c.self.inside.words.items (c.place-place.result / 64) c.without_bit.result)) (set c.self.inside.words.items (c.place-place.result / 64) c.without_bit.result) (set c.self.inside.by_512.items (c.place-place.result / 512) (c.index_mut-2.result.now - 1)) (set c.self.inside.by_4096.items (c.place-place.result / 4096) (c.index_mut-3.result.now - 1)) (c.self.inside.total - 1) × (places_of c.self.inside.len (set c.self.inside.words.items (c.place-place.result / 64) c.without_bit.result) ≡ set (places_of c.self.inside.len c.self.inside.words.items) c.place-place.result false)
+put : (c : After-index_mut-3) → c.place-place.result < length (first_bits c.self.inside.len c.self.inside.words.items) → is_in (first_bits c.self.inside.len c.self.inside.words.items) c.place-place.result ≡ true → HasRightCounts (first_bits c.self.inside.len (set c.self.inside.words.items (c.place-place.result / 64) c.without_bit.result)) (set c.self.inside.words.items (c.place-place.result / 64) c.without_bit.result) (set c.self.inside.by_512.items (c.place-place.result / 512) (c.index_mut-2.result.now - 1)) (set c.self.inside.by_4096.items (c.place-place.result / 4096) (c.index_mut-3.result.now - 1)) (c.self.inside.total - 1) × (first_bits c.self.inside.len (set c.self.inside.words.items (c.place-place.result / 64) c.without_bit.result) ≡ set (first_bits c.self.inside.len c.self.inside.words.items) c.place-place.result false)
 put c place on =
     let it = c.self.inside in
-    counted_less it.len it.words.items it.by_512.items it.by_4096.items it.total c.place-place.result c.index-word.result.now c.without_bit.result c.index_mut-2.result.now c.index_mut-3.result.now c.self.invariant place c.index-word.ensures (sym (bit_read (places_of it.len it.words.items) it.words.items it.by_512.items it.by_4096.items it.total c.place-place.result c.index-word.result.now c.self.invariant place c.index-word.ensures) ∙ on) c.without_bit.ensures.here c.without_bit.ensures.others c.index_mut-2.ensures.value c.index_mut-3.ensures.value
+    counted_less it.len it.words.items it.by_512.items it.by_4096.items it.total c.place-place.result c.index-word.result.now c.without_bit.result c.index_mut-2.result.now c.index_mut-3.result.now c.self.invariant place c.index-word.ensures (sym (bit_read (first_bits it.len it.words.items) it.words.items it.by_512.items it.by_4096.items it.total c.place-place.result c.index-word.result.now c.self.invariant place c.index-word.ensures) ∙ on) c.without_bit.ensures.here c.without_bit.ensures.others c.index_mut-2.ensures.value c.index_mut-3.ensures.value
 
 pub returns-then-not-look : goal.returns-then-not-look
 returns-then-not-look c =
-    let bits = places_of c.self.inside.len c.self.inside.words.items in
+    let bits = first_bits c.self.inside.len c.self.inside.words.items in
     let is = looked (goal.at.returns-then-not-look c).After-look ∙ c.if-not-look.true in
     sym c.self.view_is ∙ put_same bits c.place-place.result false is ∙ ap (λ v. set bits v false) c.place-place.ensures.same ∙ ap (λ xs. set xs c.args.v false) c.self.view_is
 
 pub overflow_sub-index_mut : goal.overflow_sub-index_mut
 overflow_sub-index_mut c =
     let it = c.self.inside in
-    let bits = places_of it.len it.words.items in
+    let bits = first_bits it.len it.words.items in
     let at = (goal.at.overflow_sub-index_mut c).After-look in
     let place = there at c.if-not-look.false in
     let on = looked at ∙ c.if-not-look.false in
@@ -40,7 +40,7 @@ overflow_sub-index_mut c =
 pub overflow_sub-index_mut-2 : goal.overflow_sub-index_mut-2
 overflow_sub-index_mut-2 c =
     let it = c.self.inside in
-    let bits = places_of it.len it.words.items in
+    let bits = first_bits it.len it.words.items in
     let at = (goal.at.overflow_sub-index_mut-2 c).After-look in
     let place = there at c.if-not-look.false in
     let on = looked at ∙ c.if-not-look.false in
@@ -52,7 +52,7 @@ overflow_sub-self c =
     let at = (goal.at.overflow_sub-self c).After-look in
     let place = there at c.if-not-look.false in
     let on = looked at ∙ c.if-not-look.false in
-    omega (arith, total_some (places_of c.self.inside.len c.self.inside.words.items) c.place-place.result place on)
+    omega (arith, total_some (first_bits c.self.inside.len c.self.inside.words.items) c.place-place.result place on)
 
 pub invariant_of-self : goal.invariant_of-self
 invariant_of-self c = let at = goal.at.invariant_of-self c in (put at.After-index_mut-3 (there at.After-look c.if-not-look.false) (looked at.After-look ∙ c.if-not-look.false)).0
@@ -60,4 +60,4 @@ invariant_of-self c = let at = goal.at.invariant_of-self c in (put at.After-inde
 pub returns : goal.returns
 returns c =
     let at = goal.at.returns c in
-    (put at.After-index_mut-3 (there at.After-look c.if-not-look.false) (looked at.After-look ∙ c.if-not-look.false)).1 ∙ ap (λ v. set (places_of c.self.inside.len c.self.inside.words.items) v false) c.place-place.ensures.same ∙ ap (λ xs. set xs c.args.v false) c.self.view_is
+    (put at.After-index_mut-3 (there at.After-look c.if-not-look.false) (looked at.After-look ∙ c.if-not-look.false)).1 ∙ ap (λ v. set (first_bits c.self.inside.len c.self.inside.words.items) v false) c.place-place.ensures.same ∙ ap (λ xs. set xs c.args.v false) c.self.view_is

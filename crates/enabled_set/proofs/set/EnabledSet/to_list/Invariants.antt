@@ -1,7 +1,7 @@
 use Rattle.std.proofs.Common.{◌≡◌, ◌*◌}
-use Rattle.enabled_set.specs.Members.{is_on}
+use Rattle.enabled_set.specs.Members.{is_bit_on}
 use Rattle.enabled_set.specs.Counts.{below}
 use Rattle.enabled_set.proofs.set.EnabledSet.to_list.Given as goal
 
 abbrev pub invariant-loop-place : goal.invariant-loop-place
-invariant-loop-place l = l.list.items ≡ below (is_on l.self-inside.words.items) (64 * l.place)
+invariant-loop-place l = l.list.items ≡ below (is_bit_on l.self-inside.words.items) (64 * l.place)

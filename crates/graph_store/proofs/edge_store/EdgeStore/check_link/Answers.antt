@@ -4,7 +4,7 @@ use Rattle.rule_machine.specs.Network.{edge_count}
 use Rattle.graph_store.specs.Graph.{Graph}
 use Rattle.graph_store.specs.Rows.{IsGapFor}
 use Rattle.graph_store.proofs.Faults.{ends_known, link_fault_is}
-use Rattle.graph_store.proofs.Rising.{there_at_place, absent_at_gap}
+use Rattle.graph_store.proofs.AscendingLists.{there_at_place, absent_at_gap}
 use Rattle.graph_store.proofs.edge_store.EdgeStore.check_link.Goals as goal
 
 pub neighbours-requires : goal.neighbours-requires

@@ -4,7 +4,7 @@ use Rattle.std.proofs.lemmas.Bool.{true≢false}
 use Rattle.graph_store.specs.Graph.{Graph}
 use Rattle.graph_store.specs.Rows.{contents, has, IsPlaceOf}
 use Rattle.graph_store.proofs.Faults.{are_joined, has_row, row_here}
-use Rattle.graph_store.proofs.Rising.{absent_at_gap}
+use Rattle.graph_store.proofs.AscendingLists.{absent_at_gap}
 use Rattle.graph_store.proofs.Store.{linked_by, neighbours_by}
 use Rattle.graph_store.proofs.edge_store.EdgeStore.find_edge.Goals as goal
 

@@ -2,7 +2,7 @@ use Rattle.std.proofs.Common.{ap, ◌∙◌}
 use Rattle.graph_store.specs.Graph.{Graph}
 use Rattle.graph_store.specs.Rows.{contents}
 use Rattle.graph_store.proofs.Faults.{row_here}
-use Rattle.graph_store.proofs.Leaving.{last_of}
+use Rattle.graph_store.proofs.LeavingNodes.{last_of}
 use Rattle.graph_store.proofs.edge_store.EdgeStore.last_neighbour.Goals as goal
 
 pub returns : goal.returns

@@ -5,7 +5,7 @@ use Rattle.std.proofs.lemmas.Result.{IfOk-weaker}
 use Rattle.rule_machine.specs.Network.{edge_list}
 use Rattle.graph_store.specs.Graph.{Graph}
 use Rattle.graph_store.specs.Rows.{contents, network_of, pairs_from, row_at}
-use Rattle.graph_store.proofs.Listed.{edges_listed, nobody_row}
+use Rattle.graph_store.proofs.PairLists.{edges_listed, nobody_row}
 use Rattle.graph_store.proofs.edge_store.EdgeStore.list.Goals as goal
 
 pub list_pairs-requires-clause-nobody : goal.list_pairs-requires-clause-nobody

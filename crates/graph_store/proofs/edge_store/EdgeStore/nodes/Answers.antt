@@ -6,7 +6,7 @@ use Rattle.std.specs.List.{range_with_len}
 use Rattle.std.proofs.lemmas.List.Sums.{count_by-le-length}
 use Rattle.graph_store.specs.Graph.{Graph}
 use Rattle.graph_store.specs.Rows.{contents, network_of}
-use Rattle.graph_store.proofs.Present.{members_names}
+use Rattle.graph_store.proofs.PresentRows.{members_names}
 use Rattle.graph_store.proofs.edge_store.EdgeStore.nodes.Goals as goal
 
 pub returns-clause-count : goal.returns-clause-count

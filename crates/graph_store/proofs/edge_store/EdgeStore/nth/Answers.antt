@@ -3,7 +3,7 @@ use Rattle.std.specs.Prelude.{slice_get}
 use Rattle.rule_machine.specs.Network.{names}
 use Rattle.graph_store.specs.Graph.{Graph}
 use Rattle.graph_store.specs.Rows.{contents, network_of}
-use Rattle.graph_store.proofs.Present.{members_names}
+use Rattle.graph_store.proofs.PresentRows.{members_names}
 use Rattle.graph_store.proofs.edge_store.EdgeStore.nth.Goals as goal
 
 pub returns : goal.returns

@@ -1,5 +1,5 @@
 use Rattle.graph_store.specs.Rows.{contents}
-use Rattle.graph_store.proofs.Opened.{few_open}
+use Rattle.graph_store.proofs.OpenEdges.{few_open}
 use Rattle.graph_store.proofs.edge_store.EdgeStore.open_edges.Goals as goal
 
 pub returns-clause-few : goal.returns-clause-few

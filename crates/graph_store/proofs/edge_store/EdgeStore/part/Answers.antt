@@ -4,7 +4,7 @@ use Rattle.graph_store.specs.Graph.{Graph}
 use Rattle.graph_store.specs.Rows.{contents, row_at, network_of, IsStore}
 use Rattle.machine_laws.specs.Neighbours.{present_range}
 use Rattle.graph_store.proofs.Store.{neighbours_by}
-use Rattle.graph_store.proofs.Leaving.{parted_store, parted_network}
+use Rattle.graph_store.proofs.LeavingNodes.{parted_store, parted_network}
 use Rattle.graph_store.proofs.edge_store.EdgeStore.part.Goals as goal
 
 pub invariant_of-self : goal.invariant_of-self

@@ -8,8 +8,8 @@ use Rattle.rule_machine.specs.Network.{Network, with_edge, edge_count}
 use Rattle.graph_store.specs.Graph.{Graph}
 use Rattle.graph_store.specs.Rows.{contents, row_at, network_of, put_both, IsStore, IsGapFor}
 use Rattle.graph_store.proofs.Faults.{may_link, known}
-use Rattle.graph_store.specs.Ends.{open_among}
-use Rattle.graph_store.proofs.Opened.{bool_few, few_open, open_linked, open_number}
+use Rattle.graph_store.specs.EdgeStances.{open_among}
+use Rattle.graph_store.proofs.OpenEdges.{bool_few, few_open, open_linked, open_number}
 use Rattle.graph_store.proofs.Store.{neighbours_by}
 use Rattle.graph_store.proofs.Switch.{link_rows}
 use Rattle.graph_store.proofs.edge_store.EdgeStore.put_edge.Goals as goal

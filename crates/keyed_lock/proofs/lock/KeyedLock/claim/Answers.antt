@@ -1,7 +1,7 @@
 use Rattle.std.proofs.Common.{rules, ap, arith}
 use mathlib.Core.Option.{none}
 use Rattle.atomic_table.specs.Table.{step}
-use Rattle.keyed_lock.proofs.Claiming.{claims, exchanged_busy}
+use Rattle.keyed_lock.proofs.LockSteps.{claims, exchanged_busy}
 use Rattle.keyed_lock.proofs.lock.KeyedLock.claim.Goals as goal
 
 pub compare_exchange-requires : goal.compare_exchange-requires

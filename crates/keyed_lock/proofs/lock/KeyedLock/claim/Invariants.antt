@@ -1,4 +1,4 @@
-use Rattle.keyed_lock.specs.Kept.{Waits}
+use Rattle.keyed_lock.specs.LockSteps.{Waits}
 use Rattle.keyed_lock.proofs.lock.KeyedLock.claim.Given as goal
 
 abbrev pub invariant-loop : goal.invariant-loop

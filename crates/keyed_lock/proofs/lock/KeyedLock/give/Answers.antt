@@ -1,6 +1,6 @@
 use Rattle.std.proofs.Common.{rules, ◌∷◌, ap, ◌∙◌, Some}
 use Rattle.atomic_table.specs.Table.{rest}
-use Rattle.keyed_lock.proofs.Claiming.{leaves}
+use Rattle.keyed_lock.proofs.LockSteps.{leaves}
 use Rattle.keyed_lock.proofs.lock.KeyedLock.give.Goals as goal
 
 pub swap-requires : goal.swap-requires

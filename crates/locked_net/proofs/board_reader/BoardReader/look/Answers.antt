@@ -1,4 +1,4 @@
-use Rattle.locked_net.proofs.Seeing.{looked, shown_by, absent, shows}
+use Rattle.locked_net.proofs.BoardReads.{looked, shown_by, absent, shows}
 use Rattle.locked_net.proofs.board_reader.BoardReader.look.Goals as goal
 
 pub returns-in_default-found-clause-run : goal.returns-in_default-found-clause-run

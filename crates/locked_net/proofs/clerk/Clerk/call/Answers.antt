@@ -1,6 +1,6 @@
 use Rattle.locked_net.specs.Receipts.{seen_by}
 use Rattle.locked_net.specs.Nets.{setting_of}
-use Rattle.locked_net.proofs.Choosing.{refuses}
+use Rattle.locked_net.proofs.ChosenEvents.{refuses}
 use Rattle.locked_net.proofs.clerk.Clerk.call.Goals as goal
 
 pub returns-clause-refused : goal.returns-clause-refused

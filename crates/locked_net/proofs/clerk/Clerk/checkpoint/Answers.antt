@@ -1,6 +1,6 @@
 use Rattle.locked_net.specs.Receipts.{front_of}
 use Rattle.locked_net.specs.Nets.{setting_of}
-use Rattle.locked_net.proofs.Choosing.{holds_all, refuses_checkpoint}
+use Rattle.locked_net.proofs.ChosenEvents.{holds_all, refuses_checkpoint}
 use Rattle.locked_net.proofs.clerk.Clerk.checkpoint.Goals as goal
 
 pub returns-clause-number : goal.returns-clause-number

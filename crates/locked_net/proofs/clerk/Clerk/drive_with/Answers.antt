@@ -1,6 +1,6 @@
 use Rattle.locked_net.specs.Receipts.{seen_by}
 use Rattle.locked_net.specs.Nets.{setting_of}
-use Rattle.locked_net.proofs.Choosing.{refuses, takes}
+use Rattle.locked_net.proofs.ChosenEvents.{refuses, takes}
 use Rattle.locked_net.proofs.clerk.Clerk.drive_with.Goals as goal
 
 pub returns-clause-chosen : goal.returns-clause-chosen

@@ -1,6 +1,6 @@
 use Rattle.locked_net.specs.Receipts.{seen_by}
 use Rattle.locked_net.specs.Nets.{setting_of}
-use Rattle.locked_net.proofs.Choosing.{refuses, takes, finds_none, keeps_fault}
+use Rattle.locked_net.proofs.ChosenEvents.{refuses, takes, finds_none, keeps_fault}
 use Rattle.locked_net.proofs.clerk.Clerk.fault_with.Goals as goal
 
 pub returns-clause-drawn : goal.returns-clause-drawn

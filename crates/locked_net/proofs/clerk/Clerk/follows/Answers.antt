@@ -1,5 +1,5 @@
 use Rattle.locked_net.specs.Receipts.{noted}
-use Rattle.locked_net.proofs.Noting.{none_begins, none_follows}
+use Rattle.locked_net.proofs.ClerkNotes.{none_begins, none_follows}
 use Rattle.locked_net.proofs.clerk.Clerk.follows.Goals as goal
 
 pub returns-in_default-own-clause-notes : goal.returns-in_default-own-clause-notes

@@ -1,6 +1,6 @@
 use Rattle.std.proofs.Common.{◌≤◌, sym, arith}
 use Rattle.locked_net.specs.Receipts.{front_of}
-use Rattle.locked_net.proofs.Adding.{ok_few, ok_less}
+use Rattle.locked_net.proofs.ReceiptAddition.{ok_few, ok_less}
 use Rattle.locked_net.proofs.clerk.Clerk.may_call.Goals as goal
 
 pub returns-clause-free : goal.returns-clause-free

@@ -3,7 +3,7 @@ use Rattle.rule_machine.specs.declared.event.Event.TheVariants.{Step}
 use Rattle.step_log.specs.declared.receipt.Receipt.{Receipt}
 use Rattle.locked_net.specs.Receipts.{ClerkView, front_of}
 use Rattle.locked_net.specs.Calls.{call_fault}
-use Rattle.locked_net.proofs.Adding.{front_after, is_clerk_after}
+use Rattle.locked_net.proofs.ReceiptAddition.{front_after, is_clerk_after}
 use Rattle.locked_net.proofs.clerk.Clerk.record_judged.Goals as goal
 
 pub invariant_of-self-2 : goal.invariant_of-self-2

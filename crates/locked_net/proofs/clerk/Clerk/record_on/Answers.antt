@@ -2,8 +2,8 @@ use Rattle.std.proofs.Common.{◌≡◌, ◌∷◌, ◌++◌, [], None, sym, ap,
 use Rattle.step_log.specs.declared.receipt.Receipt.{Receipt}
 use Rattle.locked_net.specs.Receipts.{ClerkView, front_of, noted}
 use Rattle.locked_net.specs.Calls.{call_fault}
-use Rattle.locked_net.proofs.Adding.{front_after, is_clerk_after}
-use Rattle.locked_net.proofs.Choosing.{begins_in}
+use Rattle.locked_net.proofs.ReceiptAddition.{front_after, is_clerk_after}
+use Rattle.locked_net.proofs.ChosenEvents.{begins_in}
 use Rattle.locked_net.proofs.clerk.Clerk.record_on.Goals as goal
 
 pub invariant_of-self-2 : goal.invariant_of-self-2

@@ -1,7 +1,7 @@
 use Rattle.std.proofs.Common.{refl, sym, subst}
 use mathlib.Core.List.{IsPrefix}
 use Rattle.locked_net.specs.Receipts.{ClerkView, noted}
-use Rattle.locked_net.proofs.Seeing.{sees_more}
+use Rattle.locked_net.proofs.BoardReads.{sees_more}
 use Rattle.locked_net.proofs.clerk.Clerk.sees.Goals as goal
 
 pub invariant_of-self : goal.invariant_of-self

@@ -1,6 +1,6 @@
 use Rattle.locked_net.specs.Receipts.{seen_by}
 use Rattle.locked_net.specs.Nets.{setting_of}
-use Rattle.locked_net.proofs.Choosing.{refuses_step}
+use Rattle.locked_net.proofs.ChosenEvents.{refuses_step}
 use Rattle.locked_net.proofs.clerk.Clerk.step_with.Goals as goal
 
 pub returns-clause-refused : goal.returns-clause-refused

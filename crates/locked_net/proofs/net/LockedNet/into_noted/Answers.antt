@@ -1,5 +1,5 @@
 use Rattle.std.proofs.Common.{ap, ◌∙◌}
-use Rattle.board.specs.Views.{Name}
+use Rattle.snapshots.specs.Views.{BoardName}
 use Rattle.locked_net.proofs.net.LockedNet.into_noted.Goals as goal
 
 pub returns-clause-published : goal.returns-clause-published
@@ -10,5 +10,5 @@ returns-clause-published g c =
     record {
       part = record { log = desk.log; own = record { run = closed.run; nodes = key.nodes; present = key.present; limit = key.limit }; above = closed.above };
       published = c.note-last.ensures.0;
-      in_book = c.note-last.ensures.1 ∙ ap (λ (name : Name). name.book) key.name;
+      in_book = c.note-last.ensures.1 ∙ ap (λ (name : BoardName). name.book) key.name;
     }

@@ -1,5 +1,5 @@
 use Rattle.std.proofs.Common.{ap, ◌∙◌}
-use Rattle.board.specs.Views.{Name}
+use Rattle.snapshots.specs.Views.{BoardName}
 use Rattle.locked_net.proofs.net.LockedNet.is_at_rest.Goals as goal
 
 pub returns : goal.returns
@@ -9,7 +9,7 @@ returns g c =
       log = c.hold-held.result.log;
       own = c.hold-held.ensures.own;
       published = told.note.0;
-      in_book = told.note.1 ∙ ap (λ (name : Name). name.book) c.hold-held.ensures.name;
+      in_book = told.note.1 ∙ ap (λ (name : BoardName). name.book) c.hold-held.ensures.name;
       rests_is = told.rests;
       idle = told.idle;
     }

@@ -1,5 +1,5 @@
 use Rattle.std.proofs.Common.{Result, Ok, Err, IfOk, ap, ◌∙◌}
-use Rattle.board.specs.Views.{Name}
+use Rattle.snapshots.specs.Views.{BoardName}
 use Rattle.locked_net.proofs.net.LockedNet.reach_of.Goals as goal
 
 together : {T E : Type 0} (r : Result T E) (P Q N S : T → Type 0) → IfOk r P → IfOk r Q → IfOk r N → ((x : T) → P x → Q x → N x → S x) → IfOk r S
@@ -13,7 +13,7 @@ returns g c =
       log = c.hold-held.result.log;
       own = c.hold-held.ensures.own;
       published = note.0;
-      in_book = note.1 ∙ ap (λ (name : Name). name.book) c.hold-held.ensures.name;
+      in_book = note.1 ∙ ap (λ (name : BoardName). name.book) c.hold-held.ensures.name;
       reaches = reach;
       spares = spares;
     })

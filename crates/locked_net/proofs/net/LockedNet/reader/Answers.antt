@@ -1,5 +1,5 @@
 use Rattle.std.proofs.Common.{ap, ◌∙◌}
-use Rattle.board.specs.Views.{Reading}
+use Rattle.snapshots.specs.Views.{ReaderView}
 use Rattle.locked_net.proofs.net.LockedNet.reader.Goals as goal
 
 pub returns-in-Ok-clause-seen : goal.returns-in-Ok-clause-seen
@@ -7,4 +7,4 @@ returns-in-Ok-clause-seen g c =
     let own = c.hold-held.ensures.own in
     let seen = c.in-Ok.ensures.seen in
     let same = c.over.ensures in
-    (c.hold-held.result.log, own, ap (λ (r : Reading). r.list) same ∙ seen.0, ap (λ (r : Reading). r.learnt) same ∙ seen.1)
+    (c.hold-held.result.log, own, ap (λ (r : ReaderView). r.list) same ∙ seen.0, ap (λ (r : ReaderView). r.learnt) same ∙ seen.1)

@@ -2,17 +2,17 @@ use Rattle.std.proofs.Common.{◌≡◌, ◌∙◌, ◌+◌, ◌++◌, ℕ, Opti
 use Rattle.std.proofs.lemmas.List.{length-map}
 use Rattle.std.specs.List.{range_with_len}
 use Rattle.std.proofs.lemmas.Grind.{common_steps}
-use Rattle.rule_machine.specs.declared.base.Place.{Place}
+use Rattle.rule_machine.specs.declared.base.NodeRecord.{NodeRecord}
 use Rattle.rule_machine.specs.Network.{names, node_count}
-use Rattle.rule_machine.specs.Base.{place_at}
-use Rattle.net_state.specs.Held.{place_in}
-use Rattle.net_state.proofs.Placed.{places_found, found_more, some_iff_at}
+use Rattle.rule_machine.specs.Base.{node_record_at}
+use Rattle.net_state.specs.StateViews.{place_in}
+use Rattle.net_state.proofs.NodeRecords.{places_found, found_more, some_iff_at}
 use Rattle.net_state.proofs.net.NetState.list_places.Goals as goal
 use Rattle.net_state.proofs.net.NetState.list_places.Goals.{in-Some+in_ok-push, in_default}
 
 pub loop-below-preserved : goal.loop-below-preserved
 loop-below-preserved c =
-    let f : ℕ → Option Place = place_in c.args.self.now.state in
+    let f : ℕ → Option NodeRecord = place_in c.args.self.now.state in
     let named : c.unwrap-v.result ≡ c.loop-below.below + 1 = some_iff_at _ _ _ _ c.new.ensures c.unwrap-v.ensures in
     let more : filter_map f (range_with_len 1 (c.loop-below.below + 1)) ≡ filter_map f (range_with_len 1 c.loop-below.below) ++ option_to_list (f c.unwrap-v.result) = found_more f c.loop-below.below c.unwrap-v.result named in
     let so_far : c.loop-below.places.items ≡ filter_map f (range_with_len 1 c.loop-below.below) = c.loop-below.invariant in
@@ -33,5 +33,5 @@ returns-clause-few c =
     let s = c.args.self.now.state in
     let end : c.loop-below.below ≡ s.network.size = omega (arith, c.capacity-below-end.ensures.size) in
     let listed = c.loop-below.invariant ∙ ap (λ n. filter_map (place_in s) (range_with_len 1 n)) end ∙ places_found s in
-    let count : length c.loop-below.places.items ≡ node_count s.network = ap length listed ∙ length-map (names s.network) (place_at s) in
+    let count : length c.loop-below.places.items ≡ node_count s.network = ap length listed ∙ length-map (names s.network) (node_record_at s) in
     omega (arith, count, c.nodes.ensures.count, c.nodes.ensures.few)

@@ -1,10 +1,10 @@
 use Rattle.std.proofs.Common.{◌≡◌, ◌∙◌, sym, subst}
 use Rattle.rule_machine.specs.State.{married}
 use Rattle.machine_laws.specs.TwoPasses.{married_answered}
-use Rattle.net_state.specs.Held.{Held, state_of}
+use Rattle.net_state.specs.StateViews.{StateView, state_of}
 use Rattle.net_state.proofs.net.NetState.married.Goals as goal
 
 pub returns : goal.returns
 returns c =
     let s = state_of c.self.inside.store.network c.self.inside.registers in
-    subst (λ (n : Held). c.married.result ≡ married n.state c.args.v) c.self.view_is (c.married.ensures ∙ sym (married_answered s c.args.v c.self.invariant))
+    subst (λ (n : StateView). c.married.result ≡ married n.state c.args.v) c.self.view_is (c.married.ensures ∙ sym (married_answered s c.args.v c.self.invariant))

@@ -2,7 +2,7 @@
 use Rattle.rudekpi_c.proofs.Walks.{◌≡◌, refl, id⊢, tables, tables_of, null_ptr}
 use Rattle.std.specs.Prelude.{None}
 use Rattle.rudekpi_c.specs.contracts.audit_slot.AuditHandle as handle
-use Rattle.rudekpi_c.proofs.Nulling.{nulls}
+use Rattle.rudekpi_c.proofs.NullHandles.{nulls}
 use Rattle.rudekpi_c.specs.contracts.audit_slot.AuditHandle.empty.Key.{name as #self}
 use Rattle.rudekpi_c.proofs.audit_slot.AuditHandle.empty.Statement as stated
 use Rattle.rudekpi_c.proofs.audit_slot.AuditHandle.empty.Code as code

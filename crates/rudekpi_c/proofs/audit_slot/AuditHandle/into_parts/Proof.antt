@@ -3,7 +3,7 @@ use Rattle.rudekpi_c.proofs.Walks.{◌≡◌, sym, subst, refl, ent, id⊢, fact
 use Rattle.std.specs.Prelude.{Option, None, Some}
 use Rattle.rudekpi_c.specs.contracts.audit_slot.AuditHandle as handle
 use Rattle.rudekpi_c.proofs.AsBox.{audit_box, parts_of}
-use Rattle.rudekpi_c.proofs.Moving.{moves, some_of}
+use Rattle.rudekpi_c.proofs.OwnershipMoves.{moves, some_of}
 use Rattle.rudekpi_c.specs.contracts.audit_slot.AuditHandle.into_parts.Key.{name as #self}
 use Rattle.rudekpi_c.proofs.audit_slot.AuditHandle.into_parts.Statement as stated
 use Rattle.rudekpi_c.proofs.audit_slot.AuditHandle.into_parts.Code as code

@@ -2,7 +2,7 @@
 use Rattle.rudekpi_c.proofs.Walks.{◌≡◌, refl, id⊢, tables, tables_of, null_ptr}
 use Rattle.std.specs.Prelude.{None}
 use Rattle.rudekpi_c.specs.contracts.handle.Handle as handle
-use Rattle.rudekpi_c.proofs.Nulling.{nulls}
+use Rattle.rudekpi_c.proofs.NullHandles.{nulls}
 use Rattle.rudekpi_c.specs.contracts.handle.Handle.empty.Key.{name as #self}
 use Rattle.rudekpi_c.proofs.handle.Handle.empty.Statement as stated
 use Rattle.rudekpi_c.proofs.handle.Handle.empty.Code as code

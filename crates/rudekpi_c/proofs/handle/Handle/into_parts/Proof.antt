@@ -3,7 +3,7 @@ use Rattle.rudekpi_c.proofs.Walks.{◌≡◌, sym, subst, refl, ent, id⊢, fact
 use Rattle.std.specs.Prelude.{Option, None, Some}
 use Rattle.rudekpi_c.specs.contracts.handle.Handle as handle
 use Rattle.rudekpi_c.proofs.AsBox.{session_box, parts_of}
-use Rattle.rudekpi_c.proofs.Moving.{moves, some_of}
+use Rattle.rudekpi_c.proofs.OwnershipMoves.{moves, some_of}
 use Rattle.rudekpi_c.specs.contracts.handle.Handle.into_parts.Key.{name as #self}
 use Rattle.rudekpi_c.proofs.handle.Handle.into_parts.Statement as stated
 use Rattle.rudekpi_c.proofs.handle.Handle.into_parts.Code as code

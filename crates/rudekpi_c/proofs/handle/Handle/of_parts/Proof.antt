@@ -3,7 +3,7 @@ use Rattle.rudekpi_c.proofs.Walks.{◌≡◌, refl, emp, id⊢, fact_i, tables, 
 use Rattle.std.specs.Prelude.{Some}
 use Rattle.rudekpi_c.specs.contracts.handle.Handle as handle
 use Rattle.rudekpi_c.proofs.AsBox.{session_box, parts_of}
-use Rattle.rudekpi_c.proofs.Moving.{moves}
+use Rattle.rudekpi_c.proofs.OwnershipMoves.{moves}
 use Rattle.rudekpi_c.specs.contracts.handle.Handle.of_parts.Key.{name as #self}
 use Rattle.rudekpi_c.proofs.handle.Handle.of_parts.Statement as stated
 use Rattle.rudekpi_c.proofs.handle.Handle.of_parts.Code as code

@@ -1,7 +1,7 @@
 use Rattle.std.proofs.Common.{sym, subst}
 use Rattle.rule_machine.specs.Tables.{table_of}
 use Rattle.rudekpi_c.specs.declared.session.Machine.{Machine}
-use Rattle.rudekpi_c.specs.Costed.{GrowsBy}
+use Rattle.rudekpi_c.specs.CostCalls.{GrowsBy}
 use Rattle.rudekpi_c.specs.Session.{stands_at, rules_at}
 use Rattle.rudekpi_c.proofs.session.Session.cost_of.Goals as goal
 

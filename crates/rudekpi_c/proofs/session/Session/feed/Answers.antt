@@ -2,7 +2,7 @@ use Rattle.std.proofs.Common.{◌≡◌, sym, subst}
 use Rattle.rule_machine.specs.Tables.{table_of}
 use Rattle.rudekpi_c.specs.declared.session.Machine.{Machine}
 use Rattle.rudekpi_c.specs.Session.{stands_at, rules_at}
-use Rattle.rudekpi_c.specs.Silenced.{LineSilences}
+use Rattle.rudekpi_c.specs.SilentDrives.{LineSilences}
 use Rattle.rudekpi_c.proofs.session.Session.feed.Goals as goal
 
 pub returns-in-Hh-clause-silent : goal.returns-in-Hh-clause-silent

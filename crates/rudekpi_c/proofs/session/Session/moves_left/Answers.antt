@@ -3,7 +3,7 @@ use Rattle.rule_machine.specs.Network.{node_count}
 use Rattle.rule_machine.specs.Tables.{table_of}
 use Rattle.node_bound.specs.MovesLeft.{moves_left}
 use Rattle.rudekpi_c.specs.declared.session.Machine.{Machine}
-use Rattle.rudekpi_c.specs.Left.{most_of}
+use Rattle.rudekpi_c.specs.MovesLeftCalls.{most_of}
 use Rattle.rudekpi_c.specs.Session.{stands_at, rules_at}
 use Rattle.rudekpi_c.proofs.session.Session.moves_left.Goals as goal
 

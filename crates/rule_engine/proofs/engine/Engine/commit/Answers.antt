@@ -1,6 +1,6 @@
 use Rattle.std.proofs.Common.{All, ◌∙◌, sym, subst}
-use Rattle.machine_laws.specs.Keeps.{IsMoveIn}
-use Rattle.rule_engine.proofs.Committing.{told_moves_in}
+use Rattle.machine_laws.specs.StatePreservation.{IsMoveIn}
+use Rattle.rule_engine.proofs.ReplyMoves.{told_moves_in}
 use Rattle.rule_engine.proofs.engine.Engine.commit.Goals as goal
 
 pub make_moves-requires : goal.make_moves-requires

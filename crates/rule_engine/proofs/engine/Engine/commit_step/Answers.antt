@@ -1,7 +1,7 @@
 use Rattle.std.proofs.Common.{All, ◌∙◌, sym, subst}
 use Rattle.rule_machine.specs.declared.event.Event.TheVariants.{Step}
-use Rattle.machine_laws.specs.Keeps.{IsMoveIn}
-use Rattle.rule_engine.proofs.Committing.{told_moves_in}
+use Rattle.machine_laws.specs.StatePreservation.{IsMoveIn}
+use Rattle.rule_engine.proofs.ReplyMoves.{told_moves_in}
 use Rattle.rule_engine.proofs.engine.Engine.commit_step.Goals as goal
 
 pub make_moves-requires : goal.make_moves-requires

@@ -1,6 +1,6 @@
 use Rattle.std.proofs.Common.{◌∙◌, ap}
 use Rattle.rule_machine.specs.RuleTable.{enabled_names}
-use Rattle.rule_engine.proofs.Again.{members_on}
+use Rattle.rule_engine.proofs.EnabledRefresh.{members_on}
 use Rattle.rule_engine.proofs.engine.Engine.enabled.Goals as goal
 
 pub returns : goal.returns

@@ -1,9 +1,9 @@
 use Rattle.std.proofs.Common.{subst}
-use Rattle.indexed_state.specs.Indexed.{Indexed}
+use Rattle.indexed_state.specs.IndexedViews.{IndexedView}
 use Rattle.rule_machine.specs.State.{IsState}
 use Rattle.machine_laws.specs.Laws.{maximal_from_stable, stable_from_maximal}
-use Rattle.rule_engine.specs.Kept.{AreOn}
-use Rattle.rule_engine.proofs.Again.{quiet_by_count}
+use Rattle.rule_engine.specs.EngineStates.{AreOn}
+use Rattle.rule_engine.proofs.EnabledRefresh.{quiet_by_count}
 use Rattle.rule_engine.proofs.engine.Engine.is_quiet.Goals as goal
 
 pub returns : goal.returns
@@ -11,8 +11,8 @@ returns g c =
     let t = g.R.Rules.table in
     let laws = g.R.Rules.laws in
     let s = c.args.self.now.state in
-    let good : IsState s = subst (λ (n : Indexed). IsState n.state) c.self.view_is c.self.invariant.is_state in
-    let on : AreOn t s c.self.inside.enabled = subst (λ (n : Indexed). AreOn t n.state c.self.inside.enabled) c.self.view_is c.self.invariant.enabled in
+    let good : IsState s = subst (λ (n : IndexedView). IsState n.state) c.self.view_is c.self.invariant.is_state in
+    let on : AreOn t s c.self.inside.enabled = subst (λ (n : IndexedView). AreOn t n.state c.self.inside.enabled) c.self.view_is c.self.invariant.enabled in
     let quiet = quiet_by_count t s c.self.inside.enabled c.count.result on c.count.ensures in
     record {
       quiet = quiet;

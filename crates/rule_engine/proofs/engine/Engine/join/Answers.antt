@@ -1,14 +1,14 @@
 use Rattle.std.proofs.Common.{◌∙◌, ◌+◌, ◌≤◌, IsTrue, ap, sym, subst, arith}
 use Rattle.rule_machine.specs.Network.{present}
 use Rattle.rule_machine.specs.State.{State}
-use Rattle.indexed_state.specs.Indexed.{Indexed}
-use Rattle.rule_engine.proofs.Coming.{joined_present, kept_joined}
+use Rattle.indexed_state.specs.IndexedViews.{IndexedView}
+use Rattle.rule_engine.proofs.JoinedNodes.{joined_present, kept_joined}
 use Rattle.rule_engine.proofs.engine.Engine.join.Goals as goal
 
 pub look_at-requires-clause-has : goal.look_at-requires-clause-has
 look_at-requires-clause-has g c =
     let s : State = c.self.inside.state.state in
-    let within = subst (λ (n : Indexed). c.args.v ≤ n.state.network.size) (sym c.self.view_is) c.requires.within in
+    let within = subst (λ (n : IndexedView). c.args.v ≤ n.state.network.size) (sym c.self.view_is) c.requires.within in
     subst (λ (q : State). IsTrue (present q.network c.args.v)) (sym c.join.ensures)
     (joined_present s.network c.args.v c.self.invariant.is_state.is_network (omega (arith, c.name.ensures.named.0, c.name.ensures.same)) within)
 

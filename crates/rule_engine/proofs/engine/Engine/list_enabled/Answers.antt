@@ -1,5 +1,5 @@
 use Rattle.std.proofs.Common.{◌∙◌}
-use Rattle.rule_engine.proofs.Again.{members_on}
+use Rattle.rule_engine.proofs.EnabledRefresh.{members_on}
 use Rattle.rule_engine.proofs.engine.Engine.list_enabled.Goals as goal
 
 pub enabled_rules-requires : goal.enabled_rules-requires

@@ -1,12 +1,12 @@
 use Rattle.std.proofs.Common.{◌≡◌, ◌++◌, ◌+◌, ap, sym, subst, ◌∙◌, arith}
 use Rattle.rule_machine.specs.State.{IsState}
 use Rattle.rule_machine.specs.Least.{replies_of}
-use Rattle.rule_engine.specs.Applied.{moment_after_all}
-use Rattle.rule_engine.specs.Prepared.{NetView, moment_of}
+use Rattle.rule_engine.specs.EventReplies.{moment_after_all}
+use Rattle.rule_engine.specs.PreparedEvents.{NetView, net_moment}
 use Rattle.std.proofs.lemmas.Bool.{true≢false}
 use Rattle.std.proofs.lemmas.List.{drop_all, append-nil}
 use Rattle.rule_engine.proofs.Moments.{moment_after_more, replies_more, rest_more, run_from, stopped_at, stopped_first, on_err}
-use Rattle.rule_engine.proofs.Scanned.{ok_branch}
+use Rattle.rule_engine.proofs.NodeScans.{ok_branch}
 use Rattle.rule_engine.proofs.net.Net.apply_all.Goals as goal
 
 pub returns-clause-run : goal.returns-clause-run
@@ -15,8 +15,8 @@ returns-clause-run g c =
     let t = g.R.Rules.table in
     let rest = drop_all c.loop-event.event-index c.args.events.now (omega arith) in
     let told : c.from_vec.result ≡ replies_of t c.args.self.now.state c.args.self.now.spent c.args.events.now = c.from_vec.ensures ∙ sym (append-nil c.loop-event.replies.items) ∙ sym (ap (λ l. c.loop-event.replies.items ++ replies_of t c.loop-event.self.state c.loop-event.self.spent l) rest) ∙ c.loop-event.invariant.told in
-    let here : moment_of c.loop-event.self ≡ moment_after_all t (moment_of c.args.self.now) c.args.events.now = sym (ap (moment_after_all t (moment_of c.loop-event.self)) rest) ∙ c.loop-event.invariant.rest in
-    run_from t laws.table (moment_of c.args.self.now) (moment_of c.loop-event.self) (subst (λ (n : NetView). IsState n.state) c.self.view_is c.self.invariant.is_state) c.args.events.now c.from_vec.result told here
+    let here : net_moment c.loop-event.self ≡ moment_after_all t (net_moment c.args.self.now) c.args.events.now = sym (ap (moment_after_all t (net_moment c.loop-event.self)) rest) ∙ c.loop-event.invariant.rest in
+    run_from t laws.table (net_moment c.args.self.now) (net_moment c.loop-event.self) (subst (λ (n : NetView). IsState n.state) c.self.view_is c.self.invariant.is_state) c.args.events.now c.from_vec.result told here
 
 pub loop-event-preserved : goal.loop-event-preserved
 loop-event-preserved g c =
@@ -26,17 +26,17 @@ loop-event-preserved g c =
     let event = c.event-item.result in
     let inv = c.loop-event.invariant in
     record {
-      told = replies_more t (moment_of c.loop-event.self) (moment_of c.apply.new.self) events i event c.loop-event.replies.items c.push.new.self.items _ c.in-Ok.reply c.loop-event-test.true c.event-item.is (c.push.ensures.items ∙ ok_branch _ _ _ _ c.unwrap.ensures) c.in-Ok.ensures.reply c.in-Ok.ensures.state inv.told;
-      rest = rest_more t (moment_of c.loop-event.self) (moment_of c.apply.new.self) _ events i event c.loop-event-test.true c.event-item.is c.in-Ok.ensures.state inv.rest;
-      here = moment_after_more t (moment_of c.args.self.now) (moment_of c.loop-event.self) (moment_of c.apply.new.self) events i event c.loop-event-test.true c.event-item.is inv.here c.in-Ok.ensures.state;
+      told = replies_more t (net_moment c.loop-event.self) (net_moment c.apply.new.self) events i event c.loop-event.replies.items c.push.new.self.items _ c.in-Ok.reply c.loop-event-test.true c.event-item.is (c.push.ensures.items ∙ ok_branch _ _ _ _ c.unwrap.ensures) c.in-Ok.ensures.reply c.in-Ok.ensures.state inv.told;
+      rest = rest_more t (net_moment c.loop-event.self) (net_moment c.apply.new.self) _ events i event c.loop-event-test.true c.event-item.is c.in-Ok.ensures.state inv.rest;
+      here = moment_after_more t (net_moment c.args.self.now) (net_moment c.loop-event.self) (net_moment c.apply.new.self) events i event c.loop-event-test.true c.event-item.is inv.here c.in-Ok.ensures.state;
       count = c.push.ensures.len ∙ ok_branch _ _ _ _ c.unwrap.ensures ∙ ap (λ n. n + 1) inv.count;
       room = omega (arith, c.push.ensures.capacity, inv.room);
     }
 
 pub returns-in-Err-clause-err : goal.returns-in-Err-clause-err
 returns-in-Err-clause-err g c =
-    (c.loop-event.event-index, stopped_at g.R.Rules.table (moment_of c.args.self.now) (moment_of c.loop-event.self) (moment_of c.apply.new.self) c.args.events.now c.loop-event.event-index c.event-item.result c.loop-event-test.true c.event-item.is c.loop-event.invariant.here c.in-Err.ensures.kept c.in-Err.ensures.want)
+    (c.loop-event.event-index, stopped_at g.R.Rules.table (net_moment c.args.self.now) (net_moment c.loop-event.self) (net_moment c.apply.new.self) c.args.events.now c.loop-event.event-index c.event-item.result c.loop-event-test.true c.event-item.is c.loop-event.invariant.here c.in-Err.ensures.kept c.in-Err.ensures.want)
 
 pub returns-in_err-replies-clause-err : goal.returns-in_err-replies-clause-err
 returns-in_err-replies-clause-err g c =
-    on_err c.from_residual.result (0, stopped_first g.R.Rules.table (moment_of c.args.self.now) c.args.events.now (λ none. true≢false (sym (c.in_err-replies.ensures.succeeds none))))
+    on_err c.from_residual.result (0, stopped_first g.R.Rules.table (net_moment c.args.self.now) c.args.events.now (λ none. true≢false (sym (c.in_err-replies.ensures.succeeds none))))

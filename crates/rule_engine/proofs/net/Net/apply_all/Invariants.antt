@@ -1,7 +1,7 @@
 use Rattle.std.proofs.Common.{◌≡◌, ◌++◌, ◌≤◌, drop, take, length, vec_len, vec_capacity}
 use Rattle.rule_machine.specs.Least.{replies_of}
-use Rattle.rule_engine.specs.Applied.{moment_after_all}
-use Rattle.rule_engine.specs.Prepared.{moment_of}
+use Rattle.rule_engine.specs.EventReplies.{moment_after_all}
+use Rattle.rule_engine.specs.PreparedEvents.{net_moment}
 use Rattle.rule_engine.proofs.net.Net.apply_all.Given as goal
 
 -- the replies so far and those to what is left are those to all
@@ -10,8 +10,8 @@ invariant-loop-event g l =
     let t = g.R.Rules.table in
     record {
       told : l.replies.items ++ replies_of t l.self.state l.self.spent (drop l.event-index l.events) ≡ replies_of t l.fn.self.state l.fn.self.spent l.events;
-      rest : moment_after_all t (moment_of l.self) (drop l.event-index l.events) ≡ moment_after_all t (moment_of l.fn.self) l.events;
-      here : moment_of l.self ≡ moment_after_all t (moment_of l.fn.self) (take l.event-index l.events);
+      rest : moment_after_all t (net_moment l.self) (drop l.event-index l.events) ≡ moment_after_all t (net_moment l.fn.self) l.events;
+      here : net_moment l.self ≡ moment_after_all t (net_moment l.fn.self) (take l.event-index l.events);
       count : vec_len l.replies ≡ l.event-index;
       room : length l.events ≤ vec_capacity l.replies;
     }

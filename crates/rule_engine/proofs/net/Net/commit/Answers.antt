@@ -1,9 +1,9 @@
 use Rattle.std.proofs.Common.{◌≡◌, ap, sym, subst, arith}
 use Rattle.rule_machine.specs.Least.{reply_of}
-use Rattle.charge_laws.specs.Charged.{charge_bound}
-use Rattle.rule_engine.specs.Applied.{IsPaid}
-use Rattle.rule_engine.specs.Kept.{moment}
-use Rattle.rule_engine.specs.Prepared.{NetView}
+use Rattle.charge_laws.specs.ChargeWords.{charge_bound}
+use Rattle.rule_engine.specs.EventReplies.{IsWithinBudget}
+use Rattle.rule_engine.specs.EngineStates.{moment}
+use Rattle.rule_engine.specs.PreparedEvents.{NetView}
 use Rattle.rule_machine.specs.Answer.{Answers}
 use Rattle.rule_engine.proofs.Moments.{turn_answers, prepared_is_paid}
 use Rattle.rule_engine.proofs.net.Net.commit.Goals as goal
@@ -22,7 +22,7 @@ invariant_of-self g c =
     let laws = g.R.Rules.laws in
     let t = g.R.Rules.table in
     let weight = g.R.Rules.NODE_WEIGHT in
-    subst (λ n. IsPaid t weight (moment c.commit.new.self.state n)) (sym c.spent_after-self-inside.ensures) (prepared_is_paid t weight laws.table laws.charged _ _ c.self.view_is c.self.invariant c.args.event.now c.args.reply.now c.requires c.commit.new.self.state c.commit.ensures)
+    subst (λ n. IsWithinBudget t weight (moment c.commit.new.self.state n)) (sym c.spent_after-self-inside.ensures) (prepared_is_paid t weight laws.table laws.charged _ _ c.self.view_is c.self.invariant c.args.event.now c.args.reply.now c.requires c.commit.new.self.state c.commit.ensures)
 
 pub returns-clause-machine : goal.returns-clause-machine
 returns-clause-machine g c =

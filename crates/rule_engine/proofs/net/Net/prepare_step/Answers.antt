@@ -3,16 +3,16 @@ use Rattle.rule_machine.specs.declared.event.Event.TheVariants.{Step}
 use Rattle.rule_machine.specs.State.{State}
 use Rattle.rule_machine.specs.Refuse.{step_refusal}
 use Rattle.rule_machine.specs.Least.{reply_of}
-use Rattle.rule_engine.specs.Applied.{IsPaid}
-use Rattle.rule_engine.specs.Kept.{moment}
-use Rattle.rule_engine.specs.Prepared.{NetView, moment_of}
-use Rattle.rule_engine.proofs.Preparing.{engine_prepared, engine_allows}
+use Rattle.rule_engine.specs.EventReplies.{IsWithinBudget}
+use Rattle.rule_engine.specs.EngineStates.{moment}
+use Rattle.rule_engine.specs.PreparedEvents.{NetView, net_moment}
+use Rattle.rule_engine.proofs.PreparedReplies.{engine_prepared, engine_allows}
 use Rattle.rule_engine.proofs.net.Net.prepare_step.Goals as goal
 
 pub invariant_of-self : goal.invariant_of-self
 invariant_of-self g c =
     let done = c.prepare_step.ensures c.self.inside.spent in
-    subst (λ (s : State). IsPaid g.R.Rules.table g.R.Rules.NODE_WEIGHT (moment s c.self.inside.spent)) (sym done.kept) c.self.invariant
+    subst (λ (s : State). IsWithinBudget g.R.Rules.table g.R.Rules.NODE_WEIGHT (moment s c.self.inside.spent)) (sym done.kept) c.self.invariant
 
 pub returns-clause-reply : goal.returns-clause-reply
 returns-clause-reply g c =
@@ -26,7 +26,7 @@ returns-clause-prepared g c =
 pub returns-clause-kept : goal.returns-clause-kept
 returns-clause-kept g c =
     let done = c.prepare_step.ensures c.self.inside.spent in
-    ap (λ s. moment s c.self.inside.spent) done.kept ∙ ap moment_of c.self.view_is
+    ap (λ s. moment s c.self.inside.spent) done.kept ∙ ap net_moment c.self.view_is
 
 pub returns-clause-want : goal.returns-clause-want
 returns-clause-want g c =

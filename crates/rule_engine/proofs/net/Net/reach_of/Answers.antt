@@ -1,8 +1,8 @@
 use Rattle.std.proofs.Common.{IfOk, subst}
 use Rattle.std.proofs.lemmas.Result.{IfOk-weaker}
-use Rattle.rule_engine.specs.Prepared.{NetView}
-use Rattle.rule_engine.specs.Reached.{Spares}
-use Rattle.rule_engine.proofs.Reaching.{spares_others}
+use Rattle.rule_engine.specs.PreparedEvents.{NetView}
+use Rattle.rule_engine.specs.DisturbanceReach.{Spares}
+use Rattle.rule_engine.proofs.ReachLists.{spares_others}
 use Rattle.rule_engine.proofs.net.Net.reach_of.Goals as goal
 
 pub returns-clause-spares : goal.returns-clause-spares

@@ -1,7 +1,7 @@
 use Rattle.std.proofs.Common.{sym, subst}
 use Rattle.rule_machine.specs.State.{State}
-use Rattle.rule_engine.specs.Applied.{IsPaid}
-use Rattle.rule_engine.specs.Kept.{moment}
+use Rattle.rule_engine.specs.EventReplies.{IsWithinBudget}
+use Rattle.rule_engine.specs.EngineStates.{moment}
 use Rattle.rule_engine.proofs.Moments.{beginning_is_paid}
 use Rattle.rule_engine.proofs.net.Net.with_present.Goals as goal
 
@@ -10,4 +10,4 @@ invariant_of-result g c =
     let laws = g.R.Rules.laws in
     let t = g.R.Rules.table in
     let weight = g.R.Rules.NODE_WEIGHT in
-    subst (λ (s : State). IsPaid t weight (moment s 0)) (sym c.in_ok-engine.ensures.ok) (beginning_is_paid t weight laws.charged c.args.nodes c.args.present)
+    subst (λ (s : State). IsWithinBudget t weight (moment s 0)) (sym c.in_ok-engine.ensures.ok) (beginning_is_paid t weight laws.charged c.args.nodes c.args.present)

@@ -1,6 +1,6 @@
 use Rattle.std.proofs.Common.{◌∙◌, ap}
-use Rattle.rule_engine.specs.Prepared.{NetView}
-use Rattle.rule_engine.specs.Reached.{would_reach}
+use Rattle.rule_engine.specs.PreparedEvents.{NetView}
+use Rattle.rule_engine.specs.DisturbanceReach.{would_reach}
 use Rattle.rule_engine.proofs.net.Net.would_reach.Goals as goal
 
 pub returns : goal.returns

@@ -5,8 +5,8 @@ use Rattle.rule_machine.specs.State.{pointer, first_suitor, suits}
 use Rattle.rule_machine.specs.Network.{linked}
 use Rattle.rule_machine.specs.RuleTable.{first_open, is_open}
 use Rattle.rule_machine.specs.HsuHuang.{hsu_huang, hsu_huang_opens}
-use Rattle.rule_set.specs.Target.{target_at}
-use Rattle.rules_hsu_huang.specs.Target.{held_target, free_target, free_wish}
+use Rattle.rules_api.specs.Target.{target_at}
+use Rattle.rules_hsu_huang.specs.Target.{held_target, hsu_huang_free_target, hsu_huang_free_wish}
 use Rattle.rules_hsu_huang.proofs.hsu_huang.HsuHuangRules.target.Goals as goal
 use Rattle.rules_hsu_huang.proofs.hsu_huang.HsuHuangRules.target.Goals.{then-is_suitor, else-is_suitor+then-is_none, else-is_suitor+else-is_none}
 
@@ -22,14 +22,14 @@ returns-in-None g c =
     let null : pointer s c.args.v ≡ None = sym c.in-None-None.ensures in
     let suitor : first_suitor s c.args.v ≡ None = sym (c.in-None.ensures ∙ ap (first_suitor s) c.requires.at) in
     let near : c.first_open.result ≡ first_open hsu_huang_opens s c.args.v = c.first_open.ensures ∙ ap₂ (λ o v. first_open o s v) c.requires.opens c.requires.at in
-    sym (ap (target_at hsu_huang s c.args.v) c.in-None-None.is-1 ∙ free_target s c.args.v null c.requires.enabled ∙ ap₂ (λ a b. Some (option_or a b)) suitor (sym near))
+    sym (ap (target_at hsu_huang s c.args.v) c.in-None-None.is-1 ∙ hsu_huang_free_target s c.args.v null c.requires.enabled ∙ ap₂ (λ a b. Some (option_or a b)) suitor (sym near))
 
 pub returns-in-Some : goal.returns-in-Some
 returns-in-Some g c =
     let s = g.L.Local.state c.args.local.now in
     let null : pointer s c.args.v ≡ None = sym c.in-None-None.ensures in
     let suitor : first_suitor s c.args.v ≡ Some c.in-Some.w = sym (c.in-Some.ensures ∙ ap (first_suitor s) c.requires.at) in
-    sym (ap (target_at hsu_huang s c.args.v) c.in-None-None.is-1 ∙ free_target s c.args.v null c.requires.enabled ∙ ap (λ a. Some (option_or a (first_open hsu_huang_opens s c.args.v))) suitor)
+    sym (ap (target_at hsu_huang s c.args.v) c.in-None-None.is-1 ∙ hsu_huang_free_target s c.args.v null c.requires.enabled ∙ ap (λ a. Some (option_or a (first_open hsu_huang_opens s c.args.v))) suitor)
 
 pub returns-then-is_open : goal.returns-then-is_open
 returns-then-is_open g c =
@@ -47,4 +47,4 @@ returns-then-is_open g c =
           )
       | else-is_suitor+else-is_none w ↦ absurd (false≢true (sym w.if-is_none.false ∙ sym w.value-is ∙ c.if-is_open.true))
     ] in
-    sym (ap (target_at hsu_huang s v) c.in-None-Some.is-1 ∙ free_wish s v x c.requires.state null c.requires.enabled ∙ cond-true _ _ _ passes ∙ ap Some (sym c.in-None-Some.is-1))
+    sym (ap (target_at hsu_huang s v) c.in-None-Some.is-1 ∙ hsu_huang_free_wish s v x c.requires.state null c.requires.enabled ∙ cond-true _ _ _ passes ∙ ap Some (sym c.in-None-Some.is-1))

@@ -1,7 +1,7 @@
 use Rattle.std.proofs.Common.{◌≡◌, length, subst, arith}
-use Rattle.line_run.specs.Line.{progress}
+use Rattle.run_session.specs.Line.{progress}
 use Rattle.script_run.specs.Line.{LineGrows}
-use Rattle.script_run.proofs.Shifting.{cut_back}
+use Rattle.script_run.proofs.TextShift.{cut_back}
 use Rattle.script_run.proofs.runner.Run.carry_out.Goals as goal
 
 pub returns-in-Err-clause-ends : goal.returns-in-Err-clause-ends

@@ -1,9 +1,9 @@
 use Rattle.std.proofs.Common.{◌≡◌, ◌∙◌, Option, Ok, length, refl, sym, ap, subst, arith}
 use Rattle.std.specs.Prelude.{IsNone}
-use Rattle.script_run.specs.declared.halt.Halt.{Halt}
-use Rattle.line_run.specs.Line.{progress}
-use Rattle.script_run.proofs.Running.{OnErr-holds}
-use Rattle.script_run.proofs.Standing.{take_short, Came-unbegun, Came-none, Came-handed, Came-began, Came-unread, Came-whole, Came-last, Came-piece, Took-goes_on, Took-stops, Took-fails}
+use Rattle.script_run.specs.declared.halt.RunEnd.{RunEnd}
+use Rattle.run_session.specs.Line.{progress}
+use Rattle.script_run.proofs.RunEnds.{OnErr-holds}
+use Rattle.script_run.proofs.RunProgress.{take_short, Came-unbegun, Came-none, Came-handed, Came-began, Came-unread, Came-whole, Came-last, Came-piece, Took-goes_on, Took-stops, Took-fails}
 use Rattle.script_run.proofs.runner.Run.carry_out_all.Goals as goal
 
 pub returns-in_default-clause-ok : goal.returns-in_default-clause-ok
@@ -55,7 +55,7 @@ returns-in-Some-clause-ok g c =
     let run = c.loop-reading.self.line in
     let handed = Came-handed c.loop-reading.invariant.stands (progress run.rules run.recorder c.hand_over_all.new.text.items) (g.Out.Write.contents c.hand_over_all.new.writer.writer) refl refl refl c.in_ok-hand_over_all.ensures.ok in
     let took = Came-piece handed _ _ _ _ _ _ _ _ _ _ (c.read_on.ensures.room ∙ c.deref_mut.ensures.len) c.deref-in-loop-reading.ensures.value c.in-Ok-read_on.ensures.bytes c.loop-reading.invariant.limit c.carry_out_piece.ensures.piece in
-    Took-stops took (c.in_ok-end.was ∙ ap (λ (o : Option Halt). Ok o) c.in-Some.is)
+    Took-stops took (c.in_ok-end.was ∙ ap (λ (o : Option RunEnd). Ok o) c.in-Some.is)
 
 pub loop-reading-preserved : goal.loop-reading-preserved
 loop-reading-preserved g c =
@@ -65,10 +65,10 @@ loop-reading-preserved g c =
     let took = Came-piece handed _ _ _ _ _ _ _ _ _ _ (c.read_on.ensures.room ∙ c.deref_mut.ensures.len) c.deref-in-loop-reading.ensures.value bytes.bytes c.loop-reading.invariant.limit c.carry_out_piece.ensures.piece in
     record {
       limit = c.carry_out_piece.ensures.limit ∙ c.loop-reading.invariant.limit;
-      stands = Took-goes_on took (c.in_ok-end.was ∙ ap (λ (o : Option Halt). Ok o) c.in_default-2.is);
+      stands = Took-goes_on took (c.in_ok-end.was ∙ ap (λ (o : Option RunEnd). Ok o) c.in_default-2.is);
       room =
           let full : length c.read_on.new.chunk ≡ 65536 = grind arith in
-          let bound = c.in_ok-end.ensures.room (subst (λ (o : Option Halt). IsNone o) (sym c.in_default-2.is) refl) in
+          let bound = c.in_ok-end.ensures.room (subst (λ (o : Option RunEnd). IsNone o) (sym c.in_default-2.is) refl) in
           omega (arith, bound, bytes.count.1, c.loop-reading.invariant.room, take_short c.in-Ok-read_on.len c.deref-in-loop-reading.result.now, bytes.few, full);
       chunk = grind arith;
     }

@@ -1,6 +1,6 @@
 use Rattle.std.proofs.Common.{◌≡◌, ◌≤◌, ◌+◌, ◌-◌, ◌*◌, length}
-use Rattle.line_run.specs.Line.{progress}
-use Rattle.script_run.proofs.Standing.{Came}
+use Rattle.run_session.specs.Line.{progress}
+use Rattle.script_run.proofs.RunProgress.{Came}
 use Rattle.script_run.proofs.runner.Run.carry_out_all.Given as goal
 
 abbrev pub invariant-loop-reading : goal.invariant-loop-reading

@@ -1,5 +1,5 @@
-use Rattle.line_run.specs.Line.{progress}
-use Rattle.script_run.proofs.Shifting.{line_grows}
+use Rattle.run_session.specs.Line.{progress}
+use Rattle.script_run.proofs.TextShift.{line_grows}
 use Rattle.script_run.proofs.runner.Run.carry_out_line.Goals as goal
 
 pub returns-clause-ends : goal.returns-clause-ends

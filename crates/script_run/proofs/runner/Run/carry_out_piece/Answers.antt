@@ -1,7 +1,7 @@
 use Rattle.std.proofs.Common.{◌≡◌, ◌∙◌, ◌+◌, ◌++◌, [], length, refl, ap, subst, arith}
-use Rattle.line_run.specs.Line.{progress}
-use Rattle.script_run.specs.Line.{LineEnds}
-use Rattle.script_run.proofs.Standing.{moved_on, Stands-line, Stands-handed, Stands-stopped, Stands-memory, Stands-long, PieceEnds-failed}
+use Rattle.run_session.specs.Line.{progress}
+use Rattle.script_run.specs.Line.{LineEndsWhole}
+use Rattle.script_run.proofs.RunProgress.{moved_on, Stands-line, Stands-handed, Stands-stopped, Stands-memory, Stands-long, PieceEnds-failed}
 use Rattle.script_run.proofs.runner.Run.carry_out_piece.Goals as goal
 
 pub returns-in-Ok-Some-clause-piece : goal.returns-in-Ok-Some-clause-piece
@@ -18,7 +18,7 @@ returns-in-Err-clause-piece g c start old read h =
     let after = c.carry_out_ended.new.self.line in
     let line = reading.begun.items ++ c.in-Some.end.now in
     Stands-memory (c.loop-end.invariant.stands start old read h)
-    (subst (LineEnds g.R.Rules.table run.recorder.limit (reading.lines + 1) line (progress run.rules run.recorder run.text.items) (progress after.rules after.recorder after.text.items)) c.in-Err.is c.carry_out_ended.ensures.ends)
+    (subst (LineEndsWhole g.R.Rules.table run.recorder.limit (reading.lines + 1) line (progress run.rules run.recorder run.text.items) (progress after.rules after.recorder after.text.items)) c.in-Err.is c.carry_out_ended.ensures.ends)
 
 pub returns-in_err-hand_over-clause-piece : goal.returns-in_err-hand_over-clause-piece
 returns-in_err-hand_over-clause-piece g c start old read h =

@@ -1,7 +1,7 @@
 use Rattle.std.proofs.Common.{◌≡◌, ◌≤◌, ◌+◌, ℕ, List, Option, length}
 use Rattle.script_text.specs.Script.{Progress}
-use Rattle.line_run.specs.Line.{progress}
-use Rattle.script_run.specs.Reading.{Stands}
+use Rattle.run_session.specs.Line.{progress}
+use Rattle.script_run.specs.ReadProgress.{IsReadUpTo}
 use Rattle.script_run.proofs.runner.Run.carry_out_piece.Given as goal
 
 abbrev pub invariant-loop-end : goal.invariant-loop-end
@@ -12,8 +12,8 @@ invariant-loop-end g l =
     let run = l.self.line in record {
       limit : run.recorder.limit ≡ begun.recorder.limit;
       stands : (start : Progress) (old : Option (List ℕ)) (read : List ℕ)
-          → Stands g.R.Rules.table begun.recorder.limit start old read from.begun.items l.piece from.lines (progress begun.rules begun.recorder begun.text.items) (known l.fn.writer.writer)
-          → Stands g.R.Rules.table begun.recorder.limit start old read l.reading.begun.items l.rest l.reading.lines (progress run.rules run.recorder run.text.items) (known l.writer.writer);
+          → IsReadUpTo g.R.Rules.table begun.recorder.limit start old read from.begun.items l.piece from.lines (progress begun.rules begun.recorder begun.text.items) (known l.fn.writer.writer)
+          → IsReadUpTo g.R.Rules.table begun.recorder.limit start old read l.reading.begun.items l.rest l.reading.lines (progress run.rules run.recorder run.text.items) (known l.writer.writer);
       room : l.reading.lines + length l.reading.begun.items + length l.rest ≤ from.lines + length from.begun.items + length l.piece;
     }
 

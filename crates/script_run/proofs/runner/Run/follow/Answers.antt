@@ -1,5 +1,5 @@
-use Rattle.line_run.specs.Line.{progress}
-use Rattle.script_run.proofs.Shifting.{command_grows}
+use Rattle.run_session.specs.Line.{progress}
+use Rattle.script_run.proofs.TextShift.{command_grows}
 use Rattle.script_run.proofs.runner.Run.follow.Goals as goal
 
 pub returns-in_default-clause-ends : goal.returns-in_default-clause-ends

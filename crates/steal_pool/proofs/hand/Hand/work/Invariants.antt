@@ -1,6 +1,6 @@
 use Rattle.std.proofs.Common.{◌≡◌, ◌-◌, ◌≤◌, length, vec_capacity}
-use Rattle.place_deque.specs.Ends.{end_hold, end_taken}
-use Rattle.rule_engine.specs.Choosing.{verdicts_of}
+use Rattle.index_deque.specs.Ends.{end_hold, end_taken}
+use Rattle.rule_engine.specs.ChoiceMoves.{verdicts_of}
 use Rattle.steal_pool.specs.Hands.{hand_hold, AreOf}
 use Rattle.steal_pool.specs.Once.{StandOnce}
 use Rattle.steal_pool.proofs.hand.Hand.work.Given as goal

@@ -4,14 +4,14 @@ use Rattle.rule_machine.specs.declared.reply.Reply.{Reply}
 use Rattle.rule_machine.specs.Run.{Entry, Moment, moment_after, open_at}
 use Rattle.step_log.specs.declared.receipt.Receipt.{Receipt}
 use Rattle.step_log.specs.Epochs.{begun_by, ended_by, of_run}
-use Rattle.step_log.specs.Held.{Held, IsReady}
-use Rattle.step_log.proofs.Running.{next_is_journal}
+use Rattle.step_log.specs.JournalViews.{JournalView, IsNextReceipt}
+use Rattle.step_log.proofs.LogGrowth.{next_is_journal}
 use Rattle.step_log.proofs.journal.Journal.commit.Goals as goal
 
 pub turn-requires : goal.turn-requires
 turn-requires g c = λ accepted.
     let t = g.R.Rules.table in
-    let ready = subst (λ (held : Held). IsReady t held c.args.prepared) (sym c.self.view_is) c.requires in
+    let ready = subst (λ (held : JournalView). IsNextReceipt t held c.args.prepared) (sym c.self.view_is) c.requires in
     let told = c.reply.ensures.value ∙ ap (λ (x : Entry). x.1) c.parts-entry.ensures.entry in
     omega (arith, ready.epochs (sym told ∙ accepted))
 
@@ -24,7 +24,7 @@ invariant_of-self g c =
     let begun = inside.epochs.begun in
     let now : Moment = record { state = inside.net.state; spent = inside.net.spent } in
     let after : Moment = record { state = c.commit.new.self.state; spent = c.commit.new.self.spent } in
-    let ready = subst (λ (held : Held). IsReady t held c.args.prepared) (sym c.self.view_is) c.requires in
+    let ready = subst (λ (held : JournalView). IsNextReceipt t held c.args.prepared) (sym c.self.view_is) c.requires in
     let event = c.args.prepared.event in
     let reply = c.args.prepared.reply in
     let entry : Entry = (event, reply) in

@@ -2,15 +2,15 @@ use Rattle.std.proofs.Common.{subst}
 use Rattle.std.specs.Prelude.{IfOk}
 use Rattle.std.proofs.lemmas.Result.{IfOk-weaker}
 use Rattle.step_log.specs.Epochs.{AreEpochs}
-use Rattle.step_log.specs.Held.{Held, kept_of}
-use Rattle.step_log.proofs.Telling.{told_epochs, told_bounded}
+use Rattle.step_log.specs.JournalViews.{JournalView, kept_of}
+use Rattle.step_log.proofs.EpochPaths.{told_epochs, told_bounded}
 use Rattle.step_log.proofs.journal.Journal.epochs.Goals as goal
 
 pub returns-clause-epochs : goal.returns-clause-epochs
 returns-clause-epochs g c =
     let t = g.R.Rules.table in
     let weight = g.R.Rules.NODE_WEIGHT in
-    subst (λ (held : Held). IfOk c.list.result (λ epochs. AreEpochs t weight (kept_of held) epochs.items)) c.self.view_is
+    subst (λ (held : JournalView). IfOk c.list.result (λ epochs. AreEpochs t weight (kept_of held) epochs.items)) c.self.view_is
     (IfOk-weaker c.list.result _ _ (λ epochs are. told_epochs t weight _ _ _ c.self.invariant epochs.items are) c.list.ensures)
 
 pub returns-clause-bound : goal.returns-clause-bound

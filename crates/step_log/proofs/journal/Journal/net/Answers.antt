@@ -1,8 +1,8 @@
 use Rattle.std.proofs.Common.{subst}
-use Rattle.step_log.specs.Held.{Held, kept_of}
+use Rattle.step_log.specs.JournalViews.{JournalView, kept_of}
 use Rattle.step_log.specs.Headline.{Upholds}
 use Rattle.step_log.proofs.Wholes.{held_is_log}
-use Rattle.step_log.proofs.Upheld.{upheld}
+use Rattle.step_log.proofs.HeadlineProof.{upheld}
 use Rattle.step_log.proofs.journal.Journal.net.Goals as goal
 
 pub returns-clause-upheld : goal.returns-clause-upheld
@@ -10,7 +10,7 @@ returns-clause-upheld g c =
     let laws = g.R.Rules.laws in
     let t = g.R.Rules.table in
     let weight = g.R.Rules.NODE_WEIGHT in
-    subst (λ (held : Held). Upholds t weight (kept_of held)) c.self.view_is (upheld t weight laws.table laws.charged laws.quiet_is_stable laws.stable_is_quiet _ c.self.invariant.is_kept)
+    subst (λ (held : JournalView). Upholds t weight (kept_of held)) c.self.view_is (upheld t weight laws.table laws.charged laws.quiet_is_stable laws.stable_is_quiet _ c.self.invariant.is_kept)
 
 pub returns-clause-log : goal.returns-clause-log
 returns-clause-log g c = held_is_log g.R.Rules.table g.R.Rules.NODE_WEIGHT _ _ c.self.view_is c.self.invariant.is_kept

@@ -2,9 +2,9 @@ use Rattle.std.proofs.Common.{ℕ, ap, ap₂, ◌∙◌}
 use Rattle.rule_machine.specs.declared.reply.Reply.{Reply}
 use Rattle.rule_machine.specs.Least.{reply_of}
 use Rattle.log_entry.specs.Kinds.{fits}
-use Rattle.step_log.specs.Held.{Held}
-use Rattle.step_log.specs.Kept.{Kept}
-use Rattle.step_log.proofs.Running.{next_fits}
+use Rattle.step_log.specs.JournalViews.{JournalView}
+use Rattle.step_log.specs.RetainedLogs.{RetainedLog}
+use Rattle.step_log.proofs.LogGrowth.{next_fits}
 use Rattle.step_log.proofs.journal.Journal.prepare.Goals as goal
 
 pub new-requires : goal.new-requires
@@ -17,7 +17,7 @@ returns-clause-receipt g c =
     let t = g.R.Rules.table in
     let event = c.args.event in
     let replies = c.in_ok-reply.ensures.reply
-    ∙ ap (λ (held : Held). reply_of t held.state held.spent event) c.self.view_is
-    ∙ ap (λ (kept : Kept). reply_of t kept.state kept.spent event) c.make_room.ensures.kept in
+    ∙ ap (λ (held : JournalView). reply_of t held.state held.spent event) c.self.view_is
+    ∙ ap (λ (kept : RetainedLog). reply_of t kept.state kept.spent event) c.make_room.ensures.kept in
     c.in_ok-new.ensures
     ∙ ap₂ (λ (n : ℕ) (reply : Reply). record { seq = n; event = event; reply = reply }) c.in_ok-seq.ensures.number replies

@@ -1,7 +1,7 @@
 use Rattle.std.proofs.Common.{ap, ◌∙◌}
 use Rattle.rule_machine.specs.declared.event.Event.TheVariants.{Step}
 use Rattle.log_entry.specs.Kinds.{fits}
-use Rattle.step_log.proofs.Running.{next_fits}
+use Rattle.step_log.proofs.LogGrowth.{next_fits}
 use Rattle.step_log.proofs.journal.Journal.prepare_step.Goals as goal
 
 pub new-requires : goal.new-requires

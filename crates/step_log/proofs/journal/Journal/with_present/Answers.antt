@@ -1,11 +1,11 @@
 use Rattle.std.proofs.Common.{◌≤◌, List, None, ap₂, subst, sym, arith}
-use Rattle.rule_machine.specs.declared.base.Start.{Start}
-use Rattle.rule_machine.specs.declared.base.Start.TheVariants.{At}
+use Rattle.rule_machine.specs.declared.base.EpochStart.{EpochStart}
+use Rattle.rule_machine.specs.declared.base.EpochStart.TheVariants.{At}
 use Rattle.rule_machine.specs.Run.{Entry, Moment}
-use Rattle.step_log.specs.Held.{IsJournal}
-use Rattle.step_log.specs.Kept.{Kept}
+use Rattle.step_log.specs.JournalViews.{IsJournal}
+use Rattle.step_log.specs.RetainedLogs.{RetainedLog}
 use Rattle.step_log.specs.Log.{max_entries}
-use Rattle.step_log.proofs.Running.{opening_is_journal}
+use Rattle.step_log.proofs.LogGrowth.{opening_is_journal}
 use Rattle.step_log.proofs.journal.Journal.with_present.Goals as goal
 
 pub invariant_of-result : goal.invariant_of-result
@@ -18,5 +18,5 @@ invariant_of-result g c =
     let first = c.args.present in
     let within : limit ≤ max_entries = grind (arith, c.min.ensures) in
     let opened = opening_is_journal t weight c.args.nodes first limit made.small within over c.new-2.ensures.over in
-    subst (λ (s : Start). IsJournal t weight (record { state = c.in_ok-with_present.field-0.state; spent = c.in_ok-with_present.field-0.spent; base = None; entries = c.new.result.items; limit = limit; present = first }) over s) (sym c.new-2.ensures.begun)
-    (subst (λ (k : Kept). IsJournal t weight k over (At 0)) (sym (ap₂ (λ (m : Moment) (es : List Entry). record { state = m.state; spent = m.spent; base = None; entries = es; limit = limit; present = first }) made.ok c.new.ensures.items)) opened)
+    subst (λ (s : EpochStart). IsJournal t weight (record { state = c.in_ok-with_present.field-0.state; spent = c.in_ok-with_present.field-0.spent; base = None; entries = c.new.result.items; limit = limit; present = first }) over s) (sym c.new-2.ensures.begun)
+    (subst (λ (k : RetainedLog). IsJournal t weight k over (At 0)) (sym (ap₂ (λ (m : Moment) (es : List Entry). record { state = m.state; spent = m.spent; base = None; entries = es; limit = limit; present = first }) made.ok c.new.ensures.items)) opened)

@@ -4,7 +4,7 @@ use Rattle.rule_machine.specs.Least.{reply_of}
 use Rattle.rule_machine.specs.Run.{Moment, moment_after}
 use Rattle.line_text.specs.EntryText.{entry_line}
 use Rattle.step_log.specs.Recording.{Recording}
-use Rattle.step_log.proofs.Recording.{entered_is_recording}
+use Rattle.step_log.proofs.RecordedEvents.{entered_is_recording}
 use Rattle.step_log.proofs.recorder.Recorder.log_entry.Goals as goal
 
 pub invariant_of-self-2 : goal.invariant_of-self-2

@@ -9,5 +9,5 @@ use Rattle.suitor_index.proofs.index.SuitorIndex.last_open_above.Goals as goal
 pub returns-then-tally-eq0 : goal.returns-then-tally-eq0
 returns-then-tally-eq0 g c =
     let s : State = c.args.self.now.state in
-    let counted = open_above_counted g.R.Rules.ABOVE g.R.Rules.table.opens s c.args.v c.tally.result (sym c.ABOVE.ensures ∙ c.if-ABOVE.true) c.tally.ensures.value in
+    let counted = open_above_counted g.R.Rules.COURTS_HIGHER_ONLY g.R.Rules.table.opens s c.args.v c.tally.result (sym c.COURTS_HIGHER_ONLY.ensures ∙ c.if-COURTS_HIGHER_ONLY.true) c.tally.ensures.value in
     sym (count_none (λ w. is_open g.R.Rules.table.opens s w && nat_lt c.args.v w) (reverse (neighbours s.network c.args.v)) (sym counted ∙ c.if-tally-eq0.true))

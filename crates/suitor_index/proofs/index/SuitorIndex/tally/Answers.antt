@@ -2,18 +2,18 @@ use Rattle.std.proofs.Common.{◌∙◌, ◌<◌, IsTrue, ap, arith, subst, sym}
 use Rattle.std.proofs.lemmas.List.{get_or_read_under}
 use Rattle.machine_laws.specs.Neighbours.{present_range}
 use Rattle.rule_machine.specs.Network.{present}
-use Rattle.net_state.specs.Held.{Held}
-use Rattle.suitor_index.specs.Tallies.{nothing, tally_at, tally_of}
+use Rattle.net_state.specs.StateViews.{StateView}
+use Rattle.suitor_index.specs.Tallies.{empty_tally, tally_at, tally_of}
 use Rattle.suitor_index.proofs.index.SuitorIndex.tally.Goals as goal
 
 pub returns-clause-value : goal.returns-clause-value
 returns-clause-value g c =
-    let n : Held = c.self.inside.net in
+    let n : StateView = c.self.inside.net in
     let ts = c.self.inside.tallies in
-    let here = subst (λ (h : Held). IsTrue (present h.state.network c.args.v)) (sym c.self.view_is) c.requires in
+    let here = subst (λ (h : StateView). IsTrue (present h.state.network c.args.v)) (sym c.self.view_is) c.requires in
     let within = present_range n.state.network c.args.v here in
     let inside : c.place.result < ts.len = omega (arith, within.1, c.self.invariant.index.places, c.place.ensures.same, ts.ok.0) in
-    get_or_read_under ts.items c.place.result ts.len c.index.result.now nothing c.index.ensures inside ts.ok.0
+    get_or_read_under ts.items c.place.result ts.len c.index.result.now empty_tally c.index.ensures inside ts.ok.0
     ∙ ap (tally_of ts.items) c.place.ensures.same
     ∙ c.self.invariant.index.counted c.args.v here
-    ∙ ap (λ (h : Held). tally_at g.R.Rules.ABOVE g.R.Rules.table.opens h.state c.args.v) c.self.view_is
+    ∙ ap (λ (h : StateView). tally_at g.R.Rules.COURTS_HIGHER_ONLY g.R.Rules.table.opens h.state c.args.v) c.self.view_is

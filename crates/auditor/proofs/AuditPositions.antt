@@ -1,0 +1,238 @@
+-- How far an audit is, part by part.
+use Rattle.std.proofs.Common.{◌≡◌, ℕ, ◌+◌, ◌≤◌, inr, List, [], ◌∷◌, ◌++◌, Option, Some, Err, take, sum_by, refl, sym, ap, subst, ◌∙◌, append_assoc, append-nil, arith}
+use Rattle.std.proofs.lemmas.List.{length-append}
+use Rattle.std.proofs.lemmas.List.Sums.{sum_by-append}
+use Rattle.rule_machine.specs.declared.base.Base.{Base}
+use Rattle.rule_machine.specs.declared.rules.RuleSet.{RuleSet}
+use Rattle.rule_machine.specs.State.{State}
+use Rattle.rule_machine.specs.Base.{LogPart, EntryPart, BasePart, NumberedMoment, base_of, entries_in}
+use Rattle.rule_machine.specs.Run.{Entry}
+use Rattle.rule_machine.specs.Tables.{table_of}
+use Rattle.line_text.specs.BaseText.{base_head, base_text}
+use Rattle.line_text.specs.EntryText.{header_text, header_line, entry_text}
+use Rattle.byte_streams.specs.Lines.{first_line}
+use Rattle.entry_grammar.specs.Spelling.{SpellsHeader}
+use Rattle.entry_grammar.specs.BaseLines.{base_lines}
+use Rattle.entry_grammar.proofs.BaseOnce.{base_text_is}
+use Rattle.byte_streams.proofs.FirstLines.{first_line-splits}
+use Rattle.auditor.specs.declared.damage.Damage.TheVariants.{BadHeader, NotALine, OutOfOrder, NotTheMachines, BadBase}
+use Rattle.auditor.specs.declared.damage.JudgeFault.{JudgeFault}
+use Rattle.auditor.specs.declared.damage.JudgeFault.TheVariants.{Damaged, Memory}
+use Rattle.auditor.specs.declared.summary.Summary.{Summary}
+use Rattle.auditor.specs.Parts.{Opening, Opens, opening_text, size_of}
+use Rattle.auditor.specs.Transcript.{IsTranscript, NextPart, disturbances_in, reply_moves}
+use Rattle.auditor.specs.Damage.{BeginsWithTranscript, TranscriptPrefix, BeginsBase, IsLineBehind, HasNoEntry}
+use Rattle.auditor.specs.Position.{Position, stand_of, position_at, counted_more, counted_part, GoodLine, BadNumber, BadReply, LineJudged, IsFurther}
+use Rattle.auditor.specs.AcceptedRuns.{Counts, IsAccepted, IsPositionAfter}
+use Rattle.auditor.specs.EntryWindows.{IsMetBehind}
+use Rattle.auditor.proofs.LineCounts.{PartAt}
+use Rattle.auditor.proofs.Steps.{follows_more}
+
+-- ---- counts
+
+sum_by-push : (f : Entry → ℕ) (log : List Entry) (entry : Entry) → sum_by f (log ++ entry ∷ []) ≡ sum_by f log + f entry
+sum_by-push f log entry = sum_by-append f log (entry ∷ []) ∙ omega arith
+
+pub more_counts : (c d : Summary) (log : List Entry) (entry : Entry) → Counts c log → d ≡ counted_more c entry.1 → Counts d (log ++ entry ∷ [])
+more_counts c d log entry counts is =
+    let l = length-append log (entry ∷ []) in
+    let e = sum_by-push (λ (x : Entry). disturbances_in x.1) log entry in
+    let m = sum_by-push (λ (x : Entry). reply_moves x.1) log entry in
+    record {
+      entries = ap (λ (s : Summary). s.entries) is ∙ omega (arith, counts.entries, l);
+      epochs = ap (λ (s : Summary). s.epochs) is ∙ omega (arith, counts.epochs, e);
+      moves = ap (λ (s : Summary). s.moves) is ∙ omega (arith, counts.moves, m);
+    }
+
+-- the entries of a part
+abbrev pub entries_of : LogPart → List Entry
+entries_of (EntryPart entry) = entry ∷ []
+entries_of (BasePart base) = []
+
+pub entries_add : (log : List LogPart) (part : LogPart) → entries_in (log ++ part ∷ []) ≡ entries_in log ++ entries_of part
+entries_add [] (EntryPart entry) = refl
+entries_add [] (BasePart base) = refl
+entries_add (EntryPart first ∷ log) part = ap (λ (l : List Entry). first ∷ l) (entries_add log part)
+entries_add (BasePart base ∷ log) part = entries_add log part
+
+pub part_counts : (c d : Summary) (log : List Entry) (part : LogPart) → Counts c log → d ≡ counted_part c part → Counts d (log ++ entries_of part)
+part_counts c d log (EntryPart entry) counts is = more_counts c d log entry counts is
+part_counts c d log (BasePart base) counts is =
+    subst (λ (s : Summary). Counts s (log ++ [])) (sym is) (subst (Counts c) (sym (append-nil log)) counts)
+
+-- ---- the beginning
+
+abbrev pub opened_follows : (bytes rest : List ℕ) (rules : RuleSet) (opening : Opening) (start : NumberedMoment) → Opens rules opening start → start.count ≤ 16777216 → bytes ≡ opening_text rules opening ++ rest → BeginsWithTranscript bytes rules [] start rest
+opened_follows bytes rest rules opening start opens few splits = record {
+  opening = opening;
+  good = opening_text rules opening;
+  transcript = record {
+    start = start;
+    opens = opens;
+    text = sym (append-nil (opening_text rules opening));
+    parts = tt;
+    not_too_many = few;
+    passes = refl;
+  };
+  splits = splits;
+}
+
+pub header_splits : (bytes line rest : List ℕ) (rules : RuleSet) (size count : ℕ) → first_line bytes ≡ Some (line, rest) → SpellsHeader line rules size count → bytes ≡ header_line rules size count ++ rest
+header_splits bytes line rest rules size count cut spells =
+    first_line-splits bytes line rest cut ∙ ap (λ (z : List ℕ). z ++ 10 ∷ rest) spells.is ∙ sym (append_assoc (header_text rules size count) (10 ∷ []) rest)
+
+pub base_splits : (bytes rest behind : List ℕ) (rules : RuleSet) (size : ℕ) (base : Base) → first_line bytes ≡ Some (base_head rules size, rest) → rest ≡ base_lines base ++ behind → bytes ≡ base_text rules size base ++ behind
+base_splits bytes rest behind rules size base cut is =
+    let head = base_head rules size in
+    first_line-splits bytes head rest cut
+    ∙ ap (λ (z : List ℕ). head ++ 10 ∷ z) is
+    ∙ sym (append_assoc head (10 ∷ []) (base_lines base ++ behind))
+    ∙ sym (append_assoc (head ++ 10 ∷ []) (base_lines base) behind)
+    ∙ ap (λ (z : List ℕ). z ++ behind) (sym (base_text_is rules size base))
+
+pub opened_reached : (bytes : List ℕ) (rules : RuleSet) (size : ℕ) (p : Position) (rest : List ℕ) (start : NumberedMoment) (f : BeginsWithTranscript bytes rules [] start rest) → size_of f.opening ≡ size → p ≡ position_at start → IsPositionAfter bytes rules size p rest
+opened_reached bytes rules size p rest start f size_is opening =
+    subst (λ (q : Position). IsPositionAfter bytes rules size q rest) (sym opening) (record {
+      log = [];
+      follows = f;
+      size_is = size_is;
+      counts = record { entries = refl; epochs = refl; moves = refl };
+    })
+
+-- ---- one more part
+
+abbrev pub reached_more : (bytes : List ℕ) (rules : RuleSet) (size : ℕ) (p q : Position) (rest behind : List ℕ) → IsPositionAfter bytes rules size p rest → IsFurther rules size p rest q behind → IsPositionAfter bytes rules size q behind
+reached_more bytes rules size p q rest behind r further =
+    let part = further.part in
+    let comes = subst (λ (n : ℕ). NextPart rules n (stand_of p) rest part (stand_of q) behind) (sym r.size_is) further.comes in
+    record {
+      log = r.log ++ part ∷ [];
+      follows = follows_more bytes rest behind rules r.log (stand_of p) (stand_of q) part r.follows comes;
+      size_is = r.size_is;
+      counts = subst (Counts q.counted) (sym (entries_add r.log part)) (part_counts p.counted q.counted (entries_in r.log) part r.counts further.counted);
+    }
+
+-- a good line is the next entry
+pub entry_further : (rules : RuleSet) (size : ℕ) (p q : Position) (line rest behind : List ℕ) → first_line rest ≡ Some (line, behind) → GoodLine (table_of rules) line p q → IsFurther rules size p rest q behind
+entry_further rules size p q line rest behind cut good =
+    let text = entry_text (p.number + 1) good.entry.0 good.entry.1 in
+    record {
+      part = EntryPart good.entry;
+      comes = record {
+        fits = record { event = good.spells.event; reply = good.spells.reply; fits = good.spells.fits };
+        within = subst (λ (n : ℕ). n ≤ 16777216) (sym good.number) good.spells.numbered.1;
+        steps = (q.state, good.answers, stand_is (stand_of q) q.state _ _ refl good.spends good.number);
+        is = first_line-splits rest line behind cut ∙ ap (λ (z : List ℕ). z ++ 10 ∷ behind) good.spells.is ∙ sym (append_assoc text (10 ∷ []) behind);
+      };
+      counted = good.counted;
+    }
+  where
+    stand_is : (at : NumberedMoment) (s : State) (spent count : ℕ) → at.moment.state ≡ s → at.moment.spent ≡ spent → at.count ≡ count → at ≡ record { moment = record { state = s; spent = spent }; count = count }
+    stand_is at s spent count state moves number =
+        ap (λ (x : State). record { moment = record { state = x; spent = at.moment.spent }; count = at.count }) state
+        ∙ ap (λ (n : ℕ). record { moment = record { state = s; spent = n }; count = at.count }) moves
+        ∙ ap (λ (n : ℕ). record { moment = record { state = s; spent = spent }; count = n }) number
+
+-- a base is that of the run's state
+pub base_further : (rules : RuleSet) (size : ℕ) (p : Position) (rest behind : List ℕ) (base : Base) → p.number ≤ 16777216 → base ≡ base_of p.number (stand_of p).moment → rest ≡ base_text rules size base ++ behind → IsFurther rules size p rest p behind
+base_further rules size p rest behind base few is splits = record {
+  part = BasePart base;
+  comes = record { fits = tt; within = few; steps = (is, refl); is = splits };
+  counted = refl;
+}
+
+-- ---- the end, and damage
+
+-- if nothing is left, all of a text is the transcript that it begins with
+pub all_good : (bytes : List ℕ) (rules : RuleSet) (log : List LogPart) (end : NumberedMoment) (rest : List ℕ) (f : BeginsWithTranscript bytes rules log end rest) → rest ≡ [] → IsTranscript bytes rules f.opening log end
+all_good bytes rules log end rest f none =
+    let same : bytes ≡ f.good = f.splits ∙ ap (λ (z : List ℕ). f.good ++ z) none ∙ append-nil f.good in
+    subst (λ (b : List ℕ). IsTranscript b rules f.opening log end) (sym same) f.transcript
+
+pub reached_end : (bytes : List ℕ) (rules : RuleSet) (size : ℕ) (p : Position) (rest : List ℕ) → IsPositionAfter bytes rules size p rest → rest ≡ [] → IsAccepted bytes p.counted
+reached_end bytes rules size p rest r none = record {
+  rules = rules;
+  opening = r.follows.opening;
+  log = r.log;
+  end = stand_of p;
+  transcript = all_good bytes rules r.log (stand_of p) rest r.follows none;
+  counts = r.counts;
+}
+
+abbrev beginning : (bytes : List ℕ) (rules : RuleSet) (size : ℕ) (p : Position) (rest : List ℕ) → IsPositionAfter bytes rules size p rest → TranscriptPrefix bytes
+beginning bytes rules size p rest r = record { rules = rules; log = r.log; end = stand_of p; rest = rest; follows = r.follows }
+
+pub damaged_line : (bytes : List ℕ) (rules : RuleSet) (size : ℕ) (p : Position) (rest : List ℕ) (line : ℕ) → IsPositionAfter bytes rules size p rest → ((good : List ℕ) → bytes ≡ good ++ rest → IsLineBehind line good) → (BeginsBase rest → ⊥) → HasNoEntry rest (first_line rest) → IsMetBehind bytes p.number (Damaged (NotALine line))
+damaged_line bytes rules size p rest line r line_is other damage last before =
+    record {
+      is = record {
+        at = beginning bytes rules size p rest r;
+        line_is = line_is r.follows.good r.follows.splits;
+        other = other;
+        damage = damage;
+      };
+      looked_at = before;
+    }
+
+damaged_number : (bytes text behind : List ℕ) (rules : RuleSet) (size : ℕ) (p : Position) (rest : List ℕ) (line : ℕ) → IsPositionAfter bytes rules size p rest → ((good : List ℕ) → bytes ≡ good ++ rest → IsLineBehind line good) → first_line rest ≡ Some (text, behind) → BadNumber text p → IsMetBehind bytes p.number (Damaged (OutOfOrder line))
+damaged_number bytes text behind rules size p rest line r line_is cut bad last before =
+    record {
+      is = record {
+        at = beginning bytes rules size p rest r;
+        line_is = line_is r.follows.good r.follows.splits;
+        number = bad.number;
+        entry = bad.entry;
+        comes = record { line = text; more = behind; is = cut; spells = bad.spells };
+        damage = bad.other;
+      };
+      looked_at = before;
+    }
+
+damaged_reply : (bytes text behind : List ℕ) (rules : RuleSet) (size : ℕ) (p : Position) (rest : List ℕ) (line : ℕ) → IsPositionAfter bytes rules size p rest → ((good : List ℕ) → bytes ≡ good ++ rest → IsLineBehind line good) → first_line rest ≡ Some (text, behind) → BadReply (table_of rules) text p → IsMetBehind bytes p.number (Damaged (NotTheMachines line))
+damaged_reply bytes text behind rules size p rest line r line_is cut bad last before =
+    record {
+      is = record {
+        at = beginning bytes rules size p rest r;
+        line_is = line_is r.follows.good r.follows.splits;
+        entry = bad.entry;
+        comes = record { line = text; more = behind; is = cut; spells = bad.spells };
+        damage = bad.never;
+      };
+      looked_at = before;
+    }
+
+-- what the check of a line finds is the damage of the bytes
+pub damaged : (bytes text behind : List ℕ) (rules : RuleSet) (size : ℕ) (p q : Position) (rest : List ℕ) (found : JudgeFault) (line : ℕ) → IsPositionAfter bytes rules size p rest → ((good : List ℕ) → bytes ≡ good ++ rest → IsLineBehind line good) → (BeginsBase rest → ⊥) → first_line rest ≡ Some (text, behind) → LineJudged (table_of rules) text line p q (Err found) → IsMetBehind bytes p.number found
+damaged bytes text behind rules size p q rest (Damaged (NotALine at)) line r line_is other cut (same, none) =
+    damaged_line bytes rules size p rest at r (λ good e. same ∙ line_is good e) other (subst (λ (found : Option (List ℕ × List ℕ)). HasNoEntry rest found) (sym cut) none)
+damaged bytes text behind rules size p q rest (Damaged (OutOfOrder at)) line r line_is other cut (same, bad) =
+    damaged_number bytes text behind rules size p rest at r (λ good e. same ∙ line_is good e) cut bad
+damaged bytes text behind rules size p q rest (Damaged (NotTheMachines at)) line r line_is other cut (same, bad) =
+    damaged_reply bytes text behind rules size p rest at r (λ good e. same ∙ line_is good e) cut bad
+damaged bytes text behind rules size p q rest (Damaged BadHeader) line r line_is other cut judged = absurd judged
+damaged bytes text behind rules size p q rest (Damaged (BadBase at)) line r line_is other cut judged = absurd judged
+damaged bytes text behind rules size p q rest Memory line r line_is other cut judged = tt
+
+-- and a base that is not that of the run's state
+pub damaged_base : (bytes : List ℕ) (rules : RuleSet) (size : ℕ) (p : Position) (rest wanted : List ℕ) (base : Base) (line len : ℕ) → IsPositionAfter bytes rules size p rest → BeginsBase rest → base ≡ base_of p.number (stand_of p).moment → wanted ≡ base_text rules size base → PartAt wanted rest len → ((good : List ℕ) → bytes ≡ good ++ rest → IsLineBehind line (good ++ take len rest)) → IsMetBehind bytes p.number (Damaged (BadBase line))
+damaged_base bytes rules size p rest wanted base line len r begins is text parted line_is last before =
+    let whole : wanted ≡ base_text rules (size_of r.follows.opening) (base_of p.number (stand_of p).moment) =
+    text ∙ ap (λ (n : ℕ). base_text rules n base) (sym r.size_is) ∙ ap (base_text rules (size_of r.follows.opening)) is in
+    let parting = parted.parting in
+    record {
+      is = inr (record {
+        at = beginning bytes rules size p rest r;
+        begins = begins;
+        parting = record {
+          common = parting.common;
+          missing = parting.missing;
+          more = parting.more;
+          wanted = sym whole ∙ parting.wanted;
+          had = parting.had;
+          some = parting.some;
+          apart = parting.apart;
+        };
+        line_is = subst (λ (c : List ℕ). IsLineBehind line (r.follows.good ++ c)) parted.common_is (line_is r.follows.good r.follows.splits);
+      });
+      looked_at = before;
+    }

@@ -1,0 +1,16 @@
+-- What the disturbance costs that the next line accepts.
+use Rattle.std.proofs.Common.{◌≡◌, ℕ, List, Some, ap, ◌∙◌}
+use Rattle.rule_machine.specs.declared.rules.RuleSet.{RuleSet}
+use Rattle.rule_machine.specs.State.{State}
+use Rattle.rule_machine.specs.Run.{Entry}
+use Rattle.byte_streams.specs.Lines.{first_line}
+use Rattle.entry_grammar.specs.Spelling.{SpellsEntry}
+use Rattle.reply_checker.specs.ReplyVerdicts.{cost_by}
+use Rattle.auditor.specs.Epochs.{IsNextCost}
+use Rattle.auditor.proofs.TextEnds.{entry_once}
+
+-- no other entry comes than the one that the first line spells
+pub entry_ahead : (rules : RuleSet) (s : State) (rest line behind : List ℕ) (number : ℕ) (entry : Entry) (cost : ℕ) → first_line rest ≡ Some (line, behind) → SpellsEntry line number entry → cost ≡ cost_by rules s entry.0 → IsNextCost rules s rest (Some cost)
+entry_ahead rules s rest line behind number entry cost cut spells is other found comes told =
+    let same = entry_once rest number other entry found (record { line = line; more = behind; is = cut; spells = spells }) comes in
+    ap Some (is ∙ ap (λ (x : Entry). cost_by rules s x.0) same.1)

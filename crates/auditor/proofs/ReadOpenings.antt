@@ -1,0 +1,126 @@
+-- What a transcript begins with, as it was read.
+use Rattle.std.proofs.Common.{◌≡◌, ℕ, ◌+◌, ◌<◌, ◌≤◌, ◌⊎◌, inl, inr, cond, List, [], ◌∷◌, ◌++◌, Option, Some, length, refl, sym, ap, subst, ◌∙◌, nat_eq, nat_lt, arith}
+use Rattle.std.specs.Prelude.{IfSome}
+use Rattle.std.specs.Ordering.{nat_cmp, ordering_then}
+use Rattle.std.specs.declared.cmp.Ordering.TheVariants.{Less, Equal, Greater}
+use Rattle.std.proofs.lemmas.Bool.{lt-ltb, eq-eqb, false_from_ne_true, ltb-true}
+use Rattle.std.proofs.lemmas.List.{length-append}
+use Rattle.rule_machine.specs.declared.base.Base.{Base}
+use Rattle.rule_machine.specs.declared.base.NodeRecord.{NodeRecord}
+use Rattle.rule_machine.specs.declared.base.EpochStart.TheVariants.{At, Forgotten}
+use Rattle.rule_machine.specs.declared.rules.RuleSet.{RuleSet}
+use Rattle.rule_machine.specs.Base.{IsBaseMoment, NumberedMoment}
+use Rattle.rule_machine.specs.Network.{pair_cmp}
+use Rattle.rule_machine.specs.Run.{beginning_with}
+use Rattle.rule_machine.specs.State.{State, opening_with}
+use Rattle.rule_machine.specs.Tables.{table_of, weight_of}
+use Rattle.charge_laws.specs.ChargeWords.{charge_bound}
+use Rattle.reply_checker.specs.Bases as judge
+use Rattle.line_text.specs.BaseText.{base_head}
+use Rattle.line_text.specs.Words.{lines_with_ends}
+use Rattle.entry_grammar.specs.declared.base_line.BaseLine.{BaseLine}
+use Rattle.entry_grammar.specs.declared.base_line.BaseLine.TheVariants.{Head}
+use Rattle.byte_streams.specs.Lines.{first_line}
+use Rattle.entry_grammar.specs.Spelling.{SpellsBaseLine, SpellsHeader, base_line_text}
+use Rattle.entry_grammar.specs.BaseLines.{IsEdgeAbove, NodesRise, EdgesRise, IsShaped, BreaksAt, base_lines}
+use Rattle.auditor.specs.declared.damage.Damage.TheVariants.{BadBase}
+use Rattle.auditor.specs.declared.damage.JudgeFault.TheVariants.{Damaged}
+use Rattle.auditor.specs.Damage.{HasImpossibleBase, HasBrokenBase, SpellsNoHead}
+use Rattle.auditor.specs.Parts.{Named, Based, Opens}
+use Rattle.auditor.specs.Position.{Position, position_at}
+use Rattle.auditor.specs.EntryWindows.{IsMetFirst, IsOpened}
+use Rattle.auditor.proofs.AuditPositions.{opened_follows, header_splits, base_splits}
+
+-- ---- the two orders of a base's lines are one
+
+pub names_rise : (last : ℕ) (nodes : List NodeRecord) → NodesRise last nodes → judge.NamesRise last nodes
+names_rise last [] rise = tt
+names_rise last (place ∷ nodes) rise = (rise.0, names_rise place.node nodes rise.1)
+
+nat_less : (a b : ℕ) → a < b → nat_cmp a b ≡ Less
+nat_less a b h = ap (λ v. cond v Less (cond (nat_eq a b) Equal Greater)) (lt-ltb a b h)
+
+nat_same : (a : ℕ) → nat_cmp a a ≡ Equal
+nat_same a =
+    ap (λ v. cond v Less (cond (nat_eq a a) Equal Greater)) (false_from_ne_true (nat_lt a a) (λ below. absurd (omega (arith, ltb-true a a below))))
+    ∙ ap (λ v. cond v Equal Greater) (eq-eqb a a refl)
+
+above_less : (last edge : ℕ × ℕ) → IsEdgeAbove last edge → pair_cmp last edge ≡ Less
+above_less last edge (inl low) = ap (λ o. ordering_then o (nat_cmp last.1 edge.1)) (nat_less last.0 edge.0 low)
+above_less last edge (inr (same, high)) =
+    ap (λ n. ordering_then (nat_cmp last.0 n) (nat_cmp last.1 edge.1)) (sym same)
+    ∙ ap (λ o. ordering_then o (nat_cmp last.1 edge.1)) (nat_same last.0)
+    ∙ nat_less last.1 edge.1 high
+
+pub edges_rise : (last : ℕ × ℕ) (edges : List (ℕ × ℕ)) → EdgesRise last edges → judge.EdgesAscend last edges
+edges_rise last [] rise = tt
+edges_rise last (edge ∷ edges) rise = (above_less last edge rise.0, edges_rise edge edges rise.1)
+
+-- ---- a header
+
+pub header_opened : (text line rest : List ℕ) (rules : RuleSet) (size count : ℕ) (s : State) (p : Position) → first_line text ≡ Some (line, rest) → SpellsHeader line rules size count → s ≡ opening_with size count → p ≡ position_at (record { moment = record { state = s; spent = 0 }; count = 0 }) → IsOpened text rules size (At 0) p rest
+header_opened text line rest rules size count s p cut spells state is =
+    let start : NumberedMoment = record { moment = beginning_with size count; count = 0 } in
+    record {
+      start = start;
+      follows = opened_follows text rest rules (Named size count) start (record { fits = record { few = spells.few; within = spells.within }; begins = refl; count = refl }) (omega arith)
+          (header_splits text line rest rules size count cut spells);
+      size_is = refl;
+      begun_is = refl;
+      opening = is ∙ ap (λ (x : State). position_at (record { moment = record { state = x; spent = 0 }; count = 0 })) state;
+    }
+
+-- ---- a base
+
+abbrev pub IsBegunBy : RuleSet → ℕ → Base → State → Type 0
+IsBegunBy rules size base s =
+    IsBaseMoment (table_of rules) (charge_bound (weight_of rules)) size base (record { state = s; spent = base.spent }) × (length base.edges ≤ 1048576)
+
+pub base_opened : (text rest behind : List ℕ) (rules : RuleSet) (size : ℕ) (base : Base) (s : State) (found : Option State) (p : Position) → size ≤ 65535 → first_line text ≡ Some (base_head rules size, rest) → rest ≡ base_lines base ++ behind → IsShaped base → base.number ≤ 16777216 → IfSome found (IsBegunBy rules size base) → found ≡ Some s
+    → p ≡ position_at (record { moment = record { state = s; spent = base.spent }; count = base.number }) → IsOpened text rules size Forgotten p behind
+base_opened text rest behind rules size base s found p few cut is shaped number begun some opening =
+    let start : NumberedMoment = record { moment = record { state = s; spent = base.spent }; count = base.number } in
+    let here : IsBegunBy rules size base s = subst (λ (o : Option State). IfSome o (IsBegunBy rules size base)) some begun in
+    record {
+      start = start;
+      follows = opened_follows text behind rules (Based size base) start (record { fits = record { few = few; shaped = shaped; number = number; edges = here.1 }; begins = here.0; count = refl }) number
+          (base_splits text rest behind rules size base cut is);
+      size_is = refl;
+      begun_is = refl;
+      opening = opening;
+    }
+
+-- the lines after the first of a base are no base's, or no run may begin there
+bad_start : (text rest : List ℕ) (rules : RuleSet) (size line : ℕ) → size ≤ 65535 → first_line text ≡ Some (base_head rules size, rest) → HasBrokenBase rest line ⊎ HasImpossibleBase rules size rest line → IsMetFirst text (Damaged (BadBase line))
+bad_start text rest rules size line few cut bad last = record {
+  is = inl (record { rules = rules; size = size; rest = rest; few = few; first = cut; bad = bad });
+  looked_at = tt;
+}
+
+pub nowhere : (text rest behind : List ℕ) (rules : RuleSet) (size : ℕ) (base : Base) → size ≤ 65535 → first_line text ≡ Some (base_head rules size, rest) → IsShaped base → rest ≡ base_lines base ++ behind → ((start : NumberedMoment) → Opens rules (Based size base) start → ⊥) → IsMetFirst text (Damaged (BadBase 2))
+nowhere text rest behind rules size base few cut shaped is none =
+    bad_start text rest rules size 2 few cut (inr (record { base = base; more = behind; shaped = shaped; is = is; nowhere = none; line_is = refl }))
+
+pub broken : (text rest : List ℕ) (rules : RuleSet) (size number : ℕ) → size ≤ 65535 → first_line text ≡ Some (base_head rules size, rest) → BreaksAt rest number → IsMetFirst text (Damaged (BadBase (number + 1)))
+broken text rest rules size number few cut breaks =
+    bad_start text rest rules size (number + 1) few cut (inl (record { number = number; breaks = breaks; line_is = refl }))
+
+-- this many bytes have at most as many lines
+lines_few : (lines : List BaseLine) → length lines ≤ length (lines_with_ends base_line_text lines)
+lines_few [] = omega arith
+lines_few (line ∷ lines) =
+    let first = length-append (base_line_text line ++ 10 ∷ []) (lines_with_ends base_line_text lines) in
+    let own = length-append (base_line_text line) (10 ∷ []) in
+    let rest = lines_few lines in
+    omega (arith, first, own, rest)
+
+pub breaks_few : (rest : List ℕ) (number : ℕ) → BreaksAt rest number → number ≤ length rest + 1
+breaks_few rest number b =
+    let whole = ap length b.is ∙ length-append (lines_with_ends base_line_text b.lines) b.rest in
+    let few = lines_few b.lines in
+    omega (arith, whole, few, b.number)
+
+-- ---- the first line
+
+pub no_head : (line : List ℕ) → ((found : BaseLine) → SpellsBaseLine line found → ⊥) → SpellsNoHead line
+no_head line none rules size few is = none (Head rules size) (record { fits = few; is = is })

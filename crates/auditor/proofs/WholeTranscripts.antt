@@ -1,0 +1,104 @@
+-- A transcript that is gone through from its beginning to its end.
+use Rattle.std.proofs.Common.{◌≡◌, ℕ, ◌+◌, ◌<◌, ◌≤◌, ◌^◌, inl, List, [], ◌++◌, None, Err, length, sym, ap, subst, ◌∙◌, append_assoc, arith}
+use Rattle.std.proofs.lemmas.List.{append_cancel_right, length-append}
+use Rattle.std.proofs.Math.Logic.{∥∥₁_elim, ∥∥₁_map}
+use Rattle.std.proofs.Props.{props}
+use Rattle.rule_machine.specs.declared.rules.RuleSet.{RuleSet}
+use Rattle.auditor.specs.declared.damage.JudgeFault.{JudgeFault}
+use Rattle.auditor.specs.declared.damage.JudgeFault.TheVariants.{Damaged, Memory}
+use Rattle.auditor.specs.declared.replay.TranscriptCursor.{TranscriptCursor}
+use Rattle.auditor.specs.Parts.{part_text}
+use Rattle.auditor.specs.Position.{Position, stand_of}
+use Rattle.auditor.specs.AcceptedRuns.{IsPositionAfter}
+use Rattle.auditor.specs.Damage.{line_feeds}
+use Rattle.auditor.specs.EntryWindows.{IsMetBehind, IsMetFirst}
+use Rattle.auditor.specs.TranscriptCursors.{IsCursorAfter, IsCursorAt, IsCompared, IsPassed, IsReachable, ReachableBy, StaysInPlace}
+use Rattle.auditor.specs.Verdict.{IsJudged}
+use Rattle.auditor.proofs.Chains.{comes_shorter}
+use Rattle.auditor.proofs.LineCounts.{feeds_few}
+use Rattle.auditor.proofs.AuditPositions.{opened_reached, reached_more}
+use Rattle.auditor.proofs.Windows.{feeds_append, same_none}
+
+-- what is met is what is judged
+pub first_judged : (bytes : List ℕ) (fault : JudgeFault) → IsMetFirst bytes fault → IsJudged bytes (Err fault)
+first_judged bytes (Damaged damage) met = (met None).is
+first_judged bytes Memory met = tt
+
+pub behind_judged : (bytes : List ℕ) (count : ℕ) (fault : JudgeFault) → IsMetBehind bytes count fault → IsJudged bytes (Err fault)
+behind_judged bytes count (Damaged damage) met = (met None tt).is
+behind_judged bytes count Memory met = tt
+
+-- ---- where a replay is
+
+-- all that it has counted is in the bytes
+pub at_few : (bytes : List ℕ) (replay : TranscriptCursor) (rest : List ℕ) → IsCursorAt bytes replay rest → replay.lines + length rest ≤ length bytes
+at_few bytes replay rest at =
+    let follows = at.reached.follows in
+    let lines = at.counted follows.good follows.splits in
+    let few = feeds_few follows.good in
+    let whole = ap length follows.splits ∙ length-append follows.good rest in
+    omega (arith, lines, few, whole)
+
+pub somewhere_few : (replay : TranscriptCursor) (rest : List ℕ) → IsReachable replay rest → replay.lines + length rest < 2 ^ 63
+somewhere_few replay rest somewhere = ∥∥₁_elim somewhere (search props) few
+  where
+    few : ReachableBy replay rest → replay.lines + length rest < 2 ^ 63
+    few at =
+        let less = at_few at.bytes replay rest at.at in
+        let all = at.few in
+        omega (arith, less, all)
+
+-- another replay is at the same place
+pub at_same : (bytes : List ℕ) (old new : TranscriptCursor) (rest : List ℕ) → new.rules ≡ old.rules → new.size ≡ old.size → new.audit ≡ old.audit → new.lines ≡ old.lines → IsCursorAt bytes old rest → IsCursorAt bytes new rest
+at_same bytes old new rest rules size audit lines at = record {
+  reached =
+      subst (λ (r : RuleSet). IsPositionAfter bytes r new.size new.audit rest) (sym rules)
+      (subst (λ (n : ℕ). IsPositionAfter bytes old.rules n new.audit rest) (sym size)
+      (subst (λ (p : Position). IsPositionAfter bytes old.rules old.size p rest) (sym audit) at.reached));
+  counted = λ good e. lines ∙ at.counted good e;
+}
+
+pub waited : (bytes : List ℕ) (old new : TranscriptCursor) (rest all : List ℕ) → StaysInPlace old new rest → IsCursorAt bytes old all → IsCursorAt bytes new all
+waited bytes old new rest all w at = at_same bytes old new all w.rules w.size w.audit w.lines at
+
+pub waited_somewhere : (old new : TranscriptCursor) (rest : List ℕ) → IsReachable old rest → StaysInPlace old new rest → IsReachable new rest
+waited_somewhere old new rest somewhere w = ∥∥₁_map somewhere (λ at. record { bytes = at.bytes; few = at.few; at = waited at.bytes old new rest rest w at.at })
+
+-- ---- behind the beginning
+
+pub begun_at : (text : List ℕ) (replay : TranscriptCursor) (rest : List ℕ) → IsCursorAfter text replay rest → IsCursorAt text replay rest
+begun_at text replay rest b =
+    let o = b.opened in
+    record { reached = opened_reached text replay.rules replay.size replay.audit rest o.start o.follows o.size_is o.opening; counted = b.counted }
+
+-- no base's text is there yet
+pub compared_none : (replay : TranscriptCursor) (rest : List ℕ) → replay.wanted.items ≡ [] → replay.same ≡ 0 → IsCompared replay rest
+compared_none replay rest unwanted none = ∣ record { text = inl unwanted; alike = same_none replay.wanted.items rest replay.same none } ∣₁
+
+-- ---- one part further
+
+-- the part, cut out of the text
+pub passed_at : (bytes : List ℕ) (old new : TranscriptCursor) (rest behind : List ℕ) → IsCursorAt bytes old rest → IsPassed old new rest behind → IsCursorAt bytes new behind
+passed_at bytes old new rest behind at p =
+    let more = reached_more bytes old.rules old.size old.audit new.audit rest behind at.reached p.further in
+    let ruled = subst (λ (r : RuleSet). IsPositionAfter bytes r old.size new.audit behind) (sym p.rules) more in
+    record { reached = subst (λ (n : ℕ). IsPositionAfter bytes new.rules n new.audit behind) (sym p.size) ruled; counted = counted }
+  where
+    counted : (good : List ℕ) → bytes ≡ good ++ behind → new.lines ≡ line_feeds good
+    counted good e =
+        let further = p.further in
+        let text = part_text old.rules old.size old.audit.number further.part in
+        let before = at.reached.follows.good in
+        let splits : bytes ≡ (before ++ text) ++ behind = at.reached.follows.splits ∙ ap (λ (z : List ℕ). before ++ z) further.comes.is ∙ sym (append_assoc before text behind) in
+        let same : good ≡ before ++ text = append_cancel_right good (before ++ text) behind (sym e ∙ splits) in
+        p.lines text further.comes.is ∙ ap (λ (n : ℕ). n + line_feeds text) (at.counted before at.reached.follows.splits) ∙ sym (feeds_append before text) ∙ sym (ap line_feeds same)
+
+pub passed_somewhere : (old new : TranscriptCursor) (rest behind : List ℕ) → IsReachable old rest → IsPassed old new rest behind → IsReachable new behind
+passed_somewhere old new rest behind somewhere p = ∥∥₁_map somewhere (λ at. record { bytes = at.bytes; few = at.few; at = passed_at at.bytes old new rest behind at.at p })
+
+pub passed_compared : (old new : TranscriptCursor) (rest behind : List ℕ) → IsPassed old new rest behind → IsCompared new behind
+passed_compared old new rest behind p = compared_none new behind p.unwanted p.none_same
+
+pub passed_shorter : (old new : TranscriptCursor) (rest behind : List ℕ) → IsPassed old new rest behind → length behind < length rest
+passed_shorter old new rest behind p =
+    comes_shorter old.rules old.size (stand_of old.audit) rest p.further.part (stand_of new.audit) behind p.further.comes

@@ -1,0 +1,6 @@
+use Rattle.auditor.proofs.NextParts.{bad_first}
+use Rattle.auditor.proofs.replay.TranscriptCursor.open.Goals as goal
+
+pub returns-in-None-clause-fault : goal.returns-in-None-clause-fault
+returns-in-None-clause-fault c more =
+    bad_first c.args.text.now c.in-Some.line.now c.in-Some.rest.now more c.in-Some.ensures.first c.in_default-read_header.ensures.not_a_line.1 c.in-None.ensures

@@ -1,0 +1,7 @@
+use Rattle.std.proofs.Common.{[], List, ℕ, append-nil, subst}
+use Rattle.auditor.specs.EntryWindows.{IsMetFirst}
+use Rattle.auditor.proofs.replay.TranscriptCursor.open_whole.Goals as goal
+
+pub returns-in-Err-clause-fault : goal.returns-in-Err-clause-fault
+returns-in-Err-clause-fault c =
+    subst (λ (l : List ℕ). IsMetFirst l c.in-Err.fault) (append-nil c.args.text.now) (c.in-Err.ensures.fault [])

@@ -1,0 +1,14 @@
+use Rattle.std.proofs.Common.{ℕ, List, length}
+use Rattle.auditor.specs.TranscriptCursors.{EndsIn, IsCursorAt, IsCompared, IsReachable}
+use Rattle.auditor.proofs.replay.TranscriptCursor.pass_parts.Given as goal
+
+abbrev pub invariant-loop-behind : goal.invariant-loop-behind
+invariant-loop-behind l = record {
+  at : (bytes : List ℕ) → IsCursorAt bytes l.fn.self l.held → IsCursorAt bytes l.self l.rest;
+  somewhere : IsReachable l.self l.rest;
+  compared : IsCompared l.self l.rest;
+  ends : EndsIn l.held l.rest;
+}
+
+abbrev pub decreases-loop-behind : goal.decreases-loop-behind
+decreases-loop-behind l = length l.rest

@@ -1,0 +1,115 @@
+-- Transcripts that are looked at only up to an entry.
+use Rattle.std.specs.Prelude.{◌≡◌, ℕ, ◌<◌, ◌≤◌, ◌⊎◌, Bool, true, nat_lt, List, [], Option, None, Some}
+use Rattle.std.proofs.Common.{inl, inr}
+use Rattle.rule_machine.specs.declared.rules.RuleSet.{RuleSet}
+use Rattle.rule_machine.specs.State.{State}
+use Rattle.rule_machine.specs.declared.base.EpochStart.{EpochStart}
+use Rattle.rule_machine.specs.Base.{LogPart, NumberedMoment, begun_at}
+use Rattle.auditor.specs.declared.damage.Damage.{Damage}
+use Rattle.auditor.specs.declared.damage.Damage.TheVariants.{BadHeader, NotALine, OutOfOrder, NotTheMachines, BadBase}
+use Rattle.auditor.specs.declared.damage.JudgeFault.{JudgeFault}
+use Rattle.auditor.specs.declared.damage.JudgeFault.TheVariants.{Damaged, Memory}
+use Rattle.auditor.specs.declared.reach.ReplayFault.{ReplayFault}
+use Rattle.auditor.specs.declared.reach.ReplayFault.TheVariants.{Judged, TooFew, Forgotten}
+use Rattle.auditor.specs.Parts.{Opening, base_in, size_of}
+use Rattle.auditor.specs.Transcript.{IsTranscript}
+use Rattle.auditor.specs.Damage.{BeginsWithTranscript, IsDamage}
+use Rattle.auditor.specs.Position.{Position, position_at}
+
+-- it ends at the entry with this number, or with the bytes
+abbrev pub EndsAt : Option ℕ → ℕ → List ℕ → Type 0
+EndsAt None count rest = rest ≡ []
+EndsAt (Some last) count rest = count ≡ last
+
+-- whether this many entries end before it
+abbrev pub falls_short : Option ℕ → ℕ → Bool
+falls_short None count = true
+falls_short (Some last) count = nat_lt count last
+
+-- if an entry is named, this many entries reach it
+abbrev pub IsLongEnough : Option ℕ → ℕ → Type 0
+IsLongEnough None count = Unit {0}
+IsLongEnough (Some last) count = last ≤ count
+
+-- if an entry is named, this many entries do not go beyond it
+abbrev pub IsAskedWithin : Option ℕ → ℕ → Type 0
+IsAskedWithin None count = Unit {0}
+IsAskedWithin (Some last) count = count ≤ last
+
+-- The bytes begin with the transcript of a run under these rules that ends there and has led to this state.
+pub record IsStateAfter (bytes : List ℕ) (last : Option ℕ) (rules : RuleSet) (s : State) : Type 0 where
+  pub log : List LogPart
+  pub end : NumberedMoment
+  pub rest : List ℕ
+  pub follows : BeginsWithTranscript bytes rules log end rest
+  pub ends : EndsAt last end.count rest
+  pub state : s ≡ end.moment.state
+
+-- The bytes are the transcript of a run whose last entry has this number, and a greater one was asked for.
+pub record HasTooFew (bytes : List ℕ) (last : Option ℕ) (asked entries : ℕ) : Type 0 where
+  pub last_is : last ≡ Some asked
+  pub fewer : entries < asked
+  pub rules : RuleSet
+  pub opening : Opening
+  pub log : List LogPart
+  pub end : NumberedMoment
+  pub transcript : IsTranscript bytes rules opening log end
+  pub entries_are : entries ≡ end.count
+
+-- The bytes begin with a base after the entry that was asked for.
+pub record HasDroppedEntry (bytes : List ℕ) (last : Option ℕ) (asked base : ℕ) : Type 0 where
+  pub last_is : last ≡ Some asked
+  pub fewer : asked < base
+  pub rules : RuleSet
+  pub end : NumberedMoment
+  pub rest : List ℕ
+  pub follows : BeginsWithTranscript bytes rules [] end rest
+  pub base_is : base ≡ end.count
+
+-- the entry that was asked for comes after this many
+abbrev pub IsAskedBeyond : Option ℕ → ℕ → Type 0
+IsAskedBeyond None count = Unit {0}
+IsAskedBeyond (Some last) count = count < last
+
+-- a damaged base is looked at: at the start, or before the entry that was asked for
+abbrev pub base_looked_at : {X Y : Type 0} → Option ℕ → (Y → ℕ) → X ⊎ Y → Type 0
+base_looked_at last count (inl start) = Unit {0}
+base_looked_at last count (inr ends) = IsAskedBeyond last (count ends)
+
+-- the damage is in the opening, or after fewer entries than were asked for
+abbrev pub IsDamageWithin : (bytes : List ℕ) → Option ℕ → (d : Damage) → IsDamage bytes d → Type 0
+IsDamageWithin bytes last BadHeader damage = Unit {0}
+IsDamageWithin bytes last (NotALine line) damage = IsAskedBeyond last damage.at.end.count
+IsDamageWithin bytes last (OutOfOrder line) damage = IsAskedBeyond last damage.at.end.count
+IsDamageWithin bytes last (NotTheMachines line) damage = IsAskedBeyond last damage.at.end.count
+IsDamageWithin bytes last (BadBase line) damage = base_looked_at last (λ ends. ends.at.end.count) damage
+
+-- the first damage, in a line that is looked at
+pub record IsMetDamage (bytes : List ℕ) (last : Option ℕ) (damage : Damage) : Type 0 where
+  pub is : IsDamage bytes damage
+  pub looked_at : IsDamageWithin bytes last damage is
+
+-- what is wrong with the lines looked at; nothing is said if memory ran out
+abbrev pub IsReplayFault : List ℕ → Option ℕ → ReplayFault → Type 0
+IsReplayFault bytes last (Judged (Damaged damage)) = IsMetDamage bytes last damage
+IsReplayFault bytes last (Judged Memory) = Unit {0}
+IsReplayFault bytes last (TooFew asked entries) = HasTooFew bytes last asked entries
+IsReplayFault bytes last (Forgotten asked base) = HasDroppedEntry bytes last asked base
+
+-- the bytes begin with an opening for these rules and this many names, and the rest follows
+pub record IsOpened (bytes : List ℕ) (rules : RuleSet) (size : ℕ) (begun : EpochStart) (p : Position) (rest : List ℕ) : Type 0 where
+  pub start : NumberedMoment
+  pub follows : BeginsWithTranscript bytes rules [] start rest
+  pub size_is : size_of follows.opening ≡ size
+  pub begun_is : begun ≡ begun_at (base_in follows.opening)
+  pub opening : p ≡ position_at start
+
+-- a damage in the opening, or met after this many entries
+abbrev pub IsMetBehind : List ℕ → ℕ → JudgeFault → Type 0
+IsMetBehind bytes count (Damaged damage) = (last : Option ℕ) → IsAskedBeyond last count → IsMetDamage bytes last damage
+IsMetBehind bytes count Memory = Unit {0}
+
+-- a damage of the opening
+abbrev pub IsMetFirst : List ℕ → JudgeFault → Type 0
+IsMetFirst bytes (Damaged damage) = (last : Option ℕ) → IsMetDamage bytes last damage
+IsMetFirst bytes Memory = Unit {0}

@@ -1,0 +1,142 @@
+-- Going through a transcript, keeping only what follows.
+use Rattle.std.specs.Prelude.{◌≡◌, ◌≢◌, ℕ, ◌+◌, ◌<◌, ◌≤◌, ◌^◌, ◌⊎◌, List, [], ◌++◌, length, take, slice_index, Option, None, Some, Err}
+use Rattle.rule_machine.specs.declared.rules.RuleSet.{RuleSet}
+use Rattle.rule_machine.specs.Base.{base_of}
+use Rattle.line_text.specs.BaseText.{base_head, base_text}
+use Rattle.byte_streams.specs.Lines.{first_line}
+use Rattle.entry_grammar.specs.BaseLines.{BreaksAt}
+use Rattle.auditor.specs.declared.damage.JudgeFault.{JudgeFault}
+use Rattle.auditor.specs.declared.judging.IncrementalAudit.{IncrementalAudit}
+use Rattle.auditor.specs.declared.replay.TranscriptCursor.{TranscriptCursor}
+use Rattle.auditor.specs.AcceptedRuns.{IsPositionAfter}
+use Rattle.auditor.specs.Damage.{BeginsBase, line_feeds}
+use Rattle.auditor.specs.Position.{IsFurther, stand_of}
+use Rattle.auditor.specs.EntryWindows.{IsMetBehind, IsOpened}
+use Rattle.auditor.specs.Verdict.{IsJudged}
+
+-- two texts agree up to this length
+pub record AreSameUpTo (text bytes : List ℕ) (len : ℕ) : Type 0 where
+  pub within : len ≤ length text
+  pub inside : len ≤ length bytes
+  pub alike : take len text ≡ take len bytes
+
+-- if both go on, their next bytes differ
+abbrev pub ArePartedAt : List ℕ → List ℕ → ℕ → Type 0
+ArePartedAt text bytes len = len < length text → len < length bytes → slice_index text len ≢ slice_index bytes len
+
+-- The bytes begin with a transcript that leads to the replay's state, its lines were counted, and the rest
+-- follows.
+pub record IsCursorAt (bytes : List ℕ) (replay : TranscriptCursor) (rest : List ℕ) : Type 0 where
+  pub reached : IsPositionAfter bytes replay.rules replay.size replay.audit rest
+  pub counted : (good : List ℕ) → bytes ≡ good ++ rest → replay.lines ≡ line_feeds good
+
+-- some bytes do, and they are few enough to be counted
+pub record ReachableBy (replay : TranscriptCursor) (rest : List ℕ) : Type 0 where
+  pub bytes : List ℕ
+  pub few : length bytes < 2 ^ 63
+  pub at : IsCursorAt bytes replay rest
+
+abbrev pub IsReachable : TranscriptCursor → List ℕ → Type 0
+IsReachable replay rest = ∥ ReachableBy replay rest ∥₁
+
+-- the text of the base of the replay's state
+abbrev pub base_wanted : TranscriptCursor → List ℕ
+base_wanted replay = base_text replay.rules replay.size (base_of replay.audit.number (stand_of replay.audit).moment)
+
+-- a base's text is kept only if a base comes, and the rest begins with as much of it as was compared
+pub record ComparesBase (replay : TranscriptCursor) (rest : List ℕ) : Type 0 where
+  pub text : (replay.wanted.items ≡ []) ⊎ (BeginsBase rest × (replay.wanted.items ≡ base_wanted replay))
+  pub alike : AreSameUpTo replay.wanted.items rest replay.same
+
+abbrev pub IsCompared : TranscriptCursor → List ℕ → Type 0
+IsCompared replay rest = ∥ ComparesBase replay rest ∥₁
+
+-- the text ends in these bytes
+abbrev pub EndsIn : List ℕ → List ℕ → Type 0
+EndsIn text rest = (front : List ℕ) × (text ≡ front ++ rest)
+
+-- ---- what the text begins with
+
+-- the text has no whole line, or begins with the lines of a base up to one that is not whole
+pub record HasCutBase (text : List ℕ) : Type 0 where
+  pub rules : RuleSet
+  pub size : ℕ
+  pub rest : List ℕ
+  pub few : size ≤ 65535
+  pub first : first_line text ≡ Some (base_head rules size, rest)
+  pub breaks : BreaksAt rest (line_feeds rest + 1)
+
+abbrev pub HasCutStart : List ℕ → Type 0
+HasCutStart text = (first_line text ≡ None) ⊎ HasCutBase text
+
+-- the replay is after the text's opening
+pub record IsCursorAfter (text : List ℕ) (replay : TranscriptCursor) (rest : List ℕ) : Type 0 where
+  pub opened : IsOpened text replay.rules replay.size replay.begun replay.audit rest
+  pub counted : (good : List ℕ) → text ≡ good ++ rest → replay.lines ≡ line_feeds good
+  pub unwanted : replay.wanted.items ≡ []
+  pub none_same : replay.same ≡ 0
+
+-- ---- what comes next
+
+-- the text of the base of the replay's state was written
+pub record AwaitsBase (before after : TranscriptCursor) : Type 0 where
+  pub rules : after.rules ≡ before.rules
+  pub size : after.size ≡ before.size
+  pub audit : after.audit ≡ before.audit
+  pub lines : after.lines ≡ before.lines
+  pub same : after.same ≡ before.same
+  pub text : after.wanted.items ≡ base_wanted before
+  pub before_it : (before.wanted.items ≡ []) ⊎ (before.wanted.items ≡ after.wanted.items)
+
+-- the rest is a proper beginning of the base of the replay's state
+pub record BeginsWanted (replay : TranscriptCursor) (rest : List ℕ) : Type 0 where
+  pub begins : BeginsBase rest
+  pub missing : List ℕ
+  pub some : missing ≢ []
+  pub is : base_wanted replay ≡ rest ++ missing
+
+-- no whole part follows, but the rest may become one
+abbrev pub IsUnended : TranscriptCursor → List ℕ → Type 0
+IsUnended replay rest = ((first_line rest ≡ None) × (BeginsBase rest → ⊥)) ⊎ BeginsWanted replay rest
+
+-- the replay has not moved
+pub record StaysInPlace (before after : TranscriptCursor) (rest : List ℕ) : Type 0 where
+  pub rules : after.rules ≡ before.rules
+  pub size : after.size ≡ before.size
+  pub audit : after.audit ≡ before.audit
+  pub lines : after.lines ≡ before.lines
+  pub unended : IsUnended after rest
+  pub compared : IsCompared after rest
+
+-- a part follows, and the replay is after it
+pub record IsPassed (before after : TranscriptCursor) (rest behind : List ℕ) : Type 0 where
+  pub rules : after.rules ≡ before.rules
+  pub size : after.size ≡ before.size
+  pub further : IsFurther before.rules before.size before.audit rest after.audit behind
+  pub lines : (text : List ℕ) → rest ≡ text ++ behind → after.lines ≡ before.lines + line_feeds text
+  pub unwanted : after.wanted.items ≡ []
+  pub none_same : after.same ≡ 0
+
+-- the fault is that of the next part, whatever follows the rest
+abbrev pub IsMetAt : TranscriptCursor → List ℕ → JudgeFault → Type 0
+IsMetAt replay rest fault = (bytes more : List ℕ) → IsCursorAt bytes replay (rest ++ more) → IsMetBehind bytes replay.audit.number fault
+
+-- ---- a transcript that is read
+
+-- nothing was judged yet, or what is held follows what was judged
+abbrev pub IsReadOf : List ℕ → Option TranscriptCursor → List ℕ → Type 0
+IsReadOf read None held = read ≡ held
+IsReadOf read (Some run) held = IsCursorAt read run held × IsCompared run held
+
+-- these bytes were read, and they were counted
+abbrev pub IsRead : List ℕ → IncrementalAudit → Type 0
+IsRead read trial = (length read ≡ trial.len) × IsReadOf read trial.run trial.held.items
+
+-- some bytes were read, and they are few enough
+abbrev pub IsUnderway : IncrementalAudit → Type 0
+IsUnderway trial = (trial.len < 2 ^ 63) × ∥ ((read : List ℕ) × IsRead read trial) ∥₁
+
+-- they were read, or their damage holds whatever follows
+abbrev pub IsIncrementalAudit : List ℕ → IncrementalAudit → Option JudgeFault → Type 0
+IsIncrementalAudit bytes trial None = IsRead bytes trial
+IsIncrementalAudit bytes trial (Some fault) = (more : List ℕ) → IsJudged (bytes ++ more) (Err fault)

@@ -1,8 +1,0 @@
-pub mod Adding
-pub mod Boards
-pub mod Fronts
-pub mod Machine
-pub mod OneLog
-pub mod Rows
-pub mod Turning
-mod Passes

@@ -1,7 +1,0 @@
-use Rattle.std.proofs.Common.{◌≡◌}
-use Rattle.rule_machine.specs.Disturbance.{unless_at}
-use Rattle.board.proofs.Passes.{passed}
-use Rattle.board.proofs.effect.drop_at.Given as goal
-
-abbrev pub invariant-loop-pointer : goal.invariant-loop-pointer
-invariant-loop-pointer l = l.row ≡ passed (unless_at l.v) l.initial.row l.pointer-index

@@ -1,5 +1,0 @@
-use Rattle.board.proofs.Machine.{is_run_begins}
-use Rattle.board.proofs.laws.beginnings_are_runs.Goals as goal
-
-pub returns : goal.returns
-returns c = is_run_begins

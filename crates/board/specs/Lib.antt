@@ -1,6 +1,0 @@
-pub mod Boards
-pub mod History
-pub mod Row
-pub mod Rule
-pub mod Sight
-pub mod Views

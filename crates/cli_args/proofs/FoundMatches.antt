@@ -1,0 +1,127 @@
+-- What the getters of matches read, by the rows that were found.
+use Rattle.std.proofs.Common.{◌≡◌, ℕ, List, Option, None, Some, Result, Ok, Err, get_or, refl, sym, ap, subst, ◌∙◌, option_map, arith}
+use Rattle.std.specs.Prelude.{◌^◌, MatchOption, codes}
+use Rattle.clap.specs.Matches.{ReadsOne, TriesOne}
+use Rattle.clap.specs.Words.{Row, Text, first_value, one_text, rows_of}
+use Rattle.clap.specs.declared.parser.matches.Found.{Found}
+use Rattle.clap.proofs.WalkLemmas.{first_value-rows, one_text-rows}
+use Rattle.rule_machine.specs.declared.rules.RuleSet.{RuleSet}
+use Rattle.rule_machine.specs.Tables.{rules_word}
+use Rattle.cli_args.specs.declared.task.Task.{Task}
+use Rattle.cli_args.specs.declared.task.Task.TheVariants as variants
+use Rattle.cli_args.specs.declared.task.Task.TheVariants.{Run, Audit, Picture, Epochs, Show}
+use Rattle.cli_args.specs.TaskWords.{GivesNumber, MatchesTask, HoldsNothing, HoldsPicture, HoldsRun, IsNumber, IsStormTask, MayGive}
+
+-- there is no run if no rule set was given
+pub no_rules : (f : Found) (r : RuleSet) (n : ℕ) (p : Option ℕ) (k : ℕ) → None ≡ first_value f (codes "rules") → HoldsRun (rows_of f) r n p k → ⊥
+no_rules f r n p k e h =
+    let a = first_value-rows f (codes "rules") in
+    let b = h.rules_is in
+    cc
+
+-- the word that was given is that of the rule set
+pub rules_are : (f : Found) (word : Text) (r : RuleSet) (n : ℕ) (p : Option ℕ) (k : ℕ) → Some word ≡ first_value f (codes "rules") → HoldsRun (rows_of f) r n p k → word ≡ rules_word r
+rules_are f word r n p k e h =
+    let a = first_value-rows f (codes "rules") in
+    let b = h.rules_is in
+    cc
+
+-- a number was read if one was given
+pub number_read : {E : Type 0} (gives : Text → Result ℕ E → Type 0) (limit : ℕ) (id : Text) (f : Found) (o : Option ℕ) (text : Option Text)
+    → one_text f id ≡ text → (text ≡ None → o ≡ None) → ((t : Text) → text ≡ Some t → ReadsOne gives t o)
+    → ((t : Text) (v : ℕ) → gives t (Ok v) → IsNumber limit t v) → ((t : Text) (v : ℕ) (e : E) → gives t (Err e) → IsNumber limit t v → ⊥)
+    → MatchOption o ((n : ℕ) → GivesNumber limit id (rows_of f) n → ⊥) (λ n. GivesNumber limit id (rows_of f) n)
+number_read gives limit id f None text e none value good bad = λ n h.
+    let r = value h.text (sym e ∙ one_text-rows f id ∙ h.given) in
+    bad h.text n r.0 r.1 h.is
+number_read gives limit id f (Some v) None e none value good bad =
+    let k = none refl in
+    absurd cc
+number_read gives limit id f (Some v) (Some t) e none value good bad =
+    record { text = t; given = sym (one_text-rows f id) ∙ e; is = good t v (value t refl) }
+
+-- what was read of an argument that may be left out
+pub maybe_read : {E : Type 0} (gives : Text → Result ℕ E → Type 0) (limit : ℕ) (id : Text) (f : Found) (text : Option Text) (o : Option ℕ) → one_text f id ≡ text → (text ≡ None → ◌≡◌ {A = Result (Option ℕ) E} (Ok o) (Ok None)) → ((t : Text) → text ≡ Some t → TriesOne gives t (Ok o)) → ((t : Text) (v : ℕ) → gives t (Ok v) → IsNumber limit t v) → MayGive limit id (rows_of f) o
+maybe_read gives limit id f None None e none value read = sym (one_text-rows f id) ∙ e
+maybe_read gives limit id f None (Some v) e none value read =
+    let k = none refl in
+    absurd cc
+maybe_read gives limit id f (Some t) None e none value read = absurd (value t refl)
+maybe_read gives limit id f (Some t) (Some v) e none value read = (t, sym (one_text-rows f id) ∙ e, read t v (value t refl))
+
+-- nothing is given if what was given is no number
+pub none_given : {E : Type 0} (gives : Text → Result ℕ E → Type 0) (limit : ℕ) (id : Text) (f : Found) (error : E) (o : Option ℕ) → (one_text f id ≡ None → ◌≡◌ {A = Result (Option ℕ) E} (Err error) (Ok None)) → ((t : Text) → one_text f id ≡ Some t → TriesOne gives t (Err error)) → ((t : Text) (v : ℕ) → gives t (Err error) → IsNumber limit t v → ⊥) → MayGive limit id (rows_of f) o → ⊥
+none_given gives limit id f error None none value read h =
+    let k = none (one_text-rows f id ∙ h) in
+    cc
+none_given gives limit id f error (Some v) none value read h = read h.0 v (value h.0 (one_text-rows f id ∙ h.1)) h.2
+
+-- what was read makes a run
+pub run_held : (f : Found) (word : Text) (r : RuleSet) (n : ℕ) (p : Option ℕ) (k : ℕ) → Some word ≡ first_value f (codes "rules") → word ≡ rules_word r
+    → GivesNumber (2 ^ 16) (codes "nodes") (rows_of f) n → MayGive (2 ^ 16) (codes "present") (rows_of f) p → GivesNumber (2 ^ 16) (codes "workers") (rows_of f) k → HoldsRun (rows_of f) r n p k
+run_held f word r n p k e w nodes present workers = record {
+  rules_is = sym (first_value-rows f (codes "rules")) ∙ sym e ∙ ap (λ (z : Text). Some z) w;
+  nodes_is = nodes;
+  present_is = present;
+  workers_is = workers;
+}
+
+-- what was found for two parts of one thing, put together
+pub parts_are : {X A B : Type 0} (f : X → A) (g : X → B) (o : Option X) (a : A) (b : B) → Some a ≡ option_map f o → Some b ≡ option_map (λ (p : A × B). p.1) (option_map {U = A × B} (λ x. (f x, g x)) o) → option_map {U = A × B} (λ x. (f x, g x)) o ≡ Some (a, b)
+parts_are f g None a b d e = cc
+parts_are f g (Some x) a b d e = cc
+
+-- `run` is not `audit`
+run_audit : codes "run" ≡ codes "audit" → ⊥
+run_audit e = omega (arith, ap (λ (z : Text). get_or z 0 0) e)
+
+-- nor `picture` nor `epochs` nor `storm`
+run_picture : codes "run" ≡ codes "picture" → ⊥
+run_picture e = omega (arith, ap (λ (z : Text). get_or z 0 0) e)
+
+run_epochs : codes "run" ≡ codes "epochs" → ⊥
+run_epochs e = omega (arith, ap (λ (z : Text). get_or z 0 0) e)
+
+run_storm : codes "run" ≡ codes "storm" → ⊥
+run_storm e = omega (arith, ap (λ (z : Text). get_or z 0 0) e)
+
+-- there is no task if there is no run
+no_task : (rows : List Row) → ((r : RuleSet) (n : ℕ) (p : Option ℕ) (k : ℕ) → HoldsRun rows r n p k → ⊥) → (task : Task) → MatchesTask (Some (codes "run", rows)) task → ⊥
+no_task rows none (Run r n p k) h = none r n p k h.1
+no_task rows none Audit h = run_audit h
+no_task rows none (Picture entry) h = run_picture h.0
+no_task rows none Epochs h = run_epochs h
+no_task rows none (variants.Storm words) h = run_storm h.0
+no_task rows none (Show text) h = h
+
+-- what was found for `run` is what was asked
+pub run_asked : (o : Option (Text × List Row)) (rows : List Row) (found : Option Task) → o ≡ Some (codes "run", rows) → MatchOption found ((r : RuleSet) (n : ℕ) (p : Option ℕ) (k : ℕ) → HoldsRun rows r n p k → ⊥) (λ task. MatchesTask (Some (codes "run", rows)) task) → MatchOption found (HoldsNothing o) (λ task. MatchesTask o task)
+run_asked o rows None e none = (λ task h. no_task rows none task (subst (λ (z : Option (Text × List Row)). MatchesTask z task) e h), λ storm h. run_storm (subst (λ (z : Option (Text × List Row)). IsStormTask z storm) e h).0)
+run_asked o rows (Some task) e held = subst (λ (z : Option (Text × List Row)). MatchesTask z task) (sym e) held
+
+-- ---- a picture
+
+picture_run : codes "picture" ≡ codes "run" → ⊥
+picture_run e = omega (arith, ap (λ (z : Text). get_or z 0 0) e)
+
+picture_audit : codes "picture" ≡ codes "audit" → ⊥
+picture_audit e = omega (arith, ap (λ (z : Text). get_or z 0 0) e)
+
+picture_epochs : codes "picture" ≡ codes "epochs" → ⊥
+picture_epochs e = omega (arith, ap (λ (z : Text). get_or z 0 0) e)
+
+picture_storm : codes "picture" ≡ codes "storm" → ⊥
+picture_storm e = omega (arith, ap (λ (z : Text). get_or z 0 0) e)
+
+no_other : (rows : List Row) → ((entry : Option ℕ) → HoldsPicture rows entry → ⊥) → (task : Task) → MatchesTask (Some (codes "picture", rows)) task → ⊥
+no_other rows none (Run r n p k) h = picture_run h.0
+no_other rows none Audit h = picture_audit h
+no_other rows none (Picture entry) h = none entry h.1
+no_other rows none Epochs h = picture_epochs h
+no_other rows none (variants.Storm words) h = picture_storm h.0
+no_other rows none (Show text) h = h
+
+-- what was found for `picture` is what was asked
+pub picture_asked : (o : Option (Text × List Row)) (rows : List Row) (found : Option Task) → o ≡ Some (codes "picture", rows) → MatchOption found ((entry : Option ℕ) → HoldsPicture rows entry → ⊥) (λ task. MatchesTask (Some (codes "picture", rows)) task) → MatchOption found (HoldsNothing o) (λ task. MatchesTask o task)
+picture_asked o rows None e none = (λ task h. no_other rows none task (subst (λ (z : Option (Text × List Row)). MatchesTask z task) e h), λ storm h. picture_storm (subst (λ (z : Option (Text × List Row)). IsStormTask z storm) e h).0)
+picture_asked o rows (Some task) e held = subst (λ (z : Option (Text × List Row)). MatchesTask z task) (sym e) held

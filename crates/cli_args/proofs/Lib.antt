@@ -1,0 +1,5 @@
+pub mod ArgumentAddition
+pub mod FoundMatches
+pub mod WordReadings
+pub mod GoodWords
+pub mod StormReadings

@@ -1,0 +1,52 @@
+-- What the words of a storm were read as.
+use Rattle.std.proofs.Common.{◌≡◌, List, Option, None, Some, Result, Ok, Err, Bor, map, get_or, sym, ap, subst, ◌∙◌, option_map, arith}
+use Rattle.std.specs.Prelude.{IfOk, MatchOption, codes}
+use Rattle.clap.specs.Matches.{raw_values}
+use Rattle.clap.specs.Words.{Row, Text, all_of, matched_of, rows_of}
+use Rattle.clap.specs.declared.parser.matches.Found.{Found}
+use Rattle.clap.proofs.WalkLemmas.{raw_values-rows}
+use Rattle.cli_args.specs.declared.task.Task.{Task}
+use Rattle.cli_args.specs.declared.task.Task.TheVariants as variants
+use Rattle.cli_args.specs.declared.task.Task.TheVariants.{Run, Audit, Picture, Epochs, Show}
+use Rattle.cli_args.specs.TaskWords.{MatchesTask, HoldsNothing, HoldsStorm, IsStormTask, Storm, storm_of}
+
+-- there is no storm if no script was given
+pub no_scripts : (f : Found) (s : Storm) → None ≡ option_map raw_values (matched_of f (codes "SCRIPT")) → HoldsStorm (rows_of f) s → ⊥
+no_scripts f s e h =
+    let a = raw_values-rows f (codes "SCRIPT") in
+    let b = h.scripts_is in
+    cc
+
+-- the scripts that were given
+pub scripts_are : (f : Found) (given scripts : List (Bor Text)) → Some (map (λ s. s.now) given) ≡ option_map raw_values (matched_of f (codes "SCRIPT")) → scripts ≡ given → all_of (codes "SCRIPT") (rows_of f) ≡ Some (map (λ s. s.now) scripts)
+scripts_are f given scripts e same = sym (raw_values-rows f (codes "SCRIPT")) ∙ sym e ∙ ap (λ (z : List (Bor Text)). Some (map (λ s. s.now) z)) (sym same)
+
+-- `storm` is none of the others
+storm_run : codes "storm" ≡ codes "run" → ⊥
+storm_run e = omega (arith, ap (λ (z : Text). get_or z 0 0) e)
+
+storm_audit : codes "storm" ≡ codes "audit" → ⊥
+storm_audit e = omega (arith, ap (λ (z : Text). get_or z 0 0) e)
+
+storm_picture : codes "storm" ≡ codes "picture" → ⊥
+storm_picture e = omega (arith, ap (λ (z : Text). get_or z 0 0) e)
+
+storm_epochs : codes "storm" ≡ codes "epochs" → ⊥
+storm_epochs e = omega (arith, ap (λ (z : Text). get_or z 0 0) e)
+
+-- there is no task if there is no storm
+no_task : (rows : List Row) → ((s : Storm) → HoldsStorm rows s → ⊥) → (task : Task) → MatchesTask (Some (codes "storm", rows)) task → ⊥
+no_task rows none (Run r n p k) h = storm_run h.0
+no_task rows none Audit h = storm_audit h
+no_task rows none (Picture entry) h = storm_picture h.0
+no_task rows none Epochs h = storm_epochs h
+no_task rows none (variants.Storm words) h = none (storm_of words) h.1
+no_task rows none (Show text) h = h
+
+-- what was found for `storm` is what was asked
+pub storm_asked : {E : Type 0} (o : Option (Text × List Row)) (rows : List Row) (found : Result (Option Task) E) → o ≡ Some (codes "storm", rows)
+    → IfOk found (λ read. MatchOption read ((s : Storm) → HoldsStorm rows s → ⊥) (λ task. MatchesTask (Some (codes "storm", rows)) task))
+    → IfOk found (λ read. MatchOption read (HoldsNothing o) (λ task. MatchesTask o task))
+storm_asked o rows (Ok None) e none = (λ task h. no_task rows none task (subst (λ (z : Option (Text × List Row)). MatchesTask z task) e h), λ s h. none s (subst (λ (z : Option (Text × List Row)). IsStormTask z s) e h).1)
+storm_asked o rows (Ok (Some task)) e held = subst (λ (z : Option (Text × List Row)). MatchesTask z task) (sym e) held
+storm_asked o rows (Err x) e held = tt

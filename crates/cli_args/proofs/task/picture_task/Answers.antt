@@ -1,0 +1,16 @@
+use Rattle.std.proofs.Common.{refl}
+use Rattle.std.specs.Prelude.{◌^◌, codes}
+use Rattle.std.specs.contracts.prelude.U32FromStr.TheImpl.{ghosts}
+use Rattle.clap.specs.Words.{found_of, one_text}
+use Rattle.cli_args.proofs.FoundMatches.{maybe_read, none_given}
+use Rattle.cli_args.proofs.task.picture_task.Goals as goal
+
+pub returns-in-Ok : goal.returns-in-Ok
+returns-in-Ok c =
+    let f = found_of c.args.picture.now in
+    (refl, maybe_read ghosts.from_str_gives (2 ^ 32) (codes "entry") f (one_text f (codes "entry")) c.in-Ok.entry refl c.in-Ok.ensures.none c.in-Ok.ensures.value (λ t v read. read.0))
+
+pub returns-in-Err : goal.returns-in-Err
+returns-in-Err c entry h =
+    let f = found_of c.args.picture.now in
+    none_given ghosts.from_str_gives (2 ^ 32) (codes "entry") f c.in-Err.field-0 entry c.in-Err.ensures.none c.in-Err.ensures.value (λ t v none is. none.0 is.0) h

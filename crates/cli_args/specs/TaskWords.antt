@@ -1,0 +1,224 @@
+-- The tasks of command line words, by clap's definition of what a command reads in words.
+use Rattle.std.specs.Prelude.{◌≡◌, ◌⊎◌, ℕ, ◌<◌, ◌≤◌, ◌^◌, List, [], ◌∷◌, ◌++◌, map, Option, None, Some, pos, true, codes, if◌then◌else◌, nat_le}
+use Rattle.std.specs.Borrow.{Bor}
+use Rattle.std.specs.Fmt.{decimal}
+use Rattle.std.specs.Str.Parse.{IsNumeral, digits_value, without_leading_plus}
+use Rattle.clap.specs.Lexer.{usize_max}
+use Rattle.clap.specs.Words.{App, Row, Rule, Text, all_of, first_of, kind_of, new_app, new_rule, one_of, subcommand_of, takes, with_rule, with_subcommand}
+use Rattle.clap.specs.declared.builder.value_parser.ValueParser.TheVariants as vp
+use Rattle.clap.specs.declared.error.kind.ErrorKind.TheVariants.{DisplayHelp, DisplayVersion}
+use Rattle.rule_machine.specs.declared.rules.RuleSet.{RuleSet}
+use Rattle.rule_machine.specs.Tables.{rules_word}
+use Rattle.cli_args.specs.declared.storm.StormWords.{StormWords}
+use Rattle.cli_args.specs.declared.task.Task.{Task}
+use Rattle.cli_args.specs.declared.task.Task.TheVariants as variants
+use Rattle.cli_args.specs.declared.task.Task.TheVariants.{Run, Audit, Picture, Epochs, Show}
+
+-- texts, as a value parser refers to them
+abbrev pub Names : Type 0
+Names = Bor (List (Bor Text))
+
+-- the texts are the words for the rule sets
+abbrev pub AreRules : Names → Type 0
+AreRules names = map (λ s. s.now) names.now ≡ codes "hh" ∷ codes "manne" ∷ []
+
+-- `--NAME` and one value
+abbrev pub valued_rule : Text → Rule
+valued_rule name = record (new_rule name) { long = Some name; value_names = 1 }
+
+-- `--rules` and one of the names; required
+abbrev pub rules_rule : Names → Rule
+rules_rule names = record (valued_rule (codes "rules")) { parser = Some (vp.Names names); required = true }
+
+-- `--nodes` and a number from 0 to 65,535; required
+abbrev pub nodes_rule : Rule
+nodes_rule = record (valued_rule (codes "nodes")) { parser = Some (vp.Signed (pos 0) (pos 65535)); required = true }
+
+-- `--present` and a number from 0 to 65,535; optional
+abbrev pub present_rule : Rule
+present_rule = record (valued_rule (codes "present")) { parser = Some (vp.Signed (pos 0) (pos 65535)) }
+
+-- `--workers` and a number from 1 to 64; 1 by default
+abbrev pub workers_rule : Rule
+workers_rule = record (valued_rule (codes "workers")) { defaults = codes "1" ∷ []; parser = Some (vp.Signed (pos 1) (pos 64)) }
+
+-- a subcommand with these four
+abbrev pub network_app : App → Names → App
+network_app app names = with_rule (with_rule (with_rule (with_rule app (rules_rule names)) nodes_rule) present_rule) workers_rule
+
+-- the subcommand `run`
+abbrev pub run_app : Names → App
+run_app names = network_app (new_app (codes "run")) names
+
+-- `--entry` and a number from 0 to 16,777,216; optional
+abbrev pub entry_rule : Rule
+entry_rule = record (valued_rule (codes "entry")) { parser = Some (vp.Signed (pos 0) (pos 16777216)) }
+
+-- the subcommand `picture`
+abbrev pub picture_app : App
+picture_app = with_rule (new_app (codes "picture")) entry_rule
+
+-- a command with a version, which requires a subcommand and otherwise shows its help
+abbrev pub top_app : App
+top_app = record (new_app (codes "console")) {
+  top = record (new_app (codes "console")).top { has_version = true; subcommand_required = true; arg_required_else_help = true };
+}
+
+-- the command with `run` and `audit`
+abbrev pub judging_app : Names → App
+judging_app names = with_subcommand (with_subcommand top_app (run_app names).top) (new_app (codes "audit")).top
+
+-- `--roam` and a number from 0 to 64; 0 by default
+abbrev pub roam_rule : Rule
+roam_rule = record (valued_rule (codes "roam")) { defaults = codes "0" ∷ []; parser = Some (vp.Signed (pos 0) (pos 64)) }
+
+-- `--turns` and a number from 0 to 1,000,000; 1,000 by default
+abbrev pub turns_rule : Rule
+turns_rule = record (valued_rule (codes "turns")) { defaults = codes "1000" ∷ []; parser = Some (vp.Signed (pos 0) (pos 1000000)) }
+
+-- the names of one or more files
+abbrev pub script_rule : Rule
+script_rule = record (new_rule (codes "SCRIPT")) { range = Some (record { start_inclusive = 1; end_inclusive = usize_max }); required = true }
+
+-- the subcommand `storm`
+abbrev pub storm_app : Names → App
+storm_app names = with_rule (with_rule (with_rule (network_app (new_app (codes "storm")) names) roam_rule) turns_rule) script_rule
+
+-- the command with these, `picture` and `epochs`
+abbrev pub showing_app : Names → App
+showing_app names = with_subcommand (with_subcommand (judging_app names) picture_app.top) (new_app (codes "epochs")).top
+
+-- the command with all five
+abbrev pub console_app : Names → App
+console_app names = with_subcommand (showing_app names) (storm_app names).top
+
+-- the text is a number below the limit in decimal, perhaps with a plus and zeros in front
+abbrev pub IsNumber : ℕ → Text → ℕ → Type 0
+IsNumber limit text n = (IsNumeral 10 (without_leading_plus text) × (digits_value 10 (without_leading_plus text) < limit)) × (n ≡ digits_value 10 (without_leading_plus text))
+
+-- the argument's value is this number
+pub record GivesNumber (limit : ℕ) (id : Text) (found : List Row) (n : ℕ) : Type 0 where
+  pub text : Text
+  pub given : one_of id found ≡ Some text
+  pub is : IsNumber limit text n
+
+-- the optional argument's value is this number, or it has none
+abbrev pub MayGive : ℕ → Text → List Row → Option ℕ → Type 0
+MayGive limit id found None = one_of id found ≡ None
+MayGive limit id found (Some n) = (text : Text) × (one_of id found ≡ Some text) × IsNumber limit text n
+
+-- the values of `run` are this rule set, and these numbers of names, of nodes at the start, and of workers
+pub record HoldsRun (found : List Row) (rules : RuleSet) (nodes : ℕ) (present : Option ℕ) (workers : ℕ) : Type 0 where
+  pub rules_is : first_of (codes "rules") found ≡ Some (rules_word rules)
+  pub nodes_is : GivesNumber (2 ^ 16) (codes "nodes") found nodes
+  pub present_is : MayGive (2 ^ 16) (codes "present") found present
+  pub workers_is : GivesNumber (2 ^ 16) (codes "workers") found workers
+
+-- the value of `picture` is this entry, or none
+abbrev pub HoldsPicture : List Row → Option ℕ → Type 0
+HoldsPicture found entry = MayGive (2 ^ 32) (codes "entry") found entry
+
+-- a storm: its rule set, names, nodes at the start (if given), step workers, roaming workers and their turns,
+-- and script files
+pub record Storm : Type 0 where
+  pub rules : RuleSet
+  pub nodes : ℕ
+  pub present : Option ℕ
+  pub workers : ℕ
+  pub roamers : ℕ
+  pub turns : ℕ
+  pub scripts : List Text
+
+abbrev pub storm_of : StormWords → Storm
+storm_of words = record {
+  rules = words.rules;
+  nodes = words.nodes;
+  present = words.present;
+  workers = words.workers;
+  roamers = words.roamers;
+  turns = words.turns;
+  scripts = map (λ s. s.now) words.scripts.items;
+}
+
+-- the values of `storm` are these
+pub record HoldsStorm (found : List Row) (storm : Storm) : Type 0 where
+  pub run_is : HoldsRun found storm.rules storm.nodes storm.present storm.workers
+  pub roamers_is : GivesNumber (2 ^ 16) (codes "roam") found storm.roamers
+  pub turns_is : GivesNumber (2 ^ 32) (codes "turns") found storm.turns
+  pub scripts_is : all_of (codes "SCRIPT") found ≡ Some storm.scripts
+
+-- the subcommand is `storm`, with these values
+abbrev pub IsStormTask : Option (Text × List Row) → Storm → Type 0
+IsStormTask None storm = ⊥
+IsStormTask (Some p) storm = (p.0 ≡ codes "storm") × HoldsStorm p.1 storm
+
+-- the subcommand and its values are the task's
+abbrev pub MatchesTask : Option (Text × List Row) → Task → Type 0
+MatchesTask (Some p) (Run rules nodes present workers) = (p.0 ≡ codes "run") × HoldsRun p.1 rules nodes present workers
+MatchesTask (Some p) Audit = p.0 ≡ codes "audit"
+MatchesTask (Some p) (Picture entry) = (p.0 ≡ codes "picture") × HoldsPicture p.1 entry
+MatchesTask (Some p) Epochs = p.0 ≡ codes "epochs"
+MatchesTask (Some p) (variants.Storm words) = (p.0 ≡ codes "storm") × HoldsStorm p.1 (storm_of words)
+MatchesTask found task = ⊥
+
+-- they are no task's
+abbrev pub HoldsNothing : Option (Text × List Row) → Type 0
+HoldsNothing found = ((task : Task) → MatchesTask found task → ⊥) × ((storm : Storm) → IsStormTask found storm → ⊥)
+
+-- the words are read as the task
+abbrev pub Asks : List Text → Task → Type 0
+Asks words task = (names : Names) × AreRules names × MatchesTask (subcommand_of (console_app names) words) task
+
+-- the result for the words: the help or the version if asked for, or their task
+abbrev pub ParsesTo : List Text → Task → Type 0
+ParsesTo words (Show text) = (kind_of text ≡ DisplayHelp) ⊎ (kind_of text ≡ DisplayVersion)
+ParsesTo words task = Asks words task
+
+-- the words are good, and are read as the task
+abbrev pub ParsesAsTask : List Text → Task → Type 0
+ParsesAsTask words task =
+    (names : Names) → AreRules names → (takes (console_app names) words ≡ true) × MatchesTask (subcommand_of (console_app names) words) task
+
+-- the words are good, and are read as the storm
+abbrev pub WantsStorm : List Text → Storm → Type 0
+WantsStorm words storm =
+    (names : Names) → AreRules names → (takes (console_app names) words ≡ true) × IsStormTask (subcommand_of (console_app names) words) storm
+
+-- how many nodes are present at the start: as many as given, or all names; none if more are given than there
+-- are names
+abbrev pub present_at_start : ℕ → Option ℕ → Option ℕ
+present_at_start nodes None = Some nodes
+present_at_start nodes (Some present) = if nat_le present nodes then Some present else None
+
+-- `--present`, if a number is given
+abbrev pub present_words : Option ℕ → List Text
+present_words None = []
+present_words (Some p) = (codes "--present=" ++ decimal p) ∷ []
+
+-- `--workers`, if a number is given
+abbrev pub workers_words : Option ℕ → List Text
+workers_words None = []
+workers_words (Some k) = (codes "--workers=" ++ decimal k) ∷ []
+
+-- a valid number of workers, if one is given
+abbrev pub AreWorkers : Option ℕ → Type 0
+AreWorkers None = Unit {0}
+AreWorkers (Some k) = (1 ≤ k) × (k ≤ 64)
+
+-- the usual words for a run
+abbrev pub run_words : Text → RuleSet → ℕ → Option ℕ → Option ℕ → List Text
+run_words program rules nodes present workers =
+    program ∷ codes "run" ∷ (codes "--rules=" ++ rules_word rules) ∷ (codes "--nodes=" ++ decimal nodes) ∷ (present_words present ++ workers_words workers)
+
+-- the words for an audit
+abbrev pub audit_words : Text → List Text
+audit_words program = program ∷ codes "audit" ∷ []
+
+-- the words for a picture
+abbrev pub picture_words : Text → Option ℕ → List Text
+picture_words program None = program ∷ codes "picture" ∷ []
+picture_words program (Some entry) = program ∷ codes "picture" ∷ (codes "--entry=" ++ decimal entry) ∷ []
+
+-- the words for the epochs
+abbrev pub epochs_words : Text → List Text
+epochs_words program = program ∷ codes "epochs" ∷ []

@@ -1,0 +1,224 @@
+//! The clap command that reads the words.
+
+ghost use Rattle.std.specs.Prelude.{◌≡◌, false, IfOk, codes};
+ghost use Rattle.clap.specs.Words.{app_of, new_app, rule_of};
+ghost use Rattle.clap.specs.declared.builder.command.Command.TheViews.{out-Command as fields_of};
+ghost use Rattle.cli_args.specs.TaskWords.{AreRules, Names, console_app, entry_rule, judging_app, network_app, nodes_rule, picture_app, present_rule, roam_rule, rules_rule, run_app, script_rule, showing_app, storm_app, top_app, turns_rule, valued_rule, workers_rule};
+
+use crate::help::{
+    ABOUT, AUDIT_ABOUT, AUDIT_NOTES, AUDIT_USAGE, ENTRY_HELP, EPOCHS_ABOUT, EPOCHS_NOTES,
+    EPOCHS_USAGE, EXAMPLES, NODES_HELP, PICTURE_ABOUT, PICTURE_NOTES, PICTURE_USAGE, PRESENT_HELP,
+    ROAM_HELP, RULES_HELP, RUN_ABOUT, RUN_NOTES, STORM_ABOUT, STORM_NOTES, TURNS_HELP,
+    WORKERS_HELP,
+};
+use clap::{Arg, Command, value_parser};
+use std::alloc::{AllocError, Global};
+
+static RULES: [&str; 2] = ["hh", "manne"];
+
+// `--NAME` with one value.
+fn valued_arg<'a>(alloc: Global, name: &'a str, value: &'a str, help: &'a str) -> Arg<'a>
+    ensures rule { rule_of result ≡ valued_rule name.entry.now }
+    ensures local { result.global ≡ false }
+{
+    Arg::new(alloc, name)
+        .long(name)
+        .value_name(value)
+        .help(help)
+}
+
+// `--rules`, one of the given words.
+fn rules_arg<'a>(alloc: Global, names: &'a [&'a str]) -> Arg<'a>
+    ensures rule { rule_of result ≡ rules_rule names.entry }
+    ensures local { result.global ≡ false }
+{
+    valued_arg(alloc, "rules", "RULES", RULES_HELP)
+        .required(true)
+        .value_parser(names)
+}
+
+// `--nodes`, a number from 0 to 65,535.
+fn nodes_arg<'a>(alloc: Global) -> Arg<'a>
+    ensures rule { rule_of result ≡ nodes_rule }
+    ensures local { result.global ≡ false }
+{
+    valued_arg(alloc, "nodes", "N", NODES_HELP)
+        .required(true)
+        .value_parser(value_parser!(u16))
+}
+
+// `--present`, a number from 0 to 65,535.
+fn present_arg<'a>(alloc: Global) -> Arg<'a>
+    ensures rule { rule_of result ≡ present_rule }
+    ensures local { result.global ≡ false }
+{
+    valued_arg(alloc, "present", "P", PRESENT_HELP).value_parser(value_parser!(u16))
+}
+
+// `--workers`, a number from 1 to 64.
+fn workers_arg<'a>(alloc: Global) -> Arg<'a>
+    ensures rule { rule_of result ≡ workers_rule }
+    ensures local { result.global ≡ false }
+{
+    valued_arg(alloc, "workers", "K", WORKERS_HELP)
+        .default_value("1")
+        .value_parser(value_parser!(u16).range(1..=64))
+}
+
+// A subcommand without its arguments.
+fn told_command<'a>(alloc: Global, name: &'a str, about: &'a str, notes: &'a str) -> Command<'a>
+    ensures app { app_of result ≡ new_app name.entry.now }
+    ensures local { (fields_of result).has_globals ≡ false }
+{
+    Command::new(alloc, name).about(about).after_help(notes)
+}
+
+// A subcommand that reads a transcript.
+fn reading_command<'a>(
+    alloc: Global,
+    name: &'a str,
+    about: &'a str,
+    notes: &'a str,
+    usage: &'a str,
+) -> Command<'a>
+    ensures app { app_of result ≡ new_app name.entry.now }
+    ensures local { (fields_of result).has_globals ≡ false }
+{
+    told_command(alloc, name, about, notes).override_usage(usage)
+}
+
+// Adds the arguments of a network: the rules, the names, the nodes at the start, and the workers.
+fn network_command<'a>(
+    alloc: Global,
+    command: Command<'a>,
+    names: &'a [&'a str],
+) -> Result<Command<'a>, AllocError>
+    requires { (fields_of command).has_globals ≡ false }
+    ensures app { IfOk result (λ more. app_of more ≡ network_app (app_of command.entry) names.entry) }
+    ensures local { IfOk result (λ more. (fields_of more).has_globals ≡ false) }
+{
+    command
+        .arg(rules_arg(alloc, names))?
+        .arg(nodes_arg(alloc))?
+        .arg(present_arg(alloc))?
+        .arg(workers_arg(alloc))
+}
+
+fn run_command<'a>(alloc: Global, names: &'a [&'a str]) -> Result<Command<'a>, AllocError>
+    ensures app { IfOk result (λ run. app_of run ≡ run_app names.entry) }
+    ensures local { IfOk result (λ run. (fields_of run).has_globals ≡ false) }
+{
+    let run = told_command(alloc, "run", RUN_ABOUT, RUN_NOTES);
+    network_command(alloc, run, names)
+}
+
+// `--entry`, a number from 0 to 16,777,216.
+fn entry_arg<'a>(alloc: Global) -> Arg<'a>
+    ensures rule { rule_of result ≡ entry_rule }
+    ensures local { result.global ≡ false }
+{
+    valued_arg(alloc, "entry", "K", ENTRY_HELP).value_parser(value_parser!(u32).range(
+        ..=16_777_216,
+    ))
+}
+
+fn picture_command<'a>(alloc: Global) -> Result<Command<'a>, AllocError>
+    ensures app { IfOk result (λ picture. app_of picture ≡ picture_app) }
+    ensures local { IfOk result (λ picture. (fields_of picture).has_globals ≡ false) }
+{
+    reading_command(
+        alloc,
+        "picture",
+        PICTURE_ABOUT,
+        PICTURE_NOTES,
+        PICTURE_USAGE,
+    )
+    .arg(entry_arg(alloc))
+}
+
+// `--roam`, a number from 0 to 64.
+fn roam_arg<'a>(alloc: Global) -> Arg<'a>
+    ensures rule { rule_of result ≡ roam_rule }
+    ensures local { result.global ≡ false }
+{
+    valued_arg(alloc, "roam", "W", ROAM_HELP)
+        .default_value("0")
+        .value_parser(value_parser!(u16).range(..=64))
+}
+
+// `--turns`, a number from 0 to 1,000,000.
+fn turns_arg<'a>(alloc: Global) -> Arg<'a>
+    ensures rule { rule_of result ≡ turns_rule }
+    ensures local { result.global ≡ false }
+{
+    valued_arg(alloc, "turns", "T", TURNS_HELP)
+        .default_value("1000")
+        .value_parser(value_parser!(u32).range(..=1_000_000))
+}
+
+// The names of one or more script files.
+fn script_arg<'a>(alloc: Global) -> Arg<'a>
+    ensures rule { rule_of result ≡ script_rule }
+    ensures local { result.global ≡ false }
+{
+    Arg::new(alloc, "SCRIPT")
+        .required(true)
+        .num_args(1..)
+        .help("The file of a script; at most 64 of them")
+}
+
+fn storm_command<'a>(alloc: Global, names: &'a [&'a str]) -> Result<Command<'a>, AllocError>
+    ensures app { IfOk result (λ storm. app_of storm ≡ storm_app names.entry) }
+    ensures local { IfOk result (λ storm. (fields_of storm).has_globals ≡ false) }
+{
+    let storm = told_command(alloc, "storm", STORM_ABOUT, STORM_NOTES);
+    network_command(alloc, storm, names)?
+        .arg(roam_arg(alloc))?
+        .arg(turns_arg(alloc))?
+        .arg(script_arg(alloc))
+}
+
+// The command without its subcommands.
+fn top_command<'a>(alloc: Global) -> Command<'a>
+    ensures { app_of result ≡ top_app }
+{
+    Command::new(alloc, "console")
+        .version("1.0.0")
+        .about(ABOUT)
+        .after_help(EXAMPLES)
+        .subcommand_required(true)
+        .arg_required_else_help(true)
+}
+
+// The command with `run` and `audit`.
+fn judging_command<'a>(alloc: Global, names: &'a [&'a str]) -> Result<Command<'a>, AllocError>
+    ensures { IfOk result (λ command. app_of command ≡ judging_app names.entry) }
+{
+    top_command(alloc)
+        .subcommand(run_command(alloc, names)?)?
+        .subcommand(reading_command(alloc, "audit", AUDIT_ABOUT, AUDIT_NOTES, AUDIT_USAGE))
+}
+
+// The command with these, `picture` and `epochs`.
+fn showing_command<'a>(alloc: Global, names: &'a [&'a str]) -> Result<Command<'a>, AllocError>
+    ensures { IfOk result (λ command. app_of command ≡ showing_app names.entry) }
+{
+    judging_command(alloc, names)?
+        .subcommand(picture_command(alloc)?)?
+        .subcommand(reading_command(alloc, "epochs", EPOCHS_ABOUT, EPOCHS_NOTES, EPOCHS_USAGE))
+}
+
+/// The command with all subcommands.
+///
+/// | Subcommand | Arguments |
+/// |---|---|
+/// | `run` | `--rules`, `--nodes`, `--present`, `--workers` |
+/// | `audit`, `epochs` | none |
+/// | `picture` | `--entry` |
+/// | `storm` | those of `run`, `--roam`, `--turns`, and scripts |
+pub(crate) fn command<'a>(alloc: Global) -> Result<Command<'a>, AllocError>
+    ensures { IfOk result (λ command. (names : Names) × AreRules names × (app_of command ≡ console_app names)) }
+{
+    let names = RULES.as_slice();
+    showing_command(alloc, names)?.subcommand(storm_command(alloc, names)?)
+}

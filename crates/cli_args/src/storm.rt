@@ -1,0 +1,75 @@
+//! The words of a storm.
+
+ghost use Rattle.std.specs.Prelude.{◌≡◌, ◌^◌, ℕ, IfErr, IfOk, MatchOption, codes};
+ghost use Rattle.clap.specs.Words.{found_of, kind_of, rows_of};
+ghost use Rattle.clap.specs.declared.error.kind.ErrorKind.TheVariants.{OutOfMemory};
+ghost use Rattle.cli_args.specs.TaskWords.{GivesNumber, MatchesTask, HoldsStorm, Storm};
+
+use crate::task::{Task, network, number};
+use clap::{ArgMatches, Error};
+use rule_machine::RuleSet;
+use std::alloc::Global;
+
+/// The arguments of a storm.
+#[derive(Debug, Drop)]
+pub struct StormWords<'a> {
+    /// The rule set.
+    pub rules: RuleSet,
+    /// How many names there are, from 1 on.
+    pub nodes: u16,
+    /// How many nodes are present at the start; all if `None`.
+    pub present: Option<u16>,
+    /// How many workers evaluate a step, 1 to 64.
+    pub workers: u16,
+    /// How many workers roam during the scripts, at most 64.
+    pub roamers: u16,
+    /// How many turns each roaming worker takes, at most 1,000,000.
+    pub turns: u32,
+    /// The names of the script files as given, at least one.
+    pub scripts: Vec<&'a str>,
+}
+
+fn turns(storm: &ArgMatches<'_>) -> Option<u32>
+    ensures { MatchOption result
+        ((n : ℕ) → GivesNumber (2 ^ 32) (codes "turns") (rows_of (found_of storm.now)) n → ⊥)
+        (λ n. GivesNumber (2 ^ 32) (codes "turns") (rows_of (found_of storm.now)) n) }
+{
+    storm.get_one::<u32>("turns")
+}
+
+/// The task of `storm`; `None` if a value is missing or not one of its argument's.
+///
+/// Fails only if memory runs out.
+pub(crate) fn storm_task<'a>(
+    alloc: Global,
+    storm: &ArgMatches<'a>,
+) -> Result<Option<Task<'a>>, Error>
+    ensures read { IfOk result (λ read. MatchOption read
+        ((asked : Storm) → HoldsStorm (rows_of (found_of storm.now)) asked → ⊥)
+        (λ task. MatchesTask (Some (codes "storm", rows_of (found_of storm.now))) task)) }
+    ensures memory { IfErr result (λ e. kind_of e ≡ OutOfMemory) }
+{
+    let Some((rules, nodes, present, workers)) = network(storm) else {
+        return Ok(None);
+    };
+    let Some(roamers) = number(storm, "roam") else {
+        return Ok(None);
+    };
+    let Some(turns) = turns(storm) else {
+        return Ok(None);
+    };
+    let Some(given) = storm.get_strs("SCRIPT") else {
+        return Ok(None);
+    };
+    let mut scripts = Vec::new(alloc);
+    scripts.extend_from_slice(given)?;
+    Ok(Some(Task::Storm(StormWords {
+        rules,
+        nodes,
+        present,
+        workers,
+        roamers,
+        turns,
+        scripts,
+    })))
+}

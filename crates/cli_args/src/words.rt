@@ -1,0 +1,49 @@
+//! Reading the words of the command line.
+
+ghost use Rattle.std.specs.Prelude.{◌≡◌, ◌≤◌, ℕ, List, Option, IfOk, IfErr, IfSome, map, unwrap_or};
+ghost use Rattle.clap.specs.Words.{Text, kind_of};
+ghost use Rattle.clap.specs.declared.error.kind.ErrorKind.TheVariants.{OutOfMemory};
+ghost use Rattle.rule_machine.specs.declared.rules.RuleSet.{RuleSet};
+ghost use Rattle.cli_args.specs.declared.task.Task.{Task};
+ghost use Rattle.cli_args.specs.declared.task.Task.TheVariants.{Run, Audit, Picture, Epochs};
+ghost use Rattle.cli_args.specs.Mistake.{IsMistake};
+ghost use Rattle.cli_args.specs.TaskWords.{ParsesTo, AreWorkers, Storm, ParsesAsTask, WantsStorm, audit_words, epochs_words, picture_words, run_words};
+
+use crate::command::command;
+use crate::task::{Task, asked};
+use clap::Error;
+use clap::error::ErrorKind;
+use std::alloc::Global;
+use std::convert::AsStr;
+
+/// Reads the words of the command line, the program's name first, as clap defines the command.
+///
+/// The error is clap's: bad words, or memory ran out. Good words that ask for a task fail only if memory runs
+/// out.
+pub fn read_words<'a, S: AsStr>(alloc: Global, words: &'a [S]) -> Result<Task<'a>, Error>
+    ensures answers { IfOk result (λ task. ParsesTo (map S.text words.entry.now) task) }
+    ensures mistake { IfErr result (λ e. IsMistake (kind_of e)) }
+    ensures wanted { IfErr result (λ e. (task : Task) → ParsesAsTask (map S.text words.entry.now) task → kind_of e ≡ OutOfMemory) }
+    ensures wanted_storm { IfErr result (λ e. (storm : Storm) → WantsStorm (map S.text words.entry.now) storm → kind_of e ≡ OutOfMemory) }
+{
+    let mut command = command(alloc)?;
+    match command.try_get_matches_from_mut(words) {
+        Ok(found) => match asked(alloc, &found) {
+            Ok(Some(task)) => Ok(task),
+            Ok(None) => Err(command.error(ErrorKind::ValueValidation, "no such task")?),
+            Err(error) => Err(error),
+        },
+        Err(error) if error.use_stderr() => Err(error),
+        Err(text) => Ok(Task::Show(text)),
+    }
+}
+
+/// The usual words are good and ask for their task; a run has one worker by default.
+pub fn usual_words()
+    ensures run { (program : Text) (rules : RuleSet) (nodes : ℕ) (present workers : Option ℕ)
+        → nodes ≤ 65535 → IfSome present (λ p. p ≤ 65535) → AreWorkers workers
+        → ParsesAsTask (run_words program rules nodes present workers) (Run rules nodes present (unwrap_or workers 1)) }
+    ensures audit { (program : Text) → ParsesAsTask (audit_words program) Audit }
+    ensures picture { (program : Text) (entry : Option ℕ) → IfSome entry (λ k. k ≤ 16777216) → ParsesAsTask (picture_words program entry) (Picture entry) }
+    ensures epochs { (program : Text) → ParsesAsTask (epochs_words program) Epochs }
+{}

@@ -1,0 +1,86 @@
+-- How the program ends: what the writers have, and the exit status.
+use Rattle.std.specs.Prelude.{◌≡◌, ℕ, List, length, Option, None, Some, Result, Ok, Err, IfOk}
+use Rattle.std.specs.Io.KnownBytes.{Keeps}
+use Rattle.clap.specs.Words.{kind_of}
+use Rattle.clap.specs.declared.error.Error.{Error}
+use Rattle.clap.specs.declared.error.kind.ErrorKind.{ErrorKind}
+use Rattle.clap.specs.declared.error.kind.ErrorKind.TheVariants.{OutOfMemory}
+use Rattle.rule_machine.specs.declared.rules.RuleSet.{RuleSet}
+use Rattle.script_run.specs.declared.fault.RunFault.{RunFault}
+use Rattle.script_run.specs.declared.fault.RunFault.TheVariants.{Memory}
+use Rattle.script_run.specs.Outcome.{IsRunOutcome}
+use Rattle.cli_args.specs.declared.task.Task.{Task}
+use Rattle.cli_args.specs.declared.task.Task.TheVariants as variants
+use Rattle.cli_args.specs.declared.task.Task.TheVariants.{Run, Audit, Picture, Epochs, Show}
+use Rattle.cli_args.specs.TaskWords.{Storm, present_at_start, storm_of}
+use Rattle.command_line.specs.declared.verdict.CheckEnd.{CheckEnd}
+use Rattle.command_line.specs.Status.{run_status, words_status}
+use Rattle.command_line.specs.FaultText.{bad_present_line, run_fault_line}
+use Rattle.transcript_view.specs.Views.{IsPicture, IsEpochTable}
+use Rattle.command_line.specs.WriterStates.{WriterState, WritesLine}
+use Rattle.command_line.specs.ViewEnds.{WrittenBytes, ShowsSome, Views}
+use Rattle.command_line.specs.Network.{asked_storm}
+use Rattle.command_line.specs.StormEnds.{PlaysStorm}
+use Rattle.command_line.specs.CheckResults.{IsVerdict, TellsVerdict, verdict_status}
+
+-- the line of the fault, or a beginning of it if a write failed; nothing without a fault
+abbrev pub TellsFault : {X : Type 0} → WrittenBytes → WriterState → Result X RunFault → Type 0
+TellsFault before after (Ok _) = Keeps before after.got
+TellsFault before after (Err fault) = WritesLine before after (run_fault_line fault)
+
+-- the exit status of a run
+abbrev pub ended_status : Result Unit RunFault → ℕ
+ended_status (Ok _) = 0
+ended_status (Err fault) = run_status fault
+
+-- and of an audit
+abbrev pub checked_status : Result CheckEnd RunFault → ℕ
+checked_status (Ok end) = verdict_status end
+checked_status (Err fault) = run_status fault
+
+-- the script was run, the writer has its transcript, a fault was reported, and the status fits
+abbrev pub TellsOutcome : RuleSet → ℕ → ℕ → ℕ → List ℕ → WrittenBytes → WrittenBytes → WrittenBytes → WriterState → ℕ → Type 0
+TellsOutcome rules nodes present limit script old new before after status =
+    (ended : Result Unit RunFault) × IsRunOutcome rules nodes present limit script old new ended × TellsFault before after ended × (status ≡ ended_status ended)
+
+-- too many nodes for the start are reported, and nothing is read or written
+abbrev pub TellsBadPresent : WrittenBytes → WrittenBytes → WrittenBytes → WriterState → ℕ → Type 0
+TellsBadPresent old new before after status = (status ≡ 2) × Keeps old new × WritesLine before after bad_present_line
+
+-- a run: if that many nodes can be present at the start, it is run with them
+abbrev pub DoesRun : RuleSet → ℕ → Option ℕ → List ℕ → WrittenBytes → WrittenBytes → WrittenBytes → WriterState → ℕ → Type 0
+DoesRun rules nodes None input old new before after status = TellsBadPresent old new before after status
+DoesRun rules nodes (Some present) input old new before after status = TellsOutcome rules nodes present 16777216 input old new before after status
+
+-- the transcript was judged, the writer has the line of its verdict, a fault was reported, and the status
+-- fits
+abbrev pub TellsCheck : List ℕ → WrittenBytes → WrittenBytes → WrittenBytes → WriterState → ℕ → Type 0
+TellsCheck bytes old new before after status =
+    (ended : Result CheckEnd RunFault) × IfOk ended (IsVerdict bytes) × TellsVerdict old new ended × TellsFault before after ended × (status ≡ checked_status ended)
+
+-- a storm: if that many nodes can be present at the start, its scripts are played on them
+abbrev pub DoesStorm : Storm → Option ℕ → WrittenBytes → WrittenBytes → WrittenBytes → WriterState → ℕ → Type 0
+DoesStorm storm None old new before after status = TellsBadPresent old new before after status
+DoesStorm storm (Some present) old new before after status = PlaysStorm (asked_storm storm present) (length storm.scripts) old new before after status
+
+-- each task: the bytes and status of a run are the same for any number of workers; for the help or the
+-- version a text is shown
+abbrev pub DoesTask : Task → List ℕ → WrittenBytes → WrittenBytes → WrittenBytes → WriterState → ℕ → Type 0
+DoesTask (Run rules nodes present workers) input old new before after status = DoesRun rules nodes (present_at_start nodes present) input old new before after status
+DoesTask Audit input old new before after status = TellsCheck input old new before after status
+DoesTask (Picture entry) input old new before after status = Views (IsPicture input entry) old new before after status
+DoesTask Epochs input old new before after status = Views (IsEpochTable input) old new before after status
+DoesTask (variants.Storm words) input old new before after status =
+    DoesStorm (storm_of words) (present_at_start words.nodes words.present) old new before after status
+DoesTask (Show text) input old new before after status = ShowsSome old new before after status
+
+-- what is written about bad words: that memory ran out, if it did, else an unspecified text, or its beginning
+abbrev pub TellsMistake : ErrorKind → WrittenBytes → WriterState → Type 0
+TellsMistake kind before after =
+    (kind ≡ OutOfMemory → WritesLine before after (run_fault_line Memory)) × ((text : List ℕ) × WritesLine before after text)
+
+-- the task is done; bad words, or memory that ran out for reading them, are reported, and the writer gets
+-- nothing
+abbrev pub ActsOnWords : Result Task Error → List ℕ → WrittenBytes → WrittenBytes → WrittenBytes → WriterState → ℕ → Type 0
+ActsOnWords (Ok task) input old new before after status = DoesTask task input old new before after status
+ActsOnWords (Err e) input old new before after status = Keeps old new × TellsMistake (kind_of e) before after × (status ≡ words_status (kind_of e))

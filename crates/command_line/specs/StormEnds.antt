@@ -1,0 +1,24 @@
+-- How a storm ends: what the writers have, and the exit status.
+use Rattle.std.specs.Prelude.{◌≡◌, ◌<◌, ℕ, List, length, Result}
+use Rattle.script_run.specs.RunOptions.{OptionsView}
+use Rattle.storm_runner.specs.declared.fault.StormFault.{StormFault}
+use Rattle.storm_runner.specs.declared.fault.StormFault.TheVariants.{Read, Memory}
+use Rattle.storm_runner.specs.FaultText.{end_line}
+use Rattle.storm_runner.specs.Outcome.{IsStormOutcome}
+use Rattle.storm_runner.specs.Status.{end_status}
+use Rattle.command_line.specs.WriterStates.{WrittenBytes, WriterState, WritesLine}
+
+-- one of these files cannot be opened, or memory ran out for them
+abbrev pub FailsToOpen : ℕ → StormFault → Type 0
+FailsToOpen files Read = 0 < files
+FailsToOpen files Memory = Unit {0}
+FailsToOpen files _ = ⊥
+
+-- it ended as a storm of this many scripts may; nothing is said of their texts
+abbrev pub EndsStorm : OptionsView → ℕ → WrittenBytes → WrittenBytes → Result Unit StormFault → Type 0
+EndsStorm asked scripts old new ended = (texts : List WrittenBytes) × (length texts ≡ scripts) × IsStormOutcome asked texts old new ended
+
+-- the end was reported, and the status fits
+abbrev pub PlaysStorm : OptionsView → ℕ → WrittenBytes → WrittenBytes → WrittenBytes → WriterState → ℕ → Type 0
+PlaysStorm asked scripts old new before after status =
+    (ended : Result Unit StormFault) × EndsStorm asked scripts old new ended × WritesLine before after (end_line ended) × (status ≡ end_status ended)

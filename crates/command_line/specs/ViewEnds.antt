@@ -1,0 +1,71 @@
+-- How a view of a transcript ends: what the writers have, and the exit status.
+use Rattle.std.specs.Prelude.{◌≡◌, ◌⊎◌, ℕ, List, ◌++◌, Option, Result, Ok, Err, IfOk, codes}
+use Rattle.std.specs.Io.KnownBytes.{Appends, Keeps}
+use Rattle.byte_streams.specs.declared.input_fault.InputFault.{InputFault}
+use Rattle.byte_streams.specs.declared.input_fault.InputFault.TheVariants as input
+use Rattle.byte_streams.specs.PartialOutput.{AppendsBeginning}
+use Rattle.line_text.specs.Words.{number_text}
+use Rattle.auditor.specs.declared.damage.Damage.{Damage}
+use Rattle.auditor.specs.Verdict.{of_damage}
+use Rattle.script_run.specs.declared.fault.RunFault.{RunFault}
+use Rattle.script_run.specs.declared.fault.RunFault.TheVariants as run
+use Rattle.transcript_view.specs.declared.view.View.{View}
+use Rattle.transcript_view.specs.declared.view.View.TheVariants.{Text, Refused, TooFew, Forgotten}
+use Rattle.command_line.specs.declared.verdict.CheckEnd.TheVariants as verdict
+use Rattle.command_line.specs.FaultText.{run_fault_line}
+pub use Rattle.command_line.specs.WriterStates.{WrittenBytes}
+use Rattle.command_line.specs.WriterStates.{WriterState, WritesLine}
+use Rattle.command_line.specs.Status.{run_status}
+use Rattle.command_line.specs.VerdictText.{verdict_line}
+
+-- that the entry is missing, and what there is, with the LF
+abbrev pub missing_line : ℕ → List ℕ → ℕ → List ℕ → List ℕ
+missing_line asked told number end = codes "! no entry " ++ (number_text asked ++ told) ++ (number_text number ++ end)
+
+abbrev pub too_few_line : ℕ → ℕ → List ℕ
+too_few_line asked entries = missing_line asked (codes ": the transcript has ") entries (codes " entries\n")
+
+abbrev pub forgotten_line : ℕ → ℕ → List ℕ
+forgotten_line asked base = missing_line asked (codes ": the transcript begins behind entry ") base (codes "\n")
+
+-- a fault is reported, and nothing is written
+abbrev pub TellsEarly : RunFault → WrittenBytes → WrittenBytes → WrittenBytes → WriterState → ℕ → Type 0
+TellsEarly fault old new before after status = (status ≡ run_status fault) × Keeps old new × WritesLine before after (run_fault_line fault)
+
+-- the text is written, or a beginning of it if a write failed, which is reported
+abbrev pub ShowsText : List ℕ → ℕ → WrittenBytes → WrittenBytes → WrittenBytes → WriterState → ℕ → Type 0
+ShowsText text good old new before after status =
+    ((status ≡ good) × Appends old new text × Keeps before after.got)
+    ⊎ ((status ≡ 3) × AppendsBeginning old new text × WritesLine before after (run_fault_line run.Write))
+
+-- some unspecified text is shown; or memory ran out for it, and nothing is written
+abbrev pub ShowsSome : WrittenBytes → WrittenBytes → WrittenBytes → WriterState → ℕ → Type 0
+ShowsSome old new before after status =
+    ((text : List ℕ) × ShowsText text 0 old new before after status)
+    ⊎ TellsEarly run.Memory old new before after status
+
+-- the verdict of an audit is written, or memory ran out
+abbrev pub ShowsRefusal : Damage → WrittenBytes → WrittenBytes → WrittenBytes → WriterState → ℕ → Type 0
+ShowsRefusal damage old new before after status =
+    ShowsText (verdict_line (verdict.Refused (of_damage damage))) 1 old new before after status
+    ⊎ TellsEarly run.Memory old new before after status
+
+-- this line reports that there is no such entry, or memory ran out; nothing is written
+abbrev pub TellsMissing : List ℕ → WrittenBytes → WrittenBytes → WrittenBytes → WriterState → ℕ → Type 0
+TellsMissing line old new before after status =
+    ((status ≡ 2) × Keeps old new × WritesLine before after line)
+    ⊎ TellsEarly run.Memory old new before after status
+
+-- what is done with a view: its text is written, or an audit's verdict, for which memory may run out
+abbrev pub TellsView : Result View InputFault → WrittenBytes → WrittenBytes → WrittenBytes → WriterState → ℕ → Type 0
+TellsView (Ok (Text text)) old new before after status = ShowsText text.items 0 old new before after status
+TellsView (Ok (Refused damage)) old new before after status = ShowsRefusal damage old new before after status
+TellsView (Ok (TooFew asked entries)) old new before after status = TellsMissing (too_few_line asked entries) old new before after status
+TellsView (Ok (Forgotten asked base)) old new before after status = TellsMissing (forgotten_line asked base) old new before after status
+TellsView (Err input.Read) old new before after status = TellsEarly run.Read old new before after status
+TellsView (Err input.Memory) old new before after status = TellsEarly run.Memory old new before after status
+
+-- the view of the input was made, or the input was not read, or memory ran out; each is reported
+abbrev pub Views : (View → Type 0) → WrittenBytes → WrittenBytes → WrittenBytes → WriterState → ℕ → Type 0
+Views is old new before after status =
+    (viewed : Result View InputFault) × IfOk viewed is × TellsView viewed old new before after status

@@ -1,5 +1,0 @@
-use Rattle.command_words.proofs.GoodWords.{run_wanted, audit_wanted, picture_wanted, epochs_wanted}
-use Rattle.command_words.proofs.words.usual_words.Goals as goal
-
-pub returns : goal.returns
-returns c = record { run = run_wanted; audit = audit_wanted; picture = picture_wanted; epochs = epochs_wanted }

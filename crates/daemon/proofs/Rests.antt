@@ -1,8 +1,0 @@
--- When a seeded daemon draws no choice.
-use Rattle.std.proofs.Common.{◌≡◌, ◌↔◌, Bool, List, ℕ, [], ◌∷◌, None, refl}
-use Rattle.rand_core.specs.Stream.{Stream}
-use Rattle.daemon.specs.Drawn.{drawn}
-
-pub rests : (central : Bool) (names : List ℕ) (stream : Stream) → ((drawn central names stream).0 ≡ None) ↔ (names ≡ [])
-rests central [] stream = (λ _. refl, λ _. refl)
-rests central (v ∷ names) stream = (λ some. cc, λ none. cc)

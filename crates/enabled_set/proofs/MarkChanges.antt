@@ -1,0 +1,112 @@
+-- One mark more, and one less.
+use Rattle.std.proofs.Common.{◌≡◌, ◌≢◌, ℕ, ◌+◌, ◌-◌, ◌<◌, ◌≤◌, Bool, true, false, List, length, get_or, set, replicate, sym, ap, ◌∙◌, ⊎_elim, arith}
+use Rattle.std.proofs.lemmas.Bool.{cases_lt, false_from_ne_true, true≢false}
+use Rattle.std.proofs.lemmas.List.{get_or_read, get_or-set_other, get_or-set_same, length-replicate, length-set}
+use Rattle.enabled_set.specs.Members.{is_in, members}
+use Rattle.enabled_set.specs.Counts.{tally}
+use Rattle.enabled_set.specs.MarkedNames.{AreListed}
+use Rattle.enabled_set.proofs.Changes.{tally_nobody, total_few, total_some}
+use Rattle.enabled_set.proofs.PassCounts.{tally_put}
+use Rattle.enabled_set.proofs.Members.{inside, length-members}
+use Rattle.enabled_set.proofs.Stretches.{on_here, same_there}
+
+-- no name is marked
+pub none_listed : (n : ℕ) (bits : List Bool) (names : List ℕ) → 1 ≤ n → n ≤ 65536 → bits ≡ replicate n false → length names ≡ n → AreListed bits names 0
+none_listed n bits names some few empty room =
+    let len = ap length empty ∙ length-replicate n false in
+    record {
+      few = omega (arith, len);
+      some = omega (arith, len);
+      room = omega (arith, len, room);
+      counted = ap (λ l. tally (is_in l) (length bits)) empty ∙ tally_nobody n (length bits);
+      marked = λ i none. absurd (omega (arith, none));
+      once = λ i j less none. absurd (omega (arith, none));
+    }
+
+-- if one is not marked, there is room for it
+pub room_left : (bits : List Bool) (names : List ℕ) (count v : ℕ) → AreListed bits names count → v < length bits → is_in bits v ≡ false → count < length bits
+room_left bits names count v listed there off =
+    let put = tally_put (is_in bits) (is_in (set bits v true)) v off (on_here bits v true there) (length bits) (λ k low apart. same_there bits v true k apart) in
+    let most = total_few (set bits v true) in
+    let len = length-set bits v true in
+    let same = ap (tally (is_in (set bits v true))) len in
+    omega (arith, put, there, most, len, same, listed.counted)
+
+-- there are at most as many as places
+pub all_listed : (bits : List Bool) (names : List ℕ) (count : ℕ) → AreListed bits names count → count ≤ length bits
+all_listed bits names count listed = let most = total_few bits in omega (arith, most, listed.counted)
+
+-- one name more
+pub one_listed_more : (bits : List Bool) (names : List ℕ) (count v : ℕ) → AreListed bits names count → v < length bits → is_in bits v ≡ false → AreListed (set bits v true) (set names count v) (count + 1)
+one_listed_more bits names count v listed there off =
+    let len = length-set bits v true in
+    let put = tally_put (is_in bits) (is_in (set bits v true)) v off (on_here bits v true there) (length bits) (λ k low apart. same_there bits v true k apart) in
+    record {
+      few = omega (arith, len, listed.few);
+      some = omega (arith, len, listed.some);
+      room = omega (arith, len, length-set names count v, listed.room);
+      counted = ap (tally (is_in (set bits v true))) len ∙ omega (arith, put, there, listed.counted);
+      marked = λ i below.
+          ⊎_elim
+          (λ (low : i < count). ap (is_in (set bits v true)) (kept i low) ∙ same_there bits v true (get_or names i 0) (apart i low) ∙ listed.marked i low)
+          (λ (high : count ≤ i). ap (is_in (set bits v true)) (last i (omega (arith, below, high))) ∙ on_here bits v true there)
+          (cases_lt i count);
+      once = λ i j less below.
+          let low : i < count = omega (arith, less, below) in
+          ⊎_elim
+          (λ (lower : j < count). λ e. listed.once i j less lower (sym (kept i low) ∙ e ∙ kept j lower))
+          (λ (high : count ≤ j). λ e. apart i low (sym (kept i low) ∙ e ∙ last j (omega (arith, below, high))))
+          (cases_lt j count);
+    }
+  where
+    apart : (i : ℕ) → i < count → get_or names i 0 ≢ v
+    apart i low e = true≢false (sym (listed.marked i low) ∙ ap (is_in bits) e ∙ off)
+
+    kept : (i : ℕ) → i < count → get_or (set names count v) i 0 ≡ get_or names i 0
+    kept i low = get_or-set_other names count i v 0 (λ (e : i ≡ count). omega (arith, e, low))
+
+    last : (i : ℕ) → i ≡ count → get_or (set names count v) i 0 ≡ v
+    last i at = ap (λ k. get_or (set names count v) k 0) at ∙ get_or-set_same names count v 0 (let space = room_left bits names count v listed there off in omega (arith, space, listed.room))
+
+-- the name at the end of the list: it is marked and has a place, and without it one is listed less
+pub record IsLast (bits : List Bool) (names : List ℕ) (count v : ℕ) : Type 0 where
+  pub marked : is_in bits v ≡ true
+  pub there : v < length bits
+  pub less : AreListed (set bits v false) names (count - 1)
+
+pub at_end : (bits : List Bool) (names : List ℕ) (count v : ℕ) → 1 ≤ count → v ≡ get_or names (count - 1) v → AreListed bits names count → IsLast bits names count v
+at_end bits names count v some read listed =
+    let most = all_listed bits names count listed in
+    let at = get_or_read names (count - 1) v (omega (arith, some, most, listed.room)) read 0 in
+    let on = ap (is_in bits) at ∙ listed.marked (count - 1) (omega (arith, some)) in
+    let there = inside bits v on in
+    let len = length-set bits v false in
+    let put = tally_put (is_in (set bits v false)) (is_in bits) v (on_here bits v false there) on (length bits) (λ k low apart. sym (same_there bits v false k apart)) in
+    record {
+      marked = on;
+      there = there;
+      less = record {
+        few = omega (arith, len, listed.few);
+        some = omega (arith, len, listed.some);
+        room = omega (arith, len, listed.room);
+        counted = ap (tally (is_in (set bits v false))) len ∙ omega (arith, put, there, listed.counted, some);
+        marked = λ i low. same_there bits v false (get_or names i 0) (λ e. listed.once i (count - 1) low (omega (arith, some)) (e ∙ at)) ∙ listed.marked i (omega (arith, low));
+        once = λ i j less low. listed.once i j less (omega (arith, low));
+      };
+    }
+
+-- if none is listed, none is marked
+pub none_marked : (bits : List Bool) (names : List ℕ) (count v : ℕ) → count ≡ 0 → AreListed bits names count → is_in bits v ≡ false
+none_marked bits names count v none listed =
+    false_from_ne_true (is_in bits v) (λ on. let some = total_some bits v (inside bits v on) on in omega (arith, some, none, listed.counted))
+
+-- a set without one of its members has fewer
+pub one_fewer : (bits bits' : List Bool) (v : ℕ) → is_in bits v ≡ true → bits' ≡ set bits v false → length (members bits') < length (members bits)
+one_fewer bits bits' v is cleared =
+    let within = inside bits v is in
+    let before = length-members bits in
+    let after = length-members bits' in
+    let places = ap length cleared ∙ length-set bits v false in
+    let same : tally (is_in bits') (length bits') ≡ tally (is_in bits') (length bits) = ap (tally (is_in bits')) places in
+    let less = tally_put (is_in bits') (is_in bits) v (ap (λ l. is_in l v) cleared ∙ get_or-set_same bits v false false within) is (length bits) (λ k low apart. sym (ap (λ l. is_in l k) cleared ∙ get_or-set_other bits v k false false apart)) in
+    omega (arith, before, after, same, less, within)

@@ -1,0 +1,60 @@
+-- Each node's stance on its edges, and which edges are open by the stances of their ends.
+use Rattle.std.specs.Prelude.{◌≡◌, ℕ, ◌+◌, Bool, true, false, not, ◌&&◌, List, length, count_by, slice_index_or, refl}
+use Rattle.std.specs.Coded.{Coded, code_by, coded×, coded_bool}
+use Rattle.std.specs.FinMap as map
+use Rattle.rule_machine.specs.Network.{Network, PairSet}
+use Rattle.graph_store.specs.declared.ends.EdgeStance.{EdgeStance}
+use Rattle.graph_store.specs.declared.ends.EdgeStance.TheVariants.{Shut, Courted, Free}
+use Rattle.graph_store.specs.Rows.{edges_of}
+
+abbrev pub is_shut : EdgeStance → Bool
+is_shut Shut = true
+is_shut Courted = false
+is_shut Free = false
+
+abbrev pub is_courted_stance : EdgeStance → Bool
+is_courted_stance Shut = false
+is_courted_stance Courted = true
+is_courted_stance Free = false
+
+pub to_bools : EdgeStance → Bool × Bool
+to_bools e = (is_shut e, is_courted_stance e)
+
+pub of_bools : Bool × Bool → EdgeStance
+of_bools (true, b) = Shut
+of_bools (false, true) = Courted
+of_bools (false, false) = Free
+
+pub stance_of_bits : (e : EdgeStance) → of_bools (to_bools e) ≡ e
+unfolding of_bools to_bools
+stance_of_bits Shut = refl
+stance_of_bits Courted = refl
+stance_of_bits Free = refl
+
+abbrev pub end_code : Coded EdgeStance
+end_code = code_by (Bool × Bool) (coded× coded_bool coded_bool) to_bools of_bools stance_of_bits
+
+-- whether an edge between two such nodes is open
+abbrev pub are_open : EdgeStance → EdgeStance → Bool
+are_open a b = not (is_shut a) && not (is_shut b) && not (is_courted_stance a && is_courted_stance b)
+
+-- a node's stance on its edges
+abbrev pub end_at : List EdgeStance → ℕ → EdgeStance
+end_at ends v = slice_index_or ends v Shut
+
+-- how many of these names have an open edge to a node with this stance
+abbrev pub open_to : List EdgeStance → EdgeStance → List ℕ → ℕ
+open_to ends end names = count_by (λ w. are_open end (end_at ends w)) names
+
+-- how many of these edges are open
+abbrev pub open_among : List EdgeStance → PairSet → ℕ
+open_among ends edges = count_by (λ e. are_open (end_at ends e.0) (end_at ends e.1)) (map.keys edges)
+
+-- how many edges of a network are open
+abbrev pub open_edges : Network → List EdgeStance → ℕ
+open_edges net ends = open_among ends net.edges
+
+-- each name has its entry, and `count` edges of the rows are open
+pub record CountsOpenEdges (size : ℕ) (rows : List (List ℕ)) (ends : List EdgeStance) (count : ℕ) : Type 0 where
+  pub places : length ends ≡ size + 1
+  pub counted : open_among ends (edges_of rows) ≡ count

@@ -1,0 +1,68 @@
+//! What an end of the deque knows, and the rule that every end keeps.
+
+use crate::Block;
+use crossbeam_deque::protocol::{Join, Outcome, Protocol, Split};
+use std::collections::LinkedList;
+
+/// What a pass knows. No value of it is made.
+/// Its parts of the 64 that make the whole, how many places were put, and which it has taken.
+pub struct Ledger {
+    pub parts: u64,
+    pub count: u64,
+    pub taken: LinkedList<u32>,
+}
+
+/// The rule: the places put are those taken and those on the deque, each once.
+pub struct EachOnce;
+
+impl Protocol<Block, Ledger> for EachOnce {
+    ghost use Rattle.std.specs.Prelude.{[]};
+    ghost use Rattle.index_deque.specs.Ledgers.{ledger, Balanced};
+
+    ghost holds = { Balanced };
+
+    ghost first = { ledger 64 0 [] };
+
+    ghost guest = { ledger 0 0 [] };
+}
+
+/// A block is put.
+pub(crate) struct Put;
+
+impl Outcome<Block, Ledger> for Put {
+    ghost use Rattle.std.specs.Prelude.{◌≡◌};
+    ghost use Rattle.index_deque.specs.Ledgers.{with_put};
+
+    ghost then = { λ v xs w. w ≡ with_put v xs };
+}
+
+/// A block is taken, or none is found.
+pub(crate) struct Took;
+
+impl Outcome<Block, Ledger> for Took {
+    ghost use Rattle.index_deque.specs.Ledgers.{Takes, KnowsAll};
+
+    ghost then = { Takes };
+
+    ghost empty = { KnowsAll };
+}
+
+/// A pass is split in two, or joined to another.
+pub(crate) struct Cut;
+
+impl Split<Ledger> for Cut {
+    ghost use Rattle.index_deque.specs.Ledgers.{rest_of, part_of};
+
+    ghost left = { rest_of };
+
+    ghost right = { part_of };
+}
+
+impl Join<Ledger> for Cut {
+    ghost use Rattle.std.specs.Prelude.{[]};
+    ghost use Rattle.index_deque.specs.Ledgers.{joined_ledger, ledger};
+
+    ghost both = { joined_ledger };
+
+    ghost spent = { ledger 0 0 [] };
+}

@@ -1,9 +1,0 @@
-use Rattle.std.proofs.Common.{◌≡◌, ℕ, None, cond, take, length}
-use Rattle.judge.specs.Choices.{ruled_at, is_named}
-use Rattle.judge.proofs.choices.Chosen.clear.Given as goal
-
-abbrev pub invariant-loop-item : goal.invariant-loop-item
-invariant-loop-item l = record {
-  len : length l.self ≡ length l.fn.self;
-  out : (v : ℕ) → ruled_at l.self v ≡ cond (is_named (take l.item-index l.items) v) None (ruled_at l.fn.self v);
-}

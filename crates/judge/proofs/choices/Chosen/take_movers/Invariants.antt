@@ -1,9 +1,0 @@
-use Rattle.std.proofs.Common.{◌≡◌, ℕ, None, cond, take, length}
-use Rattle.judge.specs.Choices.{ruled_at, is_mover}
-use Rattle.judge.proofs.choices.Chosen.take_movers.Given as goal
-
-abbrev pub invariant-loop-made : goal.invariant-loop-made
-invariant-loop-made l = record {
-  len : length l.self ≡ length l.fn.self;
-  out : (v : ℕ) → ruled_at l.self v ≡ cond (is_mover (take l.made-index l.moves) v) None (ruled_at l.fn.self v);
-}

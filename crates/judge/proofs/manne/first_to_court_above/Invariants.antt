@@ -1,6 +1,0 @@
-use Rattle.std.proofs.Common.{◌≡◌, find, drop, ◌&&◌, nat_lt}
-use Rattle.rule_machine.specs.Manne.{may_court}
-use Rattle.judge.proofs.manne.first_to_court_above.Given as goal
-
-abbrev pub invariant-loop-x : goal.invariant-loop-x
-invariant-loop-x l = find (λ x. may_court l.net.state l.v x && nat_lt l.w x) l.x-items ≡ find (λ x. may_court l.net.state l.v x && nat_lt l.w x) (drop l.x-index l.x-items)

@@ -1,6 +1,0 @@
-use Rattle.std.proofs.Common.{drop}
-use Rattle.judge.proofs.Asking.{AreAskingBut}
-use Rattle.judge.proofs.totals.mark_around.Given as goal
-
-abbrev pub invariant-loop-w : goal.invariant-loop-w
-invariant-loop-w l = AreAskingBut l.net.state l.v l.fn.due l.due (drop l.w-index l.w-items)

@@ -1,5 +1,0 @@
-pub mod Choices
-pub mod Shares
-pub mod Judging
-pub mod Rising
-pub mod Bases

@@ -1,0 +1,98 @@
+-- A clerk that adds the receipt of an entry after all that it has seen, and a note of the log then, is a
+-- clerk.
+use Rattle.std.proofs.Common.{◌≡◌, ℕ, ◌+◌, ◌-◌, ◌<◌, ◌≤◌, Bool, true, false, List, [], ◌∷◌, ◌++◌, length, Option, None, Some, Result, Ok, Err, OnOk, if◌then◌else◌, nat_eq, nat_lt, refl, sym, ap, ◌∙◌, subst, arith, length-append}
+use Rattle.std.specs.List.{slice_get}
+use Rattle.std.proofs.lemmas.Bool.{ltb-false, le-ltb}
+use Rattle.std.proofs.lemmas.Option.{none-some, slice_get-get_or}
+use Rattle.std.proofs.Math.Seq.{get_or-append_seam}
+use Rattle.rule_machine.specs.declared.event.Event.{Event}
+use Rattle.rule_machine.specs.RuleTable.{RuleTable}
+use Rattle.rule_machine.specs.Run.{Entry}
+use Rattle.snapshots.specs.Views.{PublishedLog}
+use Rattle.step_log.specs.declared.receipt.Receipt.{Receipt}
+use Rattle.step_log.specs.Log.{Log, entry_of, recorded, receipt_of}
+use Rattle.locked_net.specs.Receipts.{front_from, front_of, noted, RiseAbove, IsReceiptOf, StandsLastFrom, StandsLast, NotesLast, IsClerk}
+use Rattle.locked_net.specs.declared.call_fault.CallFault.{CallFault}
+use Rattle.locked_net.specs.declared.call_fault.CallFault.TheVariants.{Behind, LogFull}
+use Rattle.locked_net.specs.Calls.{call_fault}
+
+not_first : (b : Bool) (fault : CallFault) (other : Option CallFault) → (if b then Some fault else other) ≡ None → b ≡ false
+not_first true fault other e = absurd (none-some fault (sym e))
+not_first false fault other e = refl
+
+-- a clerk that may call has seen at most all entries
+pub seen_few : (seen : ℕ) (log : Log) → call_fault seen log ≡ None → seen ≤ length log.entries
+seen_few seen log none =
+    ltb-false (length log.entries) seen (not_first (nat_lt (length log.entries) seen) (Behind (length log.entries) seen) (if nat_eq (length log.entries) log.limit then Some LogFull else None) none)
+
+pub ok_few : {A E : Type 0} (seen : ℕ) (log : Log) (result : Result A E) → OnOk result (call_fault seen log ≡ None) → OnOk result (seen ≤ length log.entries)
+ok_few seen log (Ok done) none = seen_few seen log none
+ok_few seen log (Err fault) none = tt
+
+-- and may call with less seen
+not_second : (b : Bool) (fault : CallFault) (other : Option CallFault) → (if b then Some fault else other) ≡ None → other ≡ None
+not_second true fault other e = absurd (none-some fault (sym e))
+not_second false fault other e = e
+
+less_seen : (less seen : ℕ) (log : Log) → less ≤ seen → call_fault seen log ≡ None → call_fault less log ≡ None
+less_seen less seen log few none =
+    let here = length log.entries in
+    let rest : Option CallFault = if nat_eq here log.limit then Some LogFull else None in
+    let all : seen ≤ here = seen_few seen log none in
+    let low : nat_lt here less ≡ false = le-ltb here less (omega (arith, few, all)) in
+    subst (λ (b : Bool). (if b then Some (Behind here less) else rest) ≡ None) (sym low) (not_second (nat_lt here seen) (Behind here seen) rest none)
+
+pub ok_less : {A E : Type 0} (less seen : ℕ) (log : Log) (result : Result A E) → less ≤ seen → OnOk result (call_fault seen log ≡ None) → OnOk result (call_fault less log ≡ None)
+ok_less less seen log (Ok done) few none = less_seen less seen log few none
+ok_less less seen log (Err fault) few none = tt
+
+-- one more receipt, with a number above the last
+rise_more : (low : ℕ) (receipts : List Receipt) (receipt : Receipt) → RiseAbove low receipts → front_from low receipts < receipt.seq → RiseAbove low (receipts ++ receipt ∷ [])
+rise_more low [] receipt rise above = (above, tt)
+rise_more low (first ∷ receipts) receipt rise above = (rise.0, rise_more first.seq receipts receipt rise.1 above)
+
+-- its number is the front then
+pub front_more : (low : ℕ) (receipts : List Receipt) (receipt : Receipt) → front_from low (receipts ++ receipt ∷ []) ≡ receipt.seq
+front_more low [] receipt = refl
+front_more low (first ∷ receipts) receipt = front_more first.seq receipts receipt
+
+-- the same of a clerk with the receipt of the next entry
+pub front_after : (t : RuleTable) (log : Log) (event : Event) (old new : List Receipt) → new ≡ old ++ receipt_of t log event ∷ [] → front_of new ≡ length log.entries + 1
+front_after t log event old new added = ap front_of added ∙ front_more 0 old (receipt_of t log event)
+
+-- ---- the last receipt
+
+-- an entry is at the end of a log to which it was added
+last_entry : (log : List Entry) (entry : Entry) → slice_get (log ++ entry ∷ []) (length log) ≡ Some entry
+last_entry log entry =
+    slice_get-get_or (log ++ entry ∷ []) (length log) entry (omega (arith, length-append log (entry ∷ []))) ∙ ap Some (get_or-append_seam log entry [] entry)
+
+added_is_entry : (t : RuleTable) (log : Log) (event : Event) → IsReceiptOf (recorded t log event).entries (receipt_of t log event)
+added_is_entry t log event =
+    let place : length log.entries + 1 - 1 ≡ length log.entries = omega arith in
+    record {
+      numbered = omega arith;
+      same = ap (λ n. slice_get (recorded t log event).entries n) place ∙ last_entry log.entries (entry_of t log event);
+    }
+
+stands_from : (log : List Entry) (first : Receipt) (receipts : List Receipt) (receipt : Receipt) → IsReceiptOf log receipt → StandsLastFrom log first (receipts ++ receipt ∷ [])
+stands_from log first [] receipt is = is
+stands_from log first (next ∷ receipts) receipt is = stands_from log next receipts receipt is
+
+stands_last : (log : List Entry) (receipts : List Receipt) (receipt : Receipt) → IsReceiptOf log receipt → StandsLast log (receipts ++ receipt ∷ [])
+stands_last log [] receipt is = is
+stands_last log (first ∷ receipts) receipt is = stands_from log first receipts receipt is
+
+-- a clerk that adds the receipt of an entry, and a note of the log with that entry, is one
+pub is_clerk_after : (t : RuleTable) (log after : Log) (event : Event) (told : PublishedLog) (old new : List Receipt) (note : Option PublishedLog) (base : Option ℕ) → RiseAbove 0 old → call_fault (front_of old) log ≡ None
+    → after ≡ recorded t log event → told.log ≡ after.entries → new ≡ old ++ receipt_of t log event ∷ [] → note ≡ Some told → IsClerk (record { receipts = new; note = note; base = base })
+is_clerk_after t log after event told old new note base rise free is tells added kept =
+    let receipt : Receipt = receipt_of t log event in
+    let few = seen_few (front_of old) log free in
+    let shown : told.log ≡ (recorded t log event).entries = tells ∙ ap (λ (l : Log). l.entries) is in
+    let stands : StandsLast told.log (old ++ receipt ∷ []) =
+    subst (λ l. StandsLast l (old ++ receipt ∷ [])) (sym shown) (stands_last (recorded t log event).entries old receipt (added_is_entry t log event)) in
+    record {
+      rise = subst (RiseAbove 0) (sym added) (rise_more 0 old receipt rise (omega (arith, few)));
+      last = subst (λ o. NotesLast new o) (sym kept) (subst (λ rs. NotesLast rs (Some told)) (sym added) stands);
+    }

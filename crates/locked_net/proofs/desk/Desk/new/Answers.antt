@@ -1,6 +1,0 @@
-use Rattle.std.proofs.Common.{refl}
-use Rattle.rule_machine.specs.Run.{beginning_with}
-use Rattle.locked_net.proofs.desk.Desk.new.Goals as goal
-
-pub new-requires-clause-law : goal.new-requires-clause-law
-new-requires-clause-law g c = (c.args.nodes, beginning_with c.args.nodes c.args.present, refl, refl)

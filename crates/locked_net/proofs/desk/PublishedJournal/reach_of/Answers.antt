@@ -1,0 +1,8 @@
+use Rattle.std.proofs.Common.{IfOk, subst}
+use Rattle.rule_engine.specs.DisturbanceReach.{Spares}
+use Rattle.locked_net.specs.PublishedJournals.{PublishedJournalView}
+use Rattle.locked_net.proofs.desk.PublishedJournal.reach_of.Goals as goal
+
+pub returns-clause-spares : goal.returns-clause-spares
+returns-clause-spares g c =
+    subst (λ (d : PublishedJournalView). IfOk c.reach_of.result (λ list. Spares g.R.Rules.table d.log.state d.log.spent c.args.event.now list.items)) c.self.view_is c.reach_of.ensures.spares

@@ -1,0 +1,94 @@
+-- Calls whose event a daemon or an injector chooses, checkpoints, and their faults.
+--
+-- A caller does not see the log. So a clause says that there is one under the lock: a run of the network's
+-- rules, with its nodes and limit.
+use Rattle.std.specs.Prelude.{◌≡◌, ◌↔◌, ◌≤◌, ℕ, Bool, List, [], ◌∷◌, ◌++◌, length, Option, None, Some, IfSome, IsNone}
+use Rattle.std.specs.Option.{option_map}
+use mathlib.Core.List.{IsPrefix}
+use Rattle.rule_machine.specs.declared.choice.Item.{Item}
+use Rattle.rule_machine.specs.declared.event.Event.{Event}
+use Rattle.rule_machine.specs.declared.event.Event.TheVariants.{Step}
+use Rattle.rule_machine.specs.declared.reply.Reply.{Reply}
+use Rattle.rand_core.specs.Stream.{Stream}
+use Rattle.rule_machine.specs.Network.{node_count}
+use Rattle.rule_machine.specs.State.{State}
+use Rattle.fault_injector.specs.DrawnFaults.{fault_drawn}
+use Rattle.rule_machine.specs.RuleTable.{RuleTable, enabled_names}
+use Rattle.step_log.specs.declared.receipt.Receipt.{Receipt}
+use Rattle.step_log.specs.Log.{Log, receipt_of}
+use Rattle.snapshots.specs.Views.{PublishedLog}
+use Rattle.locked_net.specs.Receipts.{ClerkView, front_of, noted}
+use Rattle.locked_net.specs.Settings.{Setting, IsLogIn}
+use Rattle.locked_net.specs.Calls.{call_fault, checkpoint_fault, ExplainsCallFault, ExplainsStep}
+use Rattle.locked_net.specs.declared.call_fault.CallFault.{CallFault}
+use Rattle.locked_net.specs.declared.step_fault.StepFault.{StepFault}
+
+-- a choice among the enabled nodes of a state, as an event
+abbrev pub ChoosesStep : RuleTable → (List ℕ → Option (List Item) → Type 0) → State → Option Event → Type 0
+ChoosesStep t Chooses s event =
+    (choice : Option (List Item)) × (event ≡ option_map (λ items. Step items) choice) × Chooses (enabled_names t s) choice
+
+-- a daemon's choice, which advances the daemon, as an event
+abbrev pub ByDaemon : {D : Type 0} → (List ℕ → Bool → D → Option (List Item) → D → Type 0) → RuleTable → D → D → State → Option Event → Type 0
+ByDaemon chooses t old new s event = ChoosesStep t (λ names choice. chooses names t.central old choice new) s event
+
+-- the fault that these words draw, and the words left
+abbrev pub DrawsFault : RuleTable → Stream → Stream → State → Option Event → Type 0
+DrawsFault t words left s event = (event, left) ≡ fault_drawn s.network t.flags words
+
+-- an injector's fault, which advances the injector, as an event
+abbrev pub ByInjector : {G : Type 0} → (G → Stream) → RuleTable → G → G → State → Option Event → Type 0
+ByInjector stream t old new s event = DrawsFault t (stream old) (stream new) s event
+
+-- there is no answer exactly if there is no node
+abbrev pub NoneIfEmpty : Option Reply → State → Option Event → Type 0
+NoneIfEmpty told s event = IsNone told ↔ (node_count s.network ≡ 0)
+
+-- the reply and the receipt of the event chosen on a log; neither if none was chosen
+abbrev pub IsChosenReply : RuleTable → Log → Option Event → List Receipt → List Receipt → Option Reply → Type 0
+IsChosenReply t log None old new told = (told ≡ None) × (new ≡ old)
+IsChosenReply t log (Some event) old new told = (told ≡ Some (receipt_of t log event).reply) × (new ≡ old ++ receipt_of t log event ∷ [])
+
+-- An event, or none, was chosen in the state of a log.
+pub record ChoosesOn (t : RuleTable) (log : Log) (Chooses : State → Option Event → Type 0) (old new : List Receipt) (told : Option Reply) : Type 0 where
+  pub event : Option Event
+  pub chosen : Chooses log.state event
+  pub is_told : IsChosenReply t log event old new told
+
+-- The log includes all that the clerk has seen and has room for an entry. If the event was recorded, this log
+-- is a prefix of the clerk's note.
+pub record TakesChoice (setting : Setting) (Chooses : State → Option Event → Type 0) (old new : List Receipt) (note : Option PublishedLog) (told : Option Reply) : Type 0 where
+  pub log : Log
+  pub own : IsLogIn setting log
+  pub free : call_fault (front_of old) log ≡ None
+  pub taken : ChoosesOn setting.table log Chooses old new told
+  pub begins : IfSome told (λ _. IsPrefix log.entries (noted note))
+
+-- the same of a clerk before and after
+abbrev pub ClerkTakes : Setting → (State → Option Event → Type 0) → ClerkView → ClerkView → Option Reply → Type 0
+ClerkTakes setting Chooses old new told = TakesChoice setting Chooses old.receipts new.receipts new.note told
+
+-- A log has this fault for a clerk that has seen `seen` entries; `Memory` only if it has none.
+pub record Refuses (setting : Setting) (seen : ℕ) (fault : CallFault) : Type 0 where
+  pub log : Log
+  pub own : IsLogIn setting log
+  pub explained : ExplainsCallFault (call_fault seen log) fault
+
+-- A log of `number` entries includes all that the clerk has seen.
+pub record HoldsAll (setting : Setting) (seen number : ℕ) : Type 0 where
+  pub log : Log
+  pub own : IsLogIn setting log
+  pub count : number ≡ length log.entries
+  pub all : seen ≤ number
+
+-- A log gives this fault for a checkpoint.
+pub record RefusesCheckpoint (setting : Setting) (seen : ℕ) (fault : CallFault) : Type 0 where
+  pub log : Log
+  pub own : IsLogIn setting log
+  pub explained : ExplainsCallFault (checkpoint_fault seen log) fault
+
+-- The same for a step that workers judge.
+pub record RefusesStep (setting : Setting) (seen workers : ℕ) (fault : StepFault) : Type 0 where
+  pub log : Log
+  pub own : IsLogIn setting log
+  pub explained : ExplainsStep (call_fault seen log) workers fault

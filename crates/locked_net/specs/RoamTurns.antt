@@ -1,0 +1,55 @@
+-- Turns of clerks that roam: in each, one enabled node moves alone, if any is enabled.
+use Rattle.std.specs.Prelude.{ℕ, ◌%◌, List, [], ◌∷◌, length, slice_get, Option, None, Some}
+use Rattle.rule_machine.specs.declared.choice.Item.{Item}
+use Rattle.rule_machine.specs.declared.event.Event.{Event}
+use Rattle.rule_machine.specs.declared.event.Event.TheVariants.{Step}
+use Rattle.rule_machine.specs.State.{State}
+use Rattle.rule_machine.specs.RuleTable.{RuleTable, enabled_names}
+use Rattle.step_log.specs.declared.receipt.Receipt.{Receipt}
+use Rattle.step_log.specs.Log.{Log, recorded, receipt_of}
+use Rattle.locked_net.specs.declared.call_fault.CallFault.{CallFault}
+use Rattle.locked_net.specs.Calls.{call_fault, ExplainsCallFault}
+
+-- the node whose turn it is: the (turn mod count)-th enabled one, ascending from 0, if any
+abbrev pub mover : RuleTable → State → ℕ → Option ℕ
+mover t s turn = slice_get (enabled_names t s) (turn % length (enabled_names t s))
+
+-- this node alone, with no wish
+abbrev pub lone_items : ℕ → List Item
+lone_items v = record { node = v; wish = None } ∷ []
+
+abbrev pub lone_step : ℕ → Event
+lone_step v = Step (lone_items v)
+
+-- the log after the step of a node, if there is one
+abbrev pub log_by : RuleTable → Log → Option ℕ → Log
+log_by t log None = log
+log_by t log (Some v) = recorded t log (lone_step v)
+
+-- its receipt
+abbrev pub receipts_by : RuleTable → Log → Option ℕ → List Receipt
+receipts_by t log None = []
+receipts_by t log (Some v) = receipt_of t log (lone_step v) ∷ []
+
+-- why it is not recorded; no fault if there is no node
+abbrev pub fault_by : ℕ → Log → Option ℕ → Option CallFault
+fault_by seen log None = None
+fault_by seen log (Some v) = call_fault seen log
+
+-- the fault is that of a step, if there is one, and `Memory` only if it has none
+abbrev pub FaultBy : ℕ → Log → Option ℕ → CallFault → Type 0
+FaultBy seen log None fault = ⊥
+FaultBy seen log (Some v) fault = ExplainsCallFault (call_fault seen log) fault
+
+-- the same of the node whose turn it is
+abbrev pub log_after_turn : RuleTable → Log → ℕ → Log
+log_after_turn t log turn = log_by t log (mover t log.state turn)
+
+abbrev pub receipts_of_turn : RuleTable → Log → ℕ → List Receipt
+receipts_of_turn t log turn = receipts_by t log (mover t log.state turn)
+
+abbrev pub fault_of_turn : RuleTable → ℕ → Log → ℕ → Option CallFault
+fault_of_turn t seen log turn = fault_by seen log (mover t log.state turn)
+
+abbrev pub FaultInTurn : RuleTable → ℕ → Log → ℕ → CallFault → Type 0
+FaultInTurn t seen log turn fault = FaultBy seen log (mover t log.state turn) fault

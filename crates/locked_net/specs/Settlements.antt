@@ -1,0 +1,90 @@
+-- When the receipts of some clerks account for what is kept of a log, and why they do not.
+--
+-- Each clerk has its list of receipts. That a log and clerks are settled means two things. Each reply that a
+-- clerk got is the log's reply to that event, at the receipt's number. The log has nothing else: each of its
+-- entries belongs to one of these clerks, and to one alone. Of dropped entries only the numbers are compared;
+-- the last of them is the greatest that a checkpoint returned to one of these clerks.
+use Rattle.std.specs.Prelude.{◌≡◌, ◌≢◌, ℕ, ◌-◌, ◌<◌, ◌≤◌, ◌⊎◌, List, Option, None, Some, fold, length, slice_get}
+use Rattle.std.specs.List.{sum_by}
+use Rattle.std.specs.Option.{option_map}
+use Rattle.rule_machine.specs.declared.base.Base.{Base}
+use Rattle.rule_machine.specs.Base.{dropped}
+use Rattle.step_log.specs.RetainedLogs.{RetainedLog, last_number}
+use Rattle.step_log.specs.declared.receipt.Receipt.{Receipt}
+use Rattle.locked_net.specs.declared.settle_fault.SettleFault.{SettleFault}
+use Rattle.locked_net.specs.declared.settle_fault.SettleFault.TheVariants.{CountDiffers, BaseDiffers, Stranger, Memory}
+use Rattle.locked_net.specs.Receipts.{ClerkView, RiseAbove, greater_base}
+
+-- how many receipts the clerks have together
+abbrev pub receipt_count : List ClerkView → ℕ
+receipt_count clerks = sum_by (λ clerk. length clerk.receipts) clerks
+
+-- the greatest number that a checkpoint returned to one of the clerks; none if none has one
+abbrev pub greatest_base : List ClerkView → Option ℕ
+greatest_base clerks = fold (λ greatest clerk. greater_base greatest clerk.base) None clerks
+
+-- the number of the last dropped entry; none if there is no base
+abbrev pub base_number : Option Base → Option ℕ
+base_number base = option_map (λ b. b.number) base
+
+-- The receipt has a number of the log, from 1. If its entry is kept, that is the same event with the same
+-- reply.
+pub record IsEntryAbove (kept : RetainedLog) (receipt : Receipt) : Type 0 where
+  pub numbered : 0 < receipt.seq
+  pub within : receipt.seq ≤ last_number kept
+  pub same : dropped kept.base < receipt.seq → slice_get kept.entries (receipt.seq - dropped kept.base - 1) ≡ Some (receipt.event, receipt.reply)
+
+-- clerk c has this receipt at place p; both from 0
+pub record StandsAt (clerks : List ClerkView) (c p : ℕ) (receipt : Receipt) : Type 0 where
+  pub clerk : ClerkView
+  pub of_clerk : slice_get clerks c ≡ Some clerk
+  pub at_place : slice_get clerk.receipts p ≡ Some receipt
+
+-- clerk c has a receipt with the number n
+pub record HasReceiptNumber (clerks : List ClerkView) (c n : ℕ) : Type 0 where
+  pub place : ℕ
+  pub receipt : Receipt
+  pub stands : StandsAt clerks c place receipt
+  pub numbered : receipt.seq ≡ n
+
+-- The log and the clerks are settled:
+-- * told: each receipt is the log's entry with its number, or has the number of a dropped entry;
+-- * rise: the numbers rise within each clerk;
+-- * count: there are exactly as many receipts as entries, kept or dropped;
+-- * held: each entry belongs to a clerk, and
+-- * once: to no other;
+-- * based: the entries were dropped up to the greatest number that a checkpoint returned to one of the
+--   clerks.
+pub record Settlement (kept : RetainedLog) (clerks : List ClerkView) : Type 0 where
+  pub told : (c p : ℕ) (clerk : ClerkView) (receipt : Receipt) → slice_get clerks c ≡ Some clerk → slice_get clerk.receipts p ≡ Some receipt → IsEntryAbove kept receipt
+  pub rise : (c : ℕ) (clerk : ClerkView) → slice_get clerks c ≡ Some clerk → RiseAbove 0 clerk.receipts
+  pub count : receipt_count clerks ≡ last_number kept
+  pub held : (n : ℕ) → 0 < n → n ≤ last_number kept → (c : ℕ) × HasReceiptNumber clerks c n
+  pub once : (n c d : ℕ) → HasReceiptNumber clerks c n → HasReceiptNumber clerks d n → c ≡ d
+  pub based : base_number kept.base ≡ greatest_base clerks
+
+-- place q of clerk d comes before place p of clerk c: by clerk, then by place
+abbrev pub IsEarlierReceipt : ℕ → ℕ → ℕ → ℕ → Type 0
+IsEarlierReceipt d q c p = (d < c) ⊎ ((d ≡ c) × (q < p))
+
+-- The receipt at place p of clerk c agrees: it is the log's entry with its number, if that is kept, and no
+-- receipt before it has that number.
+pub record Agrees (kept : RetainedLog) (clerks : List ClerkView) (c p : ℕ) (receipt : Receipt) : Type 0 where
+  pub entry : IsEntryAbove kept receipt
+  pub new : (d q : ℕ) (other : Receipt) → IsEarlierReceipt d q c p → StandsAt clerks d q other → other.seq ≢ receipt.seq
+
+-- The receipt at place p of clerk c does not agree, and all before it do.
+pub record IsFirstStranger (kept : RetainedLog) (clerks : List ClerkView) (c p : ℕ) : Type 0 where
+  pub receipt : Receipt
+  pub stands : StandsAt clerks c p receipt
+  pub strange : Agrees kept clerks c p receipt → ⊥
+  pub first : (d q : ℕ) (other : Receipt) → IsEarlierReceipt d q c p → StandsAt clerks d q other → Agrees kept clerks d q other
+
+-- Why the log and the clerks were not settled: differing numbers come before a differing base, and that
+-- before a stranger. `Memory` says nothing of any.
+abbrev pub Unsettles : RetainedLog → List ClerkView → SettleFault → Type 0
+Unsettles kept clerks CountDiffers = receipt_count clerks ≢ last_number kept
+Unsettles kept clerks BaseDiffers = (receipt_count clerks ≡ last_number kept) × (base_number kept.base ≢ greatest_base clerks)
+Unsettles kept clerks (Stranger clerk place) =
+    (receipt_count clerks ≡ last_number kept) × (base_number kept.base ≡ greatest_base clerks) × IsFirstStranger kept clerks clerk place
+Unsettles kept clerks Memory = Unit {0}

@@ -1,5 +1,0 @@
-pub mod PairSets
-pub mod Names
-mod Counted
-mod Passes
-mod Charges

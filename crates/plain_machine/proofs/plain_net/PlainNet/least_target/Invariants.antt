@@ -1,7 +1,0 @@
-use Rattle.std.proofs.Common.{◌≡◌, find, filter, drop}
-use Rattle.rule_machine.specs.Network.{present, linked}
-use Rattle.rule_machine.specs.Tables.{table_of}
-use Rattle.plain_machine.proofs.plain_net.PlainNet.least_target.Given as goal
-
-abbrev pub invariant-loop-w : goal.invariant-loop-w
-invariant-loop-w l = find ((table_of l.rules).allowed l.self l.v l.act) (filter (linked l.self.network l.v) (filter (present l.self.network) l.w-items)) ≡ find ((table_of l.rules).allowed l.self l.v l.act) (filter (linked l.self.network l.v) (filter (present l.self.network) (drop l.w-index l.w-items)))

@@ -1,0 +1,5 @@
+pub mod PairSets
+pub mod Names
+mod PassCounts
+mod Passes
+mod Charges

@@ -1,0 +1,15 @@
+use Rattle.std.proofs.Common.{◌≡◌, ◌∙◌, ap, get_or, set}
+use Rattle.rule_machine.specs.Disturbance.{unless_at}
+use Rattle.reference_model.proofs.Passes.{passed, passed_next, passed_more}
+use Rattle.reference_model.proofs.register_table.drop_at.Goals as goal
+
+pub loop-pointer-preserved : goal.loop-pointer-preserved
+loop-pointer-preserved c =
+    let cut = unless_at c.args.v in
+    let old = c.args.pointers.now in
+    let k = c.loop-pointer.pointer-index in
+    let pointer = c.pointer-item.result in
+    let here : get_or c.loop-pointer.pointers k pointer ≡ get_or old k pointer = ap (λ ps. get_or ps k pointer) c.loop-pointer.invariant ∙ passed_next cut old k pointer in
+    ap (λ ps. set ps k c.unless_at.result) c.loop-pointer.invariant
+    ∙ ap (set (passed cut old k) k) (c.unless_at.ensures ∙ ap cut here)
+    ∙ passed_more cut old k pointer c.loop-pointer-test.true

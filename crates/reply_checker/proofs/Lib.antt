@@ -1,0 +1,14 @@
+pub mod StepMoves
+pub mod ExactAnswers
+pub mod AscendingLists
+pub mod Table
+pub mod NodeCounts
+pub mod Pairs
+pub mod Rounds
+pub mod AskingNeighbours
+pub mod StoredContributions
+pub mod ContributionSums
+pub mod ChargeSums
+pub mod NetworkBuilding
+pub mod BaseStarts
+mod Degrees

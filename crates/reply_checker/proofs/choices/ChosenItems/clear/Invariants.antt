@@ -1,0 +1,9 @@
+use Rattle.std.proofs.Common.{◌≡◌, ℕ, None, cond, take, length}
+use Rattle.reply_checker.specs.Choices.{ruled_at, is_item_node}
+use Rattle.reply_checker.proofs.choices.ChosenItems.clear.Given as goal
+
+abbrev pub invariant-loop-item : goal.invariant-loop-item
+invariant-loop-item l = record {
+  len : length l.self ≡ length l.fn.self;
+  out : (v : ℕ) → ruled_at l.self v ≡ cond (is_item_node (take l.item-index l.items) v) None (ruled_at l.fn.self v);
+}

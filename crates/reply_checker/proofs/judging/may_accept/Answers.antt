@@ -1,0 +1,14 @@
+use Rattle.std.proofs.Common.{◌≡◌, ◌↔◌, ◌∙◌, IsTrue, sym, ap, subst}
+use Rattle.rule_machine.specs.Answer.{Does}
+use Rattle.rule_machine.specs.declared.event.Event.TheVariants.{Step}
+use Rattle.rule_machine.specs.Tables.{table_of}
+use Rattle.machine_laws.specs.StatesAfterReplies.{followed}
+use Rattle.reply_checker.proofs.judging.may_accept.Goals as goal
+
+pub returns-in-Step-clause-value : goal.returns-in-Step-clause-value
+returns-in-Step-clause-value c =
+    let t = table_of c.args.rules in
+    let s = c.args.survey.now.net.state in
+    let reply = c.args.reply.now in
+    let event : Step c.items.result.now ≡ c.args.event.now = ap Step c.items.ensures.items ∙ sym c.in-Step.is in
+    subst (λ e. IsTrue c.may_move.result ↔ Does t s c.args.spent e reply (followed s e reply)) event (c.may_move.ensures.value c.args.spent)

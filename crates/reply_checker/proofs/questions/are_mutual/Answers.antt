@@ -1,0 +1,19 @@
+use Rattle.std.proofs.Common.{◌≡◌, ◌↔◌, ◌∙◌, ℕ, List, IsTrue, ap, sym, subst}
+use Rattle.rule_machine.specs.declared.reply.Reply.TheVariants.{Pairs}
+use Rattle.rule_machine.specs.State.{State}
+use Rattle.rule_machine.specs.Stable.{mutual_pairs}
+use Rattle.reply_checker.specs.AscendingLists.{AreRising, lower_end_pair}
+use Rattle.reply_checker.proofs.AscendingLists.{pairs_listed}
+use Rattle.reply_checker.proofs.questions.are_mutual.Goals as goal
+
+same_pairs : (xs ys : List (ℕ × ℕ)) → Pairs xs ≡ Pairs ys → xs ≡ ys
+same_pairs xs ys e = cc
+
+pub returns-then-given-totals-clause-value : goal.returns-then-given-totals-clause-value
+returns-then-given-totals-clause-value c =
+    let s = c.args.survey.now.net.state in
+    let given = c.as_slice-given.result.now in
+    let reply = c.in-Pairs.is ∙ ap Pairs (sym c.as_slice-given.ensures) in
+    let walked = subst (λ (u : State). IsTrue c.are_pairs.result ↔ AreRising (lower_end_pair u) 0 given) c.totals-totals.ensures.kept c.are_pairs.ensures in
+    let listed = pairs_listed s given (c.if-given-totals.true ∙ c.totals-totals.ensures.value.pairs) in
+    (λ yes. reply ∙ ap Pairs (listed.0 (walked.0 yes)), λ same. walked.1 (listed.1 (same_pairs given (mutual_pairs s) (sym reply ∙ same))))

@@ -1,0 +1,6 @@
+use Rattle.std.proofs.Common.{◌≡◌, find, drop}
+use Rattle.rule_machine.specs.State.{suits}
+use Rattle.reply_checker.proofs.reads.first_suitor.Given as goal
+
+abbrev pub invariant-loop-w : goal.invariant-loop-w
+invariant-loop-w l = find (suits l.net.state l.v) l.w-items ≡ find (suits l.net.state l.v) (drop l.w-index l.w-items)

@@ -1,0 +1,12 @@
+use Rattle.std.proofs.Common.{◌≡◌, [], take, drop, length}
+use Rattle.rule_machine.specs.Refuse as refuse
+use Rattle.rule_machine.specs.Tables.{table_of}
+use Rattle.reply_checker.specs.Choices.{HasChosenItems}
+use Rattle.reply_checker.proofs.steps.items_refusal.Given as goal
+
+abbrev pub invariant-loop-item : goal.invariant-loop-item
+invariant-loop-item l = record {
+  same : refuse.items_refusal (table_of l.rules) l.net.state (take l.item-index l.items) (drop l.item-index l.items) ≡ refuse.items_refusal (table_of l.rules) l.net.state [] l.items;
+  held : HasChosenItems (table_of l.rules) l.net.state l.chosen (take l.item-index l.items);
+  len : length l.chosen ≡ length l.fn.chosen;
+}

@@ -1,0 +1,5 @@
+pub mod Choices
+pub mod Contributions
+pub mod ReplyVerdicts
+pub mod AscendingLists
+pub mod Bases

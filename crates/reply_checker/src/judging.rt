@@ -1,0 +1,184 @@
+//! The judgement of a reply, and what the reply does.
+
+ghost use Rattle.std.specs.Prelude.{◌≡◌, ◌↔◌, ℕ, None, false, IsTrue, IfOk, OnOk, OnErr, length};
+ghost use Rattle.rule_machine.specs.Answer.{Answers, Does};
+ghost use Rattle.rule_machine.specs.Refuse.{refusal_of};
+ghost use Rattle.rule_machine.specs.RuleTable.{RuleTable};
+ghost use Rattle.rule_machine.specs.Tables.{table_of};
+ghost use Rattle.machine_laws.specs.StatesAfterReplies.{followed, disturbed};
+ghost use Rattle.reply_checker.specs.Choices.{HasChosenItems, HasOnlyItemsOf, IsClearTable};
+ghost use Rattle.reply_checker.specs.ReplyVerdicts.{DoesWrong, IsRightReply, IsWrong, IsAcceptedLink, is_link, items_of};
+
+use crate::edits::point;
+use crate::questions::{are_enabled, are_mutual, has_counts};
+use crate::reads::pointer;
+use crate::refusals::{
+    flag_refusal, join_refusal, link_refusal, point_refusal, show_refusal, unlink_refusal,
+};
+use crate::replies::{is_accepted, is_refusal, is_shown};
+use crate::steps::{is_step, step_refusal};
+use crate::{ChosenItems, CountedNet};
+use net_state::{NetState, StateWriter, leave, make_moves, unlink};
+use rule_machine::{Event, Item, Refusal, Reply, RuleSet, Want};
+
+/// Whether the machine may give this reply to the event; if so, carries the event out as replied.
+///
+/// Afterwards `chosen` may have items of a step.
+pub(crate) fn judge_reply(
+    survey: &mut CountedNet,
+    rules: RuleSet,
+    spent: u64,
+    event: &Event,
+    reply: &Reply,
+    chosen: &mut ChosenItems,
+) -> Result<bool, Want>
+    requires { IsClearTable survey.old.net.state.network.size chosen.old }
+    ensures right { IfOk result (λ ok. IsTrue ok → Answers (table_of rules) survey.old.net.state spent event.now reply.now survey.new.net.state) }
+    ensures wrong { IfOk result (λ ok. ok ≡ false → IsWrong (table_of rules) survey.old.net.state spent event.now reply.now survey.new.net.state) }
+    ensures err { OnErr result (survey.new.net.state ≡ survey.old.net.state) }
+    ensures want { OnErr result (IsAcceptedLink (table_of rules) survey.old.net.state event.now reply.now) }
+    ensures size { survey.new.net.state.network.size ≡ survey.old.net.state.network.size }
+    ensures within { HasOnlyItemsOf chosen.new (items_of event.now) }
+    ensures len { length chosen.new ≡ length chosen.old }
+{
+    match refusal(&survey.net, rules, event, chosen) {
+        Some(refusal) => Ok(is_refusal(reply, refusal)),
+        None => judge_accepted(survey, rules, spent, event, reply, chosen),
+    }
+}
+
+/// Returns why an event is refused, if it is.
+///
+/// Afterwards `chosen` has the items of a step up to the first refused one.
+fn refusal(
+    net: &NetState,
+    rules: RuleSet,
+    event: &Event,
+    chosen: &mut ChosenItems,
+) -> Option<Refusal>
+    requires { IsClearTable net.now.state.network.size chosen.old }
+    ensures value { result ≡ refusal_of (table_of rules) net.now.state event.now }
+    ensures held { result ≡ None → HasChosenItems (table_of rules) net.now.state chosen.new (items_of event.now) }
+    ensures within { HasOnlyItemsOf chosen.new (items_of event.now) }
+    ensures len { length chosen.new ≡ length chosen.old }
+{
+    match event {
+        Event::Link(a, b) => link_refusal(net, *a, *b),
+        Event::Unlink(a, b) => unlink_refusal(net, *a, *b),
+        Event::Point(v, target) => point_refusal(net, *v, *target),
+        Event::Flag(v, _) => flag_refusal(net, rules, *v),
+        Event::Join(v) => join_refusal(net, *v),
+        Event::Step(choice) => step_refusal(net, rules, choice.items(), chosen),
+        Event::Show(v) | Event::Leave(v) => show_refusal(net, *v),
+        Event::Enabled | Event::Matching | Event::Status => None,
+    }
+}
+
+fn judge_accepted(
+    survey: &mut CountedNet,
+    rules: RuleSet,
+    spent: u64,
+    event: &Event,
+    reply: &Reply,
+    chosen: &mut ChosenItems,
+) -> Result<bool, Want>
+    requires accepted { refusal_of (table_of rules) survey.old.net.state event.now ≡ None }
+    requires held { HasChosenItems (table_of rules) survey.old.net.state chosen.old (items_of event.now) }
+    ensures right { IfOk result (λ ok. IsTrue ok → Does (table_of rules) survey.old.net.state spent event.now reply.now survey.new.net.state) }
+    ensures wrong { IfOk result (λ ok. ok ≡ false → DoesWrong (table_of rules) survey.old.net.state spent event.now reply.now survey.new.net.state) }
+    ensures err { OnErr result (survey.new.net.state ≡ survey.old.net.state) }
+    ensures want { OnErr result (IsTrue (is_link event.now) × (reply.now ≡ Reply.Accepted)) }
+    ensures size { survey.new.net.state.network.size ≡ survey.old.net.state.network.size }
+    ensures within { HasOnlyItemsOf chosen.new (items_of event.now) }
+    ensures len { length chosen.new ≡ length chosen.old }
+{
+    if !may_accept(survey, rules, spent, event, reply, chosen) {
+        return Ok(false);
+    }
+    follow(survey, rules, event, reply)?;
+    Ok(true)
+}
+
+fn may_accept(
+    survey: &mut CountedNet,
+    rules: RuleSet,
+    spent: u64,
+    event: &Event,
+    reply: &Reply,
+    chosen: &mut ChosenItems,
+) -> bool
+    requires accepted { refusal_of (table_of rules) survey.old.net.state event.now ≡ None }
+    requires held { HasChosenItems (table_of rules) survey.old.net.state chosen.old (items_of event.now) }
+    ensures value { IsTrue result ↔ IsRightReply (table_of rules) survey.old.net.state spent event.now reply.now }
+    ensures kept { survey.new.net.state ≡ survey.old.net.state }
+    ensures within { HasOnlyItemsOf chosen.new (items_of event.now) }
+    ensures len { length chosen.new ≡ length chosen.old }
+{
+    match event {
+        Event::Link(_, _)
+        | Event::Unlink(_, _)
+        | Event::Point(_, _)
+        | Event::Flag(_, _)
+        | Event::Join(_)
+        | Event::Leave(_) => is_accepted(reply),
+        Event::Step(choice) => may_move(&survey.net, rules, choice.items(), reply, chosen),
+        Event::Show(v) => is_shown(pointer(&survey.net, *v), reply),
+        Event::Enabled => are_enabled(survey, rules, reply),
+        Event::Matching => are_mutual(survey, rules, reply),
+        Event::Status => has_counts(survey, rules, spent, reply),
+    }
+}
+
+fn may_move(
+    net: &NetState,
+    rules: RuleSet,
+    items: &[Item],
+    reply: &Reply,
+    chosen: &mut ChosenItems,
+) -> bool
+    requires accepted { refusal_of (table_of rules) net.now.state (Event.Step items.now) ≡ None }
+    requires held { HasChosenItems (table_of rules) net.now.state chosen.old items.now }
+    ensures value { (spent : ℕ) → IsTrue result ↔ IsRightReply (table_of rules) net.now.state spent (Event.Step items.now) reply.now }
+    ensures within { HasOnlyItemsOf chosen.new items.now }
+    ensures len { length chosen.new ≡ length chosen.old }
+{
+    match reply {
+        Reply::Moves(moves) => is_step(net, rules, items, moves.as_slice(), chosen),
+        _ => false,
+    }
+}
+
+/// Carries out an event as a right reply has it. `Want` if memory runs out.
+fn follow(survey: &mut CountedNet, rules: RuleSet, event: &Event, reply: &Reply) -> Result<(), Want>
+    requires accepted { refusal_of (table_of rules) survey.old.net.state event.now ≡ None }
+    requires right { (spent : ℕ) × IsRightReply (table_of rules) survey.old.net.state spent event.now reply.now }
+    ensures ok { OnOk result (survey.new.net.state ≡ followed survey.old.net.state event.now reply.now) }
+    ensures err { OnErr result (survey.new.net.state ≡ survey.old.net.state) }
+    ensures want { OnErr result (IsTrue (is_link event.now) × (reply.now ≡ Reply.Accepted)) }
+{
+    match reply {
+        Reply::Accepted => disturb(survey, event)?,
+        Reply::Moves(moves) => make_moves(survey, moves.as_slice()),
+        _ => {}
+    }
+    Ok(())
+}
+
+/// Carries out a disturbance. Does nothing for a step or a question.
+fn disturb(survey: &mut CountedNet, event: &Event) -> Result<(), Want>
+    requires accepted { (t : RuleTable) × (refusal_of t survey.old.net.state event.now ≡ None) }
+    ensures ok { OnOk result (survey.new.net.state ≡ disturbed survey.old.net.state event.now) }
+    ensures err { OnErr result (survey.new.net.state ≡ survey.old.net.state) }
+    ensures want { OnErr result (IsTrue (is_link event.now)) }
+{
+    match event {
+        Event::Link(a, b) => survey.link(*a, *b)?,
+        Event::Unlink(a, b) => unlink(survey, *a, *b),
+        Event::Point(v, target) => point(survey, *v, *target),
+        Event::Flag(v, value) => survey.set_flag(*v, *value),
+        Event::Join(v) => survey.join(*v),
+        Event::Leave(v) => leave(survey, *v),
+        Event::Step(_) | Event::Show(_) | Event::Enabled | Event::Matching | Event::Status => {}
+    }
+    Ok(())
+}

@@ -1,0 +1,41 @@
+//! A judge of replies: whether the rule machine may give one, found by looks at the nodes of the event.
+//!
+//! A `Judge` keeps the state of a run. It carries out a right reply, whatever allowed targets the reply took;
+//! a wrong one changes nothing. Its guards, targets and counts are written from the tables alone. They share
+//! no code with the engine's rule sets, so that a mistake of those is not repeated; the state (`net_state`)
+//! is shared.
+//!
+//! A disturbance and a `Show` cost look-ups. A step looks at the neighbours of its nodes. A question looks at
+//! what changed since the last one and at what its reply lists. A judge may begin at a base (`at_base`). It
+//! returns the base of its state (`base`) and the cost of a disturbance (`cost_of`).
+//!
+//! ```rust
+//! let mut judge = Judge::new(alloc, 2)?;
+//! let right = judge.replay(RuleSet::Hh, 0, &Event::Link(a, b), &Reply::Accepted)?;
+//! ```
+#![tactic(auto)]
+
+mod bases;
+mod choices;
+mod edits;
+mod hsu_huang;
+mod judging;
+mod lines;
+mod looks;
+mod manne;
+mod questions;
+mod reads;
+mod refusals;
+mod replay;
+mod replies;
+mod rules;
+mod share;
+mod shares;
+mod steps;
+mod survey;
+mod targets;
+mod totals;
+
+use choices::ChosenItems;
+pub use replay::Judge;
+use survey::CountedNet;

@@ -1,0 +1,123 @@
+//! The judge.
+
+ghost use Rattle.std.specs.Prelude.{◌≡◌, ◌≤◌, false, IsTrue, IfOk, OnErr};
+ghost use Rattle.rule_machine.specs.Answer.{Answers};
+ghost use Rattle.rule_machine.specs.State.{State, opening, opening_with};
+ghost use Rattle.rule_machine.specs.Tables.{table_of};
+ghost use Rattle.reply_checker.specs.ReplyVerdicts.{IsWrong, IsAcceptedLink, cost_by};
+
+use crate::edits::opened;
+use crate::judging::judge_reply;
+use crate::rules::cost_of;
+use crate::{ChosenItems, CountedNet};
+use rule_machine::{Event, Reply, RuleSet, Want};
+use std::alloc::Global;
+use std::marker::Model;
+
+/// A network that judges replies; contracts see a state.
+///
+/// Guards and targets are computed at each event from the neighbour lists and the registers. Totals are
+/// updated by what changed since the last question. The entries for a choice's items are empty between two
+/// calls.
+#[derive(Drop)]
+pub struct Judge {
+    pub(crate) survey: CountedNet,
+    chosen: ChosenItems,
+}
+
+impl Model for Judge {
+    ghost use Rattle.rule_machine.specs.State.{State, state_code};
+    ghost use Rattle.reply_checker.specs.Choices.{IsClearTable};
+
+    ghost Value = { State };
+
+    ghost coded = { state_code };
+
+    ghost view = { λ j. j.survey.net.state };
+
+    ghost invariant = { λ j. IsClearTable j.survey.net.state.network.size j.chosen };
+}
+
+impl Judge {
+    /// Creates a judge at nodes 1 to `nodes`, without an edge, pointers null, flags false.
+    ///
+    /// At most 65,535 nodes. `Want` if memory runs out. Takes some forty bytes a node.
+    pub fn new(alloc: Global, nodes: u32) -> Result<Judge, Want>
+        requires { nodes ≤ 65535 }
+        ensures { IfOk result (λ judge. judge ≡ opening nodes) }
+    {
+        Judge::with_present(alloc, nodes, nodes)
+    }
+
+    /// Creates a judge at names 1 to `nodes`; 1 to `present` are nodes.
+    ///
+    /// There is no edge, all pointers are null and all flags false. At most 65,535 names. `Want` if memory
+    /// runs out. Takes some forty bytes a name.
+    pub fn with_present(alloc: Global, nodes: u32, present: u32) -> Result<Judge, Want>
+        requires few { nodes ≤ 65535 }
+        requires within { present ≤ nodes }
+        ensures { IfOk result (λ judge. judge ≡ opening_with nodes present) }
+    {
+        let net = opened(alloc, nodes, present)?;
+        let survey = CountedNet::new(alloc, net)?;
+        Judge::of_survey(alloc, survey)
+    }
+
+    pub(crate) fn of_survey(alloc: Global, survey: CountedNet) -> Result<Judge, Want>
+        ensures { IfOk result (λ judge. judge ≡ survey.net.state) }
+    {
+        let chosen = ChosenItems::new(alloc, survey.net.capacity())?;
+        Ok(Judge { survey, chosen })
+    }
+
+    /// Whether the machine may give this reply to the event; if so, carries the event out as replied.
+    ///
+    /// `spent` is the number of moves since the last accepted disturbance. If an item wishes no target, any
+    /// allowed one is right. A wrong reply changes nothing.
+    ///
+    /// `Want` if memory runs out; that changes nothing. It comes only if a link is rightly accepted.
+    ///
+    /// Cost: a disturbance and a `Show` take look-ups, and a step a look at the neighbours of its nodes.
+    /// `Enabled`, `Matching` and `Status` look at
+    ///
+    /// - what their replies list,
+    /// - the nodes that changed since the last of these, and their neighbours,
+    /// - the neighbours of each of those that may marry or seduce, or whose edges count otherwise.
+    pub fn replay(
+        &mut self,
+        rules: RuleSet,
+        spent: u64,
+        event: &Event,
+        reply: &Reply,
+    ) -> Result<bool, Want>
+        ensures right { IfOk result (λ right. IsTrue right → Answers (table_of rules) self.old spent event.now reply.now self.new) }
+        ensures wrong { IfOk result (λ right. right ≡ false → IsWrong (table_of rules) self.old spent event.now reply.now self.new) }
+        ensures err { OnErr result (self.new ≡ self.old) }
+        ensures want { OnErr result (IsAcceptedLink (table_of rules) self.old event.now reply.now) }
+    {
+        let right = judge_reply(
+            &mut self.survey,
+            rules,
+            spent,
+            event,
+            reply,
+            &mut self.chosen,
+        );
+        if let Event::Step(choice) = event {
+            self.chosen.clear(choice.items());
+        }
+        right
+    }
+
+    /// Returns what an event may add to the charge if it is accepted in the present state.
+    ///
+    /// It is a sum of degrees of the nodes that the event touches, at most 262,144; 0 for a step and a
+    /// question.
+    ///
+    /// Cost: a few looks, and one at each neighbour of a node that a fault hits.
+    pub fn cost_of(&self, rules: RuleSet, event: &Event) -> u32
+        ensures { result ≡ cost_by rules self.now event.now }
+    {
+        cost_of(&self.survey.net, rules, event)
+    }
+}

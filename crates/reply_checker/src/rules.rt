@@ -1,0 +1,98 @@
+//! What differs by the rule set: each function dispatches to the file of its rules.
+
+ghost use Rattle.std.specs.Prelude.{◌≡◌, ◌≤◌, IsTrue};
+ghost use Rattle.rule_machine.specs.Network.{present};
+ghost use Rattle.rule_machine.specs.RuleTable as table;
+ghost use Rattle.rule_machine.specs.Tables.{table_of};
+ghost use Rattle.reply_checker.specs.ReplyVerdicts.{cost_by};
+ghost use Rattle.reply_checker.specs.Contributions.{closes, edge_stance_by, flag_charge};
+
+use crate::{hsu_huang, manne};
+use graph_store::EdgeStance;
+use net_state::NetState;
+use rule_machine::{Act, Event, Node, RuleSet};
+
+/// Returns the rule that is enabled at a node, if any. Looks at its neighbours if its pointer is null.
+#[inline(always)]
+pub(crate) fn rule_at(net: &NetState, rules: RuleSet, v: Node) -> Option<Act>
+    requires { IsTrue (present net.now.state.network v) }
+    ensures { result ≡ table.rule_at (table_of rules) net.now.state v }
+{
+    match rules {
+        RuleSet::Hh => hsu_huang::rule_at(net, v),
+        RuleSet::Manne => manne::rule_at(net, v),
+    }
+}
+
+pub(crate) fn is_allowed(net: &NetState, rules: RuleSet, v: Node, act: Act, w: Node) -> bool
+    ensures { result ≡ (table_of rules).allowed net.now.state v act w }
+{
+    match rules {
+        RuleSet::Hh => hsu_huang::is_allowed(net, v, act, w),
+        RuleSet::Manne => manne::is_allowed(net, v, act, w),
+    }
+}
+
+pub(crate) fn is_central(rules: RuleSet) -> bool
+    ensures { result ≡ (table_of rules).central }
+{
+    match rules {
+        RuleSet::Hh => hsu_huang::IS_CENTRAL,
+        RuleSet::Manne => manne::IS_CENTRAL,
+    }
+}
+
+pub(crate) fn uses_flags(rules: RuleSet) -> bool
+    ensures { result ≡ (table_of rules).flags }
+{
+    match rules {
+        RuleSet::Hh => hsu_huang::USES_FLAGS,
+        RuleSet::Manne => manne::USES_FLAGS,
+    }
+}
+
+#[inline(always)]
+pub(crate) fn flag_charge(net: &NetState, rules: RuleSet, v: Node) -> u8
+    requires { IsTrue (present net.now.state.network v) }
+    ensures value { result ≡ flag_charge rules net.now.state v }
+    ensures few { result ≤ 2 }
+{
+    match rules {
+        RuleSet::Hh => hsu_huang::FLAG_CHARGE,
+        RuleSet::Manne => manne::flag_charge(net, v),
+    }
+}
+
+/// Whether a node's pointer closes an edge that is open by its ends.
+#[inline(always)]
+pub(crate) fn closes(net: &NetState, rules: RuleSet, v: Node) -> bool
+    requires { IsTrue (present net.now.state.network v) }
+    ensures { result ≡ closes rules net.now.state v }
+{
+    match rules {
+        RuleSet::Hh => hsu_huang::closes(net, v),
+        RuleSet::Manne => manne::closes(net, v),
+    }
+}
+
+/// Returns the stance of a node towards its edges, if `rule` is the rule enabled at it.
+#[inline(always)]
+pub(crate) fn end_of(net: &NetState, rules: RuleSet, v: Node, rule: Option<Act>) -> EdgeStance
+    requires present { IsTrue (present net.now.state.network v) }
+    requires rule { rule ≡ table.rule_at (table_of rules) net.now.state v }
+    ensures { result ≡ edge_stance_by rules net.now.state v }
+{
+    match rules {
+        RuleSet::Hh => hsu_huang::end_of(net, v, rule),
+        RuleSet::Manne => manne::end_of(net, v),
+    }
+}
+
+pub(crate) fn cost_of(net: &NetState, rules: RuleSet, event: &Event) -> u32
+    ensures { result ≡ cost_by rules net.now.state event.now }
+{
+    match rules {
+        RuleSet::Hh => hsu_huang::cost_of(net, event),
+        RuleSet::Manne => manne::cost_of(net, event),
+    }
+}

@@ -1,0 +1,106 @@
+//! What a name contributes to the totals of its network.
+
+ghost use Rattle.std.specs.Prelude.{◌≡◌, ◌≤◌, IsTrue, MatchOption, None, cond, false, is_some};
+ghost use Rattle.rule_machine.specs.Network.{present};
+ghost use Rattle.rule_machine.specs.RuleTable as table;
+ghost use Rattle.rule_machine.specs.State as state;
+ghost use Rattle.rule_machine.specs.Tables.{table_of};
+ghost use Rattle.reply_checker.specs.Contributions.{IsShare, edge_stance_by};
+ghost use Rattle.reply_checker.specs.AscendingLists.{lower_end_pair};
+
+use crate::rules::{closes, end_of, flag_charge, rule_at};
+use graph_store::EdgeStance;
+use net_state::NetState;
+use rule_machine::{Act, Node, RuleSet};
+
+/// What a node contributes to the totals of its network.
+///
+/// - The rule enabled at the node.
+/// - Whether the node is the lower end of a mutual pair.
+/// - What it adds to the charge apart from its edges.
+/// - Whether its pointer closes an edge that is open by its ends.
+#[derive(Clone, Copy)]
+pub(crate) struct Contribution {
+    pub(crate) rule: Option<Act>,
+    pub(crate) is_lower_end: bool,
+    pub(crate) added: u8,
+    pub(crate) closes: bool,
+}
+
+pub(crate) const NO_SHARE: Contribution = Contribution {
+    rule: None,
+    is_lower_end: false,
+    added: 0,
+    closes: false,
+};
+
+impl Contribution {
+    #[inline(always)]
+    pub(crate) fn is_enabled(&self) -> bool
+        ensures { result ≡ is_some self.now.rule }
+    {
+        self.rule.is_some()
+    }
+}
+
+/// Returns the contribution of a name.
+///
+/// Cost: looks at the registers of the name, its target and that one's target, and at the neighbours of a
+/// node whose pointer is null.
+pub(crate) fn share_of(net: &NetState, rules: RuleSet, v: Node) -> Contribution
+    requires { v ≤ net.now.state.network.size }
+    ensures share { IsShare rules net.now.state v result }
+    ensures light { result.added ≤ 3 }
+{
+    if !net.has(v) {
+        return NO_SHARE;
+    }
+    Contribution {
+        rule: rule_at(net, rules, v),
+        is_lower_end: is_lower_end(net, v),
+        added: u8::from(is_unanswered(net, v)) + flag_charge(net, rules, v),
+        closes: closes(net, rules, v),
+    }
+}
+
+#[inline(always)]
+fn is_lower_end(net: &NetState, v: Node) -> bool
+    requires { IsTrue (present net.now.state.network v) }
+    ensures { result ≡ is_some (lower_end_pair net.now.state v) }
+{
+    // Gives the prover `IsState`.
+    let _ = net.registers();
+    match net.pointer(v) {
+        Some(w) => v < w && net.points(w, v),
+        None => false,
+    }
+}
+
+#[inline(always)]
+fn is_unanswered(net: &NetState, v: Node) -> bool
+    requires { IsTrue (present net.now.state.network v) }
+    ensures { result ≡ state.is_unanswered net.now.state v }
+{
+    match net.pointer(v) {
+        Some(w) => !net.points(w, v),
+        None => false,
+    }
+}
+
+/// Returns the stance of the name's node towards its edges, if there is one; `rule` is its rule.
+#[inline(always)]
+pub(crate) fn end_at(
+    net: &NetState,
+    rules: RuleSet,
+    v: Node,
+    rule: Option<Act>,
+) -> Option<EdgeStance>
+    requires within { v ≤ net.now.state.network.size }
+    requires rule { rule ≡ cond (present net.now.state.network v) (table.rule_at (table_of rules) net.now.state v) None }
+    ensures { MatchOption result (present net.now.state.network v ≡ false) (λ end. end ≡ edge_stance_by rules net.now.state v) }
+{
+    if !net.has(v) {
+        return None;
+    }
+    Some(end_of(net, rules, v, rule))
+}

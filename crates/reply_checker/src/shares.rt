@@ -1,0 +1,110 @@
+//! What each name contributes to the totals of its network, as of the last look at the name.
+
+ghost use Rattle.std.specs.Prelude.{◌≡◌, All, ℕ, ◌+◌, ◌<◌, ◌≤◌, true, false, length, replicate, slice_set, IfOk, IfSome};
+ghost use Rattle.enabled_set.specs.Members.{is_in};
+ghost use Rattle.reply_checker.specs.Contributions.{absent_contribution, AreStatusSums, FitsTwoBits, AddsMember};
+ghost use Rattle.net_state.specs.StateViews.{IsUntouchedBy};
+
+use crate::share::{Contribution, NO_SHARE};
+use enabled_set::Marks;
+use rule_machine::{Node, Want};
+use std::alloc::Global;
+
+/// What each name contributed at the last look, with the sums.
+///
+/// A touched name changed since its dependents were last marked as due. A due name needs a new look.
+#[derive(Drop)]
+pub(crate) struct Contributions {
+    pub(crate) each: Vec<Contribution>,
+    pub(crate) pairs: u32,
+    pub(crate) enabled: u32,
+    pub(crate) added: u32,
+    pub(crate) closing: u32,
+    pub(crate) touched: Marks,
+    pub(crate) due: Marks,
+    ghost few: { length each.items ≤ 65536 },
+    ghost light: { All FitsTwoBits each.items },
+    ghost summed: { AreStatusSums each.items pairs enabled added closing },
+}
+
+impl Contributions {
+    /// Creates empty contributions; all names up to `nodes` are due. Takes eleven bytes a name.
+    pub(crate) fn new(alloc: Global, nodes: u32) -> Result<Contributions, Want>
+        requires { nodes ≤ 65535 }
+        ensures each { IfOk result (λ it. it.each.items ≡ replicate (nodes + 1) absent_contribution) }
+        ensures touched { IfOk result (λ it. it.touched ≡ replicate (nodes + 1) false) }
+        ensures places { IfOk result (λ it. length it.due ≡ nodes + 1) }
+        ensures due { IfOk result (λ it. (v : ℕ) → 1 ≤ v → v ≤ nodes → is_in it.due v ≡ true) }
+    {
+        let each = no_shares(alloc, nodes as usize + 1)?;
+        let touched = Marks::new(alloc, nodes)?;
+        let mut due = Marks::new(alloc, nodes)?;
+        due.mark_all();
+        Ok(Contributions {
+            each,
+            pairs: 0,
+            enabled: 0,
+            added: 0,
+            closing: 0,
+            touched,
+            due,
+        })
+    }
+
+    #[inline(always)]
+    pub(crate) fn touch(&mut self, v: Node)
+        requires { v < length self.old.touched }
+        ensures kept { (self.new.each.items ≡ self.old.each.items) × (self.new.due ≡ self.old.due) }
+        ensures marked { AddsMember self.old.touched self.new.touched v }
+    {
+        self.touched.mark(v);
+    }
+
+    /// After a write of a pointer: touches the node, the old target and the new one.
+    #[inline(always)]
+    pub(crate) fn touch_pointer(&mut self, v: Node, was: Option<Node>, is: Option<Node>)
+        requires node { v < length self.old.touched }
+        requires was { IfSome was (λ w. w < length self.old.touched) }
+        requires is { IfSome is (λ w. w < length self.old.touched) }
+        ensures kept { (self.new.each.items ≡ self.old.each.items) × (self.new.due ≡ self.old.due) }
+        ensures places { length self.new.touched ≡ length self.old.touched }
+        ensures marked { (w : ℕ) → is_in self.new.touched w ≡ false → (is_in self.old.touched w ≡ false) × IsUntouchedBy v was is w }
+    {
+        self.touch(v);
+        if let Some(w) = was {
+            self.touch(w);
+        }
+        if let Some(w) = is {
+            self.touch(w);
+        }
+    }
+
+    pub(crate) fn put(&mut self, v: Node, share: Contribution)
+        requires share { v < length self.old.each.items }
+        requires light { FitsTwoBits share }
+        ensures each { self.new.each.items ≡ slice_set self.old.each.items v share }
+        ensures kept { (self.new.touched ≡ self.old.touched) × (self.new.due ≡ self.old.due) }
+    {
+        let was = self.each[v.place()];
+        self.each[v.place()] = share;
+        self.pairs = self.pairs - u32::from(was.is_lower_end) + u32::from(share.is_lower_end);
+        self.enabled = self.enabled - u32::from(was.is_enabled()) + u32::from(share.is_enabled());
+        self.added = self.added - u32::from(was.added) + u32::from(share.added);
+        self.closing = self.closing - u32::from(was.closes) + u32::from(share.closes);
+    }
+
+    pub(crate) fn call_all(&mut self)
+        ensures kept { (self.new.each.items ≡ self.old.each.items) × (self.new.touched ≡ self.old.touched) }
+        ensures places { length self.new.due ≡ length self.old.due }
+        ensures due { (v : ℕ) → 1 ≤ v → v < length self.old.due → is_in self.new.due v ≡ true }
+    {
+        self.due.mark_all();
+    }
+}
+
+fn no_shares(alloc: Global, places: usize) -> Result<Vec<Contribution>, Want>
+    requires { places ≤ 65536 }
+    ensures { IfOk result (λ each. each.items ≡ replicate places absent_contribution) }
+{
+    vec![in alloc; NO_SHARE; places]
+}

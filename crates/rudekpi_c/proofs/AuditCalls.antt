@@ -1,0 +1,32 @@
+-- What a piece that was fed, and a verdict, mean for an audit that C keeps.
+use Rattle.std.proofs.Common.{◌≡◌, ◌∙◌, ◌++◌, ℕ, List, Option, Some, Result, refl, sym, ap, subst}
+use Rattle.auditor.specs.declared.damage.Damage.{Damage}
+use Rattle.auditor.specs.declared.damage.JudgeFault.{JudgeFault}
+use Rattle.auditor.specs.declared.damage.JudgeFault.TheVariants.{Damaged}
+use Rattle.auditor.specs.declared.pieces.PieceAudit.{PieceAudit}
+use Rattle.auditor.specs.declared.summary.Summary.{Summary}
+use Rattle.auditor.specs.Damage.{IsDamage}
+use Rattle.auditor.specs.AuditPieces.{HasReadPieces}
+use Rattle.auditor.specs.TranscriptCursors.{IsIncrementalAudit}
+use Rattle.auditor.specs.Verdict.{IsJudged, JudgesDamage, JudgesRuns, found_by}
+use Rattle.rudekpi_c.specs.declared.judged.Verdict.{Verdict}
+use Rattle.rudekpi_c.specs.AuditCalls.{AuditEnded, AuditFed, found_status}
+use Rattle.rudekpi_c.specs.AuditVerdicts.{audit_verdict}
+use Rattle.rudekpi_c.proofs.AuditVerdicts.{judged_as}
+
+pub was_fed_piece : (piece : List ℕ) (a b : PieceAudit) (status : ℕ) (found : Result Unit JudgeFault) (old new : Option PieceAudit) → old ≡ Some a → new ≡ Some b
+    → ((bytes : List ℕ) → HasReadPieces bytes a → HasReadPieces (bytes ++ piece) b) → found ≡ found_by b.fault
+    → ((fault : JudgeFault) → a.fault ≡ Some fault → b.fault ≡ Some fault) → status ≡ found_status found → AuditFed piece status old new
+was_fed_piece piece a b status found old new was is fed told for_good status_is =
+    subst (λ (o : Option PieceAudit). AuditFed piece status o new) (sym was)
+    (record { b = b; is = is; fed = fed; status_is = status_is ∙ ap found_status told; damaged = damaged; for_good = for_good })
+  where
+    damaged : (d : Damage) → b.fault ≡ Some (Damaged d) → (bytes more : List ℕ) → HasReadPieces bytes a → IsDamage (bytes ++ piece ++ more) d
+    damaged d is bytes more before =
+        subst (IsIncrementalAudit (bytes ++ piece) b.trial) is (fed bytes before) more
+
+pub was_judged : (a : PieceAudit) (v : Verdict) (found : Result Summary JudgeFault) (old : Option PieceAudit) → old ≡ Some a → v ≡ audit_verdict found
+    → ((bytes : List ℕ) → HasReadPieces bytes a → IsJudged bytes found) → ((bytes : List ℕ) → HasReadPieces bytes a → JudgesRuns bytes found)
+    → ((bytes : List ℕ) → HasReadPieces bytes a → JudgesDamage bytes found) → AuditEnded 0 v old
+was_judged a v found old was told judged runs damage =
+    subst (λ (o : Option PieceAudit). AuditEnded 0 v o) (sym was) (refl, λ bytes fed. judged_as bytes found v told (judged bytes fed) (runs bytes fed) (damage bytes fed))

@@ -1,0 +1,48 @@
+-- What C's calls do to an audit that it feeds in pieces, status by status.
+use Rattle.std.specs.Prelude.{◌≡◌, ◌⊎◌, ◌++◌, ℕ, List, [], Option, None, Some, Result, Ok, Err}
+use Rattle.auditor.specs.declared.damage.Damage.{Damage}
+use Rattle.auditor.specs.declared.damage.JudgeFault.{JudgeFault}
+use Rattle.auditor.specs.declared.damage.JudgeFault.TheVariants.{Damaged, Memory}
+use Rattle.auditor.specs.declared.pieces.PieceAudit.{PieceAudit}
+use Rattle.auditor.specs.Damage.{IsDamage}
+use Rattle.auditor.specs.AuditPieces.{HasReadPieces}
+use Rattle.auditor.specs.Verdict.{found_by}
+use Rattle.rudekpi_c.specs.declared.judged.Verdict.{Verdict}
+use Rattle.rudekpi_c.specs.AuditVerdicts.{JudgedAs, unjudged}
+
+-- an audit that was fed nothing, and found nothing
+pub record IsAuditBegun (new : Option PieceAudit) : Type 0 where
+  pub audit : PieceAudit
+  pub is : new ≡ Some audit
+  pub fed : HasReadPieces [] audit
+  pub found : audit.fault ≡ None
+
+-- 0: it began; 3: memory ran out, and there is none
+abbrev pub AuditBegun : ℕ → Option PieceAudit → Type 0
+AuditBegun status new = ((status ≡ 0) × IsAuditBegun new) ⊎ ((status ≡ 3) × (new ≡ None))
+
+-- 0: no fault was found; 7: a damage was; 3: memory ran out
+abbrev pub found_status : {A : Type 0} → Result A JudgeFault → ℕ
+found_status (Ok fine) = 0
+found_status (Err (Damaged d)) = 7
+found_status (Err Memory) = 3
+
+-- it was fed the piece after what it was fed before; a damage is that of every text that begins so; a fault
+-- once found stays
+pub record IsAuditFed (piece : List ℕ) (status : ℕ) (a : PieceAudit) (new : Option PieceAudit) : Type 0 where
+  pub b : PieceAudit
+  pub is : new ≡ Some b
+  pub fed : (bytes : List ℕ) → HasReadPieces bytes a → HasReadPieces (bytes ++ piece) b
+  pub status_is : status ≡ found_status (found_by b.fault)
+  pub damaged : (d : Damage) → b.fault ≡ Some (Damaged d) → (bytes more : List ℕ) → HasReadPieces bytes a → IsDamage (bytes ++ piece ++ more) d
+  pub for_good : (fault : JudgeFault) → a.fault ≡ Some fault → b.fault ≡ Some fault
+
+-- 4: there is no audit
+abbrev pub AuditFed : List ℕ → ℕ → Option PieceAudit → Option PieceAudit → Type 0
+AuditFed piece status None new = (status ≡ 4) × (new ≡ None)
+AuditFed piece status (Some a) new = IsAuditFed piece status a new
+
+-- 0: the verdict is that of the text it was fed; 4: there is no audit
+abbrev pub AuditEnded : ℕ → Verdict → Option PieceAudit → Type 0
+AuditEnded status verdict None = (status ≡ 4) × (verdict ≡ unjudged)
+AuditEnded status verdict (Some a) = (status ≡ 0) × ((bytes : List ℕ) → HasReadPieces bytes a → JudgedAs bytes verdict)

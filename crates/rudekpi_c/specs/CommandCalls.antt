@@ -1,0 +1,95 @@
+-- What a call with numbers in place of a line does to a session, status by status.
+use Rattle.std.specs.Prelude.{◌≡◌, ℕ, Bool, true, false, zero, suc, ◌⊎◌, List, map, Option, None, Some, Result, Ok, Err, SomeIff}
+use Rattle.rule_machine.specs.declared.choice.Item.{Item}
+use Rattle.rule_machine.specs.declared.event.Event.{Event}
+use Rattle.rule_machine.specs.declared.event.Event.TheVariants.{Step}
+use Rattle.rule_machine.specs.declared.reply.Reply.{Reply}
+use Rattle.rule_machine.specs.declared.reply.Reply.TheVariants.{Accepted}
+use Rattle.rule_machine.specs.Least.{reply_of}
+use Rattle.rule_machine.specs.RuleTable.{RuleTable}
+use Rattle.rule_machine.specs.Tables.{table_of}
+use Rattle.script_text.specs.declared.command.Command.{Command}
+use Rattle.script_text.specs.declared.command.Command.TheVariants.{Tell}
+use Rattle.script_text.specs.Command.{IsCommand}
+use Rattle.script_text.specs.Script.{Progress, CommandDoes, CommandFills}
+use Rattle.run_session.specs.Line.{CommandBegins}
+use Rattle.rudekpi_c.specs.Session.{stands, rules_of, limit_of, with_text_if, GoesOn}
+use Rattle.rudekpi_c.specs.SilentDrives.{Silences}
+use Rattle.rudekpi_c.specs.Slot.{IsNobody}
+use Rattle.rudekpi_c.specs.ReplyNumbers.{told_of, untold, entry_status}
+use Rattle.rudekpi_c.specs.declared.asked.StepItem.{StepItem}
+use Rattle.rudekpi_c.specs.declared.session.Session.{Session}
+use Rattle.rudekpi_c.specs.declared.told.CallResult.{CallResult}
+
+-- 0 is no node
+abbrev pub optional_name : ℕ → Option ℕ
+optional_name zero = None
+optional_name (suc n) = Some (suc n)
+
+abbrev pub item_named : StepItem → Item
+item_named c = record { node = c.node; wish = optional_name c.wish }
+
+-- the step of these nodes
+abbrev pub step_named : List StepItem → Event
+step_named chosen = Step (map item_named chosen)
+
+-- the numbers gave the command, or are out of range; or memory ran out for numbers in range
+abbrev pub IsAsked : {E : Type 0} → Result (Option Command) E → Command → Type 0
+IsAsked (Ok asked) command = SomeIff asked (IsCommand command) command
+IsAsked (Err want) command = IsCommand command
+
+-- the reply to a command that is carried out here: the machine's, if it is one event
+abbrev pub reply_at : RuleTable → Command → Progress → Reply
+reply_at t (Tell event) at = reply_of t at.moment.state at.moment.spent event
+reply_at t other at = Accepted
+
+-- the number returned if a command was not carried out: 0 for an event, else that of the last entry
+abbrev pub number_left : Command → ℕ → ℕ
+number_left (Tell event) count = 0
+number_left other count = count
+
+-- the number returned, if there are then this many entries
+abbrev pub number_at : {E : Type 0} → Command → ℕ → Result Bool E → ℕ
+number_at command count (Ok true) = count
+number_at command count other = number_left command count
+
+-- the reply that is kept
+abbrev pub reply_kept : {E : Type 0} → RuleTable → Command → Progress → Result Bool E → Reply
+reply_kept t command before (Ok true) = reply_at t command before
+reply_kept t command before other = Accepted
+
+-- the status of a command
+abbrev pub command_status : {E : Type 0} → Reply → Result Bool E → ℕ
+command_status reply (Ok true) = entry_status reply
+command_status reply (Ok false) = 2
+command_status reply (Err want) = 3
+
+-- 0, or 6 if the machine refuses it: it was carried out; 2: it met a full log; 3: memory ran out, and at most
+-- some first turns were taken
+abbrev pub IsCommandOutcome : RuleTable → ℕ → Command → ℕ → ℕ → Reply → Progress → Progress → Type 0
+IsCommandOutcome t limit command status number reply before after =
+    ((status ≡ entry_status (reply_at t command before)) × CommandDoes t limit command before after × (number ≡ after.count) × (reply ≡ reply_at t command before))
+    ⊎ ((status ≡ 2) × CommandFills t limit command before after × (number ≡ number_left command after.count) × (reply ≡ Accepted))
+    ⊎ ((status ≡ 3) × CommandBegins t limit command before after × (number ≡ number_left command after.count) × (reply ≡ Accepted))
+
+-- the command was given to the session, which keeps the reply and counts no line
+pub record IsCommandAnswer (command : Command) (status : ℕ) (told : CallResult) (old new : Option Session) : Type 0 where
+  pub s : Session
+  pub t : Session
+  pub was : old ≡ Some s
+  pub is : new ≡ Some t
+  pub goes_on : GoesOn s t
+  pub lines : t.lines ≡ s.lines
+  pub after : Progress
+  pub follows : IsCommandOutcome (table_of (rules_of s)) (limit_of s) command status t.answer.seq t.answer.reply (stands s) after
+  pub silent : status ≡ 0 → Silences (table_of (rules_of s)) command (stands s).moment.state after.moment.state
+  pub stands_is : stands t ≡ with_text_if t.keeps after
+  pub told_is : told ≡ told_of t.answer.seq t.answer.reply
+
+-- 5: the numbers are out of range, and nothing was done; 4: there was no session; else the session got the
+-- command
+abbrev pub AnswersCommand : Command → ℕ → CallResult → Option Session → Option Session → Type 0
+AnswersCommand command status told old new =
+    ((IsCommand command → ⊥) × (status ≡ 5) × (told ≡ untold) × (new ≡ old))
+    ⊎ (IsCommand command × IsNobody status old new × (told ≡ untold))
+    ⊎ (IsCommand command × IsCommandAnswer command status told old new)

@@ -1,0 +1,48 @@
+-- Nodes that join and leave: what the others show, and the set of enabled nodes.
+use Rattle.std.proofs.Common.{◌≡◌, ℕ, ◌<◌, ◌≤◌, Bool, true, false, cond, is_some, List, length, set, get_or, nat_eq, None, IsTrue, sym, ap, ◌∙◌, subst, ⊎_elim, arith}
+use Rattle.std.proofs.lemmas.Bool.{and_parts, and_from, cases_lt, false_from_ne_true, le-leb, true≢false}
+use Rattle.std.proofs.lemmas.List.{get_or-set_same, get_or_past, length-set}
+use Rattle.rule_machine.specs.Network.{Network, IsNetwork, present, with_node}
+use Rattle.rule_machine.specs.State.{State, IsState}
+use Rattle.rule_machine.specs.RuleTable.{RuleTable, rule_at}
+use Rattle.rule_machine.specs.Disturbance.{after_join}
+use Rattle.rules_api.specs.Target.{SameAt}
+use Rattle.machine_laws.specs.Edges.{present_other}
+use Rattle.machine_laws.specs.StatePreservation.{join_keeps}
+use Rattle.rule_engine.specs.EngineStates.{is_enabled_at, IsEngineState}
+use Rattle.rule_engine.specs.GuardRefresh.{IsRefreshed}
+use Rattle.rule_engine.proofs.EnabledRefresh.{IsLocal, kept_again}
+use Rattle.rule_engine.proofs.FarNodes.{not_same, seat_far}
+
+-- ---- a node that joins
+
+-- it is present then
+pub joined_present : (net : Network) (v : ℕ) → IsNetwork net → 1 ≤ v → v ≤ net.size → IsTrue (present (with_node net v) v)
+joined_present net v good low high =
+    and_from _ _ (le-leb 1 v low) (and_from _ _ (le-leb v net.size high) (get_or-set_same net.here v true false (let l = good.here_len in omega (arith, l, high))))
+
+-- after a join, a look at the node
+pub kept_joined : (t : RuleTable) → IsLocal t → (s u : State) (v : ℕ) (bits bits' : List Bool) {marks : List Bool} → IsEngineState t s bits marks → 1 ≤ v → u ≡ after_join s v → IsRefreshed t u (λ w. nat_eq w v) bits bits' → IsEngineState t u bits' marks
+kept_joined t local s u v bits bits' kept low is done =
+    let good = join_keeps s v low kept.is_state in
+    kept_again t local s u (λ w. nat_eq w v) bits bits' kept (subst IsState (sym is) good) (ap (λ q. q.network.size) is)
+    (λ x apart. ap (λ q. present q.network x) is ∙ present_other s.network v true x (not_same v x apart))
+    (λ w _. subst (λ q. SameAt s q w) (sym is) (seat_far s (set s.network.here v true) w kept.is_state good)) done
+
+-- ---- a node that leaves
+
+-- it is absent then
+pub parted_absent : (net : Network) (v : ℕ) → present (record net { here = set net.here v false }) v ≡ false
+parted_absent net v =
+    false_from_ne_true _ (λ h. true≢false (sym (and_parts _ _ (and_parts _ _ h).1).1 ∙ cleared net.here))
+  where
+    cleared : (row : List Bool) → get_or (set row v false) v false ≡ false
+    cleared row =
+        ⊎_elim
+        (λ (below : v < length row). get_or-set_same row v false false below)
+        (λ (past : length row ≤ v). get_or_past (set row v false) v false (let same = length-set row v false in omega (arith, same)))
+        (cases_lt v (length row))
+
+-- and no rule is enabled there
+pub absent_off : (t : RuleTable) (q : State) (v : ℕ) → present q.network v ≡ false → is_enabled_at t q v ≡ false
+absent_off t q v absent = ap (λ b. is_some (cond b (rule_at t q v) None)) absent

@@ -1,0 +1,119 @@
+-- Marks that are made and cleared one by one.
+use Rattle.std.proofs.Common.{◌≡◌, ℕ, zero, suc, ◌+◌, ◌<◌, Bool, true, false, cond, ◌||◌, List, [], ◌∷◌, ◌++◌, length, get_or, replicate, take, drop, set, All, None, Some, is_some, IsSome, nat_eq, refl, sym, ap, ◌∙◌, subst, ⊎_elim, arith, eq-eqb}
+use Rattle.std.proofs.Math.Bool.{or-false, or-true}
+use Rattle.std.specs.List.{list_any}
+use Rattle.std.specs.Option.{option_or}
+use Rattle.std.proofs.lemmas.Bool.{cases_Bool, cases_eq, ne_eqb, true≢false}
+use Rattle.std.proofs.lemmas.List.{ext_get_or, get_or-set_same, get_or-set_other, drop_more, length-set}
+use Rattle.std.proofs.lemmas.List.Folds.{list_any_more}
+use Rattle.rule_machine.specs.declared.choice.Item.{Item}
+use Rattle.rule_machine.specs.declared.refusal.Refusal.{Refusal}
+use Rattle.rule_machine.specs.declared.verdict.Verdict.{Verdict}
+use Rattle.rule_machine.specs.declared.verdict.Outcome.{Outcome}
+use Rattle.rule_machine.specs.declared.verdict.Outcome.TheVariants as outcome
+use Rattle.rule_machine.specs.Network.{present}
+use Rattle.rule_machine.specs.State.{State}
+use Rattle.rule_machine.specs.RuleTable.{RuleTable, rule_at}
+use Rattle.rule_machine.specs.Refuse.{items_refusal}
+use Rattle.rule_machine.specs.Least.{move_in, outcome_of, outcome_at}
+use Rattle.machine_laws.specs.Neighbours.{present_range}
+use Rattle.enabled_set.specs.Members.{is_in}
+use Rattle.rule_engine.specs.ChoiceMoves.{refused_by, verdicts_refusal, verdicts_from, verdicts_of}
+use Rattle.rule_engine.specs.Marks.{AreClear, AreMarks, HasPlace, is_named, is_judged}
+use Rattle.rule_engine.proofs.OpeningState.{blank_at}
+use Rattle.rule_engine.proofs.GrowingLists.{push_is_take}
+use Rattle.rule_engine.proofs.ItemVerdicts.{item_refusal-outcome}
+
+-- an outcome that is not refused is a move
+pub move_from_accepted : (o : Outcome) (twice : Bool) → refused_by o twice ≡ None → IsSome (move_in o)
+move_from_accepted outcome.Absent twice none = absurd cc
+move_from_accepted outcome.Idle true none = absurd cc
+move_from_accepted outcome.Idle false none = absurd cc
+move_from_accepted outcome.Wrong true none = absurd cc
+move_from_accepted outcome.Wrong false none = absurd cc
+move_from_accepted (outcome.Moves m) twice none = refl
+
+mark_made : (marks : List Bool) (w v : ℕ) → w < length marks → is_in (set marks w true) v ≡ (is_in marks v || nat_eq w v)
+mark_made marks w v within =
+    ⊎_elim
+    (λ (same : w ≡ v).
+    ap (is_in (set marks w true)) (sym same) ∙ get_or-set_same marks w true false within ∙ sym (or-true (is_in marks v)) ∙ ap (λ b. is_in marks v || b) (sym (eq-eqb w v same)))
+    (λ (other : w ≡ v → ⊥).
+    get_or-set_other marks w v true false (λ e. other (sym e)) ∙ sym (or-false (is_in marks v)) ∙ ap (λ b. is_in marks v || b) (sym (ne_eqb w v other)))
+    (cases_eq w v)
+
+-- the nodes of items
+abbrev pub is_among : {X : Type 0} → (X → ℕ) → List X → ℕ → Bool
+is_among node xs v = list_any (λ x. nat_eq (node x) v) xs
+
+-- the marks of one more item
+marks_more : {X : Type 0} (node : X → ℕ) (xs : List X) (i : ℕ) (x : X) (marks marks' : List Bool) → i < length xs → x ≡ get_or xs i x → node x < length marks → marks' ≡ set marks (node x) true → AreMarks (is_among node (take i xs)) marks → AreMarks (is_among node (take (i + 1) xs)) marks'
+marks_more node xs i x marks marks' within is placed made so_far = λ v.
+    ap (λ m. is_in m v) made
+    ∙ mark_made marks (node x) v placed
+    ∙ ap (λ b. b || nat_eq (node x) v) (so_far v)
+    ∙ ap (λ y. is_among node (take i xs) v || nat_eq (node y) v) is
+    ∙ sym (list_any_more (λ y. nat_eq (node y) v) xs i x within)
+
+-- after one more item that is not refused: no earlier one is of its node, and it is marked
+pub record Passes {X : Type 0} (node : X → ℕ) (xs : List X) (i : ℕ) (x : X) (o : Outcome) (before after : List Bool) : Type 0 where
+  pub accepted : refused_by o (is_among node (take i xs) (node x)) ≡ None
+  pub marks : AreMarks (is_among node (take (i + 1) xs)) after
+  pub len : length after ≡ length before
+
+pub passes : {X : Type 0} (node : X → ℕ) (xs : List X) (i : ℕ) (x : X) (o : Outcome) (marks marks' : List Bool) → i < length xs → x ≡ get_or xs i x → HasPlace (length marks) (node x) o → refused_by o (is_in marks (node x)) ≡ None → marks' ≡ set marks (node x) true → AreMarks (is_among node (take i xs)) marks → Passes node xs i x o marks marks'
+passes node xs i x o marks marks' within is placed accepted made so_far =
+    let here : node x < length marks = placed (move_from_accepted o (is_in marks (node x)) accepted) in
+    record {
+      accepted = ap (refused_by o) (sym (so_far (node x))) ∙ accepted;
+      marks = marks_more node xs i x marks marks' within is here made so_far;
+      len = ap length made ∙ length-set marks (node x) true;
+    }
+
+-- a verdict after those that are not refused decides, if it is refused
+pub verdict_refused : (ds : List Verdict) (k : ℕ) (d : Verdict) (marks : List Bool) (refusal : Refusal) → k < length ds → d ≡ get_or ds k d → refused_by d.outcome (is_in marks d.node) ≡ Some refusal → AreMarks (is_judged (take k ds)) marks → Some refusal ≡ verdicts_refusal (take k ds) (drop k ds)
+verdict_refused ds k d marks refusal within is judged so_far =
+    ap (λ o. option_or o (verdicts_refusal (take k ds ++ d ∷ []) (drop (k + 1) ds))) (sym judged ∙ ap (refused_by d.outcome) (so_far d.node))
+    ∙ ap (λ e. verdicts_refusal (take k ds) (e ∷ drop (k + 1) ds)) is
+    ∙ ap (verdicts_refusal (take k ds)) (sym (drop_more ds k d within))
+
+-- and so is an item
+pub item_refused : (t : RuleTable) (s : State) (items : List Item) (k : ℕ) (item : Item) (twice : Bool) (refusal : Refusal) → k < length items → item ≡ get_or items k item → refused_by (outcome_of t s item) twice ≡ Some refusal → twice ≡ is_named (take k items) item.node → Some refusal ≡ items_refusal t s (take k items) (drop k items)
+item_refused t s items k item twice refusal within is judged named =
+    ap (λ o. option_or o (items_refusal t s (take k items ++ item ∷ []) (drop (k + 1) items))) (sym judged ∙ ap (refused_by (outcome_of t s item)) named ∙ sym (item_refusal-outcome t s (take k items) item))
+    ∙ ap (λ i. items_refusal t s (take k items) (i ∷ drop (k + 1) items)) is
+    ∙ ap (items_refusal t s (take k items)) (sym (drop_more items k item within))
+
+-- one more item that is not refused
+pub items_refusal_more : (t : RuleTable) (s : State) (items : List Item) (k : ℕ) (item : Item) → k < length items → item ≡ get_or items k item → refused_by (outcome_of t s item) (is_named (take k items) item.node) ≡ None → items_refusal t s (take (k + 1) items) (drop (k + 1) items) ≡ items_refusal t s (take k items) (drop k items)
+items_refusal_more t s items k item within is none =
+    ap (λ front. items_refusal t s front (drop (k + 1) items)) (sym (push_is_take items k item within is))
+    ∙ ap (λ o. option_or o (items_refusal t s (take k items ++ item ∷ []) (drop (k + 1) items))) (sym (item_refusal-outcome t s (take k items) item ∙ none))
+    ∙ ap (λ i. items_refusal t s (take k items) (i ∷ drop (k + 1) items)) is
+    ∙ ap (items_refusal t s (take k items)) (sym (drop_more items k item within))
+
+-- the node of an item that moves is present, and so has a place
+pub item_placed : (t : RuleTable) (s : State) (item : Item) (places : ℕ) → places ≡ s.network.size + 1 → HasPlace places item.node (outcome_of t s item)
+item_placed t s item places count = λ moves.
+    ⊎_elim
+    (λ (has : present s.network item.node ≡ true). let bounds = present_range s.network item.node has in omega (arith, bounds.1, count))
+    (λ (none : present s.network item.node ≡ false). absurd (true≢false (sym moves ∙ ap (λ b. is_some (move_in (cond b (outcome_at t s item (rule_at t s item.node)) outcome.Absent))) none)))
+    (cases_Bool (present s.network item.node))
+
+verdicts_placed_from : (t : RuleTable) (s : State) (place : ℕ) (items : List Item) (places : ℕ) → places ≡ s.network.size + 1 → (k : ℕ) (d : Verdict) → k < length (verdicts_from t s place items) → HasPlace places (get_or (verdicts_from t s place items) k d).node (get_or (verdicts_from t s place items) k d).outcome
+verdicts_placed_from t s place [] places count k d below = absurd (omega arith)
+verdicts_placed_from t s place (item ∷ items) places count zero d below = item_placed t s item places count
+verdicts_placed_from t s place (item ∷ items) places count (suc k) d below = verdicts_placed_from t s (place + 1) items places count k d (omega arith)
+
+-- so have those of the verdicts of a choice
+pub verdicts_placed : (t : RuleTable) (s : State) (items : List Item) (verdicts : List Verdict) (places : ℕ) → verdicts ≡ verdicts_of t s items → places ≡ s.network.size + 1 → All (λ d. HasPlace places d.node d.outcome) verdicts
+verdicts_placed t s items verdicts places is count =
+    subst (All (λ (d : Verdict). HasPlace places d.node d.outcome)) (sym is) (verdicts_placed_from t s 0 items places count)
+
+-- if every place is false, no node is marked
+pub blank_clear : (places : ℕ) (marks : List Bool) → marks ≡ replicate places false → AreClear marks
+blank_clear places marks is v = ap (λ l. is_in l v) is ∙ blank_at places v false
+
+-- clear marks of as many places are the same
+pub clear_same : (marks marks' : List Bool) → length marks' ≡ length marks → AreClear marks → AreClear marks' → marks' ≡ marks
+clear_same marks marks' len clear clear' = ext_get_or false marks' marks len (λ i below. clear' i ∙ sym (clear i))

@@ -1,0 +1,27 @@
+-- The nodes that an event would reach.
+use Rattle.std.specs.Prelude.{ℕ, Bool, ◌&&◌, List, filter, Contains, IsTrue}
+use Rattle.rule_machine.specs.declared.event.Event.{Event}
+use Rattle.rule_machine.specs.Network.{names, present}
+use Rattle.rule_machine.specs.State.{State}
+use Rattle.rule_machine.specs.RuleTable.{RuleTable}
+use Rattle.rule_machine.specs.declared.reply.Reply.TheVariants.{Accepted}
+use Rattle.rule_machine.specs.Answer.{Answers}
+use Rattle.containment_laws.specs.Rest.{is_at_rest}
+use Rattle.containment_laws.specs.Movers.{KeepsRegisters}
+use Rattle.containment_laws.specs.Reach.{is_in_reach}
+use Rattle.rule_engine.specs.Costs.{disturbs}
+
+-- whether v is in the reach of a disturbance; false for a refused one, and for any other event
+abbrev pub would_reach : RuleTable → State → Event → ℕ → Bool
+would_reach t s event v = disturbs t s event && is_in_reach s event v
+
+-- the nodes, ascending, that it would reach
+abbrev pub reach_of : RuleTable → State → Event → List ℕ
+reach_of t s event = filter (would_reach t s event) (names s.network)
+
+-- if the event is accepted, each node at rest and not among these stays at rest, with the same registers
+abbrev pub Spares : RuleTable → State → ℕ → Event → List ℕ → Type 0
+Spares t s spent event reach =
+    (after : State) → Answers t s spent event Accepted after
+    → (v : ℕ) → IsTrue (present s.network v) → IsTrue (is_at_rest t.flags s v) → (Contains reach v → ⊥)
+    → IsTrue (is_at_rest t.flags after v) × (IsTrue (present after.network v) → KeepsRegisters s after v)

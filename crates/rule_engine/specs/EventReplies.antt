@@ -1,0 +1,57 @@
+-- Results of preparing and carrying out events.
+use Rattle.std.specs.Prelude.{◌≡◌, ℕ, ◌<◌, ◌⊎◌, Bool, true, false, List, [], ◌∷◌, length, take, slice_get, IsSomeAnd, None, Result, Ok, Err, IfOk, OnErr, IsTrue}
+use Rattle.rule_machine.specs.declared.event.Event.{Event}
+use Rattle.rule_machine.specs.declared.event.Event.TheVariants.{Link, Unlink, Point, Flag, Step, Show, Enabled, Matching, Status, Join, Leave}
+use Rattle.rule_machine.specs.declared.reply.Reply.{Reply}
+use Rattle.rule_machine.specs.State.{IsState}
+use Rattle.rule_machine.specs.RuleTable.{RuleTable}
+use Rattle.rule_machine.specs.Refuse.{refusal_of}
+use Rattle.rule_machine.specs.Least.{reply_of}
+use Rattle.rule_machine.specs.Run.{Moment, moment_after}
+use Rattle.charge_laws.specs.ChargeWords.{IsWithinBound}
+use Rattle.indexed_state.specs.IndexedViews.{IndexedView}
+use Rattle.rule_engine.specs.PreparedEvents.{HasRoomTo}
+
+-- whether an event may take memory if it is not refused
+abbrev pub takes_memory : Event → Bool
+takes_memory (Link a b) = true
+takes_memory (Unlink a b) = false
+takes_memory (Point v target) = false
+takes_memory (Flag v value) = false
+takes_memory (Join v) = false
+takes_memory (Leave v) = false
+takes_memory (Step items) = true
+takes_memory (Show v) = false
+takes_memory Enabled = true
+takes_memory Matching = true
+takes_memory Status = false
+
+-- the reply that was put, or the error
+abbrev pub stored_reply : {E : Type 0} → Result (Unit {0}) E → Reply → Result Reply E
+stored_reply (Ok done) reply = Ok reply
+stored_reply (Err e) reply = Err e
+
+-- The reply is the machine's, with `spent` moves spent, and there is room for what carrying it out adds. An
+-- error comes only for an event that may take memory and is not refused. The state stays.
+pub record Prepares {E : Type 0} (t : RuleTable) (n : IndexedView) (spent : ℕ) (event : Event) (result : Result Reply E) (n' : IndexedView) : Type 0 where
+  pub reply : IfOk result (λ r. r ≡ reply_of t n.state spent event)
+  pub room : IfOk result (λ r. HasRoomTo event r n'.room)
+  pub kept : n'.state ≡ n.state
+  pub want : OnErr result ((refusal_of t n.state event ≡ None) × IsTrue (takes_memory event))
+
+-- the state is valid, and spent moves and charge are within the bound of its network
+pub record IsWithinBudget (t : RuleTable) (weight : ℕ) (m : Moment) : Type 0 where
+  pub is_state : IsState m.state
+  pub within : IsWithinBound t weight m
+
+-- the moment after events in turn, each reply with the least targets
+abbrev pub moment_after_all : RuleTable → Moment → List Event → Moment
+moment_after_all t m [] = m
+moment_after_all t m (event ∷ events) = moment_after_all t (moment_after t m event) events
+
+-- The first k events were carried out, then memory ran out: for the next event, which is not refused and may
+-- take some, or, if k is 0, for the list of replies.
+pub record StopsForMemory (t : RuleTable) (m : Moment) (events : List Event) (k : ℕ) (m' : Moment) : Type 0 where
+  pub next : k < length events
+  pub moment : m' ≡ moment_after_all t m (take k events)
+  pub cause : (k ≡ 0) ⊎ IsSomeAnd (slice_get events k) (λ event. (refusal_of t m'.state event ≡ None) × IsTrue (takes_memory event))

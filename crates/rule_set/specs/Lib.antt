@@ -1,6 +1,0 @@
-pub mod Glance
-pub mod Target
-pub mod Standing
-pub mod Charge
-pub mod Table
-pub mod RulesLaws

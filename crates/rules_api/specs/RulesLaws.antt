@@ -1,0 +1,51 @@
+-- The laws that each rule set proves of its table, its constants and its charge: one record, the trait's
+-- `laws`.
+use Rattle.std.specs.Prelude.{◌≡◌, ℕ, ◌≤◌, Bool, false, None, [], IsTrue}
+use Rattle.rule_machine.specs.declared.act.Act.{Act}
+use Rattle.rule_machine.specs.declared.act.Act.TheVariants.{Update}
+use Rattle.rule_machine.specs.declared.event.Event.{Event}
+use Rattle.rule_machine.specs.State.{State, IsState, pointer}
+use Rattle.rule_machine.specs.RuleTable.{RuleTable, enabled_names}
+use Rattle.rule_machine.specs.Stable.{IsStable}
+use Rattle.rules_api.specs.Charge.{CountsCharge, AreNear, AddsAtMost, IsCharged}
+use Rattle.rules_api.specs.LocalViews.{AgreesLocally}
+use Rattle.rules_api.specs.Table.{IsTable, AsksForWork}
+use Rattle.rules_api.specs.Target.{SameAt}
+
+pub record RulesLaws (t : RuleTable) (central flags above : Bool) (weight : ℕ) (courted_close : Bool) (closes : State → ℕ → Bool) (adds : State → ℕ → ℕ) (cost : State → Event → ℕ) : Type 0 where
+  -- Table and constant agree on the daemon.
+  pub is_central : t.central ≡ central
+  -- Table and constant agree on the flags.
+  pub uses_flags : t.flags ≡ flags
+  -- An allowed target is a neighbour, of a rule that takes one; an enabled rule that takes a target has one.
+  pub table : IsTable t
+  -- What each rule asks for at its node: no rule is enabled without work.
+  pub asks : AsksForWork t
+  -- A guard depends only on what is shown at its node.
+  pub is_local : (s u : State) (v : ℕ) (act : Act) → IsState s → IsState u → SameAt s u v → t.guard s v act ≡ t.guard u v act
+  -- A guard depends only on a glance: the node's registers, its target's, and whether it is married. For a
+  -- null node, also on whether a neighbour is a suitor, and whether one is open.
+  pub is_glance : (s u : State) (v : ℕ) (act : Act) → IsState s → IsState u → AgreesLocally above t.opens s u v → t.guard s v act ≡ t.guard u v act
+  -- At most one rule is enabled at a node.
+  pub one_rule : (s : State) (v : ℕ) (a b : Act) → IsTrue (t.guard s v a) → IsTrue (t.guard s v b) → a ≡ b
+  -- Without flags the rule that writes them is never enabled.
+  pub no_update : t.flags ≡ false → (s : State) (v : ℕ) → t.guard s v Update ≡ false
+  -- A silent network is stable.
+  pub quiet_is_stable : (s : State) → IsState s → enabled_names t s ≡ [] → IsStable t.flags s
+  -- A stable network is silent.
+  pub stable_is_quiet : (s : State) → IsState s → IsStable t.flags s → enabled_names t s ≡ []
+  -- What the charge counts. With twice the pointers that close an edge, it is twice the edges open by their
+  -- ends, plus the unanswered pointers, plus what the nodes add.
+  pub charge_counts : CountsCharge courted_close closes adds t
+  -- A null pointer closes no edge.
+  pub null_closes_none : (s : State) (v : ℕ) → pointer s v ≡ None → closes s v ≡ false
+  -- Whether a pointer closes an edge depends only on its target's standing, and what a node adds only on its
+  -- own.
+  pub near : AreNear closes adds
+  -- A node adds little to the bound: counters fit 32 bits.
+  pub is_light : weight ≤ 3
+  -- A step lowers the charge by at least its number of moves, edges and nodes bound it, and a network with
+  -- charge 0 is stable.
+  pub charged : IsCharged t weight
+  -- An accepted disturbance adds at most its cost.
+  pub disturbances_cost : AddsAtMost cost t

@@ -1,0 +1,109 @@
+//! A rule set.
+
+ghost use Rattle.std.specs.Prelude.{◌≡◌, ℕ, Bool, Option, None, Some, IsSome};
+ghost use Rattle.std.specs.Result.{result_ok};
+ghost use Rattle.rule_machine.specs.declared.act.Act.{Act};
+ghost use Rattle.rule_machine.specs.declared.event.Event.{Event};
+ghost use Rattle.rule_machine.specs.Refuse.{refusal_of};
+ghost use Rattle.rule_machine.specs.State.{State, IsState, pointer};
+ghost use Rattle.rule_machine.specs.RuleTable.{RuleTable, rule_at};
+ghost use Rattle.rules_api.specs.LocalViews.{asks_for};
+ghost use Rattle.rules_api.specs.RulesLaws.{RulesLaws};
+ghost use Rattle.rules_api.specs.ChargeInputs.{IsChargeInput};
+ghost use Rattle.rules_api.specs.Target.{target_at};
+
+use crate::{ChargeInput, Local, Touched};
+use rule_machine::{Act, Event, Node};
+use thiserror::Error;
+
+/// The node's rule does not allow the wished target.
+#[derive(Clone, Copy, Debug, PartialEq, Eq, Error)]
+#[error("the wish is not an allowed target")]
+pub struct BadTarget;
+
+/// A self-stabilising algorithm for maximal matching, with its laws.
+pub trait Rules {
+    /// The algorithm's definition.
+    ghost table: { RuleTable };
+
+    ghost CENTRAL: { Bool };
+
+    ghost FLAGS: { Bool };
+
+    ghost COURTS_HIGHER_ONLY: { Bool };
+
+    ghost NODE_WEIGHT: { ℕ };
+
+    ghost COURTED_PAIR_CLOSES_EDGE: { Bool };
+
+    /// What `closes` returns, on a state.
+    ghost closes: { State → ℕ → Bool };
+
+    /// What `node_charge` returns, on a state.
+    ghost adds: { State → ℕ → ℕ };
+
+    /// What `cost` returns, on a state.
+    ghost cost: { State → Event → ℕ };
+
+    /// Its laws, which each rule set proves.
+    ghost laws: { RulesLaws table CENTRAL FLAGS COURTS_HIGHER_ONLY NODE_WEIGHT COURTED_PAIR_CLOSES_EDGE closes adds cost };
+
+    /// Whether its daemon is central: one node moves at a time.
+    const CENTRAL: bool;
+
+    /// Whether it uses the married flags.
+    const FLAGS: bool;
+
+    /// Whether its guards ask only for open neighbours with higher names.
+    const COURTS_HIGHER_ONLY: bool;
+
+    /// What each node adds to the bound on the charge, at most 3.
+    const NODE_WEIGHT: u64;
+
+    /// Whether an edge is closed if both its ends are null and have suitors.
+    const COURTED_PAIR_CLOSES_EDGE: bool;
+
+    /// Whether a neighbour with this pointer and flag is open to a seduction.
+    fn opens(pointer: Option<Node>, flag: bool) -> bool
+        ensures { result ≡ table.opens pointer flag };
+
+    /// The rule that is enabled at the node, if any.
+    fn guard<L: Local>(local: &L, v: Node) -> Option<Act>
+        requires at { L.at local.now ≡ v }
+        requires opens { L.opens ≡ table.opens }
+        requires state { IsState (L.state local.now) }
+        ensures { result ≡ rule_at table (L.state local.now) v };
+
+    /// The target of the node's enabled rule; `None` if the rule takes no target.
+    /// Without a wish it is the least allowed target. Error: `BadTarget` if the rule does not allow the wish.
+    fn target<L: Local>(local: &L, v: Node, wish: Option<Node>) -> Result<Option<Node>, BadTarget>
+        requires at { L.at local.now ≡ v }
+        requires opens { L.opens ≡ table.opens }
+        requires state { IsState (L.state local.now) }
+        requires enabled { IsSome (rule_at table (L.state local.now) v) }
+        ensures { result_ok result ≡ target_at table (L.state local.now) v wish };
+
+    /// Whether a node's pointer closes the edge to its target if the ends leave it open.
+    fn closes(node: Node, target: &ChargeInput) -> bool
+        ensures { (s : State) → IsState s → IsChargeInput s target.now → pointer s node ≡ Some target.now.node → result ≡ closes s node };
+
+    /// What a node adds to the charge, apart from 1 if its pointer is not answered.
+    fn node_charge(node: &ChargeInput) -> u8
+        ensures { (s : State) → IsChargeInput s node.now → result ≡ adds s node.now.node };
+
+    /// The most that an accepted event may add to the charge.
+    /// In both rule sets: a constant up to 4 plus twice some degrees of the touched nodes; 0 for steps and
+    /// questions.
+    fn cost<T: Touched>(touched: &T, event: &Event) -> u32
+        requires state { IsState (T.state touched.now) }
+        requires accepted { refusal_of table (T.state touched.now) event.now ≡ None }
+        ensures { result ≡ cost (T.state touched.now) event.now };
+}
+
+/// Whether the guard of `v` asks for open neighbours such as `w`: any, or only those above `v`.
+#[inline(always)]
+pub fn asks_for<R: Rules>(v: Node, w: Node) -> bool
+    ensures { result ≡ asks_for R.COURTS_HIGHER_ONLY v w }
+{
+    !R::COURTS_HIGHER_ONLY || v < w
+}

@@ -1,0 +1,2 @@
+pub mod TurnProgress
+pub mod Silence

@@ -1,0 +1,2 @@
+pub mod RunStart
+pub mod Line

@@ -1,0 +1,11 @@
+-- The beginning of every run.
+use Rattle.std.specs.Prelude.{ℕ}
+use Rattle.rule_machine.specs.declared.rules.RuleSet.{RuleSet}
+use Rattle.rule_machine.specs.Run as run
+use Rattle.line_text.specs.EntryText.{header_line}
+use Rattle.script_text.specs.Script.{Progress}
+
+-- the opening state with these names, the first of them present, nothing spent, no entry, and the header
+abbrev pub first_progress : RuleSet → ℕ → ℕ → Progress
+first_progress rules nodes present =
+    record { rules = rules; moment = run.beginning_with nodes present; count = 0; text = header_line rules nodes present }

@@ -1,0 +1,199 @@
+//! The run of a script under one rule set.
+
+ghost use Rattle.std.specs.Prelude.{◌≡◌, ◌≤◌, [], None, Ok, IfOk, IfSome, IsTrue, OnErr, OnOk, min};
+ghost use Rattle.line_text.specs.EventText.{event_text};
+ghost use Rattle.rule_machine.specs.Least.{reply_of};
+ghost use Rattle.rule_machine.specs.RuleTable.{enabled_names};
+ghost use Rattle.script_text.specs.declared.command.Command.TheVariants.{Drive};
+ghost use Rattle.script_text.specs.declared.command.Turns.{Turns};
+ghost use Rattle.script_text.specs.Command.{Says};
+ghost use Rattle.script_text.specs.Script.{with_checkpoint};
+ghost use Rattle.seeded_turns.specs.DrawnEvents.{seeded_stream, drawn_step, drawn_fault};
+ghost use Rattle.run_session.specs.RunStart.{first_progress};
+ghost use Rattle.run_session.specs.Line.{progress_of, EventEnds, TurnsEnd, CommandEnds, LineEnds};
+
+use crate::stop::LineError;
+use line_text::{put_base, put_header};
+use rule_machine::{Event, Reply, RuleSet, Want};
+use rules_api::Rules;
+use script_text::{Command, Turns, read_line_into};
+use seeded_turns::{DaemonTurns, EventSource, FaultTurns};
+use std::alloc::{AllocError, Global};
+use step_log::{RecordFault, Recorder};
+
+/// The rule set's name, a recorded network, and the text of its entries that the caller has not taken.
+#[derive(Drop)]
+pub struct Run<R: Rules> {
+    pub rules: RuleSet,
+    pub recorder: Recorder<R>,
+    pub text: Vec<u8>,
+}
+
+impl<R: Rules> Run<R> {
+    /// A run of a new network on the names 1 to `nodes`, with its header as text.
+    ///
+    /// The names 1 to `present` are present. `limit` is the most entries; above 16,777,216 it counts as that.
+    /// `Want` if memory runs out. Takes some fifty bytes a name.
+    pub fn new(
+        alloc: Global,
+        rules: RuleSet,
+        nodes: u32,
+        present: u32,
+        limit: u32,
+    ) -> Result<Run<R>, Want>
+        requires few { nodes ≤ 65535 }
+        requires within { present ≤ nodes }
+        ensures begins { IfOk result (λ run. progress_of run ≡ first_progress rules nodes present) }
+        ensures limit { IfOk result (λ run. run.recorder.limit ≡ min limit 16777216) }
+    {
+        let Ok(recorder) = Recorder::with_present(alloc, nodes, present, limit) else {
+            return Err(AllocError);
+        };
+        let mut text = Vec::new(alloc);
+        put_header(&mut text, rules, nodes, present)?;
+        Ok(Run {
+            rules,
+            recorder,
+            text,
+        })
+    }
+
+    /// Carries out an event and adds its entry's text; `false` if the log is full.
+    ///
+    /// The reply is put into `reply`. If the caller has the event's text, `line`, it is copied. The entry's
+    /// number is the recorder's `len` afterwards. `Want` if memory runs out. Then, and at a full log, at most
+    /// `reply` has changed.
+    // Inlined into the reading of a line, as is everything between the two.
+    #[inline(always)]
+    pub fn log(
+        &mut self,
+        event: &Event,
+        line: Option<&[u8]>,
+        reply: &mut Reply,
+    ) -> Result<bool, Want>
+        requires { IfSome line (λ line. line.now ≡ event_text event.now) }
+        ensures ends { EventEnds R.table self.old.recorder.limit event.now (progress_of self.old) (progress_of self.new) result }
+        ensures reply { IfOk result (λ done. IsTrue done → reply.new ≡ reply_of R.table self.old.recorder.state self.old.recorder.spent event.now) }
+        ensures limit { self.new.recorder.limit ≡ self.old.recorder.limit }
+    {
+        match self.recorder.log_entry(event, line, reply, &mut self.text) {
+            Ok(()) => Ok(true),
+            Err(RecordFault::LogFull) => Ok(false),
+            Err(RecordFault::Memory) => Err(AllocError),
+        }
+    }
+
+    // Carries out up to `count` drawn events, and stops at a turn that has none; `false` at a full log,
+    // before the turn is drawn. `Want` after some whole first turns.
+    fn take_turns<S: EventSource>(&mut self, source: &mut S, count: u32) -> Result<bool, Want>
+        ensures ends { TurnsEnd S.draws R.table self.old.recorder.limit count (S.stream source.old) (progress_of self.old) (progress_of self.new) result }
+        ensures unasked { self.old.recorder.len ≡ self.old.recorder.limit → S.stream source.new ≡ S.stream source.old }
+        ensures limit { self.new.recorder.limit ≡ self.old.recorder.limit }
+    {
+        for _ in 0..count {
+            if self.recorder.is_full() {
+                return Ok(false);
+            }
+            let Some(event) = source.next_event(self.recorder.net())? else {
+                return Ok(true);
+            };
+            if !self.log(&event, None, &mut Reply::Accepted)? {
+                return Ok(false);
+            }
+        }
+        Ok(true)
+    }
+
+    /// Takes up to `turns.count` steps of a daemon seeded with `turns.seed`; stops when no node is enabled.
+    ///
+    /// `false` if a turn meets a full log, before the daemon is asked. `Want` if memory runs out, after some
+    /// whole first turns.
+    pub fn drive(&mut self, alloc: Global, turns: Turns) -> Result<bool, Want>
+        ensures ends { TurnsEnd drawn_step R.table self.old.recorder.limit turns.count (seeded_stream turns.seed) (progress_of self.old) (progress_of self.new) result }
+        ensures silent { IfOk result (λ done. IsTrue done → R.table.charge self.old.recorder.state ≤ turns.count → enabled_names R.table self.new.recorder.state ≡ []) }
+        ensures limit { self.new.recorder.limit ≡ self.old.recorder.limit }
+    {
+        // Called for its contract: the state is sound.
+        let _ = self.recorder.net().registers();
+        let mut daemon = DaemonTurns::new(alloc, turns.seed);
+        self.take_turns(&mut daemon, turns.count)
+    }
+
+    /// Makes up to `turns.count` register faults drawn with `turns.seed`; none if the network has no node.
+    ///
+    /// `false` if a turn meets a full log. `Want` if memory runs out, after some whole first turns.
+    pub fn scramble(&mut self, turns: Turns) -> Result<bool, Want>
+        ensures ends { TurnsEnd drawn_fault R.table self.old.recorder.limit turns.count (seeded_stream turns.seed) (progress_of self.old) (progress_of self.new) result }
+        ensures limit { self.new.recorder.limit ≡ self.old.recorder.limit }
+    {
+        let mut injector = FaultTurns::new(turns.seed);
+        self.take_turns(&mut injector, turns.count)
+    }
+
+    /// Adds the lines of the base of the network's state. No log is kept, so no entries are dropped.
+    ///
+    /// `Want` if memory runs out; then nothing has changed. Looks at each name and at both ends of each edge;
+    /// takes the memory of the base and its text.
+    pub fn checkpoint(&mut self) -> Result<(), Want>
+        ensures ok { OnOk result (progress_of self.new ≡ with_checkpoint (progress_of self.old)) }
+        ensures err { OnErr result (progress_of self.new ≡ progress_of self.old) }
+        ensures limit { self.new.recorder.limit ≡ self.old.recorder.limit }
+    {
+        let net = self.recorder.net();
+        let base = net.base(self.recorder.len())?;
+        put_base(&mut self.text, self.rules, net.store().capacity(), &base)
+    }
+
+    /// Carries out the command of `line`; `false` if it, or one of its turns, meets a full log.
+    ///
+    /// `Want` if memory runs out; then nothing has changed, or some first turns were taken whole and their
+    /// text is there.
+    #[inline(always)]
+    pub fn follow(&mut self, alloc: Global, command: &Command, line: &[u8]) -> Result<bool, Want>
+        requires { Says line.now command.now }
+        ensures ends { CommandEnds R.table self.old.recorder.limit command.now (progress_of self.old) (progress_of self.new) result }
+        ensures limit { self.new.recorder.limit ≡ self.old.recorder.limit }
+    {
+        match command {
+            Command::Tell(event) => self.log(event, Some(line), &mut Reply::Accepted),
+            Command::Drive(turns) => self.drive(alloc, *turns),
+            Command::Scramble(turns) => self.scramble(*turns),
+            Command::Checkpoint => {
+                self.checkpoint()?;
+                Ok(true)
+            }
+        }
+    }
+
+    /// Carries out line `number`, given without its LF; returns what in it stops the run, if anything does.
+    ///
+    /// `BadLine` changes nothing. At `LogFull` the turns taken before stay. `Want` if memory runs out:
+    /// nothing has changed, or some first turns were taken whole and their text is there. The run can go on
+    /// after each of these.
+    #[inline(always)]
+    pub fn carry_out(
+        &mut self,
+        alloc: Global,
+        number: u64,
+        line: &[u8],
+    ) -> Result<Option<LineError>, Want>
+        ensures ends { LineEnds R.table self.old.recorder.limit number line.now (progress_of self.old) (progress_of self.new) result }
+        ensures silent { (turns : Turns) → Says line.now (Drive turns) → result ≡ Ok None → R.table.charge self.old.recorder.state ≤ turns.count → enabled_names R.table self.new.recorder.state ≡ [] }
+        ensures limit { self.new.recorder.limit ≡ self.old.recorder.limit }
+    {
+        // Called for its contract: the state is sound.
+        let _ = self.recorder.net().registers();
+        if line.is_empty() {
+            return Ok(None);
+        }
+        let mut command = Command::Checkpoint;
+        if !read_line_into(alloc, line, &mut command)? {
+            return Ok(Some(LineError::BadLine { line: number }));
+        }
+        match self.follow(alloc, &command, line) {
+            Ok(true) => Ok(None),
+            Ok(false) => Ok(Some(LineError::LogFull)),
+            Err(want) => Err(want),
+        }
+    }
+}

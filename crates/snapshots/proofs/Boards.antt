@@ -1,0 +1,52 @@
+-- A board after posting and publishing.
+use Rattle.std.proofs.Common.{◌≡◌, ◌+◌, ◌<◌, List, [], ◌∷◌, ◌++◌, length, Option, Some, inr, ⊎_elim, refl, ap, sym, ◌∙◌, subst, arith, length-append}
+use Rattle.std.proofs.lemmas.List.Sums.{fold-append}
+use Rattle.rule_machine.specs.Run.{Entry}
+use Rattle.logbook.specs.Pages.{Book}
+use Rattle.snapshots.specs.declared.image.Posted.{Posted}
+use Rattle.snapshots.specs.History.{Mark, with_mark, published_and_posted, published, posted, shown, max_marks}
+use Rattle.snapshots.specs.Row.{BoardShape}
+use Rattle.snapshots.specs.CopyViews.{CopyView, extent_of}
+use Rattle.snapshots.specs.Rule.{ExtendsView}
+use Rattle.snapshots.specs.Boards.{entries_of, absorbed, IsPublishable, IsPostedLast, IsBoard}
+use Rattle.snapshots.proofs.BoardSteps.{follows_self, later, goes_on}
+
+pub none_pending : (pending : List Posted) → entries_of pending ≡ [] → pending ≡ []
+none_pending [] is = refl
+none_pending (p ∷ pending) is = absurd (cc is)
+
+-- an entry that is posted changes nothing published, and is the one posted last
+post_standing : (marks : List Mark) (entry : Entry) → published_and_posted (marks ++ Some entry ∷ []) ≡ (published marks, entry ∷ [])
+post_standing marks entry = fold-append with_mark ([], []) marks (Some entry ∷ [])
+
+module _ (law : BoardShape → List Entry → Type 0) (x : CopyView) (known : Option CopyView) (marks : List Mark) (book : Book) (announced : List Mark) where
+  -- the entry that was appended is the one that the history has posted last
+  pub posts : (marks' : List Mark) (book' : Book) (p : Posted) → IsBoard law x known [] marks book announced → marks' ≡ marks ++ Some p.entry ∷ [] → book' ≡ book
+      → p.past.seen.log ≡ marks' → p.past.seen.book ≡ book' → p.front ≡ length (shown x.marks) + 1 → length marks + 1 < max_marks → IsBoard law x known (p ∷ []) marks' book' announced
+  posts marks' book' p b is same log at number room = record {
+    sound = b.sound;
+    knows = b.knows;
+    same = same ∙ b.same;
+    list = ap published is ∙ (ap (λ s. s.0) (post_standing marks p.entry) ∙ b.list);
+    ready = inr (p, refl, record { past = log; same = at; number = number; last = ap posted is ∙ ap (λ s. s.1) (post_standing marks p.entry); room = rw is (omega (arith, room, length-append marks (Some p.entry ∷ []))) });
+    is_announced = b.is_announced;
+  }
+
+  -- the entries shown after the posted entry
+  shows_more : (pending : List Posted) (p : Posted) → IsBoard law x known pending marks book announced → IsPostedLast x marks book p → shown p.past.seen.log ≡ shown x.marks ++ p.entry ∷ []
+  shows_more pending p b f = ap shown f.past ∙ (ap (λ l. l ++ posted marks) b.list ∙ ap (λ l. shown x.marks ++ l) f.last)
+
+  pub is_ready : (pending : List Posted) → IsBoard law x known pending marks book announced → law (extent_of x) (shown x.marks ++ entries_of pending) → IsPublishable law x pending
+  is_ready pending b holds =
+      ⊎_elim (λ (none : pending ≡ []). subst (IsPublishable law x) (sym none) (λ s. s, follows_self x))
+      (λ (one : (p : Posted) × (pending ≡ p ∷ []) × IsPostedLast x marks book p).
+      let p = one.0 in
+      let f = one.2 in
+      let more : shown p.past.seen.log ≡ shown x.marks ++ p.entry ∷ [] = shows_more pending p b f in
+      let here : law (extent_of x) (shown x.marks ++ p.entry ∷ []) = subst (λ (l : List Posted). law (extent_of x) (shown x.marks ++ entries_of l)) one.1 holds in
+      let at : p.past.seen.book ≡ x.book = f.same ∙ b.same in
+      subst (IsPublishable law x) (sym one.1) (
+        later law x p.entry p.front p.past.seen.log p.past.seen.book more f.number here,
+        subst (λ (k : Book). ExtendsView (Some x) (record (absorbed x p) { book = k })) (sym at) (goes_on law x p.entry p.front p.past.seen.log more),
+      ))
+      b.ready

@@ -1,0 +1,8 @@
+pub mod MarkAddition
+pub mod Boards
+pub mod Fronts
+pub mod Machine
+pub mod OneLog
+pub mod Rows
+pub mod BoardSteps
+mod Passes

@@ -1,0 +1,58 @@
+-- The effect of entries on the pointers.
+use Rattle.std.proofs.Common.{◌≡◌, ℕ, Bool, true, false, List, [], ◌∷◌, length, map, fold, Option, None, refl, ◌∙◌}
+use Rattle.std.proofs.lemmas.List.{length-set, length-map}
+use Rattle.std.specs.Prelude.{slice_set, if◌then◌else◌}
+use Rattle.rule_machine.specs.declared.act.Act.{Act}
+use Rattle.rule_machine.specs.declared.act.Act.TheVariants.{Update, Marry, Seduce, Abandon}
+use Rattle.rule_machine.specs.declared.event.Event.{Event}
+use Rattle.rule_machine.specs.declared.event.Event.TheVariants.{Link, Unlink, Point, Flag, Step, Show, Enabled, Matching, Status, Join, Leave}
+use Rattle.rule_machine.specs.declared.act.Moved.{Moved}
+use Rattle.rule_machine.specs.declared.reply.Reply.{Reply}
+use Rattle.rule_machine.specs.declared.reply.Reply.TheVariants.{Accepted, Refused, Moves, Shown, EnabledAre, Pairs, Counts}
+use Rattle.rule_machine.specs.State.{is_at}
+use Rattle.rule_machine.specs.Disturbance.{unless_at}
+use Rattle.rule_machine.specs.Run.{Entry}
+use Rattle.snapshots.specs.Row.{Row, pointer_in, without_pointer_at, moved_by, moved, disturbed_row, effect_of, row_effect}
+
+cleared_when : (row : Row) (v : ℕ) (b : Bool) → length (if b then slice_set row v None else row) ≡ length row
+cleared_when row v true = length-set row v None
+cleared_when row v false = refl
+
+cleared_length : (row : Row) (v w : ℕ) → length (without_pointer_at row v w) ≡ length row
+cleared_length row v w = cleared_when row v (is_at (pointer_in row v) w)
+
+moved_length : (row : Row) (v : ℕ) (act : Act) (target : Option ℕ) → length (moved_by row v act target) ≡ length row
+moved_length row v Update target = refl
+moved_length row v Marry target = length-set row v target
+moved_length row v Seduce target = length-set row v target
+moved_length row v Abandon target = length-set row v None
+
+moves_length : (moves : List Moved) (row : Row) → length (fold moved row moves) ≡ length row
+moves_length [] row = refl
+moves_length (m ∷ moves) row = moves_length moves (moved row m) ∙ moved_length row m.node m.act m.target
+
+disturbed_length : (row : Row) (event : Event) → length (disturbed_row row event) ≡ length row
+disturbed_length row (Unlink a b) = cleared_length (without_pointer_at row a b) b a ∙ cleared_length row a b
+disturbed_length row (Point v target) = length-set row v target
+disturbed_length row (Link a b) = refl
+disturbed_length row (Flag v value) = refl
+disturbed_length row (Join v) = refl
+disturbed_length row (Leave v) = length-set (map (unless_at v) row) v None ∙ length-map row (unless_at v)
+disturbed_length row (Step items) = refl
+disturbed_length row (Show v) = refl
+disturbed_length row Enabled = refl
+disturbed_length row Matching = refl
+disturbed_length row Status = refl
+
+by_reply : (row : Row) (event : Event) (reply : Reply) → length (effect_of row event reply) ≡ length row
+by_reply row event Accepted = disturbed_length row event
+by_reply row event (Moves moves) = moves_length moves row
+by_reply row event (Refused refusal) = refl
+by_reply row event (Shown target) = refl
+by_reply row event (EnabledAre nodes) = refl
+by_reply row event (Pairs pairs) = refl
+by_reply row event (Counts counts) = refl
+
+-- no entry adds a place or takes one away
+pub effect_length : (row : Row) (entry : Entry) → length (row_effect row entry) ≡ length row
+effect_length row entry = by_reply row entry.0 entry.1

@@ -1,0 +1,7 @@
+use Rattle.std.specs.Prelude.{◌≡◌, fold, drop}
+use Rattle.snapshots.specs.Row.{moved}
+use Rattle.snapshots.proofs.effect.make_moves.Given as goal
+
+-- the moves that are left lead to the end of all of them
+abbrev pub invariant-loop-m : goal.invariant-loop-m
+invariant-loop-m l = fold moved l.row (drop l.m-index l.moves) ≡ fold moved l.fn.row l.moves

@@ -1,0 +1,6 @@
+use Rattle.std.proofs.Common.{◌≡◌}
+use Rattle.snapshots.specs.Row.{here_at_start}
+use Rattle.snapshots.proofs.image.here_at_start.Given as goal
+
+abbrev pub invariant-loop-place : goal.invariant-loop-place
+invariant-loop-place l = l.here.items ≡ here_at_start (record { places = l.place; present = l.fn.present })

@@ -1,0 +1,42 @@
+-- One copy as contracts see it.
+use Rattle.std.specs.Prelude.{ℕ, Bool, false, List, Option, None, Some, length, replicate, if◌then◌else◌, nat_lt, slice_index_or}
+use Rattle.rule_machine.specs.Run.{Entry}
+use Rattle.logbook.specs.Pages.{Book}
+use Rattle.snapshots.specs.History.{Mark}
+use Rattle.snapshots.specs.Row.{Row, BoardShape, pointer_in, partner_in, row_effect, here_at_start, here_by, pointers_after, here_after}
+
+-- the pointers and, for each place, whether its node is present; the number of nodes before any entry; the
+-- number of entries, and the prefix of the history that shows them
+pub record CopyView : Type 0 where
+  pub row : Row
+  pub here : List Bool
+  pub present : ℕ
+  pub front : ℕ
+  pub marks : List Mark
+  pub book : Book
+
+-- before any entry
+abbrev pub blank_copy : BoardShape → List Mark → Book → CopyView
+blank_copy extent marks book =
+    record { row = replicate extent.places None; here = here_at_start extent; present = extent.present; front = 0; marks = marks; book = book }
+
+-- how many places it has, and how many nodes before any entry
+abbrev pub extent_of : CopyView → BoardShape
+extent_of x = record { places = length x.row; present = x.present }
+
+-- one entry later
+abbrev pub after : CopyView → Entry → ℕ → List Mark → Book → CopyView
+after x entry front marks book =
+    record { row = row_effect x.row entry; here = here_by x.here entry; present = x.present; front = front; marks = marks; book = book }
+
+-- a pointer, and its target if that points back; none if there is no such place
+abbrev pub held_in : Row → ℕ → Option (Option ℕ × Option ℕ)
+held_in row place = if nat_lt place (length row) then Some (pointer_in row place, partner_in row place) else None
+
+-- the same if the place's node is present, otherwise none
+abbrev pub found_in : Row → List Bool → ℕ → Option (Option ℕ × Option ℕ)
+found_in row here place = if slice_index_or here place false then held_in row place else None
+
+-- what is found at a place after these entries
+abbrev pub found_after : BoardShape → List Entry → ℕ → Option (Option ℕ × Option ℕ)
+found_after extent log place = found_in (pointers_after extent.places log) (here_after extent log) place

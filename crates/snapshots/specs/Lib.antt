@@ -1,0 +1,6 @@
+pub mod Boards
+pub mod History
+pub mod Row
+pub mod Rule
+pub mod CopyViews
+pub mod Views

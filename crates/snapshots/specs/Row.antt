@@ -1,0 +1,119 @@
+-- The pointers and present nodes as a log of events and replies changes them. A name is its own place; place
+-- 0 is unused.
+use Rattle.std.specs.Prelude.{◌≡◌, ℕ, ◌+◌, Bool, true, false, ◌&&◌, List, Option, None, Some, fold, map, replicate, nat_le, slice_index_or, slice_set, if◌then◌else◌}
+use Rattle.std.specs.List.{range_with_len}
+use Rattle.rule_machine.specs.declared.act.Act.{Act}
+use Rattle.rule_machine.specs.declared.act.Act.TheVariants.{Update, Marry, Seduce, Abandon}
+use Rattle.rule_machine.specs.declared.event.Event.{Event}
+use Rattle.rule_machine.specs.declared.event.Event.TheVariants.{Link, Unlink, Point, Flag, Step, Show, Enabled, Matching, Status, Join, Leave}
+use Rattle.rule_machine.specs.declared.act.Moved.{Moved}
+use Rattle.rule_machine.specs.declared.reply.Reply.{Reply}
+use Rattle.rule_machine.specs.declared.reply.Reply.TheVariants.{Accepted, Refused, Moves, Shown, EnabledAre, Pairs, Counts}
+use Rattle.rule_machine.specs.State.{is_at}
+use Rattle.rule_machine.specs.Disturbance.{unless_at}
+use Rattle.rule_machine.specs.RuleTable.{RuleTable}
+use Rattle.rule_machine.specs.Run.{Entry, Moment, Run, beginning_with}
+
+abbrev pub Row : Type 0
+Row = List (Option ℕ)
+
+-- the target of v, if any
+abbrev pub pointer_in : Row → ℕ → Option ℕ
+pointer_in row v = slice_index_or row v None
+
+abbrev pub returned : Row → ℕ → Option ℕ → Option ℕ
+returned row v None = None
+returned row v (Some w) = if is_at (pointer_in row w) v then Some w else None
+
+-- the target of v, if that points at v
+abbrev pub partner_in : Row → ℕ → Option ℕ
+partner_in row v = returned row v (pointer_in row v)
+
+-- v's pointer becomes null if it is at w
+abbrev pub without_pointer_at : Row → ℕ → ℕ → Row
+without_pointer_at row v w = if is_at (pointer_in row v) w then slice_set row v None else row
+
+abbrev pub moved_by : Row → ℕ → Act → Option ℕ → Row
+moved_by row v Update target = row
+moved_by row v Marry target = slice_set row v target
+moved_by row v Seduce target = slice_set row v target
+moved_by row v Abandon target = slice_set row v None
+
+abbrev pub moved : Row → Moved → Row
+moved row m = moved_by row m.node m.act m.target
+
+-- what an accepted edit or fault does
+abbrev pub disturbed_row : Row → Event → Row
+disturbed_row row (Link a b) = row
+disturbed_row row (Unlink a b) = without_pointer_at (without_pointer_at row a b) b a
+disturbed_row row (Point v target) = slice_set row v target
+disturbed_row row (Flag v value) = row
+disturbed_row row (Join v) = row
+disturbed_row row (Leave v) = slice_set (map (unless_at v) row) v None
+disturbed_row row (Step items) = row
+disturbed_row row (Show v) = row
+disturbed_row row Enabled = row
+disturbed_row row Matching = row
+disturbed_row row Status = row
+
+-- only accepted events and the moves of a step change a pointer
+abbrev pub effect_of : Row → Event → Reply → Row
+effect_of row event Accepted = disturbed_row row event
+effect_of row event (Moves moves) = fold moved row moves
+effect_of row event (Refused refusal) = row
+effect_of row event (Shown target) = row
+effect_of row event (EnabledAre nodes) = row
+effect_of row event (Pairs pairs) = row
+effect_of row event (Counts counts) = row
+
+abbrev pub row_effect : Row → Entry → Row
+row_effect row entry = effect_of row entry.0 entry.1
+
+-- the pointers after a log, from null everywhere
+abbrev pub pointers_after : ℕ → List Entry → Row
+pointers_after places log = fold row_effect (replicate places None) log
+
+-- how many places there are, and how many nodes, named from 1, before any entry
+pub record BoardShape : Type 0 where
+  pub places : ℕ
+  pub present : ℕ
+
+-- for each place, whether its node is present before any entry
+abbrev pub here_at_start : BoardShape → List Bool
+here_at_start extent = map (λ v. nat_le 1 v && nat_le v extent.present) (range_with_len 0 extent.places)
+
+-- what an accepted edit or fault does to the present nodes
+abbrev pub presence_after : List Bool → Event → List Bool
+presence_after here (Link a b) = here
+presence_after here (Unlink a b) = here
+presence_after here (Point v target) = here
+presence_after here (Flag v value) = here
+presence_after here (Join v) = slice_set here v true
+presence_after here (Leave v) = slice_set here v false
+presence_after here (Step items) = here
+presence_after here (Show v) = here
+presence_after here Enabled = here
+presence_after here Matching = here
+presence_after here Status = here
+
+-- only an accepted join or leave changes them
+abbrev pub here_of : List Bool → Event → Reply → List Bool
+here_of here event Accepted = presence_after here event
+here_of here event (Moves moves) = here
+here_of here event (Refused refusal) = here
+here_of here event (Shown target) = here
+here_of here event (EnabledAre nodes) = here
+here_of here event (Pairs pairs) = here
+here_of here event (Counts counts) = here
+
+abbrev pub here_by : List Bool → Entry → List Bool
+here_by here entry = here_of here entry.0 entry.1
+
+-- for each place, whether its node is present after a log
+abbrev pub here_after : BoardShape → List Entry → List Bool
+here_after extent log = fold here_by (here_at_start extent) log
+
+-- The logs that are runs of a rule table from an opening state with one name fewer than places, since place 0
+-- is unused, and with the extent's nodes present.
+abbrev pub IsRun : RuleTable → BoardShape → List Entry → Type 0
+IsRun t extent log = (size : ℕ) × (end : Moment) × (extent.places ≡ size + 1) × Run t (beginning_with size extent.present) log end

@@ -1,0 +1,33 @@
+-- A board, a reader and a note, as contracts see them.
+use Rattle.std.specs.Prelude.{List, Option, None, Some}
+use Rattle.rule_machine.specs.Run.{Entry}
+use Rattle.logbook.specs.Pages.{Book}
+use Rattle.snapshots.specs.Row.{BoardShape}
+use Rattle.snapshots.specs.CopyViews.{CopyView, extent_of}
+
+-- the history of a board's entries, the number of places, and the number of nodes before any entry
+pub record BoardName : Type 0 where
+  pub book : Book
+  pub extent : BoardShape
+
+-- the published entries, and the posted one not yet published, if any
+pub record BoardView : Type 0 where
+  pub list : List Entry
+  pub posted : List Entry
+  pub name : BoardName
+
+-- the entries that were seen last, and those that later looks show at least
+pub record ReaderView : Type 0 where
+  pub list : List Entry
+  pub learnt : List Entry
+  pub name : BoardName
+
+-- the entries that were published
+pub record PublishedLog : Type 0 where
+  pub log : List Entry
+  pub book : Book
+
+-- the extent of the copy that was seen last
+abbrev pub extent_seen : Option CopyView → BoardShape
+extent_seen None = record { places = 0; present = 0 }
+extent_seen (Some x) = extent_of x

@@ -1,0 +1,130 @@
+//! The effect of an entry on the pointers and on the present nodes.
+
+ghost use Rattle.std.specs.Prelude.{◌≡◌, None, fold, map, slice_set};
+ghost use Rattle.rule_machine.specs.State.{is_at};
+ghost use Rattle.rule_machine.specs.Disturbance.{unless_at};
+ghost use Rattle.snapshots.specs.Row.{pointer_in, without_pointer_at, moved, disturbed_row, row_effect, presence_after, here_by};
+
+use log_entry::Entry;
+use rule_machine::{Act, Event, Moved, Node, Reply};
+
+fn write(row: &mut [Option<Node>], v: Node, target: Option<Node>)
+    ensures { row.new ≡ slice_set row.old v target }
+{
+    let place = v.place();
+    if place < row.len() {
+        row[place] = target;
+    }
+}
+
+fn points_at(row: &[Option<Node>], v: Node, w: Node) -> bool
+    ensures { result ≡ is_at (pointer_in row.now v) w }
+{
+    match row.get(v.place()) {
+        Some(Some(target)) => *target == w,
+        _ => false,
+    }
+}
+
+fn clear(row: &mut [Option<Node>], v: Node, w: Node)
+    ensures { row.new ≡ without_pointer_at row.old v w }
+{
+    if points_at(row, v, w) {
+        write(row, v, None);
+    }
+}
+
+/// A pointer, or null if it is at `v`.
+fn unless_at(pointer: Option<Node>, v: Node) -> Option<Node>
+    ensures { result ≡ unless_at v pointer }
+{
+    if pointer == Some(v) { None } else { pointer }
+}
+
+/// Makes every pointer at a node null, in one pass.
+fn drop_at(row: &mut [Option<Node>], v: Node)
+    ensures { row.new ≡ map (unless_at v) row.old }
+{
+    for pointer in row.iter_mut() {
+        *pointer = unless_at(*pointer, v);
+    }
+}
+
+/// Makes a node's pointer null, and every pointer at it.
+fn drop_name(row: &mut [Option<Node>], v: Node)
+    ensures { row.new ≡ slice_set (map (unless_at v) row.old) v None }
+{
+    drop_at(row, v);
+    write(row, v, None);
+}
+
+fn make_move(row: &mut [Option<Node>], m: &Moved)
+    ensures { row.new ≡ moved row.old m.now }
+{
+    match m.act {
+        Act::Update => {}
+        Act::Marry | Act::Seduce => write(row, m.node, m.target),
+        Act::Abandon => write(row, m.node, None),
+    }
+}
+
+fn make_moves(row: &mut [Option<Node>], moves: &[Moved])
+    ensures { row.new ≡ fold moved row.old moves.now }
+{
+    for m in moves {
+        make_move(row, m);
+    }
+}
+
+fn disturb(row: &mut [Option<Node>], event: &Event)
+    ensures { row.new ≡ disturbed_row row.old event.now }
+{
+    match event {
+        Event::Unlink(a, b) => {
+            clear(row, *a, *b);
+            clear(row, *b, *a);
+        }
+        Event::Point(v, target) => write(row, *v, *target),
+        Event::Leave(v) => drop_name(row, *v),
+        _ => {}
+    }
+}
+
+/// Changes the pointers by an entry.
+pub(crate) fn take_in(row: &mut [Option<Node>], entry: &Entry)
+    ensures { row.new ≡ row_effect row.old entry.now }
+{
+    match entry.reply() {
+        Reply::Accepted => disturb(row, entry.event()),
+        Reply::Moves(moves) => make_moves(row, moves.as_slice()),
+        _ => {}
+    }
+}
+
+fn mark(here: &mut [bool], v: Node, there: bool)
+    ensures { here.new ≡ slice_set here.old v there }
+{
+    let place = v.place();
+    if place < here.len() {
+        here[place] = there;
+    }
+}
+
+fn turn(here: &mut [bool], event: &Event)
+    ensures { here.new ≡ presence_after here.old event.now }
+{
+    match event {
+        Event::Join(v) => mark(here, *v, true),
+        Event::Leave(v) => mark(here, *v, false),
+        _ => {}
+    }
+}
+
+/// Changes the present nodes by an entry.
+pub(crate) fn take_presence(here: &mut [bool], entry: &Entry)
+    ensures { here.new ≡ here_by here.old entry.now }
+{
+    if let Reply::Accepted = entry.reply() {
+        turn(here, entry.event());
+    }
+}

@@ -1,0 +1,190 @@
+//! The history of a board, which exists in contracts only, and the seen prefixes of it.
+
+ghost use Rattle.std.specs.Prelude.{◌≡◌, ◌+◌, ◌<◌, ◌∷◌, ◌++◌, [], false, None, length, IsTrue, MatchBool};
+ghost use mathlib.Core.List.{IsPrefix};
+ghost use Rattle.snapshots.specs.History.{published, shown, head_of, max_marks, IsOneLog, AreOneLog, AreComparable};
+
+use log_entry::Entry;
+use logbook::{Gain, Offer, Plain, Play, Rule, Seen, Start, Word};
+
+/// The rule of the history: one word counts its marks.
+pub struct Numbered;
+
+impl Rule<Option<Entry>, u64> for Numbered {
+    ghost use Rattle.std.specs.Prelude.{[]};
+    ghost use base.Fml.{ftrue};
+    ghost use Rattle.snapshots.specs.History.{AreHistoryCells};
+
+    ghost holds = { λ cells marks. AreHistoryCells cells marks };
+
+    ghost first = { [] };
+
+    ghost hinted = { λ n marks. Unit {0} };
+
+    ghost shows = { λ marks. [] };
+
+    ghost keeps = { λ names marks. ftrue };
+
+    ghost moves = { λ ask before after answer. Unit {0} };
+}
+
+/// The gain of a mark: none.
+pub(crate) struct Nothing;
+
+impl Gain<Option<Entry>, u64> for Nothing {
+    ghost use base.Fml.{ftrue};
+
+    ghost after = { λ names about answer. ftrue };
+}
+
+/// The step that adds a mark.
+pub(crate) struct Add;
+
+impl Play<Option<Entry>, u64> for Add {
+    ghost use Rattle.snapshots.specs.History.{AddsMark};
+
+    ghost then = { AddsMark };
+}
+
+/// The mark that an entry is posted.
+pub(crate) struct Posts;
+
+impl Plain<Entry, Option<Entry>, u64> for Posts {
+    ghost use Rattle.std.specs.Prelude.{None, Some};
+
+    ghost ask = { λ entry. Some entry };
+
+    ghost state = { λ entry. None };
+}
+
+/// The mark that the last posted entry is published.
+pub(crate) struct Publishes;
+
+impl Plain<(), Option<Entry>, u64> for Publishes {
+    ghost use Rattle.std.specs.Prelude.{None};
+
+    ghost ask = { λ nothing. None };
+
+    ghost state = { λ nothing. None };
+}
+
+/// A prefix of a history that was seen, with its number of marks.
+#[derive(Drop)]
+pub struct HistoryPrefix {
+    count: u64,
+    pub(crate) seen: Seen<Option<Entry>, u64, Numbered>,
+    ghost counted: { count ≡ length seen.log },
+}
+
+impl HistoryPrefix {
+    pub(crate) fn again(&self) -> HistoryPrefix
+        ensures { result.seen ≡ self.now.seen }
+    {
+        HistoryPrefix {
+            count: self.count,
+            seen: self.seen.again(),
+        }
+    }
+
+    /// The longer of two fronts of one history.
+    pub(crate) fn longer(&self, other: &HistoryPrefix) -> HistoryPrefix
+        requires { other.now.seen.book ≡ self.now.seen.book }
+        ensures book { result.seen.book ≡ self.now.seen.book }
+        ensures this { IsPrefix self.now.seen.log result.seen.log }
+        ensures that { IsPrefix other.now.seen.log result.seen.log }
+    {
+        let mut both = self.seen.again();
+        both.learn(&other.seen);
+        if self.count < other.count {
+            other.again()
+        } else {
+            self.again()
+        }
+    }
+
+    /// Whether all that is published here is known to be shown at `other`.
+    pub(crate) fn is_shown_at(&self, other: &HistoryPrefix) -> bool
+        requires { other.now.seen.book ≡ self.now.seen.book }
+        ensures { IsTrue result → IsPrefix (published self.now.seen.log) (shown other.now.seen.log) }
+    {
+        let mut both = self.seen.again();
+        both.learn(&other.seen);
+        self.count.saturating_sub(1) <= other.count
+    }
+
+    /// Whether what this front published is known to be a prefix of what the other published.
+    /// If not, the reverse holds. It compares the numbers of marks.
+    pub(crate) fn begins(&self, other: &HistoryPrefix) -> bool
+        requires { other.now.seen.book ≡ self.now.seen.book }
+        ensures yes { IsTrue result → IsPrefix (published self.now.seen.log) (published other.now.seen.log) }
+        ensures no { result ≡ false → IsPrefix (published other.now.seen.log) (published self.now.seen.log) }
+    {
+        let mut both = self.seen.again();
+        both.learn(&other.seen);
+        self.count <= other.count
+    }
+
+    /// What two fronts of one history published and show is of one log. Nothing runs.
+    pub(crate) fn meets(&self, other: &HistoryPrefix)
+        requires { other.now.seen.book ≡ self.now.seen.book }
+        ensures published { AreComparable (published self.now.seen.log) (published other.now.seen.log) }
+        ensures shown { AreOneLog (shown self.now.seen.log) (shown other.now.seen.log) }
+        ensures both { IsOneLog (published self.now.seen.log) (shown other.now.seen.log) }
+    {
+        let mut both = self.seen.again();
+        both.learn(&other.seen);
+    }
+}
+
+/// The one place where marks are added, with all marks so far.
+#[derive(Drop)]
+pub(crate) struct History {
+    head: Word<Option<Entry>, u64, Numbered>,
+    pub(crate) front: HistoryPrefix,
+    ghost head_is: { head ≡ head_of front.seen.book },
+}
+
+impl History {
+    pub(crate) fn new() -> History
+        ensures { result.front.seen.log ≡ [] }
+    {
+        let (seen, mut first, _second) = Seen::open(Start::alone(), 0, 0);
+        History {
+            head: Word::tracked(0, &mut first),
+            front: HistoryPrefix { count: 0, seen },
+        }
+    }
+
+    /// Whether a `u64` can count two more marks.
+    pub(crate) fn has_room(&self) -> bool
+        ensures { IsTrue result → length self.now.front.seen.log + 1 < max_marks }
+    {
+        self.front.count < u64::MAX - 1
+    }
+
+    /// Adds a mark; false if another had added one, which never happens.
+    pub(crate) fn add<X, M: Plain<X, Option<Entry>, u64>>(&mut self, about: &X) -> bool
+        requires state { M.state about.now ≡ None }
+        requires room { length self.old.front.seen.log < max_marks }
+        ensures book { self.new.front.seen.book ≡ self.old.front.seen.book }
+        ensures marks { MatchBool result (self.new.front.seen.log ≡ self.old.front.seen.log ++ M.ask about.now ∷ []) (self.new.front.seen ≡ self.old.front.seen) }
+    {
+        let count = self.front.count;
+        let mut seen = self.front.seen.again();
+        let mut offer: Offer<Option<Entry>, u64, Numbered, Nothing> = seen.plain::<Nothing, X, M>(
+            about,
+        );
+        let mut pen = seen.no_pen();
+        let found = self
+            .head
+            .compare_exchange::<Add, Nothing>(count, count + 1, &mut seen, &mut offer, &mut pen);
+        if found != count {
+            return false;
+        }
+        self.front = HistoryPrefix {
+            count: count + 1,
+            seen,
+        };
+        true
+    }
+}

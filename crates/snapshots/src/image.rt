@@ -1,0 +1,158 @@
+//! One copy of the pointers and of the present nodes, and what is done to it.
+
+ghost use Rattle.std.specs.Prelude.{◌≡◌, ◌<◌, ◌&&◌, false, IfOk, nat_le, slice_index_or};
+ghost use Rattle.rule_machine.specs.State.{is_at};
+ghost use Rattle.snapshots.specs.Row.{pointer_in, here_at_start};
+ghost use Rattle.snapshots.specs.CopyViews.{blank_copy, after, held_in, found_in};
+
+use crate::effect::{take_in, take_presence};
+use crate::history::HistoryPrefix;
+use left_right::Absorb;
+use log_entry::Entry;
+use rule_machine::Node;
+use std::alloc::{AllocError, Global};
+use std::marker::Model;
+
+/// The pointers and present nodes after `front` entries, with a place for each name.
+/// It has the prefix of the history that shows them, and the number of nodes before any entry.
+#[derive(Drop)]
+pub struct RegisterCopy {
+    row: Vec<Option<Node>>,
+    here: Vec<bool>,
+    present: u32,
+    front: u32,
+    past: HistoryPrefix,
+}
+
+impl Model for RegisterCopy {
+    ghost use Rattle.std.specs.Coded.{codes};
+    ghost use Rattle.logbook.specs.Pages.{book_coded};
+    ghost use Rattle.snapshots.specs.CopyViews.{CopyView};
+
+    ghost Value = { CopyView };
+
+    ghost coded = { Prim.hlevel (codes, book_coded) };
+
+    ghost view = { λ i. record { row = i.row.items; here = i.here.items; present = i.present; front = i.front; marks = i.past.seen.log; book = i.past.seen.book } };
+}
+
+/// One entry for a copy to take in: the entry, its number, and its history up to its posting.
+#[derive(Drop)]
+pub struct Posted {
+    pub(crate) entry: Entry,
+    pub(crate) front: u32,
+    pub(crate) past: HistoryPrefix,
+}
+
+impl RegisterCopy {
+    /// All pointers null, and the names 1 to `present` present.
+    pub(crate) fn blank(
+        alloc: Global,
+        places: usize,
+        present: u32,
+        past: &HistoryPrefix,
+    ) -> Result<RegisterCopy, AllocError>
+        ensures { IfOk result (λ i. i ≡ blank_copy (record { places = places; present = present }) past.now.seen.log past.now.seen.book) }
+    {
+        Ok(RegisterCopy {
+            row: vec![in alloc; None; places]?,
+            here: here_at_start(alloc, places, present)?,
+            present,
+            front: 0,
+            past: past.again(),
+        })
+    }
+
+    /// How many entries this copy includes.
+    pub(crate) fn front(&self) -> u32
+        ensures { result ≡ self.now.front }
+    {
+        self.front
+    }
+
+    /// The prefix of the history that shows these entries.
+    pub(crate) fn past(&self) -> HistoryPrefix
+        ensures { (result.seen.log ≡ self.now.marks) × (result.seen.book ≡ self.now.book) }
+    {
+        self.past.again()
+    }
+
+    /// The pointer at a place, and its target if that points back; `None` if no node has the place.
+    pub(crate) fn find(&self, place: usize) -> Option<(Option<Node>, Option<Node>)>
+        ensures { result ≡ found_in self.now.row self.now.here place }
+    {
+        if is_here(&self.here, place) {
+            self.held(place)
+        } else {
+            None
+        }
+    }
+
+    /// As `find`, whether or not a node is present; `None` if there is no such place.
+    fn held(&self, place: usize) -> Option<(Option<Node>, Option<Node>)>
+        ensures { result ≡ held_in self.now.row place }
+    {
+        let pointer = *self.row.get(place)?;
+        let partner = match pointer {
+            Some(w) if points_back(&self.row, w, place) => Some(w),
+            _ => None,
+        };
+        Some((pointer, partner))
+    }
+}
+
+fn is_present(place: usize, present: u32) -> bool
+    ensures { result ≡ (nat_le 1 place && nat_le place present) }
+{
+    1 <= place && place <= present as usize
+}
+
+fn here_at_start(alloc: Global, places: usize, present: u32) -> Result<Vec<bool>, AllocError>
+    ensures { IfOk result (λ here. here.items ≡ here_at_start (record { places = places; present = present })) }
+{
+    let mut here = Vec::with_capacity(alloc, places)?;
+    for place in 0..places {
+        here.push(is_present(place, present))?;
+    }
+    Ok(here)
+}
+
+fn is_here(here: &[bool], place: usize) -> bool
+    ensures { result ≡ slice_index_or here.now place false }
+{
+    match here.get(place) {
+        Some(there) => *there,
+        None => false,
+    }
+}
+
+fn points_back(row: &[Option<Node>], w: Node, place: usize) -> bool
+    ensures { result ≡ is_at (pointer_in row.now w) place }
+{
+    match row.get(w.place()) {
+        Some(Some(target)) => target.place() == place,
+        _ => false,
+    }
+}
+
+impl Absorb<Posted> for RegisterCopy {
+    type State = RegisterCopy;
+
+    ghost state = { λ i. i };
+
+    ghost applied = { λ i p. after i p.entry p.front p.past.seen.log p.past.seen.book };
+
+    ghost never_fails = { Unit {0} };
+
+    fn absorb_first(
+        &mut self,
+        operation: &Posted,
+        _other: &RegisterCopy,
+    ) -> Result<(), AllocError> {
+        take_in(&mut self.row, &operation.entry);
+        take_presence(&mut self.here, &operation.entry);
+        self.front = operation.front;
+        self.past = operation.past.again();
+        Ok(())
+    }
+}

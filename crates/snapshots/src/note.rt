@@ -1,0 +1,57 @@
+//! Notes of what a board has published.
+
+ghost use Rattle.std.specs.Prelude.{◌≡◌, false, IsTrue};
+ghost use mathlib.Core.List.{IsPrefix};
+ghost use Rattle.snapshots.specs.History.{AreComparable};
+
+use crate::history::HistoryPrefix;
+use std::marker::Model;
+
+/// A note of the entries that a board had published when it gave the note. It may go to any thread.
+/// Contracts see the entries and their history; the note holds none.
+#[derive(Drop)]
+pub struct Note {
+    pub(crate) front: HistoryPrefix,
+}
+
+impl Model for Note {
+    ghost use Rattle.std.specs.Coded.{codes};
+    ghost use Rattle.logbook.specs.Pages.{book_coded};
+    ghost use Rattle.snapshots.specs.History.{published};
+    ghost use Rattle.snapshots.specs.Views.{PublishedLog};
+
+    ghost Value = { PublishedLog };
+
+    ghost coded = { Prim.hlevel (codes, book_coded) };
+
+    ghost view = { λ n. record { log = published n.front.seen.log; book = n.front.seen.book } };
+}
+
+impl Note {
+    /// A copy. Takes no memory.
+    pub fn again(&self) -> Note
+        ensures { result ≡ self.now }
+    {
+        Note {
+            front: self.front.again(),
+        }
+    }
+
+    /// Whether this note's entries are known to be a prefix of those of another note of its board.
+    /// If not, the reverse holds.
+    pub fn begins(&self, other: &Note) -> bool
+        requires { other.now.book ≡ self.now.book }
+        ensures yes { IsTrue result → IsPrefix self.now.log other.now.log }
+        ensures no { result ≡ false → IsPrefix other.now.log self.now.log }
+    {
+        self.front.begins(&other.front)
+    }
+
+    /// Of the entries of two notes of one board, one list is a prefix of the other. Nothing runs.
+    pub fn meets(&self, other: &Note)
+        requires { other.now.book ≡ self.now.book }
+        ensures { AreComparable self.now.log other.now.log }
+    {
+        self.front.meets(&other.front);
+    }
+}

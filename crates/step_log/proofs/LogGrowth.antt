@@ -1,0 +1,105 @@
+-- One more entry at the end of what a journal keeps, and a checkpoint.
+use Rattle.std.proofs.Common.{◌≡◌, ℕ, ◌+◌, ◌<◌, ◌≤◌, true, List, [], ◌∷◌, ◌++◌, length, map, Some, refl, sym, ap, ap₂, ◌∙◌, subst, arith}
+use Rattle.std.proofs.lemmas.List.{length-append}
+use Rattle.rule_machine.specs.declared.base.EpochStart.{EpochStart}
+use Rattle.rule_machine.specs.declared.base.EpochStart.TheVariants.{At, Forgotten}
+use Rattle.rule_machine.specs.declared.event.Event.{Event}
+use Rattle.rule_machine.specs.declared.reply.Reply.{Reply}
+use Rattle.rule_machine.specs.State.{IsState}
+use Rattle.rule_machine.specs.RuleTable.{RuleTable}
+use Rattle.rule_machine.specs.Least.{reply_of, state_after, spent_by}
+use Rattle.rule_machine.specs.Run.{Entry, Moment, beginning_with, moment_after, open_at}
+use Rattle.rule_machine.specs.Base.{BeginsAt, base_of, begun_at, dropped}
+use Rattle.machine_laws.specs.LeastMoves.{IsTable}
+use Rattle.machine_laws.specs.LeastAnswers.{least_answers}
+use Rattle.machine_laws.specs.Runs.{runs_end_in_states, run_add}
+use Rattle.machine_laws.specs.Sizes.{runs_keep_size}
+use Rattle.machine_laws.specs.UnusedFlags.{IsFlagless}
+use Rattle.charge_laws.specs.RunsFromBases.{begins_in_state, may_begin_again}
+use Rattle.charge_laws.specs.ChargeWords.{charge_bound, IsCharged}
+use Rattle.log_entry.specs.Kinds.{fits}
+use Rattle.step_log.specs.declared.epoch.Epoch.{Epoch}
+use Rattle.step_log.specs.Epochs.{IsEpochPath, begun_by, ended_by, of_run}
+use Rattle.step_log.specs.JournalViews.{IsJournal}
+use Rattle.step_log.specs.RetainedLogs.{RetainedLog, IsRetainedRun, IsBaseOfGraph, checkpointed, kept_with, last_number, moment_in, next_entry, whole}
+use Rattle.step_log.specs.Log.{empty_log_with, max_entries}
+use Rattle.step_log.proofs.ReplyKinds.{nodes_few, reply_fits}
+use Rattle.step_log.proofs.EpochPaths.{told_add}
+
+-- what is kept ends in a state
+pub ends_in_state : (t : RuleTable) (weight : ℕ) → IsTable t → (kept : RetainedLog) → IsRetainedRun t weight kept → IsState kept.state
+ends_in_state t weight table kept is =
+    runs_end_in_states t table is.start (begins_in_state t (charge_bound weight) kept.state.network.size kept.present kept.base is.start is.begins) kept.entries (moment_in kept) is.run
+
+-- the reply to the event that comes next is of its kind
+pub next_fits : (t : RuleTable) (weight : ℕ) → IsTable t → (kept : RetainedLog) → IsRetainedRun t weight kept → (event : Event) → fits event (reply_of t kept.state kept.spent event) ≡ true
+next_fits t weight table kept is event = reply_fits t table kept.state (ends_in_state t weight table kept is) kept.spent event (omega (arith, nodes_few kept.state.network, is.size))
+
+-- one entry more
+kept_with_is_journal : (t : RuleTable) (weight : ℕ) → IsTable t → (kept : RetainedLog) (over : List Epoch) (begun : EpochStart) → IsJournal t weight kept over begun → last_number kept < kept.limit → (event : Event) (next : List Epoch) → map of_run next ≡ map of_run over ++ ended_by (reply_of t kept.state kept.spent event) (open_at begun (moment_in kept)) → IsJournal t weight (kept_with t kept event) next (begun_by (reply_of t kept.state kept.spent event) (last_number kept + 1) begun)
+kept_with_is_journal t weight table kept over begun is below event next are =
+    let k = is.is_kept in
+    let m = moment_in kept in
+    let reply = reply_of t kept.state kept.spent event in
+    let entry = next_entry t kept event in
+    let entries = kept.entries ++ entry ∷ [] in
+    let after = state_after t kept.state event in
+    let end : Moment = record { state = after; spent = spent_by t kept.state kept.spent event } in
+    let answers = least_answers t table kept.state (ends_in_state t weight table kept k) kept.spent event in
+    let size : end.state.network.size ≡ kept.state.network.size = runs_keep_size t m (entry ∷ []) end (after, answers, refl) in
+    let told = told_add t (dropped kept.base + 1) (begun_at kept.base) k.start m kept.entries (map of_run over) begun is.told entry after answers in
+    let number : dropped kept.base + 1 + length kept.entries ≡ last_number kept + 1 = omega arith in
+    let told_number = subst (λ (n : ℕ). IsEpochPath t (dropped kept.base + 1) (begun_at kept.base) k.start entries end (map of_run over ++ ended_by reply (open_at begun m)) (begun_by reply n begun)) number told in
+    record {
+      is_kept = record {
+        start = k.start;
+        begins = subst (λ (n : ℕ). BeginsAt t (charge_bound weight) n kept.present kept.base k.start) (sym size) k.begins;
+        run = run_add t k.start m kept.entries entry after k.run answers;
+        size = omega (arith, k.size, size);
+        room = omega (arith, length-append kept.entries (entry ∷ []), below);
+        limit = k.limit;
+        short = k.short;
+      };
+      told = subst (λ es. IsEpochPath t (dropped kept.base + 1) (begun_at kept.base) k.start entries end es (begun_by reply (last_number kept + 1) begun)) (sym are) told_number;
+    }
+
+-- a journal with the moment after the next event, with its entry and its epochs
+pub next_is_journal : (t : RuleTable) (weight : ℕ) → IsTable t → (kept : RetainedLog) (over : List Epoch) (begun : EpochStart) → IsJournal t weight kept over begun → last_number kept < kept.limit → (event : Event) (reply : Reply) (m : Moment) (entries : List Entry) (next : List Epoch) (now : EpochStart) → reply ≡ reply_of t kept.state kept.spent event → m ≡ moment_after t (moment_in kept) event → entries ≡ kept.entries ++ (event, reply) ∷ [] → map of_run next ≡ map of_run over ++ ended_by reply (open_at begun (moment_in kept)) → now ≡ begun_by reply (last_number kept + 1) begun → IsJournal t weight (record { state = m.state; spent = m.spent; base = kept.base; entries = entries; limit = kept.limit; present = kept.present }) next now
+next_is_journal t weight table kept over begun is below event reply m entries next now replies after added ended starts =
+    let before = moment_in kept in
+    let held = added ∙ ap (λ (r : Reply). kept.entries ++ (event, r) ∷ []) replies in
+    let over_is = ended ∙ ap (λ (r : Reply). map of_run over ++ ended_by r (open_at begun before)) replies in
+    let now_is = starts ∙ ap (λ (r : Reply). begun_by r (last_number kept + 1) begun) replies in
+    subst (λ (k : EpochStart). IsJournal t weight (record { state = m.state; spent = m.spent; base = kept.base; entries = entries; limit = kept.limit; present = kept.present }) next k) (sym now_is)
+    (subst (λ (l : RetainedLog). IsJournal t weight l next (begun_by (reply_of t kept.state kept.spent event) (last_number kept + 1) begun)) (sym (ap₂ (λ (n : Moment) (es : List Entry). record { state = n.state; spent = n.spent; base = kept.base; entries = es; limit = kept.limit; present = kept.present }) after held))
+    (kept_with_is_journal t weight table kept over begun is below event next over_is))
+
+-- with its network's moment as the base, and no entry
+pub checkpointed_is_journal : (t : RuleTable) (weight : ℕ) → IsTable t → IsCharged t weight → IsFlagless t → (kept : RetainedLog) → IsRetainedRun t weight kept → IsBaseOfGraph (Some (base_of (last_number kept) (moment_in kept))) → (over : List Epoch) → over ≡ [] → IsJournal t weight (checkpointed kept) over Forgotten
+checkpointed_is_journal t weight table charged flagless kept k short over none = record {
+  is_kept = record {
+    start = moment_in kept;
+    begins = may_begin_again t weight table charged flagless kept.state.network.size kept.present (last_number kept) kept.base k.start k.begins kept.entries (moment_in kept) k.run;
+    run = refl;
+    size = k.size;
+    room = omega (arith, k.room);
+    limit = k.limit;
+    short = short;
+  };
+  told = record { path = []; entries = refl; is_path = tt; ends = refl; ended = ap (map of_run) none; goes_on = refl };
+}
+
+-- before any entry
+pub opening_is_journal : (t : RuleTable) (weight : ℕ) (size first limit : ℕ) → size ≤ 65535 → limit ≤ max_entries → (over : List Epoch) → over ≡ [] → IsJournal t weight (whole (empty_log_with size first limit)) over (At 0)
+opening_is_journal t weight size first limit small within over none = record {
+  is_kept = record {
+    start = beginning_with size first;
+    begins = refl;
+    run = refl;
+    size = small;
+    room = omega arith;
+    limit = within;
+    short = tt;
+  };
+  told = record { path = []; entries = refl; is_path = tt; ends = refl; ended = ap (map of_run) none; goes_on = refl };
+}

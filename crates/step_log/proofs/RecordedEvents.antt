@@ -1,0 +1,27 @@
+-- A recording after an event.
+use Rattle.std.proofs.Common.{◌≡◌, ◌+◌, ◌<◌, sym, subst, arith}
+use Rattle.rule_machine.specs.declared.event.Event.{Event}
+use Rattle.rule_machine.specs.declared.reply.Reply.{Reply}
+use Rattle.rule_machine.specs.State.{IsState}
+use Rattle.rule_machine.specs.RuleTable.{RuleTable}
+use Rattle.rule_machine.specs.Answer.{Answers}
+use Rattle.rule_machine.specs.Least.{reply_of}
+use Rattle.rule_machine.specs.Run.{Moment, moment_after}
+use Rattle.machine_laws.specs.LeastMoves.{IsTable}
+use Rattle.machine_laws.specs.LeastAnswers.{least_answers}
+use Rattle.machine_laws.specs.AcceptedEvents.{state_after_keeps}
+use Rattle.step_log.specs.Recording.{Recording, IsRecording}
+
+-- with one more entry it is one
+pub entered_is_recording : (t : RuleTable) → IsTable t → (r : Recording) → IsRecording r → r.len < r.limit → (event : Event) (m : Moment) → m ≡ moment_after t (record { state = r.state; spent = r.spent }) event → IsRecording (record { state = m.state; spent = m.spent; len = r.len + 1; limit = r.limit; present = r.present })
+entered_is_recording t table r is below event m after = record {
+  is_state = subst (λ (n : Moment). IsState n.state) (sym after) (state_after_keeps t table r.state is.is_state event);
+  room = omega (arith, below);
+  limit = is.limit;
+}
+
+-- the reply with the least targets is one that the machine may give
+pub reply_answers : (t : RuleTable) → IsTable t → (m m' : Moment) → IsState m.state → (event : Event) (reply : Reply) → reply ≡ reply_of t m.state m.spent event → m' ≡ moment_after t m event → Answers t m.state m.spent event reply m'.state
+reply_answers t table m m' good event reply replies after =
+    subst (λ (r : Reply). Answers t m.state m.spent event r m'.state) (sym replies)
+    (subst (λ (n : Moment). Answers t m.state m.spent event (reply_of t m.state m.spent event) n.state) (sym after) (least_answers t table m.state good m.spent event))

@@ -1,7 +1,0 @@
-use Rattle.std.proofs.Common.{◌≡◌, vec_len}
-use Rattle.std.specs.List.{All}
-use Rattle.locked_net.specs.Receipts.{fresh}
-use Rattle.storm_call.proofs.run.clerks_of.Given as goal
-
-abbrev pub invariant-loop : goal.invariant-loop
-invariant-loop g l = record { count : vec_len l.clerks ≡ l.counter; fresh : All (λ clerk. clerk ≡ fresh) l.clerks.items }

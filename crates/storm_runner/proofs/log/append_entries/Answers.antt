@@ -1,0 +1,24 @@
+use Rattle.std.proofs.Common.{◌≡◌, ◌+◌, ◌-◌, ◌++◌, ℕ, Some, drop, slice_get, subst, arith}
+use Rattle.rule_machine.specs.Base.{dropped}
+use Rattle.line_text.specs.EntryText.{entry_line, entry_lines}
+use Rattle.storm_runner.proofs.EntryOutput.{one_more, grown_more}
+use Rattle.storm_runner.proofs.log.append_entries.Goals as goal
+
+pub loop-before-preserved : goal.loop-before-preserved
+loop-before-preserved g c =
+    let log = c.args.journal.now.entries in
+    let d = dropped c.args.journal.now.base in
+    let e = c.unwrap-entry.result.now in
+    let event = c.event.result.now in
+    let reply = c.reply.result.now in
+    let k = c.loop-before.before in
+    let behind = c.loop-before.invariant.behind in
+    let all = c.args.out.now.items ++ entry_lines (d + 1) log in
+    let found = rw c.unwrap-entry.ensures at c.entry.ensures.found in
+    let at = subst (λ n. slice_get log n ≡ Some e) (omega (arith, behind)) found.1 in
+    let more = one_more log (k + 1) (k - d) e event reply all c.loop-before.out.items c.put_entry.new.out.items at c.event.ensures.value c.reply.ensures.value c.in_ok-put_entry.ensures.ok c.loop-before.invariant.text in
+    record {
+      behind = omega (arith, behind);
+      text = subst (λ (n : ℕ). c.put_entry.new.out.items ++ entry_lines (k + 1 + 1) (drop n log) ≡ all) (omega (arith, behind)) more;
+      grown = grown_more c.args.out.now.items c.loop-before.out.items c.put_entry.new.out.items (entry_line (k + 1) event reply) c.loop-before.invariant.grown c.in_ok-put_entry.ensures.ok;
+    }

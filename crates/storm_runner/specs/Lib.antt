@@ -1,0 +1,10 @@
+pub mod Turns
+pub mod Storm
+pub mod PlayedCommands
+pub mod StormRoamers
+pub mod Faults
+pub mod FaultText
+pub mod Status
+pub mod Outcome
+pub mod Parts
+pub mod RetainedText

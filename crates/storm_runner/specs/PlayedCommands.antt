@@ -1,0 +1,68 @@
+-- What a command adds to a clerk's receipts, and which clerk plays which script.
+use Rattle.std.specs.Prelude.{◌≡◌, ℕ, ◌<◌, ◌≤◌, length, List, [], ◌∷◌, ◌++◌, Option, None, Some, Result, Ok, Err}
+use Rattle.std.specs.List.{All}
+use Rattle.std.specs.Option.{option_or}
+use mathlib.Core.List.{IsPrefix}
+use Rattle.rand_core.specs.Stream.{Stream}
+use Rattle.rule_machine.specs.Run.{Entry}
+use Rattle.seeded_turns.specs.DrawnEvents.{Draws}
+use Rattle.step_log.specs.declared.receipt.Receipt.{Receipt}
+use Rattle.locked_net.specs.ChosenEvents.{HoldsAll}
+use Rattle.locked_net.specs.Receipts.{ClerkView, front_of, greater_base, noted}
+use Rattle.locked_net.specs.Settings.{Setting}
+use Rattle.locked_net.specs.declared.call_fault.CallFault.{CallFault}
+use Rattle.script_text.specs.declared.command.Command.{Command}
+use Rattle.script_text.specs.declared.command.Command.TheVariants.{Tell, Drive, Scramble, Checkpoint}
+use Rattle.script_text.specs.declared.script.ScriptLine.{ScriptLine}
+use Rattle.storm_runner.specs.Turns.{DrawnFrom, Scene}
+use Rattle.storm_runner.specs.Storm.{IsFor, IsPartOf, AreAbove, MayEndScript, AllPlayed, AllTold}
+
+-- the log as far as a clerk's note shows it
+abbrev pub scene_of : Setting → ClerkView → Scene
+scene_of setting clerk = record { setting = setting; log = noted clerk.note }
+
+-- some receipts were added, and P holds of them
+pub record AddsReceipts (P : List Receipt → Type 0) (old new : List Receipt) : Type 0 where
+  pub own : List Receipt
+  pub added : new ≡ old ++ own
+  pub fits : P own
+
+-- the command was carried out, or a fault broke it off, on the log that the clerk's note then shows, after
+-- the clerk's old base
+abbrev pub Plays : {A E : Type 0} → Setting → Command → ClerkView → ClerkView → Result A E → Type 0
+Plays setting command old new (Ok done) = AddsReceipts (λ own. IsFor (scene_of setting new) (front_of old.receipts) command own × AreAbove old.base own) old.receipts new.receipts
+Plays setting command old new (Err fault) = AddsReceipts (λ own. IsPartOf (scene_of setting new) command own × AreAbove old.base own) old.receipts new.receipts
+
+-- This many turns were taken, by these words, above the clerk's old base. There are fewer only if there was
+-- nothing to do after the last of them, or if a fault broke them off.
+abbrev pub TakesTurnsUpTo : {A E : Type 0} → Setting → Draws → (Receipt → Type 0) → (Scene → ℕ → List Receipt → Type 0) → Stream → ℕ → ClerkView → ClerkView → Result A E → Type 0
+TakesTurnsUpTo setting draws Fits Rests words count old new (Ok done) = AddsReceipts
+    (λ own. ((length own ≤ count) × DrawnFrom (scene_of setting new) draws words Fits own × (length own < count → Rests (scene_of setting new) (front_of old.receipts) own)) × AreAbove old.base own)
+    old.receipts new.receipts
+TakesTurnsUpTo setting draws Fits Rests words count old new (Err fault) =
+    AddsReceipts (λ own. ((length own < count) × DrawnFrom (scene_of setting new) draws words Fits own) × AreAbove old.base own) old.receipts new.receipts
+
+-- The clerk's base after a command: a checkpoint joins to it the length of a log that holds all that the
+-- clerk has seen; any other command leaves it unchanged.
+abbrev pub IsBased : Setting → Command → ClerkView → ClerkView → Type 0
+IsBased setting (Tell event) old new = new.base ≡ old.base
+IsBased setting (Drive turns) old new = new.base ≡ old.base
+IsBased setting (Scramble turns) old new = new.base ≡ old.base
+IsBased setting Checkpoint old new =
+    (number : ℕ) × HoldsAll setting (front_of old.receipts) number × (new.base ≡ greater_base old.base (Some number))
+
+-- each script was played by the clerk at its index, on the log that this clerk's note shows
+abbrev pub AllStop : Setting → List (List ScriptLine) → List ClerkView → Option CallFault → Type 0
+AllStop setting [] [] fault = fault ≡ None
+AllStop setting (script ∷ scripts) (clerk ∷ clerks) fault =
+    (own : Option CallFault) × (others : Option CallFault) × (fault ≡ option_or own others) × MayEndScript (scene_of setting clerk) script clerk own × AllStop setting scripts clerks others
+AllStop setting scripts clerks fault = ⊥
+
+-- The receipts of these clerks are of one log, any that begins with what their notes show; each script was
+-- played by the clerk at its index.
+pub record PlayedOn (setting : Setting) (scripts : List (List ScriptLine)) (clerks : List ClerkView) (fault : Option CallFault) : Type 0 where
+  pub each : (log : List Entry) → All (λ clerk. IsPrefix (noted clerk.note) log) clerks → AllPlayed (record { setting = setting; log = log }) scripts clerks fault
+
+-- The same for these clerks, some of which roamed.
+pub record ToldOn (setting : Setting) (scripts : List (List ScriptLine)) (roamers turns : ℕ) (clerks : List ClerkView) (fault : Option CallFault) : Type 0 where
+  pub each : (log : List Entry) → All (λ clerk. IsPrefix (noted clerk.note) log) clerks → AllTold (record { setting = setting; log = log }) scripts roamers turns clerks fault

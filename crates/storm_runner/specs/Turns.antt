@@ -1,0 +1,79 @@
+-- The turns of one line.
+--
+-- A line seeds a generator, and each turn takes words from it. The event that these draw in the state of the
+-- locked log is recorded. Between two turns other threads may record anything; the words go on from the turn
+-- before. All turns are of one log: each was taken on a beginning of it, even if there was nothing to do.
+use Rattle.std.specs.Prelude.{◌≡◌, ◌≤◌, ℕ, List, [], ◌∷◌, ◌++◌, length, Option, Some}
+use Rattle.std.specs.List.{All}
+use mathlib.Core.List.{IsPrefix}
+use Rattle.rand_core.specs.Stream.{Stream}
+use Rattle.rule_machine.specs.declared.event.Event.{Event}
+use Rattle.rule_machine.specs.declared.reply.Reply.{Reply}
+use Rattle.rule_machine.specs.State.{State}
+use Rattle.rule_machine.specs.Network.{node_count}
+use Rattle.rule_machine.specs.RuleTable.{enabled_names}
+use Rattle.rule_machine.specs.Run.{Entry}
+use Rattle.seeded_turns.specs.DrawnEvents.{Draws}
+use Rattle.step_log.specs.declared.receipt.Receipt.{Receipt}
+use Rattle.step_log.specs.Log.{Log, receipt_of}
+use Rattle.locked_net.specs.ChosenEvents.{TakesChoice}
+use Rattle.locked_net.specs.Receipts.{ClerkView, front_from, noted}
+use Rattle.locked_net.specs.Settings.{Setting, IsLogIn}
+
+-- the place of turns: a network's setting, and the entries of its log
+pub record Scene : Type 0 where
+  pub setting : Setting
+  pub log : List Entry
+
+-- A turn was taken on a beginning of the log. The words draw its event in the state there, the receipt is
+-- that of the next entry, and these words are left.
+pub record IsTurn (scene : Scene) (draws : Draws) (words : Stream) (receipt : Receipt) (left : Stream) : Type 0 where
+  pub log : Log
+  pub own : IsLogIn scene.setting log
+  pub begins : IsPrefix log.entries scene.log
+  pub drawn : (Some receipt.event, left) ≡ draws scene.setting.table log.state words
+  pub told : receipt ≡ receipt_of scene.setting.table log receipt.event
+
+-- On a beginning of what the clerk's new note shows, which has all the clerk's receipts, an event or none was
+-- chosen, and recorded.
+pub record TakesChosenEvent (setting : Setting) (Chooses : State → Option Event → Type 0) (old : List Receipt) (new : ClerkView) (told : Option Reply) : Type 0 where
+  pub took : TakesChoice setting Chooses old new.receipts new.note told
+  pub begins : IsPrefix took.log.entries (noted new.note)
+
+-- by what these words draw in the state there, and those are left
+abbrev pub Draw : Setting → Draws → Stream → Stream → List Receipt → ClerkView → Option Reply → Type 0
+Draw setting draws words left old new told = TakesChosenEvent setting (λ s event. (event, left) ≡ draws setting.table s words) old new told
+
+-- a receipt of the kind was added
+pub record Gains (P : Receipt → Type 0) (old new : List Receipt) : Type 0 where
+  pub receipt : Receipt
+  pub added : new ≡ old ++ receipt ∷ []
+  pub is : P receipt
+
+-- turns were taken one after another, each with the words that the one before it left
+abbrev pub AreTurns : Scene → Draws → Stream → List Receipt → Stream → Type 0
+AreTurns scene draws words [] left = left ≡ words
+AreTurns scene draws words (receipt ∷ receipts) left =
+    (next : Stream) × IsTurn scene draws words receipt next × AreTurns scene draws next receipts left
+
+-- the receipts are those of turns with these words, and P holds of each
+abbrev pub DrawnFrom : Scene → Draws → Stream → (Receipt → Type 0) → List Receipt → Type 0
+DrawnFrom scene draws words P own = All P own × ((left : Stream) × AreTurns scene draws words own left)
+
+-- A beginning of the log has all that its clerk has seen: the entry with this number, and those of the
+-- receipts after it.
+pub record IsLogBehind (scene : Scene) (front : ℕ) (own : List Receipt) : Type 0 where
+  pub log : Log
+  pub is_own : IsLogIn scene.setting log
+  pub begins : IsPrefix log.entries scene.log
+  pub behind : front_from front own ≤ length log.entries
+
+-- No node was enabled at the end of such a beginning.
+pub record IsQuietBehind (scene : Scene) (front : ℕ) (own : List Receipt) : Type 0 where
+  pub at : IsLogBehind scene front own
+  pub quiet : enabled_names scene.setting.table at.log.state ≡ []
+
+-- There was no node at the end of such a beginning.
+pub record IsEmptyBehind (scene : Scene) (front : ℕ) (own : List Receipt) : Type 0 where
+  pub at : IsLogBehind scene front own
+  pub empty : node_count at.log.state.network ≡ 0

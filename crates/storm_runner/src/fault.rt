@@ -1,0 +1,131 @@
+//! The errors of playing scripts and of a storm.
+
+use byte_streams::OutputFault;
+use locked_net::{CallFault, SettleFault};
+use script_text::TextsFault;
+use std::alloc::AllocError;
+use thiserror::Error;
+
+/// Why played scripts left no log.
+#[derive(Clone, Copy, Debug, PartialEq, Eq, Error)]
+pub enum PlayFault {
+    /// The clerks and the log do not settle. Never `SettleFault::Memory`, which is `Memory`.
+    #[error("unsettled: {0}")]
+    Unsettled(SettleFault),
+    /// Memory ran out, before the first command or after the last.
+    #[error("out of memory")]
+    Memory,
+}
+
+impl From<SettleFault> for PlayFault {
+    ghost use Rattle.std.specs.Prelude.{◌≡◌};
+    ghost use Rattle.storm_runner.specs.Faults.{play_fault_of};
+
+    ghost from_gives = { λ why fault. fault ≡ play_fault_of why };
+
+    fn from(why: SettleFault) -> PlayFault {
+        match why {
+            SettleFault::Memory => PlayFault::Memory,
+            why => PlayFault::Unsettled(why),
+        }
+    }
+}
+
+/// Why scripts were not all read, played to their ends and written.
+#[derive(Clone, Copy, Debug, PartialEq, Eq, Error)]
+pub enum StormFault {
+    /// There are more than 64 scripts.
+    #[error("too many scripts")]
+    TooManyScripts,
+    /// This line of this script, both counted from 1, is neither empty nor a command.
+    #[error("script {script} line {line}: not a command")]
+    BadLine { script: u32, line: u64 },
+    /// A script's command or a worker's turn met a full log.
+    #[error("log full")]
+    LogFull,
+    /// A read of a script failed.
+    #[error("read failed")]
+    Read,
+    /// A write of the transcript failed.
+    #[error("write failed")]
+    Write,
+    /// Memory ran out.
+    #[error("out of memory")]
+    Memory,
+    /// The clerk of a script or worker has seen more entries than there are.
+    #[error("behind")]
+    Behind,
+    /// A thread could not be started. `storm` never returns it: it does that thread's work itself.
+    #[error("no thread")]
+    Thread,
+    /// The clerks' receipts do not account for the log.
+    #[error("settle refused: {0}")]
+    Unsettled(SettleFault),
+}
+
+impl From<AllocError> for StormFault {
+    ghost use Rattle.std.specs.Prelude.{◌≡◌};
+    ghost use Rattle.storm_runner.specs.declared.fault.StormFault.TheVariants.{Memory};
+
+    ghost from_gives = { λ _ fault. fault ≡ Memory };
+
+    fn from(_: AllocError) -> StormFault {
+        StormFault::Memory
+    }
+}
+
+impl From<OutputFault> for StormFault {
+    ghost use Rattle.std.specs.Prelude.{◌≡◌};
+    ghost use Rattle.storm_runner.specs.declared.fault.StormFault.TheVariants.{Write};
+
+    ghost from_gives = { λ _ fault. fault ≡ Write };
+
+    fn from(_: OutputFault) -> StormFault {
+        StormFault::Write
+    }
+}
+
+impl From<TextsFault> for StormFault {
+    ghost use Rattle.std.specs.Prelude.{◌≡◌};
+    ghost use Rattle.storm_runner.specs.Faults.{of_texts};
+
+    ghost from_gives = { λ why fault. fault ≡ of_texts why };
+
+    fn from(why: TextsFault) -> StormFault {
+        match why {
+            TextsFault::TooManyScripts => StormFault::TooManyScripts,
+            TextsFault::BadLine { script, line } => StormFault::BadLine { script, line },
+            TextsFault::Read => StormFault::Read,
+            TextsFault::Memory => StormFault::Memory,
+        }
+    }
+}
+
+impl From<CallFault> for StormFault {
+    ghost use Rattle.std.specs.Prelude.{◌≡◌};
+    ghost use Rattle.storm_runner.specs.Faults.{of_call};
+
+    ghost from_gives = { λ why fault. fault ≡ of_call why };
+
+    fn from(why: CallFault) -> StormFault {
+        match why {
+            CallFault::Behind { .. } => StormFault::Behind,
+            CallFault::LogFull => StormFault::LogFull,
+            CallFault::Memory => StormFault::Memory,
+        }
+    }
+}
+
+impl From<PlayFault> for StormFault {
+    ghost use Rattle.std.specs.Prelude.{◌≡◌};
+    ghost use Rattle.storm_runner.specs.Faults.{of_play};
+
+    ghost from_gives = { λ why fault. fault ≡ of_play why };
+
+    fn from(why: PlayFault) -> StormFault {
+        match why {
+            PlayFault::Memory | PlayFault::Unsettled(SettleFault::Memory) => StormFault::Memory,
+            PlayFault::Unsettled(why) => StormFault::Unsettled(why),
+        }
+    }
+}

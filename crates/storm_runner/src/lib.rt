@@ -1,0 +1,35 @@
+//! Storms: scripts that are played at once on one locked network, each by its own clerk, while workers roam.
+//!
+//! `storm` reads and checks every script, and plays them on a `LockedNet`, whose lock alone decides the order
+//! of their lines. Then it settles all clerks and writes the one log. The text is that of a run of the
+//! machine: each script's entries are the events of its lines in order, and all other entries are steps of
+//! one node by the workers. If the receipts do not account for the log, it reports that and writes nothing.
+//! Two storms of the same scripts may write different logs; `audit` accepts each.
+//!
+//! It holds the scripts, the receipts and the log since its last base. Forks in two start the threads; if
+//! none can be started, scripts are played one after another.
+//!
+//! ```rust
+//! storm(rt, alloc, &options.with_roam(2, 1_000), files, &mut Writes::new(stdout), &NoGate)?;    // `StormFault`
+//! ```
+#![tactic(auto)]
+
+mod beside;
+mod ending;
+mod fault;
+mod fault_line;
+mod forks;
+mod log;
+mod play;
+mod run;
+mod stage;
+mod storming;
+mod text;
+mod turns;
+
+pub use ending::{status, storm_end};
+pub use fault::{PlayFault, StormFault};
+pub use log::put_log;
+pub use run::play_scripts;
+pub use stage::WorkerConfig;
+pub use storming::storm;

@@ -1,0 +1,65 @@
+//! A log as a transcript.
+
+ghost use Rattle.std.specs.Prelude.{◌≡◌, ◌+◌, ◌++◌, OnOk, OnErr};
+ghost use Rattle.line_text.specs.EntryText.{entry_lines};
+ghost use Rattle.line_text.specs.Words.{Extends};
+ghost use Rattle.rule_machine.specs.Base.{dropped};
+ghost use Rattle.storm_runner.specs.RetainedText.{kept_text, retained_opening};
+
+use line_text::{put_entry, put_header};
+use rule_machine::{RuleSet, Want};
+use rules_api::Rules;
+use step_log::Journal;
+
+fn append_entries<R: Rules>(out: &mut Vec<u8>, journal: &Journal<R>) -> Result<(), Want>
+    ensures ok { OnOk result (out.new.items ≡ out.old.items ++ entry_lines (dropped journal.now.base + 1) journal.now.entries) }
+    ensures err { OnErr result (Extends out.old.items out.new.items) }
+{
+    for before in journal.base().unwrap_or(0)..journal.len() {
+        let entry = journal.entry(before + 1).unwrap();
+        put_entry(out, before + 1, entry.event(), entry.reply())?;
+    }
+    Ok(())
+}
+
+// Writes a header, or the lines of the base if there is one.
+fn put_opening<R: Rules>(
+    out: &mut Vec<u8>,
+    rules: RuleSet,
+    nodes: u32,
+    present: u32,
+    journal: &Journal<R>,
+) -> Result<(), Want>
+    ensures ok { OnOk result (out.new.items ≡ out.old.items ++ retained_opening rules nodes present journal.now.state.network.size journal.now.base) }
+    ensures err { OnErr result (out.new.items ≡ out.old.items) }
+{
+    if journal.base().is_none() {
+        return put_header(out, rules, nodes, present);
+    }
+    let text = journal.base_text(rules)?;
+    out.extend_from_slice(&text)
+}
+
+/// Writes the text of the log that a journal keeps.
+///
+/// It is a header (rule set, names, nodes at the start), or the lines of the base if entries were dropped;
+/// then a numbered line for each entry. `Want` if memory runs out; then nothing was written. Looks at each
+/// entry; takes the memory of the text, and that of a base twice.
+pub fn put_log<R: Rules>(
+    out: &mut Vec<u8>,
+    rules: RuleSet,
+    nodes: u32,
+    present: u32,
+    journal: &Journal<R>,
+) -> Result<(), Want>
+    ensures ok { OnOk result (out.new.items ≡ out.old.items ++ kept_text rules nodes present journal.now.state.network.size journal.now.base journal.now.entries) }
+    ensures err { OnErr result (out.new.items ≡ out.old.items) }
+{
+    let len = out.len();
+    put_opening(out, rules, nodes, present, journal)?;
+    let done = append_entries(out, journal);
+    if done.is_err() {
+        out.truncate(len);
+    }
+    done
+}

@@ -1,0 +1,107 @@
+//! Carrying out a command.
+
+ghost use Rattle.std.specs.Prelude.{◌≡◌, OnOk, OnErr};
+ghost use mathlib.Core.List.{IsPrefix};
+ghost use Rattle.rule_machine.specs.declared.event.Event.TheVariants.{Step};
+ghost use Rattle.locked_net.specs.Nets.{book_of, setting_of};
+ghost use Rattle.locked_net.specs.Receipts.{IsOfBook, noted};
+ghost use Rattle.script_text.specs.declared.command.Command.TheVariants.{Tell, Checkpoint};
+ghost use Rattle.storm_runner.specs.PlayedCommands.{Plays, IsBased};
+
+use crate::stage::StormContext;
+use crate::turns::{drive, recall, scramble};
+use locked_net::{CallFault, Clerk, LockedNet, StepFault};
+use rule_machine::{Choice, Event};
+use rules_api::Rules;
+use script_run::paying_workers;
+use script_text::Command;
+use std::sync::Wait;
+use std::thread::Threads;
+use steal_pool::{Gate, NoGate};
+
+/// Calls the network for a step, evaluated by as many of the crew's workers as pay for it.
+fn step<R: Rules + Sync, G: Gate, T: Threads + Wait + Sync>(
+    rt: &T,
+    stage: &StormContext<R, G>,
+    clerk: &mut Clerk,
+    choice: Choice,
+) -> Result<(), CallFault>
+    requires { IsOfBook (book_of stage.now.net.now) clerk.old }
+    ensures plays { Plays (setting_of R.table stage.now.net.now) (Tell (Step choice)) clerk.old clerk.new result }
+    ensures note { IsOfBook (book_of stage.now.net.now) clerk.new }
+    ensures base { clerk.new.base ≡ clerk.old.base }
+    ensures grows { IsPrefix (noted clerk.old.note) (noted clerk.new.note) }
+{
+    let before = clerk.noted();
+    let workers = paying_workers(stage.crew.workers, choice.items().len());
+    match clerk.step_with(rt, stage.net, choice, workers, &NoGate) {
+        Ok(_) => {
+            recall(clerk, before);
+            Ok(())
+        }
+        Err(StepFault::Call(fault)) => Err(fault),
+        Err(StepFault::Pool(_)) => unreachable!(),
+    }
+}
+
+fn tell<R: Rules + Sync, G: Gate, T: Threads + Wait + Sync>(
+    rt: &T,
+    stage: &StormContext<R, G>,
+    clerk: &mut Clerk,
+    event: &Event,
+) -> Result<(), CallFault>
+    requires { IsOfBook (book_of stage.now.net.now) clerk.old }
+    ensures plays { Plays (setting_of R.table stage.now.net.now) (Tell event.now) clerk.old clerk.new result }
+    ensures note { IsOfBook (book_of stage.now.net.now) clerk.new }
+    ensures base { clerk.new.base ≡ clerk.old.base }
+    ensures grows { IsPrefix (noted clerk.old.note) (noted clerk.new.note) }
+{
+    match event.clone()? {
+        Event::Step(choice) => step(rt, stage, clerk, choice),
+        event => {
+            let before = clerk.noted();
+            clerk.call(rt, stage.net, event)?;
+            recall(clerk, before);
+            Ok(())
+        }
+    }
+}
+
+/// Makes the network's state the base of its log. A checkpoint has no receipt.
+fn checkpoint<R: Rules, W: Wait>(
+    rt: &W,
+    net: &LockedNet<R>,
+    clerk: &mut Clerk,
+) -> Result<(), CallFault>
+    requires { IsOfBook (book_of net.now) clerk.old }
+    ensures plays { Plays (setting_of R.table net.now) Checkpoint clerk.old clerk.new result }
+    ensures base { OnOk result (IsBased (setting_of R.table net.now) Checkpoint clerk.old clerk.new) }
+    ensures kept { OnErr result (clerk.new.base ≡ clerk.old.base) }
+    ensures note { IsOfBook (book_of net.now) clerk.new }
+    ensures grows { IsPrefix (noted clerk.old.note) (noted clerk.new.note) }
+{
+    clerk.checkpoint(rt, net)?;
+    Ok(())
+}
+
+/// Calls the network for a command: once, or for each turn up to the first that finds nothing to do.
+pub(crate) fn play<R: Rules + Sync, G: Gate, T: Threads + Wait + Sync>(
+    rt: &T,
+    stage: &StormContext<R, G>,
+    clerk: &mut Clerk,
+    command: &Command,
+) -> Result<(), CallFault>
+    requires { IsOfBook (book_of stage.now.net.now) clerk.old }
+    ensures plays { Plays (setting_of R.table stage.now.net.now) command.now clerk.old clerk.new result }
+    ensures note { IsOfBook (book_of stage.now.net.now) clerk.new }
+    ensures base { OnOk result (IsBased (setting_of R.table stage.now.net.now) command.now clerk.old clerk.new) }
+    ensures kept { OnErr result (clerk.new.base ≡ clerk.old.base) }
+    ensures grows { IsPrefix (noted clerk.old.note) (noted clerk.new.note) }
+{
+    match command {
+        Command::Tell(event) => tell(rt, stage, clerk, event),
+        Command::Drive(turns) => drive(rt, stage.alloc, stage.net, clerk, *turns),
+        Command::Scramble(turns) => scramble(rt, stage.net, clerk, *turns),
+        Command::Checkpoint => checkpoint(rt, stage.net, clerk),
+    }
+}

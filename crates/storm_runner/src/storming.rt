@@ -1,0 +1,126 @@
+//! A storm: scripts read, played at once on one network, settled and written.
+
+ghost use Rattle.std.specs.Prelude.{◌≡◌, ◌≤◌, true, length, map, IfOk, IfErr, IsErrOf};
+ghost use Rattle.script_run.specs.RunOptions.{asked_of};
+ghost use Rattle.step_log.specs.JournalViews.{kept_of};
+ghost use Rattle.storm_runner.specs.Outcome.{Leaves, EndsUnder, IsStormOutcome};
+ghost use Rattle.storm_runner.specs.Parts.{FailsToPlay};
+ghost use Rattle.storm_runner.specs.declared.fault.StormFault.TheVariants.{Write as Unwritten};
+
+use crate::text::write_log;
+use crate::{StormFault, WorkerConfig, play_scripts};
+use byte_streams::FailStopWriter;
+use locked_net::{CallFault, LockedNet};
+use rule_machine::RuleSet;
+use rules_api::Rules;
+use rules_hsu_huang::HsuHuang;
+use rules_manne::Manne;
+use script_run::Options;
+use script_text::{Script, read_scripts};
+use std::alloc::Global;
+use std::io::{Read, Write};
+use std::sync::Wait;
+use std::thread::Threads;
+use steal_pool::Gate;
+use step_log::Journal;
+
+// Plays scripts on a new network while workers roam; returns the log that they leave, and the first fault.
+fn play<R: Rules + Send + Sync, G: Gate + Sync, T: Threads + Wait + Sync>(
+    rt: &T,
+    alloc: Global,
+    options: &Options,
+    scripts: &[Script],
+    gate: &G,
+) -> Result<(Journal<R>, Option<CallFault>), StormFault>
+    requires { length scripts.now ≤ 64 }
+    ensures log { IfOk result (λ left. Leaves R.table R.NODE_WEIGHT (asked_of options.now) scripts.now left.1 (kept_of left.0)) }
+    ensures fault { IfErr result FailsToPlay }
+{
+    let Ok(net) = LockedNet::<R>::with_present(
+        alloc,
+        rt,
+        options.nodes(),
+        options.present(),
+        options.limit(),
+    ) else {
+        return Err(StormFault::Memory);
+    };
+    let crew = WorkerConfig {
+        workers: options.workers(),
+        roamers: options.roamers(),
+        turns: options.turns(),
+    };
+    Ok(play_scripts(rt, alloc, net, scripts, crew, gate)?)
+}
+
+fn storm_on<
+    R: Rules + Send + Sync,
+    In: Read + Drop,
+    Out: Write,
+    G: Gate + Sync,
+    T: Threads + Wait + Sync,
+>(
+    rt: &T,
+    alloc: Global,
+    options: &Options,
+    readers: Vec<In>,
+    writer: &mut FailStopWriter<Out>,
+    gate: &G,
+) -> Result<(), StormFault>
+    ensures outcome { EndsUnder R.table R.NODE_WEIGHT (asked_of options.now) In.remaining readers.items
+        Out.contents writer.old.writer writer.new.writer result }
+    ensures unwritten { IsErrOf result Unwritten → writer.new.failed ≡ true }
+{
+    let scripts = read_scripts(alloc, readers)?;
+    let (journal, fault) = play::<R, G, T>(rt, alloc, options, &scripts, gate)?;
+    write_log(alloc, options, &journal, writer)?;
+    match fault {
+        Some(fault) => Err(StormFault::from(fault)),
+        None => Ok(()),
+    }
+}
+
+/// Plays a script from each reader at once on one new network, and writes the settled log.
+///
+/// Each script has its own clerk. The options say how many workers roam meanwhile, and how many evaluate a
+/// `step`. The text is a header, an entry for each answered command of a script, and an entry for each node
+/// that a worker moved. After a checkpoint it is the lines of the last one's base and the entries after it.
+/// Without readers it is the header alone.
+///
+/// The first of these errors is returned:
+///
+/// | Error | When | Written before it |
+/// |---|---|---|
+/// | `TooManyScripts` | above 64 readers | nothing |
+/// | `Read`, `BadLine` | script by script: the reader's first error; the first line neither empty nor a command | nothing |
+/// | `Unsettled` | the receipts do not account for the log | nothing |
+/// | `Write` | only if a write or a flush failed | a beginning of the text |
+/// | `LogFull`, `Behind`, `Memory` | the fault of the first script that met one, or else of the first worker | all of the text |
+///
+/// `LogFull` is a command or turn beyond the limit; `Memory` here comes in a call. The script or worker that
+/// meets a fault ends there, and the others go on. `Memory` also comes if memory runs out elsewhere, before
+/// anything is written. `Thread` never comes.
+///
+/// Before each command the script passes the gate with its number, from 0, and the line's; workers pass none.
+/// It waits for the gate, for the network's lock, and for its threads. If no thread can be started, the
+/// scripts are played one after another, and then the workers roam.
+pub fn storm<In: Read + Drop, Out: Write, G: Gate + Sync, T: Threads + Wait + Sync>(
+    rt: &T,
+    alloc: Global,
+    options: &Options,
+    readers: Vec<In>,
+    writer: &mut FailStopWriter<Out>,
+    gate: &G,
+) -> Result<(), StormFault>
+    ensures outcome { IsStormOutcome (asked_of options.now) (map In.remaining readers.items) (Out.contents writer.old.writer) (Out.contents writer.new.writer) result }
+    ensures unwritten { IsErrOf result Unwritten → writer.new.failed ≡ true }
+{
+    match options.rules() {
+        RuleSet::Hh => storm_on::<HsuHuang, In, Out, G, T>(
+            rt, alloc, options, readers, writer, gate,
+        ),
+        RuleSet::Manne => storm_on::<Manne, In, Out, G, T>(
+            rt, alloc, options, readers, writer, gate,
+        ),
+    }
+}

@@ -1,0 +1,157 @@
+-- An index that is updated for an edge.
+use Rattle.std.proofs.Common.{◌≡◌, ◌≢◌, ℕ, ◌<◌, ◌≤◌, Bool, true, false, not, ◌&&◌, List, Option, None, nat_eq, IsTrue, refl, sym, ap, subst, ◌∙◌, arith}
+use Rattle.std.specs.Ordering.{eq_by_cmp}
+use Rattle.std.proofs.lemmas.Bool.{eq-eqb, ne_eqb, false_from_ne_true, true≢false, or_left, and_right}
+use Rattle.std.proofs.lemmas.Cmp.{eq_by_cmp_equiv}
+use Rattle.rule_machine.specs.Network.{Network, pair_cmp, edge, linked, present, with_edge, without_edge}
+use Rattle.rule_machine.specs.State.{State, Registers, IsState, points, pointer_of, flag_of}
+use Rattle.rule_machine.specs.Disturbance.{after_link}
+use Rattle.graph_store.specs.Fault.{link_fault}
+use Rattle.net_state.proofs.Edges.{linked_with_other, linked_without_other, new_edge}
+use Rattle.rule_machine.specs.Refuse.{link_refusal}
+use Rattle.machine_laws.specs.Edges.{pair_total, contains-insert, contains-remove, linked_comm}
+use Rattle.machine_laws.specs.Neighbours.{linked_apart, linked_present, linked_back}
+use Rattle.machine_laws.specs.Pointers.{points_true, pointer_linked}
+use Rattle.suitor_index.specs.declared.tally.Tally.{Tally}
+use Rattle.net_state.specs.StateViews.{StateView, state_of}
+use Rattle.rules_api.specs.LocalViews.{asks_for}
+use Rattle.suitor_index.specs.Tallies.{tally_of, IsIndexOf, IsIndexed}
+use Rattle.suitor_index.specs.TallyChanges.{one_if, IsOpenTo}
+use Rattle.suitor_index.proofs.OtherTallies.{tally_small}
+use Rattle.suitor_index.proofs.Ends.{IsEdgeMore, end_of, tally_more}
+
+same_pair : (a b : ℕ) → eq_by_cmp pair_cmp (edge a b) (edge a b) ≡ true
+same_pair a b = (eq_by_cmp_equiv pair_total).refl (edge a b)
+
+no_pointer_across : (net : Network) (r : Registers) (a b : ℕ) → IsState (state_of net r) → linked net a b ≡ false → points r a b ≡ false
+no_pointer_across net r a b good absent =
+    false_from_ne_true (points r a b) (λ at. true≢false (sym (pointer_linked (state_of net r) a b good (points_true (state_of net r) a b at)) ∙ absent))
+
+-- an edge that is added
+pub edge_linked : (net more : Network) (r : Registers) (a b : ℕ) → IsState (state_of net r) → link_refusal net a b ≡ None → more ≡ with_edge net a b → IsEdgeMore net more r a b
+edge_linked net more r a b good accepted change =
+    let two : nat_eq a b ≡ false = grind arith in
+    let new : linked net a b ≡ false = grind arith in
+    let back : linked net b a ≡ false = linked_comm net b a ∙ new in
+    let there : linked more a b ≡ true = ap (λ n. linked n a b) change ∙ contains-insert net.edges (edge a b) (edge a b) ∙ or_left _ _ (same_pair a b) in
+    record {
+      size = ap (λ n. n.size) (sym change);
+      here = λ k. ap (λ n. present n k) (sym change);
+      has_a = grind arith;
+      has_b = grind arith;
+      apart = λ same. true≢false (sym (eq-eqb a b same) ∙ two);
+      absent = new;
+      absent_back = back;
+      there = there;
+      there_back = linked_comm more b a ∙ there;
+      others = λ k x not_ab not_ba. sym (ap (λ n. linked n k x) change ∙ linked_with_other net a b k x not_ab not_ba);
+      not_there = no_pointer_across net r a b good new;
+      not_back = no_pointer_across net r b a good back;
+    }
+
+-- an edge that is removed
+pub edge_unlinked : (net more : Network) (r : Registers) (a b : ℕ) → IsState (state_of more r) → IsTrue (linked more a b) → points r a b ≡ false → points r b a ≡ false → net ≡ without_edge more a b → IsEdgeMore net more r a b
+edge_unlinked net more r a b good there not_there not_back change =
+    let size : net.size ≡ more.size = ap (λ n. n.size) change in
+    let has_a = linked_present more a b good.is_network there in
+    let has_b = linked_present more b a good.is_network (linked_back more b a ∙ there) in
+    let absent : linked net a b ≡ false = ap (λ n. linked n a b) change ∙ contains-remove more.edges (edge a b) (edge a b) ∙ ap (λ t. not t && linked more a b) (same_pair a b) in
+    record {
+      size = size;
+      here = λ k. ap (λ n. present n k) change;
+      has_a = ap (λ n. present n a) change ∙ has_a;
+      has_b = ap (λ n. present n b) change ∙ has_b;
+      apart = linked_apart more a b good.is_network there;
+      absent = absent;
+      absent_back = linked_comm net b a ∙ absent;
+      there = there;
+      there_back = linked_comm more b a ∙ there;
+      others = λ k x not_ab not_ba. ap (λ n. linked n k x) change ∙ linked_without_other more a b k x not_ab not_ba;
+      not_there = not_there;
+      not_back = not_back;
+    }
+
+-- an edge that is added: the tallies are those of the network without it
+pub before_link : (above : Bool) (opens : Option ℕ → Bool → Bool) (n was now : StateView) (a b : ℕ) (kept start : List Tally) → IsIndexed above opens n.state kept → start ≡ kept → n ≡ was → link_fault was.state.network a b ≡ None → now.state ≡ after_link n.state a b → IsEdgeMore n.state.network now.state.network now.state.registers a b × IsIndexOf above opens (state_of n.state.network now.state.registers) start
+before_link above opens n was now a b kept start it value same free at =
+    let registers : n.state.registers ≡ now.state.registers = ap (λ (s : State). s.registers) (sym at) in
+    let accepted = (new_edge n.state.network a b (ap (λ (h : StateView). link_fault h.state.network a b) same ∙ free)).accepted in (
+      edge_linked n.state.network now.state.network now.state.registers a b (subst (λ r. IsState (state_of n.state.network r)) registers it.is_state) accepted (ap (λ (s : State). s.network) at),
+      subst (λ r. IsIndexOf above opens (state_of n.state.network r) start) registers (subst (IsIndexOf above opens n.state) (sym value) it.index),
+    )
+
+-- one that is removed: they are those of the network with it
+pub before_unlink : (above : Bool) (opens : Option ℕ → Bool → Bool) (n was now : StateView) (a b : ℕ) (kept start : List Tally) → IsIndexed above opens n.state kept → start ≡ kept → n ≡ was → IsTrue (linked was.state.network a b) → points was.state.registers a b ≡ false → points was.state.registers b a ≡ false → now.state ≡ record n.state { network = without_edge n.state.network a b } → IsEdgeMore now.state.network n.state.network now.state.registers a b × IsIndexOf above opens (state_of n.state.network now.state.registers) start
+before_unlink above opens n was now a b kept start it value same there not_there not_back at =
+    let registers : n.state.registers ≡ now.state.registers = ap (λ (s : State). s.registers) (sym at) in
+    let back = sym registers ∙ ap (λ (h : StateView). h.state.registers) same in (
+      edge_unlinked now.state.network n.state.network now.state.registers a b (subst (λ r. IsState (state_of n.state.network r)) registers it.is_state)
+          (subst (λ (h : StateView). IsTrue (linked h.state.network a b)) (sym same) there)
+          (ap (λ r. points r a b) back ∙ not_there)
+          (ap (λ r. points r b a) back ∙ not_back)
+          (ap (λ (s : State). s.network) at),
+      subst (λ r. IsIndexOf above opens (state_of n.state.network r) start) registers (subst (IsIndexOf above opens n.state) (sym value) it.index),
+    )
+
+-- from the other end
+pub edge_swapped : (net more : Network) (r : Registers) (a b : ℕ) → IsEdgeMore net more r a b → IsEdgeMore net more r b a
+edge_swapped net more r a b e = record {
+  size = e.size;
+  here = e.here;
+  has_a = e.has_b;
+  has_b = e.has_a;
+  apart = λ same. e.apart (sym same);
+  absent = e.absent_back;
+  absent_back = e.absent;
+  there = e.there_back;
+  there_back = e.there;
+  others = λ k x not_ba not_ab. e.others k x not_ab not_ba;
+  not_there = e.not_back;
+  not_back = e.not_there;
+}
+
+end_here : (above : Bool) (opens : Option ℕ → Bool → Bool) (r : Registers) (a b : ℕ) → (asks_for above a b && opens (pointer_of r b) (flag_of r b)) ≡ true → one_if (end_of above opens r b a a) ≡ 1
+end_here above opens r a b counts = ap one_if (ap (λ o. o && nat_eq a a) counts ∙ eq-eqb a a refl)
+
+end_elsewhere : (above : Bool) (opens : Option ℕ → Bool → Bool) (r : Registers) (a b k : ℕ) → k ≢ a → end_of above opens r b a k ≡ false
+end_elsewhere above opens r a b k apart = and_right (asks_for above a b && opens (pointer_of r b) (flag_of r b)) (nat_eq k a) (ne_eqb k a apart)
+
+-- at an end there is room to count the other
+pub end_room : (above : Bool) (opens : Option ℕ → Bool → Bool) (net more : Network) (r : Registers) (a b : ℕ) (start : List Tally) → IsEdgeMore net more r a b → IsIndexOf above opens (state_of net r) start → net.size ≤ 65535 → (asks_for above a b && opens (pointer_of r b) (flag_of r b)) ≡ true → (tally_of start a).reached < 65535
+end_room above opens net more r a b start e index few counts =
+    let t = tally_more above opens net more r a b a e in
+    let was = index.counted a e.has_a in
+    let small = tally_small above opens (state_of more r) a (let s = e.size in omega arith) in
+    let now = t.reached in
+    let most = small.reached in
+    let x = ap (λ (y : Tally). y.reached) was in
+    omega (arith, now, most, end_here above opens r a b counts, x)
+
+-- and it is counted at the edge's end
+pub end_counted : (above : Bool) (opens : Option ℕ → Bool → Bool) (net more : Network) (r : Registers) (a b : ℕ) (start : List Tally) → IsEdgeMore net more r a b → IsIndexOf above opens (state_of more r) start → (asks_for above a b && opens (pointer_of r b) (flag_of r b)) ≡ true → 1 ≤ (tally_of start a).reached
+end_counted above opens net more r a b start e index counts =
+    let t = tally_more above opens net more r a b a e in
+    let was = index.counted a (sym (e.here a) ∙ e.has_a) in
+    let now = t.reached in
+    let x = ap (λ (y : Tally). y.reached) was in
+    omega (arith, now, end_here above opens r a b counts, x)
+
+-- a place that does not pass is as it was
+open_still : (p : ℕ → Bool) (a b : List Tally) (w : ℕ) → IsOpenTo p a b → p w ≡ false → (tally_of b w).reached ≡ (tally_of a w).reached
+open_still p a b w told fails =
+    let now = told.reached w in
+    let none : one_if (p w) ≡ 0 = ap one_if fails in
+    omega arith
+
+-- after the first end is updated, the other is as it was
+pub second_room : (above : Bool) (opens : Option ℕ → Bool → Bool) (net more : Network) (r : Registers) (a b : ℕ) (start half : List Tally) → IsEdgeMore net more r a b → IsIndexOf above opens (state_of net r) start → net.size ≤ 65535 → IsOpenTo (end_of above opens r b a) start half → (asks_for above b a && opens (pointer_of r a) (flag_of r a)) ≡ true → (tally_of half b).reached < 65535
+second_room above opens net more r a b start half e index few told counts =
+    let same = open_still (end_of above opens r b a) start half b told (end_elsewhere above opens r a b b (λ same. e.apart (sym same))) in
+    let room = end_room above opens net more r b a start (edge_swapped net more r a b e) index few counts in
+    omega (arith, same, room)
+
+pub second_counted : (above : Bool) (opens : Option ℕ → Bool → Bool) (net more : Network) (r : Registers) (a b : ℕ) (start half : List Tally) → IsEdgeMore net more r a b → IsIndexOf above opens (state_of more r) start → IsOpenTo (end_of above opens r a b) half start → (asks_for above a b && opens (pointer_of r b) (flag_of r b)) ≡ true → 1 ≤ (tally_of half a).reached
+second_counted above opens net more r a b start half e index told counts =
+    let same = open_still (end_of above opens r a b) half start a told (end_elsewhere above opens r b a a e.apart) in
+    let counted = end_counted above opens net more r a b start e index counts in
+    omega (arith, same, counted)

@@ -1,0 +1,53 @@
+-- How two tables of tallies differ by one node: by its target, and by the entries that count it as open.
+use Rattle.std.specs.Prelude.{◌≡◌, ℕ, ◌+◌, ◌<◌, ◌≤◌, Bool, true, false, cond, List, length, Option}
+use Rattle.rule_machine.specs.State.{is_at}
+use Rattle.suitor_index.specs.declared.tally.Tally.{Tally}
+use Rattle.suitor_index.specs.Tallies.{tally_of}
+
+-- 1 if the test passes
+abbrev pub one_if : Bool → ℕ
+one_if b = cond b 1 0
+
+-- the second table counts v as a suitor of the pointer's target, and the first does not
+pub record AddsSuitor (pointer : Option ℕ) (v : ℕ) (without has : List Tally) : Type 0 where
+  pub places : length has ≡ length without
+  pub suitors : (k : ℕ) → (tally_of has k).suitors ≡ (tally_of without k).suitors + one_if (is_at pointer k)
+  pub sum : (k : ℕ) → (tally_of has k).sum ≡ (tally_of without k).sum + cond (is_at pointer k) v 0
+  pub reached : (k : ℕ) → (tally_of has k).reached ≡ (tally_of without k).reached
+
+-- the second table counts one more open node than the first at the places that pass the test
+pub record IsOpenTo (near : ℕ → Bool) (without has : List Tally) : Type 0 where
+  pub places : length has ≡ length without
+  pub suitors : (k : ℕ) → (tally_of has k).suitors ≡ (tally_of without k).suitors
+  pub sum : (k : ℕ) → (tally_of has k).sum ≡ (tally_of without k).sum
+  pub reached : (k : ℕ) → (tally_of has k).reached ≡ (tally_of without k).reached + one_if (near k)
+
+-- v can be one of the suitors, or the counts have room for it
+pub record HasSuitor (v : ℕ) (t : Tally) : Type 0 where
+  pub suitors : 1 ≤ t.suitors
+  pub sum : v ≤ t.sum
+
+pub record HasTallyRoom (v : ℕ) (t : Tally) : Type 0 where
+  pub suitors : t.suitors < 65535
+  pub sum : t.sum + v < 4294967296
+
+-- an open node is counted that can turn to one that is not, or one more can be counted
+abbrev pub CanTurn : Bool → Bool → Tally → Type 0
+CanTurn true false t = 1 ≤ t.reached
+CanTurn false true t = t.reached < 65535
+CanTurn true true t = Unit {0}
+CanTurn false false t = Unit {0}
+
+-- at the places that pass the test the first table counts a node as it was, and the second as it is
+pub record IsTurned (near : ℕ → Bool) (was is : Bool) (before after : List Tally) : Type 0 where
+  pub places : length after ≡ length before
+  pub suitors : (k : ℕ) → (tally_of after k).suitors ≡ (tally_of before k).suitors
+  pub sum : (k : ℕ) → (tally_of after k).sum ≡ (tally_of before k).sum
+  pub reached : (k : ℕ) → (tally_of after k).reached + cond was (one_if (near k)) 0 ≡ (tally_of before k).reached + cond is (one_if (near k)) 0
+
+-- the first table counts v as a suitor of its old target, and the second of its new one
+pub record IsRepointed (was is : Option ℕ) (v : ℕ) (before after : List Tally) : Type 0 where
+  pub places : length after ≡ length before
+  pub suitors : (k : ℕ) → (tally_of after k).suitors + one_if (is_at was k) ≡ (tally_of before k).suitors + one_if (is_at is k)
+  pub sum : (k : ℕ) → (tally_of after k).sum + cond (is_at was k) v 0 ≡ (tally_of before k).sum + cond (is_at is k) v 0
+  pub reached : (k : ℕ) → (tally_of after k).reached ≡ (tally_of before k).reached
