@@ -4,15 +4,8 @@ import {numberWithin, shown} from "./names.mjs";
 /** @typedef {import("./names.mjs").Names} Names */
 /** @typedef {import("./names.mjs").Name} Name */
 
-/** @type {Record<string, number>} */
-const COSTED = {
-  link: 2,
-  unlink: 2,
-  join: 1,
-  leave: 1,
-  point: 2,
-  flag: 2
-};
+/** The edits and faults, and how many words each has. */
+export const COSTED = new Map([["link", 2], ["unlink", 2], ["join", 1], ["leave", 1], ["point", 2], ["flag", 2]]);
 const MOST_EDGES = 1_048_576;
 
 /**
@@ -24,14 +17,14 @@ const MOST_EDGES = 1_048_576;
  * @param {string} asked the question
  */
 export function numbersOfEdit(names, word, given, asked) {
-  if (!Object.keys(COSTED).includes(word)) {
-    throw new RangeError(`${Object.keys(COSTED).join(" or ")} has a ${asked}, and not ${shown(word)}`);
+  const count = COSTED.get(word);
+  if (count === undefined) {
+    throw new RangeError(`${[...COSTED.keys()].join(" or ")} has a ${asked}, and not ${shown(word)}`);
   }
-  if (given.length !== COSTED[word]) {
-    throw new TypeError(`${word} takes ${COSTED[word] === 1 ? "1 word" : "2 words"}, and not ${given.length}`);
+  if (given.length !== count) {
+    throw new TypeError(`${word} takes ${count === 1 ? "1 word" : "2 words"}, and not ${given.length}`);
   }
-  const [first, second] = given;
-  const node = names.numberOf(first);
+  const node = names.numberOf(given[0]), second = given[1];
   switch (word) {
     case "flag":
       return [node, numberWithin(Number(second), 1, "a flag")];

@@ -30,6 +30,9 @@ const ROW_WORDS = 3;
 const NO_ROWS = new Uint32Array(0);
 // how many names the first question for a reach has room for
 const FEW = 64;
+const WIDE_FEW = BigInt(FEW);
+// the edits and faults, whose calls are looked up once
+const EDITS = ["link", "unlink", "join", "leave", "point", "flag"];
 const LEAST_ROOM = 1 << 12;
 const LEAST_TEXT = 1 << 15;
 // a module with the features that the engine needs beyond the first version of WebAssembly
@@ -86,8 +89,20 @@ export class Engine {
     /** A slot that stays empty: questions to it return that there is no session. */
     this.nowhere = this.slot();
     this.numbers = new Uint32Array(memory.buffer);
+    this.costs = this.ofEdits("cost_of");
+    this.silentCosts = this.ofEdits("silent_cost_of");
+    this.reaches = this.ofEdits("reach_of");
     // so that short texts can be read even if memory runs out
     this.taken.of(LEAST_TEXT);
+  }
+
+  /**
+   * The calls with this name for each edit and fault.
+   * @param {string} name
+   * @returns {Calls}
+   */
+  ofEdits(name) {
+    return Object.fromEntries(EDITS.map((word) => [word, this.calls[`rudekpi_${name}_${word}`]]));
   }
 
   /** @param {BufferSource} bytes */
@@ -217,19 +232,27 @@ export class Engine {
    * @param {number[]} numbers
    */
   reachOf(slot, word, numbers) {
-    const ask = this.calls[`rudekpi_reach_of_${word}`];
-    const count = this.told;
-    for (let room = FEW;;) {
+    const ask = this.reaches[word];
+    const first = numbers[0];
+    for (let room = FEW, wide = WIDE_FEW;;) {
       const at = this.taken.of(WORD_BYTES * room);
-      const status = ask(slot, ...numbers, at, BigInt(room), count);
+      const status = numbers.length === 1 ? ask(slot, first, at, wide, this.told) :
+                                            ask(slot, first, numbers[1], at, wide, this.told);
       if (status !== DONE) {
         throw new EngineFault(status);
       }
-      const found = this.words()[this.desk];
+      const words = this.words();
+      const found = words[this.desk];
       if (found <= room) {
-        return Array.from(this.wordsAt(at, found));
+        const begin = Number(at) / WORD_BYTES;
+        const list = [];
+        for (let place = begin; place < begin + found; place += 1) {
+          list.push(words[place]);
+        }
+        return list;
       }
       room = found;
+      wide = BigInt(room);
     }
   }
 }

@@ -295,7 +295,7 @@ export class Network {
    */
   costOf(word, ...given) {
     const numbers = numbersOfEdit(this.#names, word, given, "cost");
-    this.#asked(this.#calls[`rudekpi_cost_of_${word}`](this.#slot, ...numbers, this.#told));
+    this.#asked(this.#engine.costs[word](this.#slot, ...numbers, this.#told));
     return this.#costOf(word, given, numbers);
   }
 
@@ -305,7 +305,7 @@ export class Network {
    */
   silentCostOf(word, ...given) {
     const numbers = numbersOfEdit(this.#names, word, given, "cost");
-    const status = this.#calls[`rudekpi_silent_cost_of_${word}`](this.#slot, ...numbers, this.#told);
+    const status = this.#engine.silentCosts[word](this.#slot, ...numbers, this.#told);
     if (status === NOT_SILENT) {
       return null;
     }
@@ -334,8 +334,11 @@ export class Network {
    */
   reach(word, ...given) {
     const numbers = numbersOfEdit(this.#names, word, given, "reach");
-    const reached = this.#ask(() => this.#engine.reachOf(this.#slot, word, numbers));
-    return new Set(reached.map((number) => this.#names.nameOf(number)));
+    const reached = new Set();
+    for (const number of this.#ask(() => this.#engine.reachOf(this.#slot, word, numbers))) {
+      reached.add(this.#names.nameOf(number));
+    }
+    return reached;
   }
 
   /** @param {Name} node */
