@@ -1,5 +1,6 @@
 // Puts the page together: a transcript that stands in it is played; else there is a network to break. What is opened,
 // dropped or pasted is told apart: the engine inside judges a transcript, plays a script, and links a graph.
+import {useNames} from "./own_names.mjs";
 import {Playing} from "./playing.mjs";
 import {forget, keep, kept} from "./playground/keeping.mjs";
 import {LabPage} from "./playground/lab_page.mjs";
@@ -122,6 +123,8 @@ class Page {
   play(text, judge) {
     this.lab?.leave();
     document.body.classList.remove("lab");
+    // the names in the page are those of the transcript in it
+    useNames(text === this.embedded ? dataOf("names") : null);
     this.playing.begin(text, judge);
   }
 
@@ -143,6 +146,7 @@ class Page {
     }
     this.playing.end();
     this.opened = null;
+    useNames(null);
     document.body.classList.remove("hh", "manne", "broken", "undrawn");
     document.body.classList.add("lab");
     nameWindow("Break a network by hand");
