@@ -19,6 +19,7 @@ from . import (
     daemons,
     json_lines,
     log_commands,
+    page_commands,
     script_words,
     shell,
     streams,
@@ -348,7 +349,7 @@ def run_json(given: argparse.Namespace) -> int:
     except Damaged as damaged:
         print(damaged, file=sys.stderr)
         return FAILED
-    for line in json_lines.lines_of(transcript.decode()):
+    for line in json_lines.lines_of(transcript.decode(), log_commands.names_given(given)):
         print(line)
     return DONE
 
@@ -389,10 +390,12 @@ def parser_of() -> argparse.ArgumentParser:
     session.add_argument("--program")
     objects = command("json", run_json, "a transcript as JSON Lines, an object an entry")
     objects.add_argument("transcript", nargs="?", default="-", help="a file (standard input)")
+    log_commands.words_of_names(objects)
     objects.add_argument("--program")
     log_commands.add_commands(command)
     burst_commands.add_commands(command)
     again_commands.add_commands(command)
+    page_commands.add_commands(command)
     return parser
 
 

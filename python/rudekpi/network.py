@@ -13,9 +13,12 @@ from .costs import numbers_of_edit, why_refused
 from .daemons import AnyDaemon, Seeded, check_daemon, named
 from .direct import Direct
 from .errors import PastBound
+from .files import write_whole
 from .graphs import Graph, from_networkx, is_networkx
+from .labels import named_picture
+from .name_files import names_text
 from .names import Names
-from .numbers import counted, number_within
+from .numbers import MOST_NODES, MOST_SEED, counted, number_within
 from .program import Program, found_program
 from .replies import (
     Accepted,
@@ -47,6 +50,9 @@ class Network:
     nothing is said; others may `join`. With `keep=False` the transcript is kept from the last checkpoint on, and not
     longer.
 
+    With a `capacity` nodes may also join under new names, until there are that many; a new name gets the next free
+    number and keeps it when its node leaves. Numbers as names are then those up to the capacity.
+
     The `engine` is "library" or "program": where nothing is said that of the environment's RUDEKPI_ENGINE, else the
     library where it is found and no program is named. Answers and transcripts are the same. The library is that of
     RUDEKPI_LIBRARY, else the one in this package, else `release/librudekpi.so` of the repository. If memory runs
@@ -63,6 +69,7 @@ class Network:
         nodes: Union[int, Iterable[Name], Graph] = 0,
         *,
         present: Optional[int] = None,
+        capacity: Optional[int] = None,
         program: Program = None,
         keep: bool = True,
         engine: Optional[str] = None,
@@ -71,8 +78,8 @@ class Network:
             raise ValueError(f"rules are 'hh' or 'manne', and not {rules!r}")
         graph = nodes if isinstance(nodes, Graph) else from_networkx(nodes) if is_networkx(nodes) else None
         names = cast("Union[int, Iterable[Name]]", graph.nodes if graph else nodes)
-        self.rules, self._names, self._program = rules, Names(names), program
-        count = self._names.count
+        self.rules, self._names, self._program = rules, Names(names, capacity), program
+        count = self._names.given
         start = count if present is None else number_within(present, count, "a number of nodes that are present")
         held = library.chosen(engine, program)
         self.engine = "library" if held else "program"
@@ -198,7 +205,11 @@ class Network:
         return self._single.flag(node, value).result()
 
     def join(self, node: Name) -> Accepted:
-        """A name becomes present, without an edge, null and unflagged."""
+        """A name becomes present, without an edge, null and unflagged.
+
+        A new name gets the next free number. Raises `ValueError` if the capacity is used up, and `Refused` if the name
+        is present already.
+        """
         return self._single.join(node).result()
 
     def leave(self, node: Name) -> Accepted:
@@ -293,18 +304,19 @@ class Network:
         status = self.status()
         return moves_left(self.rules, status.charge, status.nodes)
 
-    def settle(self, daemon: Union[Daemon, AnyDaemon, str]) -> Settled:
+    def settle(self, daemon: Union[Daemon, AnyDaemon, str], *, seed: int = 0) -> Settled:
         """Lets a daemon choose who moves until nobody is enabled.
 
         The daemon gets the enabled nodes, a mapping from name to rule, and gives back those that move, with a `Wish`
-        where it has one; those of `rudekpi.daemons` are given as they are, or by their words, as "seeded". Raises
+        where it has one; those of `rudekpi.daemons` are given as they are, or by their words, as "seeded", of which
+        the `seed` is. Raises
         `TypeError` where it is no daemon, `WrongChoice` where it chooses nobody or a node that is not enabled,
         `Refused` where the network takes the choice otherwise amiss (two nodes under `hh`), and `PastBound` where there
         are more moves than the charge. The transcript has the `status` asked at first, and an `enabled` in front of
         each step and at the end.
         """
         if isinstance(daemon, str):
-            daemon = named(daemon)
+            daemon = named(daemon, number_within(seed, MOST_SEED, "a seed"))
         check_daemon(daemon)
         if isinstance(daemon, Seeded):
             return daemon.settle(self)
@@ -335,14 +347,24 @@ class Network:
         return audits.audit(self.transcript(), program=self._program, engine=self.engine)
 
     def picture(self, entry: Optional[int] = None) -> str:
-        """The network behind an entry, 0 to 16,777,216, or behind all, for Graphviz. Raises `ValueError` where there is
-        no such entry."""
-        return audits.picture(self.transcript(), entry, program=self._program)
+        """The network behind an entry, 0 to 16,777,216, or behind all, for Graphviz, by the caller's names. Raises
+        `ValueError` where there is no such entry."""
+        return named_picture(audits.picture(self.transcript(), entry, program=self._program), self._names)
 
     def play(self, path: Union[str, os.PathLike[str]]) -> None:
         """Writes a page that plays the transcript in a browser. Raises `OSError` where it can't be written; a file of
         that name is then as it was before, or not there."""
-        drawings.write_page(self.transcript(), path, self._program)
+        drawings.write_page(self.transcript(), path, self._program, self._names)
+
+    def save(self, path: Union[str, os.PathLike[str]]) -> None:
+        """Writes the transcript, and the caller's own names, if any, into `PATH.names`: see `read_names`.
+
+        Raises `ValueError` if two names would be the same in a file, and `OSError`; each file is whole or as it was.
+        """
+        names = None if self._names.own is None else names_text(self._names.all())
+        write_whole(path, self.transcript().encode())
+        if names is not None:
+            write_whole(f"{os.fspath(path)}.names", names.encode())
 
     def to_networkx(self) -> Any:
         """The nodes that are present and their edges as a `networkx.Graph`, by the caller's names. Wants networkx.
@@ -369,16 +391,20 @@ class Network:
         graph: Any,
         rules: str = "manne",
         *,
+        spare: int = 0,
         program: Program = None,
         keep: bool = True,
         engine: Optional[str] = None,
     ) -> Network:
-        """A network with the nodes and edges of a simple undirected `networkx.Graph`, all pointers null."""
+        """A network with the nodes and edges of a simple undirected `networkx.Graph`, all pointers null; `spare` nodes
+        may join under new names."""
         if graph.is_directed() or graph.is_multigraph():
             raise ValueError("a simple undirected graph is wanted: see to_undirected and networkx.Graph")
         if any(a == b for a, b in graph.edges):
             raise ValueError("an edge joins a node with itself")
-        net = cls(rules, list(graph.nodes), program=program, keep=keep, engine=engine)
+        nodes = list(graph.nodes)
+        capacity = len(nodes) + number_within(spare, MOST_NODES, "a number of nodes that may come")
+        net = cls(rules, nodes, capacity=capacity, program=program, keep=keep, engine=engine)
         with net.batch() as batch:
             for a, b in graph.edges:
                 batch.link(a, b)
