@@ -24,6 +24,7 @@ from .disturbances import Disturbance as Disturbance
 from .disturbances import Events
 from .errors import Lost, RudekpiError
 from .graphs import from_networkx, is_networkx
+from .kept_graphs import Rows, keep_beside
 from .simple_graph import Graph
 from .network import Network
 from .numbers import MOST_SEED, MOST_TURNS, counted, number_within
@@ -99,6 +100,8 @@ class Played:
     after: Status
     steps: int
     moves: int
+    # in the order of the transcript's numbers
+    nodes: tuple[Name, ...] = ()
 
 
 @dataclass(frozen=True)
@@ -163,7 +166,7 @@ class Experiment:
                 disturb_one_by_one(net, events, self.seed, player)
             player.settle()
             after = net.status()
-        return Played(net.transcript(), before, after, player.steps, player.moves)
+        return Played(net.transcript(), before, after, player.steps, player.moves, self.graph.nodes)
 
     def measured(self, played: Played, began: float) -> Row:
         """The row of a run that is judged now. What its daemon did is all that the transcript has, or this raises
@@ -282,7 +285,7 @@ def sweep(
     program: Program = None,
     processes: Optional[int] = None,
     there: Iterable[Row] = (),
-) -> Iterator[Row]:
+) -> Rows[Row]:
     """A row for each graph, rules, daemon, seed and disturbance, in the order in which they are done.
 
     A graph may be one of networkx.
@@ -299,12 +302,14 @@ def sweep(
     if processes is not None and processes < 1:
         raise ValueError(f"there is one process or more, and not {processes}")
     known = {row.key for row in there}
-    todo = [it for it in experiments_of(graphs, rules, daemons, seeds, faults, program) if it.key not in known]
+    every = experiments_of(graphs, rules, daemons, seeds, faults, program)
+    todo, played = [it for it in every if it.key not in known], {it.graph.title: it.graph for it in every}
     if executor is not None:
-        return rows_of(todo, executor)
+        return Rows(rows_of(todo, executor), played.values())
     # built and named once, before any worker looks for it
     found_program(program)
-    return rows_of(todo, max(1, min(processes or os.cpu_count() or 1, len(todo))))
+    given = max(1, min(processes or os.cpu_count() or 1, len(todo)))
+    return Rows(rows_of(todo, given), played.values())
 
 
 class Tasks:
@@ -360,7 +365,11 @@ COLUMNS = tuple(it.name for it in fields(Row))
 
 def write_csv(rows: Iterable[Row], file: TextIO, has_head: bool = False) -> Iterator[Row]:
     """The same rows, each written to a CSV file as it comes, so that those so far are there whatever happens. The head
-    is written too, unless the file has it."""
+    is written too, unless the file has it.
+
+    Graphs of `sweep` that no word makes and no file has are kept beside the file: see `rudekpi.kept_graphs`.
+    """
+    keep_beside(file, getattr(rows, "graphs", ()), has_head)
     writer = csv.writer(file)
     if not has_head:
         writer.writerow(COLUMNS)
