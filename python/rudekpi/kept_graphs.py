@@ -11,7 +11,7 @@ import json
 import os
 import warnings
 from operator import index
-from typing import Any, Iterable, Iterator, Optional, TextIO, TypeVar
+from typing import Any, Generator, Iterable, Optional, TextIO, TypeVar
 from urllib.parse import quote
 
 from .files import write_whole
@@ -112,17 +112,18 @@ def keep_beside(file: TextIO, graphs: Iterable[Graph], goes_on: bool) -> None:
         keep_graphs(path, graphs, goes_on)
 
 
-class Rows(Iterator[Item]):
+class Rows(Generator[Item, None, None]):
     """The rows of a sweep, as they come, with its graphs."""
 
-    def __init__(self, rows: Iterator[Item], graphs: Iterable[Graph]) -> None:
+    def __init__(self, rows: Generator[Item, None, None], graphs: Iterable[Graph]) -> None:
         self._rows, self.graphs = rows, tuple(graphs)
 
-    def __next__(self) -> Item:
-        return next(self._rows)
+    def send(self, value: None) -> Item:
+        return self._rows.send(value)
+
+    def throw(self, *given: Any) -> Item:
+        return self._rows.throw(*given)
 
     def close(self) -> None:
         """Hands out nothing more, and ends the processes of the sweep."""
-        close = getattr(self._rows, "close", None)
-        if close:
-            close()
+        self._rows.close()

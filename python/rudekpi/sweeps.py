@@ -14,7 +14,7 @@ import time
 from collections import deque
 from concurrent.futures import Executor
 from dataclasses import asdict, astuple, dataclass, fields
-from typing import Any, Callable, Iterable, Iterator, Optional, Sequence, TextIO, Union
+from typing import Any, Callable, Generator, Iterable, Iterator, Optional, Sequence, TextIO, Union
 
 from . import daemons
 from .audits import judged_epochs
@@ -338,7 +338,7 @@ class Tasks:
         self.count, self.seconds = self.count + len(rows), self.seconds + sum(row.seconds for row in rows)
 
 
-def rows_of(todo: list[Experiment], given: Union[Executor, int]) -> Iterator[Row]:
+def rows_of(todo: list[Experiment], given: Union[Executor, int]) -> Generator[Row, None, None]:
     """The rows of experiments, as they are done by an executor or by so many processes."""
     tasks, lost = Tasks(todo, count_of(given)), []
     handing: Handing[list[Experiment]] = Handing(tasks, lambda task: (run_all, task), given)
