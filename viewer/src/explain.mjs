@@ -56,7 +56,8 @@ function whySeduce(machine, v) {
   const open = machine.openNeighbours(v);
   const free = "it points nowhere, nobody points at it";
   if (machine.flags) {
-    return `${free}, and ${told(lastOf(open))} is the highest neighbour above it that points nowhere and has the flag 0`;
+    return `${free}, and ${
+      told(lastOf(open))} is the highest neighbour above it that points nowhere and has the flag 0`;
   }
   return `${free}, and ${
     open.length === 1 ? `its neighbour ${told(open[0])} points` : `its neighbours ${listed(open)} point`} nowhere too`;
@@ -212,7 +213,8 @@ function whyOpen(machine, low, high) {
   }
   const pointed = machine.pointer[low] === high;
   return `neither end is married, and ${
-    pointed ? `${told(high)}, at which ${told(low)} points, has the flag 1` : `${told(low)} does not point at ${told(high)}`}`;
+    pointed ? `${told(high)}, at which ${told(low)} points, has the flag 1` :
+              `${told(low)} does not point at ${told(high)}`}`;
 }
 
 /**
@@ -221,8 +223,9 @@ function whyOpen(machine, low, high) {
  * @param {number} high
  */
 function alongEdge(machine, low, high) {
-  const along =
-    [[low, high], [high, low]].filter(([v, w]) => machine.pointer[v] === w).map(([v, w]) => `${told(v)} points at ${told(w)}`);
+  const along = [[low, high], [high, low]]
+                  .filter(([v, w]) => machine.pointer[v] === w)
+                  .map(([v, w]) => `${told(v)} points at ${told(w)}`);
   return along.length === 0 ? "neither end points along it" : along.join(", and ");
 }
 
@@ -266,7 +269,9 @@ export function explain(machine, thing) {
     return explainNode(machine, node);
   }
   const { low, high } = thing;
-  return machine.neighbours[low].has(high) ?
-    explainEdge(machine, low, high) :
-    { heading: `Edge ${told(low)} – ${told(high)}`, rule: null, rows: [["absent", "it is none of the edges of this state"]] };
+  return machine.neighbours[low].has(high) ? explainEdge(machine, low, high) : {
+    heading: `Edge ${told(low)} – ${told(high)}`,
+    rule: null,
+    rows: [["absent", "it is none of the edges of this state"]]
+  };
 }

@@ -6,8 +6,7 @@ import {labelOf, told, useNames, wholeOf} from "../src/own_names.mjs";
 import {Replay} from "../src/replay.mjs";
 import {Transcript} from "../src/transcript.mjs";
 
-const PAIR =
-  "matching manne 3\n1 link 1 2 = ok\n2 link 2 3 = ok\n3 step 2>3 = 2:seduce>3\n4 step 3>2 = 3:marry>2\n";
+const PAIR = "matching manne 3\n1 link 1 2 = ok\n2 link 2 3 = ok\n3 step 2>3 = 2:seduce>3\n4 step 3>2 = 3:marry>2\n";
 
 test("numbers are the names if none are given", () => {
   useNames(null);
