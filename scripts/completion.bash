@@ -3,7 +3,7 @@
 
 _rudekpi_commands='run audit picture epochs storm'
 # what the Python package has beside the words of the program
-_rudekpi_bench='sweep compare worst check shell json conform explain bursts again'
+_rudekpi_bench='sweep compare worst check shell json conform explain bursts again page'
 
 # Completes the word at the cursor by some words.
 _rudekpi_words() {
@@ -18,22 +18,24 @@ _rudekpi_files() {
 
 # By the flags of a command.
 _rudekpi_flags() {
-    case $1 in
-        run) _rudekpi_words --rules --nodes --present --workers --help ;;
-        audit) _rudekpi_words --help ;;
-        picture) _rudekpi_words --entry --help ;;
-        epochs) _rudekpi_words --help ;;
-        storm) _rudekpi_words --rules --nodes --present --workers --roam --turns --help ;;
-        sweep) _rudekpi_words --graph --undirected --rules --daemon --seeds --first-seed --faults --registers --joins --leaves --cut --add --rewire --move --every --csv --resume --plot --processes --dask --program --help ;;
-        compare) _rudekpi_words --graph --undirected --rules --daemon --seeds --first-seed --faults --registers --joins --leaves --cut --add --rewire --move --every --csv --resume --plot --processes --dask --program --markdown --help ;;
-        worst) _rudekpi_words --graph --undirected --rules --seconds --seed --transcript --output --program --help ;;
-        check) _rudekpi_words --help ;;
-        shell) _rudekpi_words --rules --nodes --present --program --help ;;
-        json) _rudekpi_words --program --help ;;
-        conform) _rudekpi_words --rules --resync --output --program --help ;;
-        explain) _rudekpi_words --program --help ;;
-        bursts) _rudekpi_words --program --help ;;
-        again) _rudekpi_words --output --page --undirected --program --help ;;
+    case ${COMP_WORDS[0]##*/},$1 in
+        rudekpi,picture) _rudekpi_words --entry --output --names --program --help ;;
+        *,run) _rudekpi_words --rules --nodes --present --workers --help ;;
+        *,audit) _rudekpi_words --help ;;
+        *,picture) _rudekpi_words --entry --help ;;
+        *,epochs) _rudekpi_words --help ;;
+        *,storm) _rudekpi_words --rules --nodes --present --workers --roam --turns --help ;;
+        *,sweep) _rudekpi_words --graph --undirected --rules --daemon --seeds --first-seed --faults --registers --joins --leaves --cut --add --rewire --move --every --csv --resume --plot --processes --dask --program --help ;;
+        *,compare) _rudekpi_words --graph --undirected --rules --daemon --seeds --first-seed --faults --registers --joins --leaves --cut --add --rewire --move --every --csv --resume --plot --processes --dask --program --markdown --help ;;
+        *,worst) _rudekpi_words --graph --undirected --rules --seconds --seed --transcript --output --program --help ;;
+        *,check) _rudekpi_words --help ;;
+        *,shell) _rudekpi_words --rules --nodes --present --program --help ;;
+        *,json) _rudekpi_words --names --program --help ;;
+        *,conform) _rudekpi_words --rules --resync --output --program --help ;;
+        *,explain) _rudekpi_words --names --program --help ;;
+        *,bursts) _rudekpi_words --names --program --help ;;
+        *,again) _rudekpi_words --output --page --undirected --program --help ;;
+        *,page) _rudekpi_words --output --names --program --help ;;
     esac
 }
 
@@ -72,14 +74,14 @@ _rudekpi() {
         *'<' | *'>') _rudekpi_files ;;
         --rules) _rudekpi_words hh manne ;;
         --nodes | --present | --workers | --entry | --roam | --turns | --seeds | --first-seed | --faults | --joins | --leaves | --cut | --add | --rewire | --move | --every | --processes | --dask | --seconds | --seed) : a number, which nobody can complete ;;
-        --graph | --csv | --plot | --program | --output | --page) _rudekpi_files ;;
+        --graph | --csv | --plot | --program | --output | --names | --page) _rudekpi_files ;;
         --daemon) _rudekpi_words synchronous least greatest age seeded greedy helpful ;;
         --registers) _rudekpi_words any pointer flag ;;
         *)
             case $command,$word in
                 ,*) _rudekpi_words "$(_rudekpi_all)" help --help --version ;;
                 help,*) _rudekpi_words "$(_rudekpi_all)" ;;
-                storm,[!-]* | storm, | sweep,[!-]* | sweep, | compare,[!-]* | compare, | check,[!-]* | check, | json,[!-]* | json, | conform,[!-]* | conform, | explain,[!-]* | explain, | bursts,[!-]* | bursts, | again,[!-]* | again,) _rudekpi_files ;;
+                storm,[!-]* | storm, | sweep,[!-]* | sweep, | compare,[!-]* | compare, | check,[!-]* | check, | json,[!-]* | json, | conform,[!-]* | conform, | explain,[!-]* | explain, | bursts,[!-]* | bursts, | again,[!-]* | again, | page,[!-]* | page,) _rudekpi_files ;;
                 *) _rudekpi_flags "$command" ;;
             esac
             ;;

@@ -31,7 +31,6 @@ complete -c rudekpi -f
 complete -c rudekpi -n __fish_use_subcommand -a help -d 'tells of a command'
 complete -c rudekpi -n __fish_use_subcommand -a run -d 'reads a script and writes its transcript'
 complete -c rudekpi -n __fish_use_subcommand -a audit -d 'judges a transcript'
-complete -c rudekpi -n __fish_use_subcommand -a picture -d 'draws a network for Graphviz'
 complete -c rudekpi -n __fish_use_subcommand -a epochs -d 'lists the epochs of a transcript'
 complete -c rudekpi -n __fish_use_subcommand -a storm -d 'plays scripts at once'
 complete -c rudekpi -n __fish_use_subcommand -a sweep -d 'plays networks by the thousand and writes a CSV row for each'
@@ -44,17 +43,17 @@ complete -c rudekpi -n __fish_use_subcommand -a conform -d 'judges whether the r
 complete -c rudekpi -n __fish_use_subcommand -a explain -d 'explains why audit refuses a transcript'
 complete -c rudekpi -n __fish_use_subcommand -a bursts -d 'lists moves and summed costs from silence to silence, as CSV'
 complete -c rudekpi -n __fish_use_subcommand -a again -d 'plays a row of a sweep again, and writes its transcript'
+complete -c rudekpi -n __fish_use_subcommand -a page -d 'a page that plays a transcript in a browser'
+complete -c rudekpi -n __fish_use_subcommand -a picture -d 'draws a network for Graphviz, by the names of a file'
 complete -c rudekpi -n __fish_use_subcommand -l help -d 'tells of all commands'
 complete -c rudekpi -n __fish_use_subcommand -l version -d 'tells the version'
-complete -c rudekpi -n '__fish_seen_subcommand_from help' -a 'run audit picture epochs storm sweep compare worst check shell json conform explain bursts again'
+complete -c rudekpi -n '__fish_seen_subcommand_from help' -a 'run audit epochs storm sweep compare worst check shell json conform explain bursts again page picture'
 complete -c rudekpi -n '__fish_seen_subcommand_from run' -l rules -x -a 'hh manne' -d 'the rules'
 complete -c rudekpi -n '__fish_seen_subcommand_from run' -l nodes -x -d 'how many nodes there are'
 complete -c rudekpi -n '__fish_seen_subcommand_from run' -l present -x -d 'how many of them are present at the start'
 complete -c rudekpi -n '__fish_seen_subcommand_from run' -l workers -x -d 'how many workers judge a step'
 complete -c rudekpi -n '__fish_seen_subcommand_from run' -l help -d 'tells of the command'
 complete -c rudekpi -n '__fish_seen_subcommand_from audit' -l help -d 'tells of the command'
-complete -c rudekpi -n '__fish_seen_subcommand_from picture' -l entry -x -d 'behind which entry'
-complete -c rudekpi -n '__fish_seen_subcommand_from picture' -l help -d 'tells of the command'
 complete -c rudekpi -n '__fish_seen_subcommand_from epochs' -l help -d 'tells of the command'
 complete -c rudekpi -n '__fish_seen_subcommand_from storm' -l rules -x -a 'hh manne' -d 'the rules'
 complete -c rudekpi -n '__fish_seen_subcommand_from storm' -l nodes -x -d 'how many nodes there are'
@@ -127,6 +126,7 @@ complete -c rudekpi -n '__fish_seen_subcommand_from shell' -l nodes -x -d 'how m
 complete -c rudekpi -n '__fish_seen_subcommand_from shell' -l present -x -d 'how many of them are present at the start'
 complete -c rudekpi -n '__fish_seen_subcommand_from shell' -l program -r -F -d 'the program that plays'
 complete -c rudekpi -n '__fish_seen_subcommand_from shell' -l help -d 'tells of the command'
+complete -c rudekpi -n '__fish_seen_subcommand_from json' -l names -r -F -d 'a file of the nodes names, of which line K is that of node K'
 complete -c rudekpi -n '__fish_seen_subcommand_from json' -l program -r -F -d 'the program that judges'
 complete -c rudekpi -n '__fish_seen_subcommand_from json' -l help -d 'tells of the command'
 complete -c rudekpi -n '__fish_seen_subcommand_from json' -F
@@ -136,9 +136,11 @@ complete -c rudekpi -n '__fish_seen_subcommand_from conform' -l output -r -F -d 
 complete -c rudekpi -n '__fish_seen_subcommand_from conform' -l program -r -F -d 'the program that plays'
 complete -c rudekpi -n '__fish_seen_subcommand_from conform' -l help -d 'tells of the command'
 complete -c rudekpi -n '__fish_seen_subcommand_from conform' -F
+complete -c rudekpi -n '__fish_seen_subcommand_from explain' -l names -r -F -d 'a file of the nodes names, of which line K is that of node K'
 complete -c rudekpi -n '__fish_seen_subcommand_from explain' -l program -r -F -d 'the program that plays'
 complete -c rudekpi -n '__fish_seen_subcommand_from explain' -l help -d 'tells of the command'
 complete -c rudekpi -n '__fish_seen_subcommand_from explain' -F
+complete -c rudekpi -n '__fish_seen_subcommand_from bursts' -l names -r -F -d 'a file of the nodes names, of which line K is that of node K'
 complete -c rudekpi -n '__fish_seen_subcommand_from bursts' -l program -r -F -d 'the program that judges'
 complete -c rudekpi -n '__fish_seen_subcommand_from bursts' -l help -d 'tells of the command'
 complete -c rudekpi -n '__fish_seen_subcommand_from bursts' -F
@@ -148,3 +150,14 @@ complete -c rudekpi -n '__fish_seen_subcommand_from again' -l undirected -d 'tak
 complete -c rudekpi -n '__fish_seen_subcommand_from again' -l program -r -F -d 'the program that plays'
 complete -c rudekpi -n '__fish_seen_subcommand_from again' -l help -d 'tells of the command'
 complete -c rudekpi -n '__fish_seen_subcommand_from again' -F
+complete -c rudekpi -n '__fish_seen_subcommand_from page' -l output -r -F -d 'a file for the page'
+complete -c rudekpi -n '__fish_seen_subcommand_from page' -l names -r -F -d 'a file of the nodes names, of which line K is that of node K'
+complete -c rudekpi -n '__fish_seen_subcommand_from page' -l program -r -F -d 'the program that judges'
+complete -c rudekpi -n '__fish_seen_subcommand_from page' -l help -d 'tells of the command'
+complete -c rudekpi -n '__fish_seen_subcommand_from page' -F
+complete -c rudekpi -n '__fish_seen_subcommand_from picture' -l entry -x -d 'after which entry'
+complete -c rudekpi -n '__fish_seen_subcommand_from picture' -l output -r -F -d 'a file'
+complete -c rudekpi -n '__fish_seen_subcommand_from picture' -l names -r -F -d 'a file of the nodes names, of which line K is that of node K'
+complete -c rudekpi -n '__fish_seen_subcommand_from picture' -l program -r -F -d 'the program that draws'
+complete -c rudekpi -n '__fish_seen_subcommand_from picture' -l help -d 'tells of the command'
+complete -c rudekpi -n '__fish_seen_subcommand_from picture' -F

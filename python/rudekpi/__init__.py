@@ -38,6 +38,7 @@ from .errors import (
     WrongChoice,
 )
 from .explanations import Explanation, explain
+from .name_files import read_names, write_names
 from .network import Network
 from .parts import audit_parts
 from .pieces import Audit
@@ -109,7 +110,9 @@ __all__ = [
     "explain",
     "graphs",
     "longest",
+    "read_names",
     "replay",
     "storm",
     "sweep",
+    "write_names",
 ]

@@ -12,13 +12,13 @@ from . import __version__, streams
 from .errors import Ended, RudekpiError
 from .program import found_program
 
-COMMANDS = ("sweep", "compare", "worst", "check", "shell", "json", "conform", "explain", "bursts", "again")
+COMMANDS = ("sweep", "compare", "worst", "check", "shell", "json", "conform", "explain", "bursts", "again", "page")
 OF_PROGRAM = ("run", "audit", "picture", "epochs", "storm")
 HELP = """\
 usage: rudekpi COMMAND ..
 
 Of the bench:
-  sweep, compare, worst, check, shell, json, conform, explain, bursts, again
+  sweep, compare, worst, check, shell, json, conform, explain, bursts, again, page
 Of the program:
   run, audit, picture, epochs, storm
 
@@ -78,7 +78,7 @@ def begun(words: Sequence[str]) -> int:
             return begun([*rest, "--help"])
         print(HELP, flush=True)
         return handed_on(words)
-    if word in COMMANDS:
+    if word in COMMANDS or (word == "picture" and any(it.partition("=")[0] == "--names" for it in rest)):
         return done(words)
     if word in OF_PROGRAM:
         return handed_on(words)

@@ -7,8 +7,13 @@ import sys
 from typing import Callable
 
 from . import drawings, streams
+from .graphs import graph_of
+from .kept_graphs import folder_of, kept_graph
+from .name_files import write_names
+from .names import names_for
 from .numbers import number_within
 from .plans import play_again, row_in
+from .simple_graph import Graph
 from .sweeps import MOST_EXPERIMENTS
 
 DONE = 0
@@ -19,22 +24,34 @@ def run_again(given: argparse.Namespace) -> int:
     """Writes the transcript of a row, and its page if asked."""
     with open(given.rows, newline="") as file:
         row = row_in(file, number_within(given.number, MOST_EXPERIMENTS, "the number of a row"))
-    played = play_again(row, given.undirected, given.program)
+    played = play_again(row, program=given.program, graph=graph_in(given, row.graph))
+    has_numbers = played.nodes == tuple(range(1, len(played.nodes) + 1))
     if given.page is not None:
-        drawings.write_page(played.transcript, given.page, given.program)
+        names = None if has_numbers else names_for(played.transcript, played.nodes)
+        drawings.write_page(played.transcript, given.page, given.program, names)
     if given.output is None or given.output == "-":
         sys.stdout.write(played.transcript)
     else:
         with streams.output_file(given.output) as out:
             out.write(played.transcript)
+        if not has_numbers:
+            write_names(f"{given.output}.names", played.nodes)
     return DONE
+
+
+def graph_in(given: argparse.Namespace, title: str) -> Graph:
+    """The graph of a row: kept with the rows, made again or read again."""
+    try:
+        return kept_graph(given.rows, title) or graph_of(title, undirected=given.undirected)
+    except FileNotFoundError as error:
+        raise FileNotFoundError(f"{error}; and {folder_of(given.rows)} keeps no graph of this title") from None
 
 
 def add_commands(command: Command) -> None:
     again = command("again", run_again, "plays a row of a sweep again, and writes its transcript")
     again.add_argument("rows", help="a file that sweep wrote")
     again.add_argument("number", type=int, help="the row to play; the first is 1")
-    again.add_argument("--output", help="a file for the transcript (standard output)")
+    again.add_argument("--output", help="a file for the transcript (standard output); own names go to FILE.names")
     again.add_argument("--page", help="a file for a page that plays the transcript")
     again.add_argument(
         "--undirected", action="store_true", help="takes a directed graph of a file without its directions"

@@ -9,15 +9,17 @@ import re
 import subprocess
 import tempfile
 from dataclasses import dataclass, replace
-from typing import Any, Optional, Union
+from typing import Any, Iterable, Optional, Union
 
 from .containment import reaches
 from .errors import VERDICT, Damaged, Ended, Garbled, text_of
+from .labels import named_picture
 from .library import Library, chosen
+from .names import names_for
 from .numbers import MOST_ENTRIES, number_within
 from .program import Program, found_program
 from .reading import numbers_of
-from .replies import Epoch, Summary
+from .replies import Epoch, Name, Summary
 from .rules import moves_left
 
 Text = Union[str, bytes, bytearray, memoryview]
@@ -113,8 +115,16 @@ def bounded(epoch: Epoch, rules: str) -> Epoch:
     return replace(epoch, bound=moves_left(rules, epoch.bound, epoch.nodes))
 
 
-def picture(transcript: Text, entry: Optional[int] = None, *, program: Program = None) -> str:
+def picture(
+    transcript: Text,
+    entry: Optional[int] = None,
+    *,
+    names: Optional[Iterable[Name]] = None,
+    program: Program = None,
+) -> str:
     """The network after an entry of a transcript, by default the last, as text for Graphviz.
+
+    `names` are the caller's, in the order of the numbers; the network is then drawn by them.
 
     Raises `Damaged` if `audit` refuses the transcript, `ValueError` if it has no such entry, or `Ended`.
     """
@@ -129,7 +139,7 @@ def picture(transcript: Text, entry: Optional[int] = None, *, program: Program =
         raise
     if not said.startswith("graph ") and not said.startswith("digraph "):
         raise Garbled(f"{said[:200]!r} is no picture")
-    return said
+    return said if names is None else named_picture(said, names_for(bytes_of(transcript).decode(), names))
 
 
 def judged(words: list[str], transcript: Union[Text, Slice], program: Program) -> str:

@@ -156,7 +156,7 @@ class Batch:
         return self._ask(read_accepted, f"flag {self._number(node)} {number_within(value, 1, 'a flag')}")
 
     def join(self, node: Name) -> Answer[Accepted]:
-        return self._ask(read_accepted, f"join {self._number(node)}")
+        return self._ask(read_accepted, f"join {self._session.names.number_to_join(node)}")
 
     def leave(self, node: Name) -> Answer[Accepted]:
         return self._ask(read_accepted, f"leave {self._number(node)}")

@@ -9,7 +9,7 @@ from typing import Callable
 
 from .bursts import HEAD, bursts, row_of
 from .errors import Damaged
-from .log_commands import read
+from .log_commands import names_given, read, words_of_names
 
 DONE, FAILED = 0, 1
 Command = Callable[[str, Callable[[argparse.Namespace], int], str], argparse.ArgumentParser]
@@ -17,7 +17,7 @@ Command = Callable[[str, Callable[[argparse.Namespace], int], str], argparse.Arg
 
 def run_bursts(given: argparse.Namespace) -> int:
     try:
-        found = bursts(read(given.transcript), program=given.program)
+        found = bursts(read(given.transcript), names=names_given(given), program=given.program)
     except Damaged as damaged:
         print(damaged, file=sys.stderr)
         return FAILED
@@ -29,4 +29,5 @@ def run_bursts(given: argparse.Namespace) -> int:
 def add_commands(command: Command) -> None:
     of_bursts = command("bursts", run_bursts, "lists moves and summed costs from silence to silence, as CSV")
     of_bursts.add_argument("transcript", nargs="?", default="-", help="a file (standard input)")
+    words_of_names(of_bursts)
     of_bursts.add_argument("--program", help="the program that judges")

@@ -7,6 +7,7 @@ here, along the entries.
 from __future__ import annotations
 
 import itertools
+import json
 from collections import Counter
 from dataclasses import dataclass
 from typing import Iterable, Iterator, Mapping, Optional
@@ -14,7 +15,7 @@ from typing import Iterable, Iterator, Mapping, Optional
 from .audits import Text, bytes_of, judged_epochs
 from .containment import reach
 from .errors import Garbled
-from .names import Names, own_names
+from .names import Names, names_for
 from .program import Program
 from .reading import numbers_of_base
 from .replays import parts_of
@@ -144,12 +145,13 @@ def bursts(transcript: Text, *, names: Optional[Iterable[Name]] = None, program:
     the entries have.
     """
     epochs = judged_epochs(transcript, program)
-    parts = parts_of(bytes_of(transcript).decode())
+    text = bytes_of(transcript).decode()
+    parts = parts_of(text)
     state, head = State(), next(parts)
     state.follow(head)
     # the first epoch also has the moves before the base that begins a transcript
     spent = numbers_of_base(head)[0] if len(head) > 1 else 0
-    reader = BurstReader(state.rules, names_for(state.count, names), state, epochs)
+    reader = BurstReader(state.rules, names_for(text, names), state, epochs)
     # a base in the middle changes nothing
     entries = (part[0] for part in parts if len(part) == 1)
     found = [*itertools.chain.from_iterable(map(reader.read, entries)), *reader.rest()]
@@ -158,21 +160,23 @@ def bursts(transcript: Text, *, names: Optional[Iterable[Name]] = None, program:
     return found
 
 
-def names_for(count: int, names: Optional[Iterable[Name]]) -> Names:
-    """The names of `count` nodes: the caller's, or the numbers."""
-    own = None if names is None else own_names(names)
-    if own is not None and len(own) != count:
-        raise ValueError(f"{len(own)} names for {count} nodes")
-    return Names(count if own is None else own)
-
-
 HEAD = "start,end,disturbances,cost,bound,moves,steps,rounds,pairs_before,pairs_after,reached,moved"
 
 
 def row_of(burst: Burst) -> list[str]:
-    """A burst as a row of CSV below `HEAD`: `-` for None, lists separated by blanks."""
+    """A burst as a row of CSV below `HEAD`: `-` for None, lists separated by blanks.
+
+    A name with a blank or a quote is written in quotes, as in JSON.
+    """
     words = " ".join(f"{count} {word}" for word, count in burst.disturbances.items())
     figures = (burst.cost, burst.bound, burst.moves, burst.steps, burst.rounds, burst.pairs_before, burst.pairs_after)
-    lists = (" ".join(map(str, nodes)) for nodes in (burst.reached, burst.moved))
+    lists = (" ".join(map(word_of, nodes)) for nodes in (burst.reached, burst.moved))
     told = ["-" if it is None else str(it) for it in (burst.start, burst.end)]
     return [*told, words, *("-" if it is None else str(it) for it in figures), *lists]
+
+
+def word_of(name: Name) -> str:
+    """A name as a word of a list."""
+    text = str(name)
+    is_word = text.isprintable() and text and not any(sign in text for sign in " \"'")
+    return text if is_word else json.dumps(text)

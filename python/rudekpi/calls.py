@@ -218,7 +218,7 @@ class DirectBatch(Batch):
         return self._edit("flag", self._number(node), number_within(value, 1, "a flag"))
 
     def join(self, node: Name) -> Answer[Accepted]:
-        return self._edit("join", self._number(node))
+        return self._edit("join", self._names.number_to_join(node))
 
     def leave(self, node: Name) -> Answer[Accepted]:
         return self._edit("leave", self._number(node))

@@ -13,7 +13,7 @@ import socket
 import sys
 import warnings
 from concurrent.futures import Executor
-from typing import Callable, Iterable, Iterator, Optional, Sequence, TextIO
+from typing import Any, Callable, Iterable, Iterator, Optional, Sequence, TextIO
 
 from . import (
     again_commands,
@@ -21,6 +21,7 @@ from . import (
     daemons,
     json_lines,
     log_commands,
+    page_commands,
     script_words,
     shell,
     streams,
@@ -43,7 +44,16 @@ DONE, FAILED, BAD_WORDS, INTERRUPTED = 0, 1, 2, 130
 # how many seconds reaching a scheduler may take
 REACHED_SECONDS = 5
 IN_PLAN = (
-    *("--graph", "--undirected", "--rules", "--daemon", "--seeds", "--first-seed", "--faults", "--registers"),
+    *(
+        "--graph",
+        "--undirected",
+        "--rules",
+        "--daemon",
+        "--seeds",
+        "--first-seed",
+        "--faults",
+        "--registers",
+    ),
     *("--joins", "--leaves", "--cut", "--add", "--rewire", "--move", "--every"),
 )
 # graphs, rules, daemons, seeds and disturbances
@@ -110,7 +120,9 @@ def graph_given(parser: argparse.ArgumentParser, text: str, undirected: bool) ->
 
 def words_of_graph(parser: argparse.ArgumentParser) -> None:
     parser.add_argument(
-        "--undirected", action="store_true", help="takes a directed graph of a file without its directions"
+        "--undirected",
+        action="store_true",
+        help="takes a directed graph of a file without its directions",
     )
     parser.set_defaults(parser=parser)
 
@@ -130,9 +142,17 @@ def words_of_sweep(parser: argparse.ArgumentParser, rules: str) -> None:
     parser.add_argument("plan", nargs="?", help="a file with what to play, .toml or .json")
     parser.add_argument("--graph", action="append", help=f"{MADE}; may be given again")
     words_of_graph(parser)
-    parser.add_argument("--rules", type=listed, default=rules, help="hh, manne or hh,manne (%(default)s)")
     parser.add_argument(
-        "--daemon", type=listed, default="seeded", help=f"some of {','.join(daemons.WORDS)} (%(default)s)"
+        "--rules",
+        type=listed,
+        default=rules,
+        help="hh, manne or hh,manne (%(default)s)",
+    )
+    parser.add_argument(
+        "--daemon",
+        type=listed,
+        default="seeded",
+        help=f"some of {','.join(daemons.WORDS)} (%(default)s)",
     )
     parser.add_argument("--seeds", type=least(1), default=10, help="how many seeds (%(default)s)")
     parser.add_argument("--first-seed", type=least(0), default=0, help="the first seed (%(default)s)")
@@ -148,15 +168,26 @@ def words_of_sweep(parser: argparse.ArgumentParser, rules: str) -> None:
         default="any",
         help="which registers the faults write; flags only under manne (%(default)s)",
     )
-    parser.add_argument("--joins", type=least(0), default=0, help="how many nodes join, with their edges (%(default)s)")
+    parser.add_argument(
+        "--joins",
+        type=least(0),
+        default=0,
+        help="how many nodes join, with their edges (%(default)s)",
+    )
     parser.add_argument("--leaves", type=least(0), default=0, help="how many nodes leave (%(default)s)")
     words_of_links(parser)
     parser.add_argument("--csv", help="a file for the rows, written one by one (standard output)")
-    parser.add_argument("--resume", action="store_true", help="makes only the rows that the file of --csv lacks")
+    parser.add_argument(
+        "--resume",
+        action="store_true",
+        help="makes only the rows that the file of --csv lacks",
+    )
     parser.add_argument("--plot", help="a file for a plot, .svg, .png or .pdf; needs matplotlib")
     parser.add_argument("--processes", type=least(1), help="how many processes (one a processor)")
     parser.add_argument(
-        "--dask", metavar="tcp://HOST:PORT", help="a Dask scheduler, whose workers play; needs distributed"
+        "--dask",
+        metavar="tcp://HOST:PORT",
+        help="a Dask scheduler, whose workers play; needs distributed",
     )
     parser.add_argument("--program", help="the program that plays")
 
@@ -164,7 +195,12 @@ def words_of_sweep(parser: argparse.ArgumentParser, rules: str) -> None:
 def words_of_links(parser: argparse.ArgumentParser) -> None:
     parser.add_argument("--cut", type=least(0), default=0, help="how many links are cut (%(default)s)")
     parser.add_argument("--add", type=least(0), default=0, help="how many links are added (%(default)s)")
-    parser.add_argument("--rewire", type=least(0), default=0, help="how many links are moved at one end (%(default)s)")
+    parser.add_argument(
+        "--rewire",
+        type=least(0),
+        default=0,
+        help="how many links are moved at one end (%(default)s)",
+    )
     parser.add_argument(
         "--move",
         type=length,
@@ -194,7 +230,15 @@ def length(text: str) -> float:
 
 def disturbances_of(given: argparse.Namespace) -> list[Disturbance]:
     """The disturbances of each network, one for each number of faults."""
-    counts = given.joins, given.leaves, given.cut, given.add, given.rewire, given.move, given.every
+    counts = (
+        given.joins,
+        given.leaves,
+        given.cut,
+        given.add,
+        given.rewire,
+        given.move,
+        given.every,
+    )
     return [Disturbance(count, given.registers, *counts) for count in given.faults]
 
 
@@ -218,7 +262,8 @@ def executor_of(given: argparse.Namespace) -> Iterator[Optional[Executor]]:
         except ImportError:
             raise ImportError("--dask wants distributed, which is not there") from None
         reach(given.dask)
-        with distributed.Client(given.dask) as client:  # type: ignore[no-untyped-call]
+        client_of: Any = distributed.Client
+        with client_of(given.dask) as client:
             yield client.get_executor()
     else:
         yield None
@@ -261,13 +306,22 @@ def rows_of(given: argparse.Namespace, rows: list[Row], file: Optional[TextIO]) 
 
         plots.check(given.plot, len(words[0]) * len(words[4]))
     with executor_of(given) as executor:
-        found = sweeps.sweep(*words, executor=executor, program=given.program, processes=given.processes, there=rows)
+        found = sweeps.sweep(
+            *words,
+            executor=executor,
+            program=given.program,
+            processes=given.processes,
+            there=rows,
+        )
         left = total - len({row.key for row in rows} & {it.key for it in todo})
         written: Iterable[Row] = sweeps.write_csv(found, file, bool(rows)) if file else found
         try:
             rows.extend(shown(written, left))
         except KeyboardInterrupt:
-            print(f"! cut short: {len(rows)} of {counted(total, 'row')} are there", file=sys.stderr)
+            print(
+                f"! cut short: {len(rows)} of {counted(total, 'row')} are there",
+                file=sys.stderr,
+            )
             return INTERRUPTED
     return DONE
 
@@ -306,7 +360,8 @@ def run_worst(given: argparse.Namespace) -> int:
         else f"the longest found, in {found.states} tries"
     )
     print(
-        f"{found.graph.title}, {found.rules}: {found.moves} moves, {known}; the bound is {found.bound}", file=sys.stderr
+        f"{found.graph.title}, {found.rules}: {found.moves} moves, {known}; the bound is {found.bound}",
+        file=sys.stderr,
     )
     with written(given.output) as file:
         file.write(transcript if given.transcript else found.script())
@@ -341,7 +396,7 @@ def run_json(given: argparse.Namespace) -> int:
     except Damaged as damaged:
         print(damaged, file=sys.stderr)
         return FAILED
-    for line in json_lines.lines_of(transcript.decode()):
+    for line in json_lines.lines_of(transcript.decode(), log_commands.names_given(given)):
         print(line)
     return DONE
 
@@ -355,14 +410,30 @@ def parser_of() -> argparse.ArgumentParser:
         made.set_defaults(run=run)
         return made
 
-    words_of_sweep(command("sweep", run_sweep, "plays networks by the thousand and writes a CSV row for each"), "manne")
-    compare = command("compare", run_compare, "prints a table of the moves under both rule sets, with the bound")
+    words_of_sweep(
+        command(
+            "sweep",
+            run_sweep,
+            "plays networks by the thousand and writes a CSV row for each",
+        ),
+        "manne",
+    )
+    compare = command(
+        "compare",
+        run_compare,
+        "prints a table of the moves under both rule sets, with the bound",
+    )
     words_of_sweep(compare, "hh,manne")
     compare.add_argument("--markdown", action="store_true", help="writes the table in Markdown")
     worst = command("worst", run_worst, "writes the longest schedule of a network as a script")
     worst.add_argument("--graph", required=True, help=MADE)
     words_of_graph(worst)
-    worst.add_argument("--rules", choices=("hh", "manne"), default="manne", help="the rules (%(default)s)")
+    worst.add_argument(
+        "--rules",
+        choices=("hh", "manne"),
+        default="manne",
+        help="the rules (%(default)s)",
+    )
     worst.add_argument(
         "--seconds",
         type=least(0),
@@ -370,22 +441,38 @@ def parser_of() -> argparse.ArgumentParser:
         help="seconds of a search, if there are too many states to look at all (%(default)s)",
     )
     worst.add_argument("--seed", type=least(0), default=0, help="the seed of that search (%(default)s)")
-    worst.add_argument("--transcript", action="store_true", help="writes the transcript instead of the script")
+    worst.add_argument(
+        "--transcript",
+        action="store_true",
+        help="writes the transcript instead of the script",
+    )
     worst.add_argument("--output", help="a file (standard output)")
     worst.add_argument("--program", help="the program that plays")
     check = command("check", run_check, "explains which lines of a script are no commands, and why")
     check.add_argument("script", nargs="?", default="-", help="a file (standard input)")
     session = command("shell", run_shell, "plays a network line by line, and explains typing errors")
-    session.add_argument("--rules", choices=("hh", "manne"), default="manne", help="the rules (%(default)s)")
-    session.add_argument("--nodes", type=int, required=True, help="how many nodes there may be, at most 65535")
+    session.add_argument(
+        "--rules",
+        choices=("hh", "manne"),
+        default="manne",
+        help="the rules (%(default)s)",
+    )
+    session.add_argument(
+        "--nodes",
+        type=int,
+        required=True,
+        help="how many nodes there may be, at most 65535",
+    )
     session.add_argument("--present", type=int, help="how many of them are present at the start (all)")
     session.add_argument("--program", help="the program that plays")
     objects = command("json", run_json, "writes a transcript as JSON Lines, an object for each entry")
     objects.add_argument("transcript", nargs="?", default="-", help="a file (standard input)")
+    log_commands.words_of_names(objects)
     objects.add_argument("--program", help="the program that judges")
     log_commands.add_commands(command)
     burst_commands.add_commands(command)
     again_commands.add_commands(command)
+    page_commands.add_commands(command)
     return parser
 
 

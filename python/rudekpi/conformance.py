@@ -19,9 +19,9 @@ from typing import Any, BinaryIO, Callable, Mapping, NamedTuple, Optional, Seque
 from . import log_lines, rules
 from .engines import RULES, Engine, Stand, engine_of
 from .errors import BadLine, Garbled
-from .files import write_whole
 from .library import MOVES, REFUSALS
 from .log_lines import Log, cut, shown, spelled
+from .name_files import write_names
 from .numbers import MOST_NODES
 from .program import Program
 from .reasons import Reasons
@@ -620,7 +620,7 @@ class Transcript:
     def write_names(self, names: Sequence[Name]) -> None:
         """Writes the names next to a file, a JSON value a line: line N names node N."""
         if self.file and isinstance(self.target, (str, os.PathLike)) and os.path.isfile(self.target):
-            write_whole(f"{os.fspath(self.target)}.names", "".join(f"{json.dumps(name)}\n" for name in names).encode())
+            write_names(f"{os.fspath(self.target)}.names", names)
 
 
 def judge_blocks(judge: LogJudge, log: Log, target: Target) -> Conformance:

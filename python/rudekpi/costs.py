@@ -24,7 +24,7 @@ def numbers_of_edit(names: Names, word: str, given: Sequence[Name], asked: str =
         raise ValueError(f"{' or '.join(COSTED)} has a {asked}, and not {word!r}")
     if len(given) != COSTED[word]:
         raise TypeError(f"{word} is told {counted(COSTED[word], 'word')}, and not {len(given)}")
-    node = names.number_of(given[0])
+    node = (names.number_if_joined if word == "join" else names.number_of)(given[0])
     if word == "flag":
         return [node, number_within(given[1], 1, "a flag")]
     if word == "point" and given[1] is None:

@@ -3,20 +3,24 @@
 from __future__ import annotations
 
 import html
+import json
 import math
 import os
 import subprocess
 import sys
-from typing import Union
+from typing import Optional, Union
 
 from .errors import Damaged, Ended, text_of
 from .files import write_whole
+from .labels import in_markup, label, page_names, visible
 from .names import Names
 from .program import Program, found_program, page_maker
 from .state import State
 
 # the most nodes in a drawing; the most with names; the drawing's size in pixels
 MOST_DRAWN, MOST_NAMED, SIZE = 200, 40, 260
+# of a page that shows the numbers
+NO_NAMES = b'<script type="application/json" id="names">null</script>'
 
 
 def places(nodes: list[int]) -> dict[int, tuple[float, float]]:
@@ -38,12 +42,14 @@ def edge_line(state: State, a: int, b: int, at: dict[int, tuple[float, float]]) 
 
 def node_sign(state: State, node: int, names: Names, at: dict[int, tuple[float, float]]) -> str:
     """A node: filled if it is paired, with its name if there is room."""
-    (x, y), name = at[node], html.escape(str(names.name_of(node)))
+    (x, y), name = at[node], names.name_of(node)
     fill = "#0072b2" if state.partner(node) else "#fff"
-    sign = f'<circle cx="{x:.1f}" cy="{y:.1f}" r="5" fill="{fill}" stroke="#333"><title>{name}</title></circle>'
+    sign = f'<circle cx="{x:.1f}" cy="{y:.1f}" r="5" fill="{fill}" stroke="#333">'
+    sign += f"<title>{in_markup(visible(name))}</title></circle>"
     if len(state.neighbours) > MOST_NAMED:
         return sign
-    return sign + f'<text x="{x:.1f}" y="{y - 8:.1f}" font-size="9" text-anchor="middle">{name}</text>'
+    place = f'x="{x:.1f}" y="{y - 8:.1f}"'
+    return f'{sign}<text {place} font-size="9" text-anchor="middle">{in_markup(label(name))}</text>'
 
 
 def html_of(title: str, state: State, names: Names) -> str:
@@ -60,8 +66,10 @@ def html_of(title: str, state: State, names: Names) -> str:
     )
 
 
-def write_page(transcript: str, path: Union[str, os.PathLike[str]], program: Program) -> None:
-    """Writes a page that plays a transcript.
+def write_page(
+    transcript: str, path: Union[str, os.PathLike[str]], program: Program, names: Optional[Names] = None
+) -> None:
+    """Writes a page that plays a transcript, with the names of its nodes.
 
     Raises `Damaged` if `audit` refuses it, `FileNotFoundError` if the page maker is missing, `Ended`, and
     `OSError` if the page cannot be written; nothing of it is left then.
@@ -72,4 +80,14 @@ def write_page(transcript: str, path: Union[str, os.PathLike[str]], program: Pro
         raise Damaged.read(text_of(done.stderr))
     if done.returncode:
         raise Ended(done.returncode, done.stderr)
-    write_whole(path, done.stdout)
+    write_whole(path, with_names(done.stdout, names))
+
+
+def with_names(page: bytes, names: Optional[Names]) -> bytes:
+    """A page that knows the caller's names; no text in them can end the element that has them."""
+    shown = page_names(names)
+    if shown is None:
+        return page
+    data = json.dumps(shown).replace("<", "\\u003c")
+    # the first one is the page's own element: the transcript is behind it, and has no such text
+    return page.replace(NO_NAMES, NO_NAMES.replace(b"null", data.encode()), 1)

@@ -13,12 +13,15 @@ from typing import Iterable, Iterator, Optional, Sequence
 from . import base_faults, rules
 from .audits import Text, audit, bytes_of
 from .errors import Damaged, Garbled
+from .labels import label
 from .line_faults import Fault, at_word, of_entry, of_header, text_of_line, unprinted
+from .names import own_names
 from .network import Network
 from .program import Program
 from .reading import MOVE
 from .reasons import Reasons
 from .replays import replay
+from .replies import Name
 from .state import State
 
 HEAD = b"matching2"
@@ -93,17 +96,39 @@ class Broken:
         return Explanation(self.line, damaged.why, line, self.before, fault.start, end, fault.why, tuple(notes))
 
 
-def explain(transcript: Text, *, program: Program = None, engine: Optional[str] = None) -> Optional[Explanation]:
-    """Why `audit` refuses a transcript; None if it accepts it. Its `str` is the text for a terminal."""
+def explain(
+    transcript: Text,
+    *,
+    names: Optional[Iterable[Name]] = None,
+    program: Program = None,
+    engine: Optional[str] = None,
+) -> Optional[Explanation]:
+    """Why `audit` refuses a transcript; None if it accepts it. Its `str` is the text for a terminal.
+
+    With the caller's `names`, in the order of the numbers, a node's number is followed by its name.
+    """
     text = bytes_of(transcript)
+    own = None if names is None else own_names(names)
     try:
         audit(text, program=program, engine=engine)
         return None
     except Damaged as damaged:
-        return explained(Broken(text, damaged.line), damaged, program, engine)
+        return explained(Broken(text, damaged.line), damaged, program, engine, Told(own))
 
 
-def explained(broken: Broken, damaged: Damaged, program: Program, engine: Optional[str]) -> Explanation:
+class Told:
+    """A node in messages: its number, followed by the caller's own name, if any."""
+
+    def __init__(self, own: Optional[Sequence[Name]]) -> None:
+        self.own = own or ()
+
+    def __call__(self, number: int) -> str:
+        return f"{number} ({label(self.own[number - 1])})" if 0 < number <= len(self.own) else str(number)
+
+
+def explained(
+    broken: Broken, damaged: Damaged, program: Program, engine: Optional[str], told: Told = Told(None)
+) -> Explanation:
     if damaged.why == "bad header":
         return broken.explained(damaged, of_header(broken.raw, broken.is_cut))
     if damaged.why == "bad base":
@@ -117,8 +142,8 @@ def explained(broken: Broken, damaged: Damaged, program: Program, engine: Option
         return broken.explained(damaged, of_order(broken.raw, state.entry + 1))
     with replay(prefix, program=program, engine=engine) as net:
         reply = replied(net, broken.raw.decode("ascii"))
-    fault, node = of_replies(broken.raw.decode("ascii"), reply, state)
-    return broken.explained(damaged, fault, notes_of(state, broken.raw.decode("ascii"), reply, node))
+    fault, node = of_replies(broken.raw.decode("ascii"), reply, state, told)
+    return broken.explained(damaged, fault, notes_of(state, broken.raw.decode("ascii"), reply, node, told))
 
 
 def of_order(raw: bytes, expected: int) -> Fault:
@@ -138,13 +163,13 @@ def replied(net: Network, line: str) -> str:
     return net.transcript()[before:].rstrip("\n").partition(" = ")[2]
 
 
-def of_replies(line: str, reply: str, state: State) -> tuple[Fault, Optional[int]]:
+def of_replies(line: str, reply: str, state: State, name: Told) -> tuple[Fault, Optional[int]]:
     """Where a line's reply differs from the machine's, and the node concerned."""
     event, _, told = line.partition(" ")[2].partition(" = ")
     start = len(line) - len(told)
     word = event.split(" ")[0]
     if word == "step" and not told.startswith("refused") and not reply.startswith("refused"):
-        return of_moves(line, start, event, told, reply, state)
+        return of_moves(line, start, event, told, reply, state, name)
     if told.startswith("refused") or reply.startswith("refused") or word not in ("enabled", "matching", "status"):
         node = event.split(" ")[1:2]
         return (
@@ -176,7 +201,9 @@ def of_listed(
     return at_word(line, place, f"`{other}` is missing here", start), found[1]
 
 
-def of_moves(line: str, start: int, event: str, told: str, reply: str, state: State) -> tuple[Fault, Optional[int]]:
+def of_moves(
+    line: str, start: int, event: str, told: str, reply: str, state: State, name: Told
+) -> tuple[Fault, Optional[int]]:
     """The first move of a step that the rules do not allow."""
     wished = dict(item.split(">") for item in event.split(" ")[1:] if ">" in item)
     chosen = sorted(int(item.split(">")[0]) for item in event.split(" ")[1:])
@@ -186,28 +213,28 @@ def of_moves(line: str, start: int, event: str, told: str, reply: str, state: St
         if place >= len(chosen) or node != chosen[place]:
             missing = chosen[place] if place < len(chosen) else None
             if missing is not None and node > missing:
-                return at_word(line, place, f"the move of {missing} is missing here", start), missing
-            return at_word(line, place, f"{node} is not among the nodes of this step", start), node
+                return at_word(line, place, f"the move of {name(missing)} is missing here", start), missing
+            return at_word(line, place, f"{name(node)} is not among the nodes of this step", start), node
         rule, target = (found[2] or found[3], int(found[4] or 0)) if found else ("", 0)
         real = rules.rule_at(state, node) or ""
         if rule != real:
-            return at_word(line, place, f"the rule that is enabled at {node} is {real}", start), node
+            return at_word(line, place, f"the rule that is enabled at {name(node)} is {real}", start), node
         wish = wished.get(str(node))
         if wish and int(wish) != target:
-            return at_word(line, place, f"the step wishes {node} to point at {wish}", start), node
+            return at_word(line, place, f"the step wishes {name(node)} to point at {name(int(wish))}", start), node
         if target and target not in rules.targets(state, node, rule):
-            why = Reasons(state, str).why_not_at(node, target) or f"{node} may not {rule} {target}"
+            why = Reasons(state, name).why_not_at(node, target) or f"{name(node)} may not {rule} {name(target)}"
             return at_word(line, place, why, start), node
     if len(told.split(" ")) < len(chosen):
         missing = chosen[len(told.split(" "))]
-        return at_word(line, len(told.split(" ")), f"the move of {missing} is missing here", start), missing
+        return at_word(line, len(told.split(" ")), f"the move of {name(missing)} is missing here", start), missing
     return whole_reply(line, start, f"the machine replies `{reply[:WIDTH]}`"), None
 
 
-def notes_of(state: State, line: str, reply: str, node: Optional[int]) -> list[str]:
+def notes_of(state: State, line: str, reply: str, node: Optional[int], name: Told) -> list[str]:
     """The machine's reply, and what the nodes concerned hold and may do."""
     event = line.partition(" ")[2].partition(" = ")[0]
-    words = Reasons(state, str)
+    words = Reasons(state, name)
     notes = [f"the machine's reply: {reply[:WIDTH]}{' ..' if len(reply) > WIDTH else ''}"]
     if node is None:
         return notes

@@ -27,9 +27,12 @@ def write_whole(path: Union[str, os.PathLike[str]], data: bytes) -> None:
             if old is not None:
                 os.fchmod(file.fileno(), stat.S_IMODE(old))
         os.replace(other, real)
-    except BaseException:
+    except BaseException as error:
         with contextlib.suppress(FileNotFoundError):
             os.unlink(other)
+        if isinstance(error, OSError) and error.filename == other:
+            # the path that the caller knows
+            raise OSError(error.errno, error.strerror, os.fspath(path)) from None
         raise
 
 

@@ -4,20 +4,19 @@ from __future__ import annotations
 
 import json
 from dataclasses import asdict
-from typing import Callable, Iterator
+from typing import Callable, Iterable, Iterator, Optional
 
-from .names import Names
+from .names import Names, names_for
 from .reading import read_base, read_enabled, read_matching, read_moves, read_status
 from .replays import parts_of
+from .replies import Name
 
 
-def objects_of(transcript: str) -> Iterator[dict[str, object]]:
-    """The objects of a transcript that `audit` accepts."""
-    names = Names(0)
+def objects_of(transcript: str, own: Optional[Iterable[Name]] = None) -> Iterator[dict[str, object]]:
+    """The objects of a transcript that `audit` accepts, by the numbers of its nodes, or by the caller's own names."""
+    names = names_for(transcript, own)
     for part in parts_of(transcript):
         words = part[0].split(" ")
-        if words[0] in ("matching", "matching2"):
-            names = Names(int(words[2]))
         if words[0] == "matching":
             yield {"header": words[1], "nodes": names.count, "present": int(words[-1])}
         elif words[0] == "matching2":
@@ -46,24 +45,36 @@ def entry_of(line: str, names: Names) -> dict[str, object]:
     entry, word, *rest = head.split(" ")
     made: dict[str, object] = {"entry": int(entry), "event": word}
     if word == "step":
-        made["choice"] = [choice_of(item) for item in rest]
+        made["choice"] = [choice_of(item, names) for item in rest]
+    elif word == "flag":
+        made["words"] = [shown(names, rest[0]), int(rest[1])]
     elif rest:
-        made["words"] = [None if text == "-" else int(text) for text in rest]
+        made["words"] = [None if text == "-" else shown(names, text) for text in rest]
     if reply.startswith("refused "):
         number, _, text = reply[len("refused ") :].partition(" ")
         return {**made, "refused": int(number), "text": text}
     return {**made, **told(word, names, head.partition(" ")[2], reply)}
 
 
-def choice_of(item: str) -> dict[str, int]:
+def choice_of(item: str, names: Names) -> dict[str, object]:
     node, wish, target = item.partition(">")
-    return {"node": int(node), "target": int(target)} if wish else {"node": int(node)}
+    made = {"node": shown(names, node)}
+    return {**made, "target": shown(names, target)} if wish else made
+
+
+def shown(names: Names, digits: str) -> object:
+    """A node's name, or an object for a number without a name, which only a refused event has."""
+    number = int(digits)
+    if names.own is None:
+        return number
+    name = names.known(number)
+    return {"number": number} if name is None else name
 
 
 def told(word: str, names: Names, event: str, reply: str) -> dict[str, object]:
     """The contents of a reply that is no refusal."""
     if word == "show":
-        return {"target": None if reply == "-" else int(reply)}
+        return {"target": None if reply == "-" else shown(names, reply)}
     if word == "enabled":
         return {
             "enabled": [{"node": node, "rule": rule} for node, rule in read_enabled(names, 0, event, reply).items()]
@@ -79,6 +90,6 @@ def told(word: str, names: Names, event: str, reply: str) -> dict[str, object]:
     return {"reply": reply}
 
 
-def lines_of(transcript: str) -> Iterator[str]:
-    dumped: Callable[[object], str] = json.JSONEncoder(separators=(",", ":")).encode
-    return (dumped(it) for it in objects_of(transcript))
+def lines_of(transcript: str, own: Optional[Iterable[Name]] = None) -> Iterator[str]:
+    dumped: Callable[[object], str] = json.JSONEncoder(separators=(",", ":"), default=str).encode
+    return (dumped(it) for it in objects_of(transcript, own))

@@ -6,14 +6,16 @@ import argparse
 import os
 import pathlib
 import sys
-from typing import Callable
+from typing import Callable, Optional
 
 from . import log_lines
 from .audits import audit
 from .conformance import Conformance, Divergence, LogJudge, judge_blocks
 from .errors import Ended
 from .explanations import explain
+from .name_files import read_names
 from .numbers import counted
+from .replies import Name
 
 DONE, FAILED, BAD_WORDS, FULL, INTERRUPTED = 0, 1, 2, 4, 130
 # makes the parser of a command: its name, what runs it, and its help
@@ -89,10 +91,20 @@ def read(path: str) -> bytes:
     return sys.stdin.buffer.read() if path == "-" else pathlib.Path(path).read_bytes()
 
 
+def words_of_names(parser: argparse.ArgumentParser) -> None:
+    """What each command that reads a transcript and speaks of nodes is told about their names."""
+    parser.add_argument("--names", help="a file of the nodes' names, of which line K is that of node K")
+
+
+def names_given(given: argparse.Namespace) -> Optional[list[Name]]:
+    """The names in the file of --names, if that is given. Raises `ValueError` and `OSError`."""
+    return None if given.names is None else read_names(given.names)
+
+
 def run_explain(given: argparse.Namespace) -> int:
     """Prints why a transcript is refused, or its counts."""
     transcript = read(given.transcript)
-    found = explain(transcript, program=given.program)
+    found = explain(transcript, names=names_given(given), program=given.program)
     if found is None:
         has = audit(transcript, program=given.program)
         say(
@@ -113,4 +125,5 @@ def add_commands(command: Command) -> None:
     conform.add_argument("--program", help="the program that plays")
     why = command("explain", run_explain, "explains why audit refuses a transcript")
     why.add_argument("transcript", nargs="?", default="-", help="a file (standard input)")
+    words_of_names(why)
     why.add_argument("--program", help="the program that plays")

@@ -2,12 +2,13 @@
 
 from __future__ import annotations
 
+import itertools
 import re
 from collections import Counter
 from operator import index
 from typing import Iterable, Optional, Union, cast
 
-from .numbers import MOST_NODES, number_within
+from .numbers import MOST_NODES, counted, number_within
 from .replies import Name
 
 NUMBER = re.compile(r"(?<=[ >])[0-9]+")
@@ -48,16 +49,29 @@ def is_number(nodes: object) -> bool:
 
 
 class Names:
-    """The numbers 1 to a count as names, or the caller's own names, numbered 1, 2, .. in order."""
+    """The numbers 1 to a count as names, or the caller's own names, numbered 1, 2, .. in order.
 
-    def __init__(self, nodes: Union[int, Iterable[Name]]) -> None:
-        self.own: Optional[list[Name]] = None if is_number(nodes) else own_names(cast("Iterable[Name]", nodes))
-        self.numbers = {name: number for number, name in enumerate(self.own or [], 1)}
-        count = cast(int, nodes) if self.own is None else len(self.own)
-        self.count = number_within(count, MOST_NODES, "a number of nodes")
+    With a greater capacity more nodes may come: their names are the next numbers, or new ones of the caller's.
+    """
+
+    def __init__(self, nodes: Union[int, Iterable[Name]], capacity: Optional[int] = None) -> None:
+        own = None if is_number(nodes) else own_names(cast("Iterable[Name]", nodes))
+        self.numbers = {name: number for number, name in enumerate(own or [], 1)}
+        count = cast(int, nodes) if own is None else len(own)
+        # how many have a name from the start on
+        self.given = number_within(count, MOST_NODES, "a number of nodes")
+        self.count = self.given if capacity is None else number_within(capacity, MOST_NODES, "a capacity")
+        if self.count < self.given:
+            raise ValueError(f"a capacity of {self.count} is less than {counted(self.given, 'node')}")
+        # None for a number that has no name yet
+        self.own: Optional[list[Name]] = None if own is None else own + [None] * (self.count - self.given)
+        # one call of C draws a number, so that no handler of a signal gets the same
+        self.free = itertools.count(self.given + 1)
 
     def all(self) -> list[Name]:
-        return list(range(1, self.count + 1)) if self.own is None else list(self.own)
+        if self.own is None:
+            return list(range(1, self.count + 1))
+        return [name for name in self.own if name is not None]
 
     def number_of(self, name: Name) -> int:
         if self.own is None:
@@ -75,10 +89,52 @@ class Names:
         except TypeError:
             raise TypeError(f"a node's name is hashable, as a number, a text or a tuple, and not {name!r}") from None
 
+    def is_new(self, name: Name) -> bool:
+        """Whether this may be the caller's name of a node that comes, and is none yet."""
+        return self.own is not None and name is not None and is_hashable(name) and name not in self.numbers
+
+    def number_to_join(self, name: Name) -> int:
+        """The number of a node that comes: a new name gets the next free one, and keeps it.
+
+        Raises `ValueError` if there is none."""
+        if self.own is None or not self.is_new(name):
+            return self.number_of(name)
+        number = next(self.free)
+        if number > self.count:
+            raise self.no_room(name)
+        number = self.numbers.setdefault(name, number)
+        self.own[number - 1] = name
+        return number
+
+    def number_if_joined(self, name: Name) -> int:
+        """The same number, without drawing it."""
+        if self.own is None or not self.is_new(name):
+            return self.number_of(name)
+        if None not in self.own:
+            raise self.no_room(name)
+        return self.own.index(None) + 1
+
+    def no_room(self, name: Name) -> ValueError:
+        return ValueError(
+            f"no number is left for {name!r}: the capacity is {self.count}, and as many names are known; "
+            "Network(.., capacity=N) has room for more"
+        )
+
+    def known(self, number: int) -> Optional[Name]:
+        """The name of a number, None if it has none."""
+        if not 0 < number <= self.count:
+            return None
+        return number if self.own is None else self.own[number - 1]
+
     def name_of(self, number: int) -> Name:
         if not 0 < number <= self.count:
             raise ValueError(f"no node has the number {number}")
-        return number if self.own is None else self.own[number - 1]
+        if self.own is None:
+            return number
+        name = self.own[number - 1]
+        if name is None:
+            raise ValueError(f"node {number} has no name yet")
+        return name
 
     def told(self, event: str) -> str:
         """An event with the caller's own names."""
@@ -91,3 +147,27 @@ class Names:
     def named(self, given: Optional[int]) -> Optional[Name]:
         """The name of a number; None for None."""
         return None if given is None else self.name_of(given)
+
+
+PRESENT = re.compile(r"^(?:[0-9]+ join ([0-9]+) = ok|node ([0-9]+) .*)$", re.MULTILINE)
+
+
+def most_present(transcript: str) -> tuple[int, int]:
+    """Of an accepted transcript: its capacity, and the greatest number of a node that is ever present."""
+    kind, _, count, *rest = transcript.partition("\n")[0].split(" ")
+    first = int((rest or [count])[0]) if kind == "matching" else 0
+    return int(count), max([first, *(int(found[1] or found[2]) for found in PRESENT.finditer(transcript))])
+
+
+def names_for(transcript: str, names: Optional[Iterable[Name]]) -> Names:
+    """The names of the nodes of an accepted transcript: the caller's, or the numbers.
+
+    Raises `ValueError` if a node that is ever present has no name, or there are more names than the capacity.
+    """
+    capacity, most = most_present(transcript)
+    if names is None:
+        return Names(capacity)
+    own = own_names(names)
+    if not most <= len(own) <= capacity:
+        raise ValueError(f"{counted(len(own), 'name')} for {most if len(own) < most else capacity} nodes")
+    return Names(own, capacity)

@@ -13,9 +13,12 @@ from .costs import numbers_of_edit, why_refused
 from .daemons import AnyDaemon, Seeded, check_daemon, named
 from .direct import Direct
 from .errors import PastBound
+from .files import write_whole
 from .graphs import Graph, from_networkx, is_networkx
+from .labels import named_picture
+from .name_files import names_text
 from .names import Names
-from .numbers import counted, number_within
+from .numbers import MOST_NODES, MOST_SEED, counted, number_within
 from .program import Program, found_program
 from .replies import (
     Accepted,
@@ -46,6 +49,9 @@ class Network:
     proposes only to neighbours with greater ones. The first `present` nodes, by default all, are there at the
     start; others may `join`. With `keep=False` the transcript is kept only from the last checkpoint on.
 
+    With a `capacity` nodes may also join under new names, until there are that many. A new name gets the next
+    free number, and keeps it when its node leaves. Names that are numbers are then those up to the capacity.
+
     The `engine` is "library" or "program"; by default RUDEKPI_ENGINE's, else the library if it is found and
     no program is named. Replies and transcripts are the same. For the paths of both see the package.
 
@@ -61,6 +67,7 @@ class Network:
         nodes: Union[int, Iterable[Name], Graph] = 0,
         *,
         present: Optional[int] = None,
+        capacity: Optional[int] = None,
         program: Program = None,
         keep: bool = True,
         engine: Optional[str] = None,
@@ -69,8 +76,8 @@ class Network:
             raise ValueError(f"rules are 'hh' or 'manne', and not {rules!r}")
         graph = nodes if isinstance(nodes, Graph) else from_networkx(nodes) if is_networkx(nodes) else None
         names = cast("Union[int, Iterable[Name]]", graph.nodes if graph else nodes)
-        self.rules, self._names, self._program = rules, Names(names), program
-        count = self._names.count
+        self.rules, self._names, self._program = rules, Names(names, capacity), program
+        count = self._names.given
         start = count if present is None else number_within(present, count, "a number of nodes that are present")
         held = library.chosen(engine, program)
         self.engine = "library" if held else "program"
@@ -201,7 +208,11 @@ class Network:
         return self._single.flag(node, value).result()
 
     def join(self, node: Name) -> Accepted:
-        """An absent node becomes present, without edges, its pointer null and its flag false."""
+        """An absent node becomes present, without edges, its pointer null and its flag false.
+
+        A new name gets the next free number. Raises `ValueError` if the capacity is used up, and `Refused` if
+        the name is present already.
+        """
         return self._single.join(node).result()
 
     def leave(self, node: Name) -> Accepted:
@@ -319,19 +330,19 @@ class Network:
         status = self.status()
         return moves_left(self.rules, status.charge, status.nodes)
 
-    def settle(self, daemon: Union[Daemon, AnyDaemon, str]) -> Settled:
+    def settle(self, daemon: Union[Daemon, AnyDaemon, str], *, seed: int = 0) -> Settled:
         """Lets a daemon choose the movers until the network is silent; returns steps, moves and first charge.
 
         The daemon maps the enabled nodes, a mapping from name to rule, to those that move, perhaps as a
-        `Wish`. Those of `rudekpi.daemons` are given as values, or by word, such as "seeded". The transcript
-        gets a `status` first, and an `enabled` before each step and at the end.
+        `Wish`. Those of `rudekpi.daemons` are given as values, or by word, such as "seeded", with a `seed`.
+        The transcript gets a `status` first, and an `enabled` before each step and at the end.
 
         Raises `TypeError` if it is no daemon, and `WrongChoice` if it chooses no node or a node that is not
         enabled. Raises `Refused` if the network refuses the choice otherwise (two nodes under `hh`), and
         `PastBound` if there are more moves than the charge.
         """
         if isinstance(daemon, str):
-            daemon = named(daemon)
+            daemon = named(daemon, number_within(seed, MOST_SEED, "a seed"))
         check_daemon(daemon)
         if isinstance(daemon, Seeded):
             return daemon.settle(self)
@@ -362,18 +373,30 @@ class Network:
         return audits.audit(self.transcript(), program=self._program, engine=self.engine)
 
     def picture(self, entry: Optional[int] = None) -> str:
-        """The network after an entry, 0 to 16,777,216, by default the last, as text for Graphviz.
+        """The network after an entry, 0 to 16,777,216, by default the last, as text for Graphviz, by the
+        caller's names.
 
         Raises `ValueError` if there is no such entry.
         """
-        return audits.picture(self.transcript(), entry, program=self._program)
+        return named_picture(audits.picture(self.transcript(), entry, program=self._program), self._names)
 
     def play(self, path: Union[str, os.PathLike[str]]) -> None:
-        """Writes a page that plays the transcript in a browser.
+        """Writes a page that plays the transcript in a browser, by the caller's names.
 
         Raises `OSError` if it cannot be written; a file of that name is then unchanged, or absent.
         """
-        drawings.write_page(self.transcript(), path, self._program)
+        drawings.write_page(self.transcript(), path, self._program, self._names)
+
+    def save(self, path: Union[str, os.PathLike[str]]) -> None:
+        """Writes the transcript, and the caller's own names, if any, to `PATH.names`: see `read_names`.
+
+        Raises `ValueError` if two names would be the same in a file, and `OSError`; each file is whole or
+        unchanged.
+        """
+        names = None if self._names.own is None else names_text(self._names.all())
+        write_whole(path, self.transcript().encode())
+        if names is not None:
+            write_whole(f"{os.fspath(path)}.names", names.encode())
 
     def to_networkx(self) -> Any:
         """The present nodes and their edges as a `networkx.Graph`, by the caller's names. Needs networkx.
@@ -400,19 +423,22 @@ class Network:
         graph: Any,
         rules: str = "manne",
         *,
+        spare: int = 0,
         program: Program = None,
         keep: bool = True,
         engine: Optional[str] = None,
     ) -> Network:
         """A network with the nodes and edges of a simple undirected `networkx.Graph`, all pointers null.
 
-        Raises `ValueError` for a directed graph, a multigraph or a loop.
+        `spare` nodes may join under new names. Raises `ValueError` for a directed graph, a multigraph or a loop.
         """
         if graph.is_directed() or graph.is_multigraph():
             raise ValueError("a simple undirected graph is wanted: see to_undirected and networkx.Graph")
         if any(a == b for a, b in graph.edges):
             raise ValueError("an edge joins a node with itself")
-        net = cls(rules, list(graph.nodes), program=program, keep=keep, engine=engine)
+        nodes = list(graph.nodes)
+        capacity = len(nodes) + number_within(spare, MOST_NODES, "a number of nodes that may come")
+        net = cls(rules, nodes, capacity=capacity, program=program, keep=keep, engine=engine)
         with net.batch() as batch:
             for a, b in graph.edges:
                 batch.link(a, b)

@@ -6,7 +6,7 @@ import importlib
 import json
 import re
 from dataclasses import dataclass, fields
-from typing import Any, Callable, TextIO
+from typing import Any, Callable, Optional, TextIO
 
 from . import daemons
 from .disturbances import Disturbance
@@ -136,23 +136,25 @@ def disturbance_in(text: str) -> Disturbance:
     return Disturbance(**words)
 
 
-def experiment_of(row: Row, undirected: bool = False, program: Program = None) -> Experiment:
-    """The experiment of a row, whose graph is made or read again by its title.
+def experiment_of(
+    row: Row, undirected: bool = False, program: Program = None, graph: Optional[Graph] = None
+) -> Experiment:
+    """The experiment of a row, whose graph is given, or made or read again by its title.
 
     Raises `ValueError` if the daemon is the caller's own function, or there is no such graph.
     """
     if row.daemon not in daemons.WORDS:
         raise ValueError(f"the daemon {row.daemon!r} is none that has a word: they are {', '.join(daemons.WORDS)}")
-    graph = graph_of(row.graph, undirected=undirected)
+    graph = graph or graph_of(row.graph, undirected=undirected)
     return Experiment(graph, row.rules, row.daemon, row.seed, disturbance_in(row.disturbance), program)
 
 
-def play_again(row: Row, undirected: bool = False, program: Program = None) -> Played:
-    """The run of a row, played again.
+def play_again(row: Row, undirected: bool = False, program: Program = None, graph: Optional[Graph] = None) -> Played:
+    """The run of a row, played again; `kept_graphs.kept_graph` has a graph that was given in Python.
 
     Raises `RudekpiError` if it gives another row, for example because a file changed.
     """
-    experiment = experiment_of(row, undirected, program)
+    experiment = experiment_of(row, undirected, program, graph)
     played = experiment.played()
     made = experiment.measured(played, 0.0)
     for it in fields(Row):

@@ -7,7 +7,7 @@ from typing import Iterable, Iterator, Optional, Union
 
 from .answers import BASE, CHECKPOINT
 from .audits import Text, audit
-from .names import own_names
+from .names import names_for
 from .network import Network
 from .program import Program
 from .reading import MOVE, numbers_of_base, numbers_of_line
@@ -26,24 +26,23 @@ def replay(
     Raises `Damaged` if `audit` refuses the transcript. The network's own transcript is the given one; steps
     with other targets than the least have them as wishes. No run begins with a base: if the given one does,
     edits and faults lead to its state, the numbers differ, and earlier moves are not counted. `names` are the
-    caller's, in the order of the numbers; raises `ValueError` if their number differs.
+    caller's, in the order of the numbers, one for each node that was ever present; raises `ValueError` if
+    their number differs.
     """
     audit(transcript, program=program, engine=engine)
     transcript = transcript if isinstance(transcript, str) else bytes(transcript).decode()
     head, *parts = parts_of(transcript)
     _, rules, count, *rest = head[0].split(" ")
     present, edits = edits_to(head) if len(head) > 1 else (int((rest or [count])[0]), [])
-    own = None if names is None else own_names(names)
-    if own is not None and len(own) != int(count):
-        raise ValueError(f"{len(own)} names for {count} nodes")
-    nodes: Union[int, list[Name]] = int(count) if own is None else own
+    capacity = int(count)
+    nodes: Union[int, list[Name]] = capacity if names is None else names_for(transcript, names).all()
     entries = [(CHECKPOINT, "") if len(part) > 1 else tuple(part[0].split(" ", 1)[1].split(" = ")) for part in parts]
-    net = Network(rules, nodes, present=present, program=program, engine=engine)
+    net = Network(rules, nodes, present=present, capacity=capacity, program=program, engine=engine)
     if len(head) == 1:
         if net._played(event for event, _ in entries) == transcript:
             return net
         net.close()
-        net = Network(rules, nodes, present=present, program=program, engine=engine)
+        net = Network(rules, nodes, present=present, capacity=capacity, program=program, engine=engine)
     net._played([*edits, *(wished(event, reply) for event, reply in entries)])
     return net
 

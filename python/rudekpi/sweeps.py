@@ -16,7 +16,7 @@ import time
 from collections import deque
 from concurrent.futures import Executor
 from dataclasses import asdict, astuple, dataclass, fields
-from typing import Any, Callable, Iterable, Iterator, Optional, Sequence, TextIO, Union
+from typing import Any, Callable, Generator, Iterable, Iterator, Optional, Sequence, TextIO, Union
 
 from . import daemons
 from .audits import judged_epochs
@@ -26,6 +26,7 @@ from .disturbances import Disturbance as Disturbance
 from .disturbances import Events
 from .errors import Lost, RudekpiError
 from .graphs import from_networkx, is_networkx
+from .kept_graphs import Rows, keep_beside
 from .simple_graph import Graph
 from .network import Network
 from .numbers import MOST_SEED, MOST_TURNS, counted, number_within
@@ -100,6 +101,8 @@ class Played:
     after: Status
     steps: int
     moves: int
+    # in the order of the transcript's numbers
+    nodes: tuple[Name, ...] = ()
 
 
 @dataclass(frozen=True)
@@ -165,7 +168,7 @@ class Experiment:
                 disturb_one_by_one(net, events, self.seed, player)
             player.settle()
             after = net.status()
-        return Played(net.transcript(), before, after, player.steps, player.moves)
+        return Played(net.transcript(), before, after, player.steps, player.moves, self.graph.nodes)
 
     def measured(self, played: Played, began: float) -> Row:
         """The row of a run, which is judged here.
@@ -284,7 +287,7 @@ def sweep(
     program: Program = None,
     processes: Optional[int] = None,
     there: Iterable[Row] = (),
-) -> Iterator[Row]:
+) -> Rows[Row]:
     """A row for each graph, rules, daemon, seed and disturbance, in the order of completion.
 
     A graph may be one of networkx. A disturbance is a `Disturbance`, or a number of faults. The executor is
@@ -301,12 +304,14 @@ def sweep(
     if processes is not None and processes < 1:
         raise ValueError(f"there is one process or more, and not {processes}")
     known = {row.key for row in there}
-    todo = [it for it in experiments_of(graphs, rules, daemons, seeds, faults, program) if it.key not in known]
+    every = experiments_of(graphs, rules, daemons, seeds, faults, program)
+    todo, played = [it for it in every if it.key not in known], {it.graph.title: it.graph for it in every}
     if executor is not None:
-        return rows_of(todo, executor)
+        return Rows(rows_of(todo, executor), played.values())
     # built and named once, before any worker looks for it
     found_program(program)
-    return rows_of(todo, max(1, min(processes or os.cpu_count() or 1, len(todo))))
+    given = max(1, min(processes or os.cpu_count() or 1, len(todo)))
+    return Rows(rows_of(todo, given), played.values())
 
 
 class Tasks:
@@ -333,7 +338,7 @@ class Tasks:
         self.count, self.seconds = self.count + len(rows), self.seconds + sum(row.seconds for row in rows)
 
 
-def rows_of(todo: list[Experiment], given: Union[Executor, int]) -> Iterator[Row]:
+def rows_of(todo: list[Experiment], given: Union[Executor, int]) -> Generator[Row, None, None]:
     """The rows of experiments, as an executor or this many processes finish them."""
     tasks, lost = Tasks(todo, count_of(given)), []
     handing: Handing[list[Experiment]] = Handing(tasks, lambda task: (run_all, task), given)
@@ -361,8 +366,10 @@ COLUMNS = tuple(it.name for it in fields(Row))
 def write_csv(rows: Iterable[Row], file: TextIO, has_head: bool = False) -> Iterator[Row]:
     """The same rows, each written to a CSV file as it comes, so that an interrupt loses none.
 
-    The head is written too, unless the file has it.
+    The head is written too, unless the file has it. Graphs of `sweep` that no word makes and no file has are
+    kept next to the CSV file: see `rudekpi.kept_graphs`.
     """
+    keep_beside(file, getattr(rows, "graphs", ()), has_head)
     writer = csv.writer(file)
     if not has_head:
         writer.writerow(COLUMNS)

@@ -2,12 +2,14 @@
 
 from __future__ import annotations
 
+import os
 import random
 import unittest
 from typing import Any
 
-from rudekpi import Network
+from rudekpi import Network, graphs, kept_graphs, sweep, sweeps
 from rudekpi.choices import Daemon
+from rudekpi.plans import play_again
 from support import Timed
 
 try:
@@ -51,6 +53,34 @@ class Graphs(Timed):
                 net.drive(seed, 1_000_000)
                 self.assertTrue(networkx.is_maximal_matching(graph, set(net.matching())))
                 self.assertTrue(networkx.utils.graphs_equal(bare(net.to_networkx()), graph))
+
+    def test_nodes_that_come_later(self) -> None:
+        graph = networkx.path_graph(["ann", "bob"])
+        with Network.from_networkx(graph, "hh", spare=2) as net:
+            net.join("cleo")
+            net.link("bob", "cleo")
+            net.join("dan")
+            self.assertRaisesRegex(ValueError, "no number is left for 'eve': the capacity is 4", net.join, "eve")
+            self.assertEqual(net.settle(daemon="least").moves, 2)
+            self.assertEqual(net.to_networkx().nodes["ann"]["pointer"], "bob")
+            self.assertEqual(sorted(net.to_networkx().nodes), ["ann", "bob", "cleo", "dan"])
+        self.assertRaisesRegex(ValueError, "nodes that may come is 0 to", Network.from_networkx, graph, spare=-1)
+        with Network(nodes=graph, capacity=3) as net:
+            net.join(("a", 1))
+            self.assertEqual(net.edges, [("ann", "bob")])
+            self.assertRaises(ValueError, net.join, ("a", 2))
+
+    def test_sweeps_of_named_graphs_play_again(self) -> None:
+        graph = networkx.Graph([("ann", "bob"), ("bob", (1, 2))], name="who meets whom")
+        graph.add_node("alone")
+        path = os.path.join(self.folder(), "rows.csv")
+        with open(path, "w", newline="") as file:
+            rows = list(sweeps.write_csv(sweep([graph], ["hh", "manne"], faults=[0, 2], processes=1), file))
+        self.assertEqual({(row.graph, row.n, row.m) for row in rows}, {("who meets whom", 4, 2)})
+        kept = kept_graphs.kept_graph(path, "who meets whom")
+        self.assertEqual(kept, graphs.from_networkx(graph))
+        for row in rows:
+            self.assertEqual(play_again(row, graph=kept).nodes, ("ann", "bob", (1, 2), "alone"))
 
     def test_names_that_are_tuples(self) -> None:
         graph = networkx.grid_2d_graph(5, 6)

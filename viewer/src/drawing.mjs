@@ -1,4 +1,5 @@
 // The network as a drawing. Elements keep their places, and only those that change are written anew.
+import {labelOf, wholeOf} from "./own_names.mjs";
 import {add} from "./svg.mjs";
 
 export const MOST_DRAWN = 2000;
@@ -7,6 +8,8 @@ export const RADIUS = 12;
 const DENSE = 8;
 const ARROW_GAP = 3;
 const MARK_DISTANCE = 16;
+// the size of an own name below a node
+const OWN_SIZE = 9;
 // angles: how far two marks lie from the middle of a wide gap, and how wide such a gap is
 const ASIDE = 0.5;
 const WIDE = 1.8;
@@ -162,6 +165,11 @@ export class Drawing {
     add(group, "circle", { class: "halo", r: RADIUS + 5 });
     add(group, "circle", { class: "body", r: RADIUS });
     add(group, "text", { class: "name", "font-size": nameSize(v), dy: "0.36em" }, String(v));
+    const label = labelOf(v);
+    if (label !== null) {
+      add(group, "title", {}, wholeOf(v));
+      add(group, "text", { class: "own", "font-size": OWN_SIZE, y: RADIUS + OWN_SIZE }, label);
+    }
     return { group, classes: "node", mark: null, letter: null, flag: null };
   }
 

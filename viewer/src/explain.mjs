@@ -1,14 +1,16 @@
 // Explains a node or an edge: its registers, enabled rule with guard, and charge.
 import {lastOf} from "./lists.mjs";
 import {counted} from "./numbers.mjs";
+import {told} from "./own_names.mjs";
 
 const MOST_NAMED = 12;
 
 /**
  * Names in words: `3`, `3 and 5`, `3, 5 and 9`.
- * @param {number[]} names
+ * @param {number[]} numbers
  */
-export function listed(names) {
+export function listed(numbers) {
+  const names = numbers.map(told);
   if (names.length > MOST_NAMED) {
     return `${names.slice(0, MOST_NAMED).join(", ")} and ${names.length - MOST_NAMED} more`;
   }
@@ -32,8 +34,8 @@ function pointerOf(machine, v) {
   if (w === 0) {
     return "null: it points nowhere";
   }
-  return machine.pointer[w] === v ? `at ${w}, which points back: they are married` :
-                                    `at ${w}, which does not point back`;
+  return machine.pointer[w] === v ? `at ${told(w)}, which points back: they are married` :
+                                    `at ${told(w)}, which does not point back`;
 }
 
 /**
@@ -42,7 +44,7 @@ function pointerOf(machine, v) {
  * @param {number} w
  */
 function whereTo(machine, w) {
-  return machine.pointer[w] === 0 ? "points nowhere" : `points at ${machine.pointer[w]}`;
+  return machine.pointer[w] === 0 ? "points nowhere" : `points at ${told(machine.pointer[w])}`;
 }
 
 /**
@@ -53,10 +55,11 @@ function whySeduce(machine, v) {
   const open = machine.openNeighbours(v);
   const free = "it points nowhere, nobody points at it";
   if (machine.flags) {
-    return `${free}, and ${lastOf(open)} is the highest neighbour above it that points nowhere and has the flag 0`;
+    return `${free}, and ${
+      told(lastOf(open))} is the highest neighbour above it that points nowhere and has the flag 0`;
   }
   return `${free}, and ${
-    open.length === 1 ? `its neighbour ${open[0]} points` : `its neighbours ${listed(open)} point`} nowhere too`;
+    open.length === 1 ? `its neighbour ${told(open[0])} points` : `its neighbours ${listed(open)} point`} nowhere too`;
 }
 
 /**
@@ -66,10 +69,10 @@ function whySeduce(machine, v) {
 function whyAbandon(machine, v) {
   const w = machine.pointer[v];
   if (!machine.flags) {
-    return `it points at ${w}, which ${whereTo(machine, w)}`;
+    return `it points at ${told(w)}, which ${whereTo(machine, w)}`;
   }
   const reasons = [machine.flag[w] === 1 && "has the flag 1", w < v && "is lower"].filter(Boolean);
-  return `it points at ${w}, which does not point back and ${reasons.join(" and ")}`;
+  return `it points at ${told(w)}, which does not point back and ${reasons.join(" and ")}`;
 }
 
 /**
@@ -100,11 +103,11 @@ function whyEnabled(machine, v) {
 function whyQuiet(machine, v) {
   const w = machine.pointer[v];
   if (machine.isMarried(v)) {
-    return `it and ${w} point at each other${machine.flags ? ", and its flag is 1" : ""}`;
+    return `it and ${told(w)} point at each other${machine.flags ? ", and its flag is 1" : ""}`;
   }
   if (w !== 0) {
-    return machine.flags ? `it waits for ${w}, which is higher and has the flag 0` :
-                           `it waits for ${w}, which points nowhere`;
+    return machine.flags ? `it waits for ${told(w)}, which is higher and has the flag 0` :
+                           `it waits for ${told(w)}, which points nowhere`;
   }
   if (machine.neighbours[v].size === 0) {
     return "it has no neighbour";
@@ -172,7 +175,7 @@ export function explainNode(machine, v) {
     rule ? [`may ${rule}`, `since ${whyEnabled(machine, v)}`] : ["not enabled", `since ${whyQuiet(machine, v)}`],
     ["charge", chargeOfNode(machine, v)],
   ];
-  return { heading: `Node ${v}`, rule, rows: /** @type {[string, string][]} */ (rows.filter(Boolean)) };
+  return { heading: `Node ${told(v)}`, rule, rows: /** @type {[string, string][]} */ (rows.filter(Boolean)) };
 }
 
 /**
@@ -189,10 +192,10 @@ function whyClosed(machine, low, high) {
     return `${listed(married)} ${married.length === 1 ? "is" : "are"} married`;
   }
   if (machine.flags) {
-    return `${low} points at ${high}, which has the flag 0`;
+    return `${told(low)} points at ${told(high)}, which has the flag 0`;
   }
   const waiting = [[low, high], [high, low]].find(([v, w]) => machine.awaits(v, w));
-  return waiting ? `${waiting[0]} points at ${waiting[1]}, which points nowhere` :
+  return waiting ? `${told(waiting[0])} points at ${told(waiting[1])}, which points nowhere` :
                    "both ends point nowhere, and somebody points at each";
 }
 
@@ -207,7 +210,8 @@ function whyOpen(machine, low, high) {
   }
   const pointed = machine.pointer[low] === high;
   return `neither end is married, and ${
-    pointed ? `${high}, at which ${low} points, has the flag 1` : `${low} does not point at ${high}`}`;
+    pointed ? `${told(high)}, at which ${told(low)} points, has the flag 1` :
+              `${told(low)} does not point at ${told(high)}`}`;
 }
 
 /**
@@ -216,8 +220,9 @@ function whyOpen(machine, low, high) {
  * @param {number} high
  */
 function alongEdge(machine, low, high) {
-  const along =
-    [[low, high], [high, low]].filter(([v, w]) => machine.pointer[v] === w).map(([v, w]) => `${v} points at ${w}`);
+  const along = [[low, high], [high, low]]
+                  .filter(([v, w]) => machine.pointer[v] === w)
+                  .map(([v, w]) => `${told(v)} points at ${told(w)}`);
   return along.length === 0 ? "neither end points along it" : along.join(", and ");
 }
 
@@ -238,7 +243,7 @@ export function explainEdge(machine, low, high) {
                `2: it is open, since ${whyOpen(machine, low, high)}`
     ],
   ];
-  return { heading: `Edge ${low} – ${high}`, rule: null, rows: /** @type {[string, string][]} */ (rows) };
+  return { heading: `Edge ${told(low)} – ${told(high)}`, rule: null, rows: /** @type {[string, string][]} */ (rows) };
 }
 
 /**
@@ -251,7 +256,7 @@ export function explain(machine, thing) {
     const { node } = thing;
     if (!machine.here[node]) {
       return {
-        heading: `Node ${node}`,
+        heading: `Node ${told(node)}`,
         rule: null,
         rows: [["absent", `it is none of the ${counted(machine.present, "node")} of this state`]]
       };
@@ -259,7 +264,9 @@ export function explain(machine, thing) {
     return explainNode(machine, node);
   }
   const { low, high } = thing;
-  return machine.neighbours[low].has(high) ?
-    explainEdge(machine, low, high) :
-    { heading: `Edge ${low} – ${high}`, rule: null, rows: [["absent", "it is none of the edges of this state"]] };
+  return machine.neighbours[low].has(high) ? explainEdge(machine, low, high) : {
+    heading: `Edge ${told(low)} – ${told(high)}`,
+    rule: null,
+    rows: [["absent", "it is none of the edges of this state"]]
+  };
 }

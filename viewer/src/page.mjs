@@ -1,5 +1,6 @@
 // Plays the transcript in the page; without one, offers the playground. The engine judges a transcript, plays
 // a script or links a graph that is opened, dropped or pasted.
+import {useNames} from "./own_names.mjs";
 import {Playing} from "./playing.mjs";
 import {forget, keep, kept} from "./playground/keeping.mjs";
 import {LabPage} from "./playground/lab_page.mjs";
@@ -118,6 +119,8 @@ class Page {
   play(text, judge) {
     this.lab?.leave();
     document.body.classList.remove("lab");
+    // the names in the page are those of the transcript in it
+    useNames(text === this.embedded ? dataOf("names") : null);
     this.playing.begin(text, judge);
   }
 
@@ -139,6 +142,7 @@ class Page {
     }
     this.playing.end();
     this.opened = null;
+    useNames(null);
     document.body.classList.remove("hh", "manne", "broken", "undrawn");
     document.body.classList.add("lab");
     nameWindow("Break a network by hand");

@@ -1,6 +1,8 @@
 // The entry with its reply, the entries near it, and the state in numbers.
 import {counted, grouped} from "./numbers.mjs";
+import {labelOf, told} from "./own_names.mjs";
 import {byId} from "./svg.mjs";
+import {nodesOf} from "./transcript.mjs";
 
 const NEAR = 3;
 const LONGEST = 400;
@@ -119,6 +121,8 @@ export class Panel {
     byId("number").textContent = grouped(number);
     byId("event").textContent = cut(event);
     byId("reply").textContent = cut(reply);
+    const named = entry ? nodesOf(entry).filter((v) => labelOf(v) !== null) : [];
+    byId("who").textContent = cut(named.map(told).join(", "));
     byId("entry").classList.toggle("refused", Boolean(entry?.refused));
     byId("entry").classList.toggle("disturbs", Boolean(entry?.disturbs));
     byId("kind").textContent = entry?.refused ? "⊘ refused" :

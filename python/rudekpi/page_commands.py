@@ -1,0 +1,58 @@
+"""The commands `page`, which makes a page that plays a transcript, and `picture` by the caller's own names."""
+
+from __future__ import annotations
+
+import argparse
+import sys
+from typing import Callable
+
+from . import audits, drawings, streams
+from .errors import Damaged
+from .log_commands import names_given, read, words_of_names
+from .names import names_for
+
+DONE, FAILED = 0, 1
+Command = Callable[[str, Callable[[argparse.Namespace], int], str], argparse.ArgumentParser]
+
+
+def run_page(given: argparse.Namespace) -> int:
+    """The page of a transcript, into a file or to standard output."""
+    transcript, names = read(given.transcript), names_given(given)
+    try:
+        audits.audit(transcript, program=given.program)
+    except Damaged as damaged:
+        print(damaged, file=sys.stderr)
+        return FAILED
+    text = transcript.decode()
+    drawings.write_page(text, given.output, given.program, names_for(text, names))
+    return DONE
+
+
+def run_picture(given: argparse.Namespace) -> int:
+    """The picture of a transcript for Graphviz, as the program draws it, by the names."""
+    try:
+        text = audits.picture(read(given.transcript), given.entry, names=names_given(given), program=given.program)
+    except Damaged as damaged:
+        print(damaged)
+        return FAILED
+    if given.output is None or given.output == "-":
+        sys.stdout.buffer.write(text.encode())
+    else:
+        with streams.output_file(given.output) as out:
+            out.write(text)
+    return DONE
+
+
+def add_commands(command: Command) -> None:
+    """Adds both to the commands of the client."""
+    page = command("page", run_page, "a page that plays a transcript in a browser")
+    page.add_argument("transcript", nargs="?", default="-", help="a file (standard input)")
+    page.add_argument("--output", required=True, help="a file for the page")
+    words_of_names(page)
+    page.add_argument("--program", help="the program that judges")
+    picture = command("picture", run_picture, "draws a network for Graphviz, by the names of a file")
+    picture.add_argument("transcript", nargs="?", default="-", help="a file (standard input)")
+    picture.add_argument("--entry", type=int, help="after which entry (the last one)")
+    picture.add_argument("--output", help="a file (standard output)")
+    words_of_names(picture)
+    picture.add_argument("--program", help="the program that draws")
