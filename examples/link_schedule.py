@@ -1,8 +1,8 @@
 #!/usr/bin/env python3
 """Gives each link of a changing mesh a slot.
 
-In each round the links of a maximal matching get theirs, so that no host talks to two others at once. The
-next round is for the links that still wait. Links come and go meanwhile.
+In each round the links of a maximal matching get their slots, so that no host talks to two others at once.
+The next round is for the links that still wait. Links come and go between the rounds.
 
 usage: examples/link_schedule.py
 """
@@ -24,7 +24,7 @@ GO = {3: [("c2", "c3"), ("a4", "a5")]}
 
 
 def mesh() -> Iterator[tuple[str, str]]:
-    """The links of a grid: each host with the next in its row and in its column."""
+    """The links of a grid: each host is linked with the next in its row and in its column."""
     for row, next_row in itertools.zip_longest(ROWS, ROWS[1:]):
         for column, next_column in itertools.zip_longest(COLUMNS, COLUMNS[1:]):
             if next_column:

@@ -1,15 +1,15 @@
 #!/usr/bin/env python3
-"""A pairing layer of your own, whose log is judged: nodes that know each other by messages alone.
+"""A pairing layer of your own, whose log is judged: its nodes know each other by messages alone.
 
 Each node has its own registers and rules, while the world cuts links, removes nodes and writes registers.
 
 usage: examples/own_nodes.py [--rules hh|manne] [--events N] [--seed S] [--mistake low|stale] [--log FILE]
 
-A node moves once all its neighbours, and it itself, have granted it their locks. Each grant carries the
-granter's registers. Then the node chooses its move by these copies, writes the move into the log, and
-releases all locks with its new registers. With a mistake one node breaks the rules: `low` seduces a neighbour
-below it, `stale` chooses by the copies from before it asked. The log is also written to FILE; if that is `-`,
-to standard output, without a verdict.
+A node moves after all its neighbours, and the node itself, have granted it their locks. Each grant carries
+the granter's registers. Then the node chooses its move by these copies, writes the move into the log, and
+releases all locks with its new registers. With --mistake one node breaks the rules: with `low` it seduces a
+neighbour below it, with `stale` it chooses by the copies that it had before it asked for the locks. The log
+is also written to FILE. If FILE is `-`, the log goes to standard output, and there is no verdict.
 """
 
 from __future__ import annotations
@@ -118,7 +118,7 @@ class Node(Peer):
             self.send(name, "told", (self.pointer, self.flag))
 
     async def live(self, chance: random.Random) -> None:
-        """Moves some time after its copies allow it."""
+        """Makes moves, each some time after the node's copies allow one."""
         while True:
             await self.news.wait()
             self.news.clear()
@@ -147,7 +147,7 @@ class Node(Peer):
         self.tell()
 
     def choose(self, near: dict[str, Held], chance: random.Random) -> Optional[dict[str, Any]]:
-        """The register that its rules let it write, given its neighbours' registers."""
+        """The register that the rules let the node write, given its neighbours' registers."""
         if self.rules == "hh":
             return self.choose_alone(near, chance)
         return self.choose_with_flag(near, chance)
@@ -238,7 +238,7 @@ class World(Peer):
         self.let_go({name})
 
     async def go(self, chance: random.Random) -> None:
-        """A node leaves, or one that had left returns without a link."""
+        """A node leaves, or a node that had left returns, without a link."""
         name = chance.choice(NODES)
         node = self.nodes[name]
         names = {name, *node.copies}

@@ -3,9 +3,9 @@
  * The caller must keep these rules; no call checks them:
  * - All bytes of a slot are 0 before its first call (`struct rudekpi_slot slot = RUDEKPI_NONE;`). After that
  *   only these calls write to it. A full slot is never copied; rudekpi_session_free frees it.
- * - One thread at a time uses a session, also to ask: each call takes the session out of its slot and puts it
- *   back, so no slot is const. Different threads may use different sessions.
- * - No pointer is null, even if a length is 0. A length is at most what lies behind its pointer.
+ * - Only one thread at a time uses a session, even to ask a question: each call takes the session out of its
+ *   slot and puts it back, so no slot is const. Different threads may use different sessions.
+ * - No pointer is null, even if a length is 0. A length is at most the number of elements at its pointer.
  * - malloc, realloc and free belong to one allocator. No call is made in a signal handler, or in the forked
  *   child of a process with threads.
  *
@@ -34,7 +34,7 @@ enum {
     RUDEKPI_NO_SESSION = 4,   /* the slot holds no session, or no audit */
     RUDEKPI_BAD_ARGUMENT = 5, /* an argument is out of range; nothing changed */
     RUDEKPI_REFUSED = 6,      /* the machine refused the event, and an entry says so; the network is unchanged */
-    RUDEKPI_DAMAGED = 7,      /* the bytes that an audit was fed are no transcript, whatever comes next */
+    RUDEKPI_DAMAGED = 7,      /* the bytes fed to an audit begin no transcript, whatever follows */
     RUDEKPI_NOT_SILENT = 8    /* a rule is enabled, and the call needs a silent network; nothing changed */
 };
 
@@ -56,41 +56,45 @@ uint32_t rudekpi_version(void);
 /* Begins a session of a new network and replaces what the slot held. The names are 1 to `nodes`, at most
  * 65,535; nodes 1 to `present` are present. The session's text begins with the transcript's header. Takes
  * some fifty bytes a name.
- * DONE; BAD_ARGUMENT for other rules, too many names, or more nodes than names; NO_MEMORY. The slot is empty
- * after an error. */
+ * DONE; BAD_ARGUMENT for unknown rules, too many names, or more present nodes than names; NO_MEMORY. The slot
+ * is empty after an error. */
 uint32_t rudekpi_session_new(uint32_t rules, uint32_t nodes, uint32_t present, struct rudekpi_slot *slot);
 
-/* Carries out the next line of a script, given without its LF, and writes its number, from 1. The text of its
- * entries is appended to the session's text.
- * DONE, also for an empty line, and for an event that is refused, as its entry says; BAD_LINE; LOG_FULL:
- * earlier turns of a `drive` or `scramble` remain; NO_MEMORY: nothing was done, except perhaps some first
- * turns of such a line, with their text, and the line may be given again; NO_SESSION: `number` is unchanged.
- * Costs what the line costs: a link at most some microseconds, `enabled` and `matching` the length of their
- * lists, a `checkpoint` a look at all names and edges. */
+/* Carries out the next line of a script, given without its LF. Writes the line's number, counted from 1, and
+ * appends the text of the line's entries to the session's text.
+ * - DONE: also for an empty line, and for a refused event, whose entry has the refusal.
+ * - BAD_LINE.
+ * - LOG_FULL: earlier turns of a `drive` or `scramble` remain.
+ * - NO_MEMORY: nothing was done, except that first turns of a `drive` or `scramble` may remain, with their
+ *   text. The caller may give the line again.
+ * - NO_SESSION: `number` is unchanged.
+ * A link costs at most some microseconds, `enabled` and `matching` the length of their lists, a `checkpoint` a
+ * look at all names and edges. */
 uint32_t rudekpi_session_feed(struct rudekpi_slot *slot, const uint8_t *line, size_t length, uint64_t *number);
 
 /* Returns how many bytes of text are unread; 0 without a session. */
 size_t rudekpi_session_length(struct rudekpi_slot *slot);
 
-/* Copies all text to the start of `out` and forgets it, if there is room; otherwise changes nothing. Returns
- * the length of the text: it was copied if that is at most `room`. */
+/* If `out` has room for all unread text, copies that text to the start of `out` and forgets it; otherwise
+ * changes nothing. Returns the length of the text, which was copied if its length is at most `room`. */
 size_t rudekpi_session_read(struct rudekpi_slot *slot, uint8_t *out, size_t room);
 
-/* Ends the session and frees its memory. The slot is empty afterwards, and may be before. */
+/* Ends the session and frees its memory. The slot may be empty before, and is empty afterwards. */
 void rudekpi_session_free(struct rudekpi_slot *slot);
 
-/* From here to rudekpi_checkpoint: the same without text. Each call does what its line of a script does, down
- * to the bytes of the session's text, and reports numbers. These calls count no line.
+/* The calls from here to rudekpi_checkpoint do the same, with numbers instead of lines. Each does what its line
+ * of a script does, down to the bytes of the session's text, but does not count as a line.
  *
- * Each event adds one entry, also a question and an event that is refused:
+ * Each event adds one entry, even if the event is a question or is refused:
  *   DONE          the entry was added, and its reply is no refusal;
  *   REFUSED       the entry was added, `refusal` says why, and the network is unchanged;
  *   LOG_FULL, NO_MEMORY, NO_SESSION, BAD_ARGUMENT   no entry was added and nothing changed. A name is out of
  *                 range if it is 0 or above 65,535; the machine refuses one that is only above the session's
  *                 `nodes`.
- * BAD_ARGUMENT comes before all others. Every field of `told` is written in each case, 0 without a value. */
+ * BAD_ARGUMENT takes precedence over all others. Every call writes all fields of `told`; one without a value
+ * is 0. */
 struct rudekpi_told {
-    uint32_t entry;   /* the entry's number, 1 to 16,777,216; of _drive, _scramble and _checkpoint that of the last one */
+    uint32_t entry;   /* the entry's number, 1 to 16,777,216; of _drive, _scramble and _checkpoint the last entry's */
     uint32_t refusal; /* why the event was refused, or 0 */
     uint32_t target;  /* the pointer that rudekpi_show asks for; 0 is null */
     size_t rows;      /* how many rows the answer has: moves of a step, enabled nodes, or pairs */
@@ -117,8 +121,8 @@ enum {
 uint32_t rudekpi_link(struct rudekpi_slot *slot, uint32_t a, uint32_t b, struct rudekpi_told *told);
 uint32_t rudekpi_unlink(struct rudekpi_slot *slot, uint32_t a, uint32_t b, struct rudekpi_told *told);
 
-/* `join node`, `leave node`: a node arrives; or it departs with its edges and the pointers at it. Costs the
- * degree. */
+/* `join node`: a node arrives. `leave node`: a node departs, with its edges and the pointers at it. Costs the
+ * node's degree. */
 uint32_t rudekpi_join(struct rudekpi_slot *slot, uint32_t node, struct rudekpi_told *told);
 uint32_t rudekpi_leave(struct rudekpi_slot *slot, uint32_t node, struct rudekpi_told *told);
 
@@ -128,7 +132,7 @@ uint32_t rudekpi_point(struct rudekpi_slot *slot, uint32_t node, uint32_t target
 /* `flag node 0`, `flag node 1`: a fault writes a node's married flag. */
 uint32_t rudekpi_flag(struct rudekpi_slot *slot, uint32_t node, bool value, struct rudekpi_told *told);
 
-/* A chosen node, and the neighbour that it is to point at; 0 for any that its rule allows. */
+/* A chosen node, and the neighbour that the node is to point at; a wish of 0 leaves any that its rule allows. */
 struct rudekpi_item {
     uint32_t node;
     uint32_t wish;
@@ -145,7 +149,7 @@ uint32_t rudekpi_show(struct rudekpi_slot *slot, uint32_t node, struct rudekpi_t
 /* `enabled`: lists the enabled nodes, each with its rule. The rows are the nodes. */
 uint32_t rudekpi_enabled(struct rudekpi_slot *slot, struct rudekpi_told *told);
 
-/* `matching`: lists the pairs of nodes that point at each other. The rows are the pairs. A look at each name. */
+/* `matching`: lists the pairs of nodes that point at each other. The rows are the pairs. Looks at each name. */
 uint32_t rudekpi_pairs(struct rudekpi_slot *slot, struct rudekpi_told *told);
 
 /* The counts of a network. */
@@ -158,49 +162,49 @@ struct rudekpi_counts {
     uint32_t spent;   /* the moves since the last accepted edit or fault, or since the start */
 };
 
-/* `status`: counts. Every field of `counts` is written in each case, 0 if the status is not DONE. */
+/* `status`: counts. Writes every field of `counts`; all are 0 if the call does not return DONE. */
 uint32_t rudekpi_status(struct rudekpi_slot *slot, struct rudekpi_counts *counts, struct rudekpi_told *told);
 
 /* One row of an answer. */
 struct rudekpi_row {
-    uint32_t node;  /* the node that moved or may move; of a pair the lower name */
-    uint32_t rule;  /* its rule; of a pair 0 */
-    uint32_t other; /* the new pointer of a node that moved, 0 for null; of a pair the higher name; else 0 */
+    uint32_t node;  /* the node that moved or may move; in a pair, the lower name */
+    uint32_t rule;  /* the node's rule; in a pair, 0 */
+    uint32_t other; /* the new pointer of a node that moved, 0 for null; in a pair, the higher name; else 0 */
 };
 enum { RUDEKPI_UPDATE = 1, RUDEKPI_MARRY = 2, RUDEKPI_SEDUCE = 3, RUDEKPI_ABANDON = 4 };
 
 /* Copies the rows of the last answer to the start of `out`, ascending by `node`, if there is room; otherwise
- * `out` is unchanged. Returns how many rows there are: they were copied if that is at most `room`. The last
- * answer is that of the last of these calls that found the session and no bad argument; the session keeps it
- * for later calls. 0 without a session, or if the answer has no rows. */
+ * `out` is unchanged. Returns how many rows there are; they were copied if that number is at most `room`.
+ * Returns 0 without a session, or if the answer has no rows. The last answer is that of the latest of these
+ * calls that found the session and no bad argument. The session keeps the answer for later calls. */
 size_t rudekpi_rows(struct rudekpi_slot *slot, struct rudekpi_row *out, size_t room);
 
-/* `drive seed count`, `scramble seed count`: at most `count` steps of a seeded daemon, until no node is
- * enabled; `count` seeded faults of registers. Each turn adds an entry. No node is enabled after a drive that
- * is DONE if `count` is at least the charge before it.
+/* `drive seed count`: makes up to `count` steps of a seeded daemon, and stops when no node is enabled.
+ * `scramble seed count`: makes `count` seeded faults of registers. Each turn, a step or a fault, adds an entry.
+ * If a drive returns DONE, and `count` is at least the charge before the drive, no node is enabled afterwards.
  * DONE; LOG_FULL and NO_MEMORY: earlier turns remain; NO_SESSION; BAD_ARGUMENT above 1,000,000 turns. */
 uint32_t rudekpi_drive(struct rudekpi_slot *slot, uint64_t seed, uint32_t count, struct rudekpi_told *told);
 uint32_t rudekpi_scramble(struct rudekpi_slot *slot, uint64_t seed, uint32_t count, struct rudekpi_told *told);
 
-/* `checkpoint`: appends the lines of a base, where an audit can begin, to the text; they are no entry.
+/* `checkpoint`: appends the lines of a base to the text. They are no entry. An audit can begin at a base.
  * DONE; NO_MEMORY: nothing changed; NO_SESSION. A look at all names and edges. */
 uint32_t rudekpi_checkpoint(struct rudekpi_slot *slot, struct rudekpi_told *told);
 
-/* Decides whether the session keeps its text from here on, as it does at the start. Without `keeps` the text
- * is forgotten, and so is what each later call adds: a session of weeks then needs memory for its network
- * alone. To begin a transcript anew, keep no text, keep it again, and call rudekpi_checkpoint: the text then
- * begins with a base.
+/* Decides whether the session keeps its text from here on, as it does at the start. If `keeps` is false, the
+ * session forgets its text, and forgets what each later call adds. A session of weeks then needs memory for
+ * its network alone. To begin a transcript anew, call this with false, then with true, then call
+ * rudekpi_checkpoint: the text then begins with a base.
  * DONE; NO_SESSION. */
 uint32_t rudekpi_transcript(struct rudekpi_slot *slot, bool keeps);
 
-/* Writes a node's partner, or 0 if it has none or is not present. Reads two registers and adds no entry.
+/* Writes a node's partner, or 0 if the node has none or is not present. Reads two registers and adds no entry.
  * DONE; NO_SESSION; BAD_ARGUMENT for a name that is 0 or above 65,535. `partner` is written in each case. */
 uint32_t rudekpi_partner(struct rudekpi_slot *slot, uint32_t node, uint32_t *partner);
 
-/* Writes the cost of an edit or a fault, in moves: the most by which it could raise the charge if it came at
- * this moment, and with it the moves that may follow. 0 if the machine would refuse it. Computed from the
- * registers and degrees of the nodes that it touches (table in docs/BOUNDS.md), whatever the size of the
- * network. Changes nothing, adds no entry.
+/* Writes the cost of an edit or a fault, in moves. If the event came at this moment, it could raise the charge,
+ * and so the number of moves that may follow, by at most its cost. The cost is 0 if the machine would refuse
+ * the event. The cost is computed from the registers and degrees of the nodes that the event touches (table in
+ * docs/BOUNDS.md), whatever the size of the network. Changes nothing, adds no entry.
  * DONE; NO_SESSION; BAD_ARGUMENT for a name that is 0 or above 65,535; only a target may be 0, for null.
  * `cost` is written in each case, 0 if the status is not DONE. */
 uint32_t rudekpi_cost_of_link(struct rudekpi_slot *slot, uint32_t a, uint32_t b, uint32_t *cost);
@@ -210,11 +214,11 @@ uint32_t rudekpi_cost_of_leave(struct rudekpi_slot *slot, uint32_t node, uint32_
 uint32_t rudekpi_cost_of_point(struct rudekpi_slot *slot, uint32_t node, uint32_t target, uint32_t *cost);
 uint32_t rudekpi_cost_of_flag(struct rudekpi_slot *slot, uint32_t node, bool value, uint32_t *cost);
 
-/* Writes the cost of an edit or a fault in a silent network, in moves: at most this many follow it before the
- * next edit or fault, whatever the daemon chooses. Under RUDEKPI_HSU_HUANG it is at most the cost above, as it
- * counts unmarried neighbours alone. Under RUDEKPI_MANNE it may exceed that by 2 for a pair that may come, and
- * by 1 for a node that leaves. 0 if the machine would refuse it. Looks at the neighbours of at most two nodes.
- * Changes nothing, adds no entry.
+/* Writes the silent cost of an edit or a fault, in moves: if the network is silent when the event comes, at most
+ * this many moves follow before the next edit or fault, whatever the daemon chooses. Only unmarried neighbours
+ * count. Under RUDEKPI_HSU_HUANG the silent cost is at most the cost above. Under RUDEKPI_MANNE it is at most
+ * that cost plus 2 if a new pair may form, plus 1 for rudekpi_silent_cost_of_leave. The silent cost is 0 if the
+ * machine would refuse the event. Looks at the neighbours of at most two nodes. Changes nothing, adds no entry.
  * DONE; NOT_SILENT if a rule is enabled; NO_SESSION; BAD_ARGUMENT for a name that is 0 or above 65,535; only a
  * target may be 0, for null. `cost` is written in each case, 0 if the status is not DONE. */
 uint32_t rudekpi_silent_cost_of_link(struct rudekpi_slot *slot, uint32_t a, uint32_t b, uint32_t *cost);
@@ -224,19 +228,20 @@ uint32_t rudekpi_silent_cost_of_leave(struct rudekpi_slot *slot, uint32_t node, 
 uint32_t rudekpi_silent_cost_of_point(struct rudekpi_slot *slot, uint32_t node, uint32_t target, uint32_t *cost);
 uint32_t rudekpi_silent_cost_of_flag(struct rudekpi_slot *slot, uint32_t node, bool value, uint32_t *cost);
 
-/* Writes whether a node is at rest: its flag is right if the rules use flags, and it is paired, or points
- * nowhere while all its neighbours are paired. Whatever the daemon chooses, such a node does not move until
- * an edit or a fault reaches it. An absent node is at rest. Looks at its neighbours only if it points
+/* Writes whether a node is at rest: it is paired, or it points nowhere while all its neighbours are paired; and
+ * its flag is right if the rules use flags. Whatever the daemon chooses, a node at rest does not move until an
+ * edit or a fault reaches it. An absent node is at rest. Looks at the node's neighbours only if the node points
  * nowhere; adds no entry.
  * DONE; NO_SESSION; BAD_ARGUMENT for a name that is 0 or above 65,535. `rests` is written in each case, false
  * if the status is not DONE. */
 uint32_t rudekpi_is_at_rest(struct rudekpi_slot *slot, uint32_t node, bool *rests);
 
-/* Lists the nodes that an edit or a fault would reach if it came at this moment: every other node at rest
- * stays at rest. Copies their names, ascending, to the start of `out` if there is room for all; otherwise
- * `out` is unchanged. `count` is how many there are: they were copied if that is at most `room`. None if the
- * machine would refuse the event. One pass through the neighbours of the nodes that it names and of their
- * partners (table with limits in docs/BOUNDS.md). Changes nothing, adds no entry.
+/* Lists the nodes that an edit or a fault would reach if the event came at this moment: every other node at
+ * rest stays at rest. Copies the names of the nodes reached, ascending, to the start of `out` if there is room
+ * for all; otherwise `out` is unchanged. Writes how many they are to `count`; their names were copied if
+ * `count` is at most `room`. The list is empty if the machine would refuse the event. Costs one pass through
+ * the neighbours of the nodes that the event names, and of their partners (table with limits in
+ * docs/BOUNDS.md). Changes nothing, adds no entry.
  * DONE; NO_MEMORY; NO_SESSION; BAD_ARGUMENT for a name that is 0 or above 65,535; only a target may be 0, for
  * null. `count` is written in each case; if the status is not DONE it is 0 and `out` is unchanged. */
 uint32_t rudekpi_reach_of_link(struct rudekpi_slot *slot, uint32_t a, uint32_t b, uint32_t *out, size_t room, size_t *count);
@@ -248,7 +253,7 @@ uint32_t rudekpi_reach_of_flag(struct rudekpi_slot *slot, uint32_t node, bool va
 
 /* Writes how many moves can still come before the next accepted edit or fault, whatever the daemon chooses:
  * at most the charge, and under RUDEKPI_HSU_HUANG also at most n*n/2 + n - 2 among n nodes, the half rounded
- * down. Looks at what has changed since it or a status was last asked; adds no entry.
+ * down. Looks at what has changed since the last such call or `status`; adds no entry.
  * DONE; NO_SESSION, with `moves` 0. */
 uint32_t rudekpi_moves_left(struct rudekpi_slot *slot, uint32_t *moves);
 
@@ -266,22 +271,25 @@ enum {
     RUDEKPI_NOT_A_LINE = 2,     /* the line is no line of a transcript */
     RUDEKPI_OUT_OF_ORDER = 3,   /* the line does not have the next number */
     RUDEKPI_NOT_THE_REPLY = 4,  /* the rules give another reply */
-    RUDEKPI_BAD_BASE = 5,       /* the line is not that of the base at this point */
+    RUDEKPI_BAD_BASE = 5,       /* the base at this point has another line here */
     RUDEKPI_UNJUDGED = 6        /* memory ran out: the bytes were not judged */
 };
 
-/* Judges a transcript without the engine that writes them: accepts exactly those of runs, and names the first
- * damage of all other bytes. Costs what the program's `audit` costs. Uses no slot, so any thread may call it. */
+/* Judges bytes without the engine that writes transcripts: accepts exactly the transcripts of runs, and names
+ * the first damage of all other bytes. Costs what the program's `audit` costs. Uses no slot, so any thread may
+ * call it. */
 void rudekpi_audit(const uint8_t *bytes, size_t length, struct rudekpi_verdict *verdict);
 
-/* Joins the verdicts of two texts that meet: the first ends with all lines of a base, with which the next
- * begins. The joined text has that base once, and `verdict` becomes what rudekpi_audit says of it: accepted
- * exactly if both are, with the sums of entries and moves, and of epochs less one; otherwise the damage of
- * the first, or that of the next, `lines` further on. `lines` is how many lines the first text has before
- * that base. UNJUDGED if the first is unjudged, or if the first is accepted and the next is unjudged. Texts
- * that meet in a row are joined in order, two by two, in any grouping.
- * DONE; BAD_ARGUMENT for a kind above 6, or a sum that its field cannot hold: `verdict` is unchanged. The
- * caller ensures that the texts meet. Takes no memory and no slot. */
+/* Joins the verdicts of two texts that meet: the first text ends with all lines of a base, and the next text
+ * begins with the same lines. The joined text has that base once. `verdict` is that of the first text, and
+ * becomes what rudekpi_audit says of the joined text:
+ * - accepted exactly if both texts are: with the sums of entries and moves, and the sum of epochs less one;
+ * - UNJUDGED if the first is unjudged, or if the first is accepted and the next is unjudged;
+ * - otherwise the damage of the first text, or else that of the next, `lines` further on.
+ * `lines` is how many lines the first text has before that base. Texts that meet in a row are joined in order,
+ * two by two, in any grouping. The caller ensures that the texts meet.
+ * DONE; BAD_ARGUMENT for a kind above 6, or a sum that its field cannot hold: `verdict` is unchanged. Takes no
+ * memory and no slot. */
 uint32_t rudekpi_audit_join(struct rudekpi_verdict *verdict, uint64_t lines, const struct rudekpi_verdict *next);
 
 /* A slot for an audit that is fed a transcript piece by piece; the rules for slots apply. */
@@ -294,17 +302,19 @@ struct rudekpi_audit_slot {
 uint32_t rudekpi_audit_new(struct rudekpi_audit_slot *slot);
 
 /* Feeds the next bytes, cut anywhere. DONE if no damage was found yet; DAMAGED if the bytes so far begin no
- * transcript; NO_MEMORY, after which it judges nothing; NO_SESSION. After an answer other than DONE each
- * later call repeats it. Keeps only an incomplete line or base. Costs what rudekpi_audit costs for the lines
- * that end in these bytes. */
+ * transcript; NO_MEMORY, after which the audit judges nothing; NO_SESSION. After a status other than DONE each
+ * later call returns that status again. The audit keeps only an incomplete line or base. Costs what
+ * rudekpi_audit costs for the lines that end in these bytes. */
 uint32_t rudekpi_audit_feed(struct rudekpi_audit_slot *slot, const uint8_t *bytes, size_t length);
 
-/* Writes the verdict on all bytes fed, which is that of rudekpi_audit on the whole, and ends the audit; the
- * slot is empty afterwards.
- * DONE; NO_SESSION, with the verdict UNJUDGED. UNJUDGED also if memory ran out at this call or before. */
+/* Writes the verdict that rudekpi_audit would give on all bytes fed, and ends the audit. The slot is empty
+ * afterwards.
+ * DONE; NO_SESSION, with the verdict UNJUDGED. The verdict is UNJUDGED also if memory ran out at this call or
+ * before. */
 uint32_t rudekpi_audit_finish(struct rudekpi_audit_slot *slot, struct rudekpi_verdict *verdict);
 
-/* Ends the audit without a verdict and frees its memory. The slot is empty afterwards, and may be before. */
+/* Ends the audit without a verdict and frees its memory. The slot may be empty before, and is empty
+ * afterwards. */
 void rudekpi_audit_free(struct rudekpi_audit_slot *slot);
 
 /* Returns the text of a status, in ASCII; "unknown" for an unknown number. */

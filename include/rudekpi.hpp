@@ -1,10 +1,10 @@
 /* Rudekpi for C++17: a network and an audit as classes that own their memory, and faults as exceptions.
  *
  * Each member calls a function of rudekpi.h, which documents its effect, result and cost. Nodes are 1 to
- * the number of names; a null pointer is an empty optional. One thread at a time uses a network or an
- * audit; both may be moved. Throws std::bad_alloc if memory runs out and std::invalid_argument for a
- * number out of range; both change nothing, except that the first turns of a drive or a scramble may
- * remain. */
+ * the number of names. A node that points nowhere has an empty optional as its pointer. One thread at a time
+ * uses a network or an audit; both may be moved. Members throw std::bad_alloc if memory runs out, and
+ * std::invalid_argument for a number out of range. Neither error changes anything, except that the first turns
+ * of a drive or a scramble may remain. */
 #ifndef RUDEKPI_HPP
 #define RUDEKPI_HPP
 
@@ -174,8 +174,8 @@ class Network {
         return moves;
     }
 
-    /* Makes up to `count` steps of a seeded daemon, until no node is enabled. Returns the last entry's
-     * number. */
+    /* Makes up to `count` steps of a seeded daemon, and stops when no node is enabled. Returns the last
+     * entry's number. */
     Entry drive(std::uint64_t seed, std::uint32_t count) {
         return done([&](auto told) { return rudekpi_drive(slot(), seed, count, told); });
     }
@@ -220,7 +220,7 @@ class Network {
         return asked<bool>([&](auto it) { return rudekpi_is_at_rest(slot(), node, it); });
     }
 
-    /* The cost of an edit or a fault, in moves at most. */
+    /* The cost, in moves, of an edit or a fault at this moment. */
     std::uint32_t cost_of_link(Node a, Node b) {
         return asked<std::uint32_t>([&](auto it) { return rudekpi_cost_of_link(slot(), a, b, it); });
     }
@@ -288,7 +288,7 @@ class Network {
         detail::check(status);
     }
 
-    /* Adds the lines of a base, where an audit can begin, to the transcript. Returns the last entry's
+    /* Adds the lines of a base to the transcript; an audit can begin at a base. Returns the last entry's
      * number. */
     Entry checkpoint() {
         return done([&](auto told) { return rudekpi_checkpoint(slot(), told); });
@@ -301,7 +301,7 @@ class Network {
         return text;
     }
 
-    /* Decides whether the network keeps its text from here on. If not, the unread text is dropped. */
+    /* Decides whether the network keeps its text from here on. If `keeps` is false, drops the unread text. */
     void keep_transcript(bool keeps) {
         detail::check(rudekpi_transcript(slot(), keeps));
     }

@@ -2,8 +2,8 @@
 // docs/LIBRARIES.md begins with an example; docs/PYTHON.md has the same words for Python.
 
 /**
- * The rules of Hsu and Huang (`hh`, one node moves at a time) or of Manne and others (`manne`, any set
- * moves).
+ * The rules of Hsu and Huang (`hh`: one enabled node moves at a time) or of Manne and others (`manne`: any set
+ * of enabled nodes moves at once).
  */
 export type RuleSet = "hh" | "manne";
 
@@ -12,7 +12,7 @@ export type Name = any;
 
 export type Rule = "update" | "marry" | "seduce" | "abandon";
 
-/** An item of a choice: this node shall move, to that target. */
+/** An item of a choice: the node that is to move, and the target that it is to point at. */
 export declare class Wish {
   constructor(node: Name, target: Name);
   readonly node: Name;
@@ -24,7 +24,7 @@ export interface Accepted {
   readonly entry: number;
 }
 
-/** A node moved by a rule; marry and seduce have a target, the others null. */
+/** A node moved by a rule. Moves by marry and seduce have a target; that of any other move is null. */
 export interface Move {
   readonly node: Name;
   readonly rule: Rule | string;
@@ -65,7 +65,7 @@ export interface Status {
   readonly spent: number;
 }
 
-/** A fault of a register: the value is a neighbour or null for `pointer`, true or false for `flag`. */
+/** A fault of a register. The value of a `pointer` is a neighbour or null, that of a `flag` true or false. */
 export interface Fault {
   readonly entry: number;
   readonly node: Name;
@@ -97,25 +97,25 @@ export interface Summary {
   readonly moves: number;
 }
 
-/** The edits and faults; `costOf` returns the cost of each, and `reach` the nodes that it would reach. */
+/** The edits and faults. `costOf` returns the cost of each, and `reach` the nodes that each would reach. */
 export type Disturbance = "link" | "unlink" | "join" | "leave" | "point" | "flag";
 
 /**
  * A network run by the engine, one command a call. Each command but `checkpoint` adds an entry to the
- * transcript. A refused command throws `Refused` and adds an entry too; a name or number out of range throws
- * `RangeError`, another type `TypeError`, and neither adds an entry.
+ * transcript. A refused command throws `Refused` and adds an entry too. A name or number out of range throws
+ * `RangeError`, and a value of another type throws `TypeError`; neither adds an entry.
  */
 export declare class Network {
   /**
    * `nodes` is the number of nodes, named from 1, or their names, which get the numbers 1, 2, .. in that
-   * order. The first `present` of them are present at the start; by default all are. With `keep: false` the
-   * transcript is kept from the last checkpoint on.
+   * order. The first `present` nodes are present at the start; by default all are. With `keep: false` the
+   * transcript is kept only from the last checkpoint on.
    */
   constructor(rules?: RuleSet, nodes?: number | Iterable<Name>, options?: { present?: number; keep?: boolean });
   readonly rules: RuleSet;
   /**
-   * Ends the network and frees its memory; the transcript stays. Throws `MemoryError` if there is no memory
-   * for its last part, which is lost then. A network that nothing refers to is ended too.
+   * Ends the network and frees its memory; the transcript stays. If there is no memory for the transcript's
+   * last part, that part is lost and `MemoryError` is thrown. A network that nothing refers to is ended too.
    */
   close(): void;
   /** All names in the order of their numbers, present or not. */
@@ -131,18 +131,18 @@ export declare class Network {
   join(node: Name): Accepted;
   /** Removes a node, with its edges and the pointers at it; its name may join again. */
   leave(node: Name): Accepted;
-  /** A fault: writes the node's pointer, a neighbour or null. */
+  /** A fault: sets the node's pointer to a neighbour or to null. */
   point(node: Name, target: Name | null): Accepted;
   /** A fault: writes the node's married flag (`manne` only). */
   flag(node: Name, value: boolean): Accepted;
-  /** Lets these nodes move at once, each by its rule: names, or `new Wish(node, target)` for a target. */
+  /** Lets these nodes move at once, each by its rule. `new Wish(node, target)` chooses a node's target. */
   step(choice: Iterable<Name | Wish>): Moves;
   /**
-   * Makes up to `turns` steps of the seeded daemon, until no node is enabled; then asks for the status, also
-   * an entry.
+   * Makes up to `turns` steps of the seeded daemon, and stops when no node is enabled. Then asks for the
+   * status, which is an entry too.
    */
   drive(seed: number | bigint, turns: number): Turns<Moves>;
-  /** Makes `faults` seeded faults of registers; then asks for the status, also an entry. */
+  /** Makes `faults` seeded faults of registers, then asks for the status, which is an entry too. */
   scramble(seed: number | bigint, faults: number): Turns<Fault>;
   /** Returns a node's pointer. */
   show(node: Name): Shown;
@@ -152,22 +152,22 @@ export declare class Network {
   matching(): Matching;
   /** Returns the counts of the network, the charge, and the moves since the last edit or fault. */
   status(): Status;
-  /** Writes the lines of a base into the transcript; they are no entry. */
+  /** Writes the lines of a base into the transcript. These lines are no entry. */
   checkpoint(): Base;
 
   /** Returns a node's partner, or null. This and the following calls add no entry. */
   partner(node: Name): Name | null;
   /**
-   * The cost of an edit or a fault if it came now, in moves: `net.costOf("unlink", a, b)`. Throws
-   * `RangeError` for one that would be refused. A cost of 0 takes a look at the whole network.
+   * The cost, in moves, of an edit or a fault if it came now: `net.costOf("unlink", a, b)`. Throws
+   * `RangeError` if the event would be refused. To tell that from a cost of 0, looks at the whole network.
    */
   costOf(word: Disturbance, ...given: Name[]): number;
   /**
-   * The most moves that an edit or a fault of a silent network can cause; `null` if a rule is enabled. Throws what
-   * `costOf` throws.
+   * The most moves that an edit or a fault of a silent network can cause; `null` if a rule is enabled. Throws
+   * the errors that `costOf` throws.
    */
   silentCostOf(word: Disturbance, ...given: Name[]): number | null;
-  /** The nodes that an edit or a fault would reach if it came now; none for one that would be refused. */
+  /** The nodes that an edit or a fault would reach if it came now; none if it would be refused. */
   reach(word: Disturbance, ...given: Name[]): Set<Name>;
   /** Whether a node stays still until an edit or a fault reaches it, whatever the daemon chooses. */
   isAtRest(node: Name): boolean;
@@ -176,7 +176,8 @@ export declare class Network {
   /** The most moves that can still come before the next edit or fault. */
   movesLeft(): number;
   /**
-   * The nodes that are present. This and the following take a look at the whole network if it has changed.
+   * The nodes that are present. This call, `edges`, `neighbours` and `registers` look at the whole network if
+   * the network has changed.
    */
   get present(): Name[];
   /** The edges, each with the node of the lower number first. */
@@ -185,7 +186,7 @@ export declare class Network {
   neighbours(node: Name): Name[];
   /** The registers of a present node. */
   registers(node: Name): Registers;
-  /** What `console run` writes for the same commands, to the byte. */
+  /** Returns exactly what `console run` writes for the same commands. */
   transcript(): string;
   /** The audit's summary of the transcript. */
   audit(): Summary;
@@ -194,21 +195,21 @@ export declare class Network {
 /** Returns the version of the engine, as `1.0.0`. */
 export declare function version(): string;
 
-/** Judges a transcript and returns its counts. Throws `Damaged` if it is none. */
+/** Judges a transcript and returns its counts. Throws `Damaged` if the text is no transcript. */
 export declare function audit(text: string | ArrayBuffer | ArrayBufferView): Summary;
 
 /** Judges a transcript that comes in pieces, cut anywhere. Keeps only an incomplete line or base. */
 export declare class Audit {
   constructor();
-  /** Feeds the next piece. Throws `Damaged` once the pieces begin no transcript, whatever follows. */
+  /** Feeds the next piece. Throws `Damaged` once the pieces so far begin no transcript, whatever follows. */
   feed(piece: string | ArrayBuffer | ArrayBufferView): void;
-  /** Returns the counts of the transcript. May be called again; ends the feeding. */
+  /** Returns the counts of the transcript. May be called again. No piece can be fed afterwards. */
   finish(): Summary;
-  /** Ends the audit, without a verdict if none was asked for. */
+  /** Ends the audit. If `finish` was not called before, there is no verdict. */
   close(): void;
 }
 
-/** All errors of this module but `RangeError` and `TypeError`. */
+/** The base class of all errors of this module but `RangeError` and `TypeError`. */
 export declare class RudekpiError extends Error {
   constructor(said: string);
 }
@@ -223,7 +224,8 @@ export declare class Refused extends RudekpiError {
 }
 
 /**
- * The log is full, which ended the network: the exit status and the last line that the program would have.
+ * The log is full, which ended the network. The status and last line are those that the program would have
+ * ended with.
  */
 export declare class Ended extends RudekpiError {
   constructor(status: number, lastLine: string);
@@ -236,13 +238,13 @@ export declare class MemoryError extends RudekpiError {
   constructor(...said: any[]);
 }
 
-/** The command was carried out, but memory ran out for its reply. The transcript has it, up to `entry`. */
+/** The command was carried out, but memory ran out for the reply. The transcript has it, up to `entry`. */
 export declare class NoReply extends MemoryError {
   constructor(entry: number, what?: string);
   readonly entry: number;
 }
 
-/** A text is no transcript: its first wrong line, and why. */
+/** A text is no transcript: the number of the first wrong line, and why that line is wrong. */
 export declare class Damaged extends RudekpiError {
   constructor(line: number, why: string);
   readonly line: number;

@@ -6,17 +6,19 @@
         net.settle(lambda enabled: list(enabled))    # a daemon: from the enabled nodes to those that move
         print(net.matching().partner("bob"))
 
-Each call runs the library in this process, or writes a line to `console run` and waits for its entry. The
-calls of a batch (`with net.batch() as batch:`) do not wait. A refused command raises `Refused`; if the
-program ends, `Ended` has its status and last line.
+Each call runs the library in this process, or writes a line to `console run` and waits for the line's entry.
+The calls of a batch (`with net.batch() as batch:`) do not wait. A refused command raises `Refused`. If the
+program ends, `Ended` is raised with the program's status and last line.
 
-`drive` and `scramble` write one entry a turn, an unknown number. So the client then asks for the `status`,
-which ends them and is part of transcript and reply. `checkpoint` writes a base, which is no entry.
+`drive` and `scramble` write one entry a turn, an unknown number. So the client asks for the `status` after
+them. This last entry marks their end, and is part of the transcript and the reply. `checkpoint` writes a
+base, which is no entry.
 
-The program is the argument `program`, else RUDEKPI_CONSOLE's, else `bin/console` in this package, else the
-`console` of its repository. The library is RUDEKPI_LIBRARY's, else `bin/librudekpi.so`, else the repository's
-`release/librudekpi.so`. `engine="program"`, or RUDEKPI_ENGINE, uses the program even if there is a library. A
-network played by the program is for one thread. A network keeps its transcript in memory.
+The path of the program is the argument `program`, else that in RUDEKPI_CONSOLE, else `bin/console` in this
+package, else the `console` of its repository. The path of the library is that in RUDEKPI_LIBRARY, else
+`bin/librudekpi.so`, else `release/librudekpi.so` of the repository. `engine="program"`, or RUDEKPI_ENGINE,
+selects the program even if there is a library. Only one thread may use a network played by the program. A
+network keeps its transcript in memory.
 """
 
 from . import daemons, graphs

@@ -40,7 +40,7 @@ def run_again(given: argparse.Namespace) -> int:
 
 
 def graph_in(given: argparse.Namespace, title: str) -> Graph:
-    """The graph of a row: kept with the rows, made again or read again."""
+    """The graph of a row: kept next to the rows, made again by its word, or read again from its file."""
     try:
         return kept_graph(given.rows, title) or graph_of(title, undirected=given.undirected)
     except FileNotFoundError as error:

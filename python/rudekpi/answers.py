@@ -1,4 +1,4 @@
-"""Reads a program's transcript, and gives each line to the command that it answers."""
+"""Reads a program's transcript, and gives each line to the command that the line answers."""
 
 from __future__ import annotations
 
@@ -34,9 +34,10 @@ def refusal(names: Names, event: bytes, text: bytes, entry: int) -> Refused:
 class Answers:
     """The state of reading at one point.
 
-    Reading goes on in a copy, which follows this one. So an interrupt leaves this one unchanged, and the same
-    bytes are read again. If a signal's handler has read on meanwhile, its copy is already linked, and the
-    other is dropped. Both write equal values into the shared commands and text.
+    Reading goes on in a copy, which is linked as the successor of this state. So an interrupt leaves this
+    state unchanged, and the same bytes are read again. If a signal's handler has read on meanwhile, the
+    handler's copy is already linked, and the other copy is dropped. Both copies write equal values into the
+    shared commands and text.
     """
 
     __slots__ = (
@@ -65,14 +66,14 @@ class Answers:
         # the commands by number; those from `front` on wait
         self.asked = asked
         self.front = 0
-        # the state after the next part, once that was read; at most one, which a second does not replace
+        # the state after the next part, once that part was read; at most one, which a second does not replace
         self.later: dict[int, Answers] = {}
         # how many parts were read, and the beginning of an unfinished line
         self.parts = 0
         self.rest = b""
         self.lines, self.entries = 0, -1
-        # an answer's lines so far: those of earlier parts, and of this one; a base's numbers of nodes and
-        # lines once known
+        # the lines of an answer so far: those of earlier parts, and those of this part; a base's numbers of
+        # nodes and lines, once they are known
         self.held: tuple[list[bytes], ...] = ()
         self.new: list[bytes] = []
         self.held_size = self.base_nodes = self.base_size = 0
@@ -129,7 +130,7 @@ class Answers:
         return lines
 
     def take(self, line: bytes) -> None:
-        """Gives a line to the command that it answers."""
+        """Gives a line to the command that the line answers."""
         if self.wrong:
             return
         self.lines += 1

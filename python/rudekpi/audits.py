@@ -63,7 +63,7 @@ def bytes_of(transcript: Text) -> bytes:
 
 
 def audit(transcript: Union[Text, Slice], *, program: Program = None, engine: Optional[str] = None) -> Summary:
-    """Judges a transcript: returns its counts if it is one of a run of the rules, else raises `Damaged`.
+    """Judges a text: returns the counts of a transcript of a run of the rules, else raises `Damaged`.
 
     The engine is chosen as for a `Network`. If memory runs out, the library raises `MemoryError`, and the
     program `Ended`.
@@ -82,10 +82,11 @@ def summary_read(said: str) -> Summary:
 
 
 def epochs(transcript: Text, *, program: Program = None) -> list[Epoch]:
-    """The epochs of a transcript, each with its bound, its disturbance's cost, and the size of its reach.
+    """The epochs of a transcript, each with its bound, and the cost and size of reach of its disturbance.
 
     The program judges the transcript and lists all but the reach, which the client counts. Raises `Damaged`
-    if `audit` refuses it, `Ended`, or `Garbled` if the program's epochs are not those of the entries.
+    if `audit` refuses the transcript, `Garbled` if the program's epochs are not those of the entries, and
+    `Ended`.
     """
     first, *rest = judged_epochs(transcript, program)
     lines = (line.decode().rstrip("\n") for line in io.BytesIO(bytes_of(transcript)))
@@ -107,8 +108,8 @@ def judged_epochs(transcript: Text, program: Program = None) -> list[Epoch]:
 def bounded(epoch: Epoch, rules: str) -> Epoch:
     """An epoch with the smaller of its bounds.
 
-    An epoch cut by an opening base keeps the program's bound: the base states what was spent, and no move
-    shows it.
+    An epoch cut by an opening base keeps the program's bound: the base states how many moves were spent, but
+    the transcript does not have these moves.
     """
     if epoch.start is None:
         return epoch
@@ -124,7 +125,7 @@ def picture(
 ) -> str:
     """The network after an entry of a transcript, by default the last, as text for Graphviz.
 
-    `names` are the caller's, in the order of the numbers; the network is then drawn by them.
+    If the caller's `names` are given, in the order of the numbers, the picture shows them.
 
     Raises `Damaged` if `audit` refuses the transcript, `ValueError` if it has no such entry, or `Ended`.
     """

@@ -62,7 +62,7 @@ def compared(line: str, wanted: str, is_cut: bool) -> Fault:
 
 
 def of_line(raw: bytes, number: int, lines: list[str], is_cut: bool) -> Optional[Fault]:
-    """What is wrong with a line's form or order in an opening base; None if neither is."""
+    """What is wrong with a line's form or order in an opening base; None if both are right."""
     line = lines[number - 1]
     if number == 2:
         if not SECOND.fullmatch(line):
@@ -93,7 +93,7 @@ def of_order(line: str, before: str, word: str) -> Optional[Fault]:
 
 
 def of_state(lines: list[str]) -> tuple[Fault, list[str]]:
-    """Why the lines of a base, each right by itself, give no possible state."""
+    """Why the lines of a base describe no possible state, though each line by itself is right."""
     found = SECOND.fullmatch(lines[1])
     if not found:
         return whole(lines[1], "here stands `base B spent=S nodes=C edges=E`"), []
@@ -118,7 +118,7 @@ def of_state(lines: list[str]) -> tuple[Fault, list[str]]:
 
 
 def why_no_state(head: list[str], body: list[list[str]]) -> str:
-    """Why a line of a base contradicts the others; empty if none does."""
+    """Why a line of a base contradicts the other lines; empty if no line does."""
     present = {int(words[1]) for words in body if words[0] == "node"}
     near = {(int(words[1]), int(words[2])) for words in body if words[0] == "edge"}
     for words in body:

@@ -42,7 +42,7 @@ if TYPE_CHECKING:
 
 
 class Pending(Generic[Reply_co]):
-    """The answer to a command of a batch, which may still be under way."""
+    """The answer to a command of a batch; the command may still be under way."""
 
     __slots__ = ("_session", "_ahead", "_event", "_entry", "_text", "_turns", "_is_base", "_refusals")
 
@@ -64,7 +64,7 @@ class Pending(Generic[Reply_co]):
         return self._session.reply(self)
 
     def _reply(self, names: Names) -> Reply_co:
-        """The reply, read from its texts once they came. Raises `ValueError` or `LookupError` if none."""
+        """The reply, read from its texts. Raises `ValueError` or `LookupError` if they are no reply."""
         raise NotImplementedError
 
 
@@ -84,7 +84,7 @@ class Asked(Pending[Reply_co]):
 
 
 class AskedTurns(Pending[Turns[Reply]]):
-    """The answer to a command with an entry a turn, ended by that of a `status`."""
+    """The answer to a command that adds an entry a turn; the entry of a `status` ends them."""
 
     __slots__ = ("_read",)
 
@@ -105,9 +105,9 @@ class AskedTurns(Pending[Turns[Reply]]):
 class Batch:
     """Commands of a network, written without waiting; each returns a `Pending`.
 
-    Its `result()` is the reply. The library carries out each at once. All replies have come at the end of the
-    `with`; then the first `Refused` is raised, unless `raises=False`. The other commands were carried out;
-    `refusals` lists every refusal.
+    The `result()` of a `Pending` is the reply. The library carries out each command at once. At the end of
+    the `with` all replies have come. Then the first `Refused` is raised, unless `raises=False`. The commands
+    that were not refused were carried out; `refusals` lists every refusal.
     """
 
     def __init__(self, session: Session, raises: bool = True, keeps: bool = True) -> None:

@@ -1,7 +1,7 @@
 """Bursts: the parts of a run from silence to silence, with their lengths and bounds.
 
-The program judges the transcript and lists moves and costs. Silence, rounds and the nodes reached are found
-here, along the entries.
+The program judges the transcript and lists moves and costs. This module goes through the entries and finds
+silence, rounds and the nodes reached.
 """
 
 from __future__ import annotations
@@ -28,18 +28,19 @@ from .state import WORDS, State
 class Burst:
     """What happened from a silent network to the next silent one.
 
-    It begins with the edit or fault of the entry `start`, and ends in silence after the entry `end`. Edits
-    and faults that directly follow each other come at once, in one burst even if the network stays silent.
-    `start` is None if the transcript begins with a base that has enabled nodes; `end` is None if nodes are
-    enabled at its end.
+    A burst begins with the edit or fault of the entry `start`, and ends in silence after the entry `end`.
+    Edits and faults that directly follow each other are in one burst, even if the network stays silent
+    between them. `start` is None if the transcript begins with a base that has enabled nodes; `end` is None
+    if nodes are enabled at the end of the transcript.
 
     `disturbances` counts edits and faults by word; `moves`, `steps` and `rounds` count what followed. `cost`
-    is the sum of their costs. The moves are at most `bound`, which is proved: the cost and, under `manne`,
-    two more for each pair gained and one for each node that left. Both are None if `start` is.
+    is the sum of the costs of the edits and faults. `bound` is a proved bound on the moves: the cost and,
+    under `manne`, two more for each pair gained and one for each node that left. `cost` and `bound` are None
+    if `start` is.
 
-    `pairs_before` and `pairs_after` are numbers of pairs. `reached` has the nodes in the reach of a
-    disturbance when it came, `moved` those that moved, in order of number. If the burst began in a silent
-    network, no node outside `reached` moved.
+    `pairs_before` and `pairs_after` are numbers of pairs. `reached` lists the nodes that were in the reach of
+    a disturbance when that came, and `moved` the nodes that moved, both in order of number. If the burst
+    began in a silent network, no node outside `reached` moved.
     """
 
     start: Optional[int]
@@ -59,7 +60,7 @@ class Burst:
 def bound_of_costs(rules: str, cost: int, gained: int, left: int) -> int:
     """The most moves, from silence on, after disturbances of this total cost.
 
-    `gained` is the number of pairs gained, below 0 if lost; `left` is that of the nodes that left.
+    `gained` is the number of pairs gained, below 0 if pairs were lost; `left` is how many nodes left.
     """
     return cost + 2 * max(0, gained) + left if rules == "manne" else cost
 
@@ -91,7 +92,7 @@ class BurstReader:
         number, word, *rest = event.split(" ")
         is_edit = word in WORDS and reply == "ok"
         if self.is_open and self.watch.is_silent and not is_edit:
-            # those that came at once are over, and nothing needs mending
+            # the edits and faults that came at once are over, and no node is enabled
             yield self.ended(self.last)
         self.last = int(number)
         if is_edit:
@@ -103,7 +104,7 @@ class BurstReader:
             yield self.ended(self.last)
 
     def add(self, word: str, numbers: list[int]) -> None:
-        """Adds the edit or fault of the last entry, before it is followed."""
+        """Adds the edit or fault of the last entry, before the state follows that entry."""
         cost = self.costs.get(self.last)
         if cost is None:
             raise Garbled(f"the program lists no epoch that begins at entry {self.last}")
@@ -141,8 +142,8 @@ def bursts(transcript: Text, *, names: Optional[Iterable[Name]] = None, program:
     """The bursts of a transcript, from silence to silence, in order.
 
     `names` are the caller's, in the order of the numbers. Raises `Damaged` if `audit` refuses the transcript,
-    `Ended`, `ValueError` if the number of names differs, or `Garbled` if the program lists other moves than
-    the entries have.
+    `ValueError` if the number of names differs, `Garbled` if the program lists other moves than the entries
+    have, and `Ended`.
     """
     epochs = judged_epochs(transcript, program)
     text = bytes_of(transcript).decode()

@@ -1,4 +1,4 @@
-"""The commands of a library session, each one C call, and the replies built from its results."""
+"""The commands of a library session, each one C call, and the replies built from that call's results."""
 
 from __future__ import annotations
 
@@ -48,7 +48,7 @@ class Desk:
         self.at, self.counts_at = ctypes.byref(told), ctypes.byref(self.counts)
 
 
-# those not in use: a call takes one out, and a handler that interrupts it takes another
+# the desks not in use: a call takes one out, and a handler that interrupts the call takes another
 DESKS: list[Desk] = []
 
 
@@ -133,7 +133,7 @@ def base_of(names: Names, entry: int, lines: bytes) -> Base:
 
 
 class Done(Tuple[Any, ...], Generic[Reply_co]):
-    """The answer to a command that was carried out: what builds the reply, and its arguments.
+    """The answer to a command that was carried out: a function that builds the reply, and its arguments.
 
     A tuple is the fastest to build.
     """
@@ -234,7 +234,7 @@ class DirectBatch(Batch):
         event: Callable[[], str],
         *words: object,
     ) -> Answer[Reply]:
-        """A call whose answer has at most `most` rows, fetched with it."""
+        """Makes a call whose answer has at most `most` rows, and fetches these rows."""
         session, desk = self._direct, taken_desk()
         room = session.rooms.taken(ROW_NUMBERS * most)
         library = session.library
@@ -295,7 +295,7 @@ class DirectBatch(Batch):
         return self._turned("scramble", read_fault, seed, faults)
 
     def _turned(self, word: str, read: Reader[Reply], seed: int, turns: int) -> Answer[Turns[Reply]]:
-        """Many entries, whose turns are read from the transcript, and the status after them."""
+        """Makes a call that adds many entries: its turns, read from the text, and the status after them."""
         numbers = ctypes.c_uint64(number_within(seed, MOST_SEED, "a seed")), number_within(
             turns, MOST_TURNS, "a number of turns"
         )
@@ -312,7 +312,7 @@ class DirectBatch(Batch):
         return Done((base_of, self._names, entry, lines))
 
     def _written(self, word: str, *words: object) -> tuple[int, bytes]:
-        """The last entry of a call that writes several lines, and these. Raises what its status means."""
+        """Makes a call that writes several lines: its last entry, and the lines. Raises its error."""
         session, desk = self._direct, taken_desk()
         call = functools.partial(getattr(session.library, word), session.at, *words, desk.at)
         with session.lock:

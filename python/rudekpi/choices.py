@@ -15,8 +15,8 @@ Daemon = Callable[[Enabled], Choice]
 def numbers_of(choice: Choice, number_of: Callable[[Name], int]) -> list[tuple[int, int]]:
     """The number of each chosen node with its target's, 0 for none.
 
-    Those of a set ascend, so that the same set is the same step. Raises `TypeError` if it is no list of
-    nodes, and `ValueError` if it has more items than a step takes.
+    The numbers of a set ascend, so that the same set is the same step. Raises `TypeError` if the choice is no
+    list of nodes, and `ValueError` if it has more items than a step takes.
     """
     if isinstance(choice, (str, bytes, Wish)) or not isinstance(choice, abc.Iterable):
         raise TypeError(f"a step is given a list of nodes, as [1] or [Wish(1, 2)], and not {choice!r}")
@@ -37,7 +37,7 @@ def items_of(choice: Choice, number_of: Callable[[Name], int]) -> list[str]:
 
 
 def checked_choice(choice: Choice, enabled: Enabled) -> Choice:
-    """A daemon's choice. Raises `WrongChoice` if it is no list, is empty, or has a disabled node."""
+    """A daemon's choice. Raises `WrongChoice` if the choice is no list, is empty, or has a disabled node."""
     if isinstance(choice, (str, bytes, Wish)) or not isinstance(choice, abc.Iterable):
         raise WrongChoice(f"a daemon gives a list of nodes, and not {choice!r}")
     items = choice if isinstance(choice, abc.Set) else list(choice)

@@ -106,7 +106,7 @@ def counts(text: str) -> list[int]:
 
 
 def graph_given(parser: argparse.ArgumentParser, text: str, undirected: bool) -> Graph:
-    """The graph that a word names, after printing its warnings; exits by the parser if there is none."""
+    """The graph that a word names; prints warnings about it. If there is none, the parser exits."""
     try:
         with warnings.catch_warnings(record=True) as told:
             warnings.simplefilter("always")
@@ -128,7 +128,7 @@ def words_of_graph(parser: argparse.ArgumentParser) -> None:
 
 
 def read_graphs(given: argparse.Namespace) -> None:
-    """Turns the words of --graph into graphs, once all words are known."""
+    """Turns the words of --graph into graphs, after all words of the command line are known."""
     if given.graph is None:
         if given.plan is None:
             given.parser.error("the following arguments are required: --graph, or a plan")
@@ -243,7 +243,7 @@ def disturbances_of(given: argparse.Namespace) -> list[Disturbance]:
 
 
 def reach(address: str) -> None:
-    """Raises `OSError` at once if a scheduler's address does not answer; distributed would wait silently."""
+    """Raises `OSError` at once if no scheduler answers at the address; distributed would wait silently."""
     kind, host, port = re.fullmatch(r"(?:(\w+)://)?(.*?)(?::([0-9]+))?", address).groups()  # type: ignore[union-attr]
     if kind not in (None, "tcp", "tls") or not port:
         return
@@ -291,7 +291,7 @@ def usual_of(parser: argparse.ArgumentParser, name: str) -> object:
 
 
 def rows_of(given: argparse.Namespace, rows: list[Row], file: Optional[TextIO]) -> int:
-    """Plays a sweep, and adds its rows as they come; returns the exit status."""
+    """Plays a sweep, and adds each row to the file as it comes; returns the exit status."""
     words = words_to_play(given)
     todo = sweeps.experiments_of(*words)
     total = len(todo)
@@ -351,7 +351,7 @@ def run_compare(given: argparse.Namespace) -> int:
 
 
 def run_worst(given: argparse.Namespace) -> int:
-    """Writes the longest schedule, as a script that was played and judged."""
+    """Writes the longest schedule as a script, after the script was played and its transcript judged."""
     found = longest(given.graph, given.rules, seconds=given.seconds, seed=given.seed)
     transcript = found.play(program=given.program)
     known = (

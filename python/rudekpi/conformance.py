@@ -1,7 +1,8 @@
 """Judges the log of your own implementation: whether the rules allow each move observed.
 
-The machine judges each move as a step with its target: by its refusal, the moves that it makes, or its list
-of enabled nodes. The registers followed here choose the question and explain the answer.
+The machine judges each move: it is asked to make the move as a step with the same target. Its answer is a
+refusal, the moves that it makes, or its list of enabled nodes. The registers followed here choose the
+question and explain the answer.
 """
 
 from __future__ import annotations
@@ -30,7 +31,7 @@ from .state import State
 from .streams import Output
 
 UPDATE, ABANDON = RULES["update"], RULES["abandon"]
-# those that have a target
+# the rules that have a target
 CHOOSING = RULES["marry"], RULES["seduce"]
 # how many of the neighbours' last writes are tried as a node's stale copy
 MOST_TRIED = 64
@@ -43,8 +44,8 @@ Target = Union[str, "os.PathLike[str]", BinaryIO, None]
 class Divergence:
     """A move that the rules do not allow.
 
-    `line` is the log's line number. `rule` is the enabled rule, None if there was none, and `targets` its
-    targets. `entries` is how many entries the transcript had before.
+    `line` is the number of the log's line. `rule` is the rule that was enabled, or None, and `targets` are
+    the targets that it allowed. `entries` is how many entries the transcript had before.
     """
 
     line: int
@@ -64,8 +65,8 @@ class Conformance:
     """The verdict on a log.
 
     `moves` counts the accepted moves by rule; `first` is the first divergence. `stand` is the machine's last
-    status; its `charge` plus what is spent since the last edit or fault is within `bound`. `names` are the
-    log's, in the order of the numbers. `stopped` says why no fault could write what was observed, so that the
+    status; its `charge` plus the moves spent since the last edit or fault is within `bound`. `names` are the
+    log's, in the order of the numbers. If no fault could write what was observed, `stopped` says why, and the
     rest was not judged.
     """
 
@@ -90,7 +91,7 @@ class Conformance:
 
 
 class Observed(NamedTuple):
-    """What a node held before and after a move, its wish, and the one rule that writes so.
+    """A node's registers before and after a move, its wish, and the only rule that writes like this.
 
     Pointers are numbers, 0 for null. `wish` is the step's target, or 0. `rule` is 0 for marry or seduce, -1
     for no rule.
@@ -114,7 +115,7 @@ def observed(node: int, old: int, new: int, was: bool, flag: bool) -> Observed:
 
 
 def is_plain(move: Any) -> bool:
-    """Whether this is a move of one register, as most are."""
+    """Whether this is a move that writes one register, as most moves do."""
     return isinstance(move, dict) and len(move) == 2 and "move" in move and ("pointer" in move or "flag" in move)
 
 
@@ -191,8 +192,8 @@ class Named:
 class LogJudge:
     """Judges a log line by line, from its first line on.
 
-    `on_divergence` is called with each divergence as it is met. With `resync` the judge then writes what was
-    observed as faults, and goes on.
+    `on_divergence` is called with each divergence as soon as it is found. With `resync` the judge then writes
+    the observed values as faults, and goes on.
     """
 
     def __init__(
@@ -225,7 +226,7 @@ class LogJudge:
         self.written: dict[int, tuple[Write, Optional[Write]]] = {}
 
     def take(self, block: log_lines.Block) -> None:
-        """Judges the next lines, until a divergence ends it. Raises `BadLine`."""
+        """Judges the next lines, until a divergence ends the judging. Raises `BadLine`."""
         register, edge = log_lines.REGISTER.fullmatch, log_lines.EDGE.fullmatch
         for number, line in block:
             if self.is_over:
@@ -247,7 +248,7 @@ class LogJudge:
             self.events += 1
 
     def take_register(self, number: int, line: bytes, found: re.Match[bytes]) -> bool:
-        """Judges a line that names one register; False if its names are not in the usual spelling."""
+        """Judges a line that names one register; returns False if its names are not in the usual spelling."""
         kind, name, target, flag = found.groups()
         node = self.raw.get(name)
         if node is None:
@@ -297,7 +298,7 @@ class LogJudge:
             self.edit(number, event, kind, named)
 
     def observed(self, number: int, event: Any, kind: str, named: Named) -> Observed:
-        """What a move or a fault wrote, with what the node held. Raises `BadLine`."""
+        """What a move or a fault wrote, and what the node held before. Raises `BadLine`."""
         node = named.number(number, event[kind])
         state = self.state
         old = new = state.pointers.get(node, 0)
@@ -362,7 +363,7 @@ class LogJudge:
                 self.remember(number, node, other, node in state.flags)
 
     def fault(self, number: int, seen: Observed, has_pointer: bool, has_flag: bool) -> None:
-        """Writes registers that no rule wrote. Raises `BadLine` if no fault can write them."""
+        """Carries out a fault: writes registers. Raises `BadLine` if no fault can write them."""
         refusal = self.machine.edit("point", seen.node, seen.new) if has_pointer else 0
         if has_flag and not refusal:
             refusal = self.machine.edit("flag", seen.node, int(seen.flag))
@@ -387,7 +388,7 @@ class LogJudge:
         self.written[node] = (number, old, was), before[0] if before else None
 
     def move(self, number: int, line: Any, seen: Observed) -> None:
-        """Puts a move to the machine; a refusal is a divergence."""
+        """Asks the machine to make a move; a refusal is a divergence."""
         if not self.can_be_asked(seen):
             return self.ask_enabled(number, line, [seen], seen)
         rule = self.machine.moved(seen.node, seen.wish)
@@ -418,8 +419,8 @@ class LogJudge:
     def can_be_asked(self, seen: Observed) -> bool:
         """Whether a step that the machine accepts must be the one observed.
 
-        A step with a target is. Without one the machine chooses the rule; if that seems not to be the
-        observed one, its enabled nodes are asked for instead.
+        A step with a target must be. In a step without a target the machine chooses the rule. If that seems
+        not to be the observed rule, the machine is asked for its enabled nodes instead.
         """
         node, old, _, was, _, wish, rule = seen
         if wish:
@@ -430,7 +431,7 @@ class LogJudge:
         return rule == (UPDATE if is_wrong else ABANDON)
 
     def ask_enabled(self, number: int, line: Any, seen: Sequence[Observed], odd: Observed) -> None:
-        """Asks for the enabled nodes, if a move's rule is none, or not the enabled one."""
+        """Asks for the enabled nodes, if a move is by no rule, or not by the enabled one."""
         rule = self.machine.enabled().get(odd.node)
         if rule and RULES[rule] == odd.rule:
             raise Garbled(f"line {number}: the machine has {rule} enabled at {self.shown(odd.node)}")
@@ -451,7 +452,7 @@ class LogJudge:
                 self.write_as_fault(number, it)
 
     def write_as_fault(self, number: int, seen: Observed) -> None:
-        """Writes what was observed as faults; ends the judge if none can write it."""
+        """Writes what was observed as faults; ends the judging if no fault can write it."""
         node = seen.node
         for word, is_new, value in (
             ("point", seen.new != self.state.pointers.get(node, 0), seen.new),
@@ -490,7 +491,7 @@ class LogJudge:
         )
 
     def why(self, words: Reasons, bad: Observed) -> str:
-        """What the rules allowed the node, and why not what it wrote."""
+        """What the rules allowed the node, and why they did not allow what it wrote."""
         more: Optional[str] = None
         if bad.flag != bad.was and not words.has_flags:
             more = "there are no flags under hh"
@@ -501,7 +502,7 @@ class LogJudge:
         return words.allowed(bad.node) + (f"; {more}" if more else "")
 
     def why_together(self, seen: Sequence[Observed], refusal: int) -> str:
-        """Why moves that the rules allow one by one cannot come at once."""
+        """Why moves that the rules allow one by one cannot be made at once."""
         nodes = [it.node for it in seen]
         twice = next((node for node, count in Counter(nodes).items() if count > 1), None)
         if self.rules == "hh":
@@ -592,7 +593,7 @@ def is_allowed(state: State, seen: Observed) -> bool:
 
 
 class Transcript:
-    """The transcript's destination, with the file of names: a file, or nowhere."""
+    """Where the transcript and the file of names go: into files, or nowhere."""
 
     def __init__(self, target: Target) -> None:
         self.target = target
@@ -602,7 +603,7 @@ class Transcript:
         return self
 
     def write(self, text: bytes) -> None:
-        """Writes the next text. The first one opens the file, so an older file stays if there is none."""
+        """Writes the next text. The first text opens the file; so without text an older file stays."""
         if not text or self.target is None:
             return
         if self.file is None:
@@ -618,7 +619,7 @@ class Transcript:
             self.file.close()
 
     def write_names(self, names: Sequence[Name]) -> None:
-        """Writes the names next to a file, a JSON value a line: line N names node N."""
+        """Writes the names into `PATH.names`, a JSON value a line: line N names node N."""
         if self.file and isinstance(self.target, (str, os.PathLike)) and os.path.isfile(self.target):
             write_names(f"{os.fspath(self.target)}.names", names)
 
@@ -626,7 +627,7 @@ class Transcript:
 def judge_blocks(judge: LogJudge, log: Log, target: Target) -> Conformance:
     """Judges a log, and writes the transcript as it comes.
 
-    Raises `BadLine`, with the transcript written up to there.
+    Raises `BadLine`; the transcript is then written up to the bad line.
     """
     with Transcript(target) as transcript, contextlib.closing(judge):
         try:
@@ -656,12 +657,12 @@ def conform(
 ) -> Conformance:
     """Judges whether the rules allow every move in the log of your own implementation.
 
-    `log` is a `pathlib.Path`, a file open for bytes, text or bytes, or anything that yields its lines or
-    objects one by one. Judging ends at the first divergence; `resync` goes on, with what was observed as
-    faults. `on_divergence` is called with each divergence at once. `transcript`, a path or a file open for
-    bytes, receives the machine's transcript; for a path the names go to `PATH.names`.
+    `log` is a `pathlib.Path`, a file open for bytes, text or bytes, or anything that yields the log's lines
+    or objects one by one. Judging ends at the first divergence; with `resync` it goes on, after the observed
+    values were written as faults. `on_divergence` is called with each divergence at once. `transcript`, a
+    path or a file open for bytes, receives the machine's transcript; for a path the names go to `PATH.names`.
 
-    Raises `BadLine` for a line that is no event, or an edit or a fault that the machine refuses.
+    Raises `BadLine` for a line that is no event, or that is an edit or a fault which the machine refuses.
     """
     judge = LogJudge(
         rules, resync=resync, keeps=transcript is not None, on_divergence=on_divergence, program=program, engine=engine

@@ -1,6 +1,6 @@
 """Which nodes an edit or fault reaches: the table of docs/BOUNDS.md, "Where the moves are".
 
-It holds for both rule sets.
+The table holds for both rule sets.
 """
 
 from __future__ import annotations
@@ -37,8 +37,8 @@ def reach(state: State, word: str, node: int, other: int = 0) -> set[int]:
 def reaches(lines: Iterable[str]) -> Iterator[tuple[int, int]]:
     """The entry of each accepted edit and fault of an accepted transcript, with the size of its reach.
 
-    They come in order; the reach is that in the state before. The lines have no newline at their ends. They
-    are read once, and none is kept.
+    The entries come in order; each reach is that in the state before its entry. The lines have no newline at
+    their ends. They are read once, and none is kept.
     """
     state = State()
     for line in lines:

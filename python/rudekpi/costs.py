@@ -1,4 +1,4 @@
-"""The words of an edit or a fault asked about beforehand, and why it would be refused."""
+"""The words of an edit or a fault that is asked about before it comes, and why it would be refused."""
 
 from __future__ import annotations
 
@@ -11,7 +11,7 @@ from .state import State
 
 # the edits and faults, with how many words each takes
 COSTED = {"link": 2, "unlink": 2, "join": 1, "leave": 1, "point": 2, "flag": 2}
-# those that name two nodes
+# the edits and faults that name two nodes
 PAIRED = ("link", "unlink", "point")
 
 
@@ -33,7 +33,7 @@ def numbers_of_edit(names: Names, word: str, given: Sequence[Name], asked: str =
 
 
 def why_refused(state: State, word: str, node: int, other: int = 0) -> str:
-    """The refusal of an edit or a fault by a network in this state; empty if it is carried out."""
+    """The refusal of an edit or a fault by a network in this state; empty if the network carries it out."""
     near = state.neighbours
     if word == "join":
         return "already-present" if node in near else "unknown-node" if node > state.count else ""

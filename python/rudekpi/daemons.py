@@ -3,9 +3,9 @@
     net.settle(daemons.ByName())            # the least enabled node
     net.settle(daemons.named("greedy", 7))  # by its word, with a seed
 
-Each is a value that can be compared, pickled and used again. It starts afresh in every network, so the same
-daemon makes the same run. Names in the literature, after Dubois and Tixeuil, "A taxonomy of daemons in
-self-stabilization", 2011:
+Each daemon is a value that can be compared, pickled and used again. It starts afresh in every network, so the
+same daemon makes the same run. The daemons' names in the literature, after Dubois and Tixeuil, "A taxonomy of
+daemons in self-stabilization", 2011:
 
 - `Synchronous`: the synchronous daemon; only under `manne`, since Hsu and Huang's rules take one node at a
   time;
@@ -13,8 +13,9 @@ self-stabilization", 2011:
 - `ByAge`: a central round-robin daemon, which is fair: first the nodes that have not moved, then the one that
   moved longest ago;
 - `Seeded`: a randomised daemon, central under `hh` and distributed under `manne`: the program's own, `drive`;
-- `Greedy`: a central adversary that sees the whole state (`Greedy()`, the enabled node and target whose move
-  lowers the charge least), or a helper (`Greedy(most=True)`).
+- `Greedy`: a central daemon that sees the whole state. `Greedy()` is an adversary: it chooses the enabled
+  node and the target whose move lowers the charge least. `Greedy(most=True)` is a helper: the move that it
+  chooses lowers the charge most.
 
 A function from the enabled nodes to those that move is a daemon too.
 """
@@ -79,8 +80,8 @@ class ByAge:
 class Seeded:
     """The program's own random daemon with this seed, 0 to 2^64 - 1.
 
-    Under `hh` one enabled node moves; under `manne` each with probability one half, at least one. A run costs
-    one command, not two a step.
+    Under `hh` one enabled node moves. Under `manne` each enabled node moves with probability one half, and at
+    least one does. A run costs one command in all, instead of two commands a step.
     """
 
     seed: int = 0
@@ -143,7 +144,7 @@ def check_daemon(daemon: object) -> None:
 
 
 def named(word: str, seed: int = 0) -> AnyDaemon:
-    """The daemon that a word of `WORDS` names; the seed is that of `seeded`. Else raises `ValueError`."""
+    """The daemon that a word of `WORDS` names, `seeded` with this seed. Raises `ValueError` for others."""
     if word not in WORDS:
         raise ValueError(f"no daemon has the name {word!r}: they are {', '.join(WORDS)}")
     return WORDS[word](seed)

@@ -1,8 +1,8 @@
 """A session of the library: commands carried out by C calls, each before it returns.
 
-A signal's handler may run between any two instructions, and may use the same session, whose lock its thread
-already holds. So each call reports into its own `Desk`, and what must be asked right after a call is asked in
-the same C call, which no handler interrupts.
+A signal's handler may run between any two instructions. It may use the same session, whose lock the handler's
+thread already holds. So each call reports into its own `Desk`. A question that must come right after a call
+is asked in the same C call, which no handler interrupts.
 """
 
 from __future__ import annotations
@@ -34,7 +34,7 @@ class Direct:
     An interrupt does not cut a C call short, so a command is carried out whole or not at all.
     """
 
-    # of one that is not fully built
+    # the owner of a session that is not fully built
     owner = 0
 
     def __init__(self, library: Library, names: Names, rules: str, present: int, keeps: bool) -> None:
@@ -61,8 +61,8 @@ class Direct:
     def since(self, place: int) -> tuple[bytes, int]:
         """The lines from a place on, and the place after them.
 
-        If not all text is kept, they begin at the last base. Raises `Ended` in a child of the process that
-        made the session.
+        If not all text is kept, the lines begin at the last base. Raises `Ended` in a child of the process
+        that made the session.
         """
         self.check_owner()
         with self.lock:
@@ -89,7 +89,7 @@ class Direct:
             raise self.ended
 
     def raise_for(self, status: int) -> None:
-        """Raises what a status means that is neither done nor refused."""
+        """Raises the error of a status that is neither done nor refused."""
         if status == NO_SESSION:
             raise self.ended or ValueError("the network is closed")
         if status == LOG_FULL:
@@ -101,7 +101,7 @@ class Direct:
         raise ValueError(f"the library takes no such numbers (status {status})")
 
     def end(self, why: Optional[Ended] = None) -> None:
-        """Ends the session. If it was cut short, call it again."""
+        """Ends the session. If the call was cut short, call it again."""
         with self.lock:
             self.ended = self.ended or why
             # no question follows, so all that is written is collected
@@ -116,12 +116,12 @@ class Direct:
     kill = close
 
     def leave(self) -> None:
-        """In a child of this process: empties its copy of the slot, and frees nothing."""
+        """In a child of this process: empties the child's copy of the slot, and frees nothing."""
         self.lock, self.slot.full = threading.RLock(), False
         self.ended = Inherited()
 
     def tell(self, line: str) -> None:
-        """Carries out a line of a script, then asks for the status after one that writes several entries."""
+        """Carries out a line of a script; asks for the status after a line that writes several entries."""
         for event in (line, "status") if line.startswith(("drive ", "scramble ")) else (line,):
             text = event.encode()
             with self.lock:
@@ -144,16 +144,16 @@ class Direct:
         return found.value
 
     def cost_of(self, word: str, numbers: Sequence[int]) -> int:
-        """The cost of an edit or a fault if it came now; 0 also if it would be refused."""
+        """The cost of an edit or a fault if it came now; a refused one costs 0."""
         return self._number(f"cost_of_{word}", numbers)[1]
 
     def silent_cost_of(self, word: str, numbers: Sequence[int]) -> Optional[int]:
-        """The same in a silent network; None if a rule is enabled."""
+        """The cost of an edit or a fault in a silent network; None if a rule is enabled."""
         status, cost = self._number(f"silent_cost_of_{word}", numbers)
         return None if status == NOT_SILENT else cost
 
     def _number(self, name: str, numbers: Sequence[int]) -> tuple[int, int]:
-        """The status of a call that changes nothing, and the number that it writes."""
+        """The status of a call that changes nothing, and the number that the call writes."""
         found = ctypes.c_uint32()
         call: Callable[..., int] = getattr(self.library, name)
         with self.lock:

@@ -23,11 +23,11 @@ class Disturbance:
     """What hits a silent network: faults, joins, leaves, links cut, added or rewired, and walks.
 
     Faults hit any registers, or only pointers or flags. Nodes join with their edges. A rewired link moves one
-    end. Each node of a unit disk graph walks the length `move` in a random direction. Without a disturbance,
-    the network settles from the start, all pointers null.
+    end. In a walk each node of a unit disk graph walks the length `move` in a random direction. If nothing
+    hits the network, it settles from the start, with all pointers null.
 
-    All come at once, unless `every` is not 0: then between two of them the daemon makes at least that many
-    moves, or moves until silence. Raises `ValueError` for numbers out of range.
+    If `every` is 0, all disturbances come at once. Otherwise the daemon moves between two of them: at least
+    `every` moves, or until silence. Raises `ValueError` for numbers out of range.
     """
 
     faults: int = 0
@@ -65,7 +65,7 @@ class Disturbance:
 
     @property
     def is_nothing(self) -> bool:
-        """Whether nothing hits the network, so that it settles from the start."""
+        """Whether nothing hits the network; it then settles from the start."""
         return not (self.faults or self.joins or self.leaves or self.changes_links)
 
     @property
@@ -94,7 +94,7 @@ class Events:
         self.topology = Topology(present, self.edges)
 
     def all(self, seed: int) -> Iterator[Event]:
-        """All of them in order, each as it is drawn; those of one item belong together."""
+        """All edits and faults in order, each when it is drawn; those of one item belong together."""
         topology, wanted, drawn = self.topology, self.wanted, self.drawn
         leaving = sorted(drawn.sample([*topology.near], wanted.leaves))
         yield from self.joins()
@@ -113,7 +113,7 @@ class Events:
         yield from self.faults(seed)
 
     def joins(self) -> Iterator[Event]:
-        """Nodes that join, each with its edges to present nodes; at once, all nodes come before all edges."""
+        """Nodes that join, each with its edges to present nodes. If all come at once, nodes precede edges."""
         topology, later = self.topology, [*self.joining]
         for node in self.joining:
             topology.join(node)
@@ -131,7 +131,7 @@ class Events:
             yield links
 
     def faults(self, seed: int) -> Iterator[Event]:
-        """Faults of registers: by the machine's own `scramble`, or of one kind of register."""
+        """Faults of registers: of any, by the machine's own `scramble`, or of one kind."""
         wanted, near, drawn = self.wanted, self.topology.near, self.drawn
         if wanted.registers == "any":
             if wanted.every:

@@ -19,7 +19,7 @@ from .state import State
 
 # the most nodes in a drawing; the most with names; the drawing's size in pixels
 MOST_DRAWN, MOST_NAMED, SIZE = 200, 40, 260
-# of a page that shows the numbers
+# the element for names, in a page that shows the numbers
 NO_NAMES = b'<script type="application/json" id="names">null</script>'
 
 
@@ -71,8 +71,8 @@ def write_page(
 ) -> None:
     """Writes a page that plays a transcript, with the names of its nodes.
 
-    Raises `Damaged` if `audit` refuses it, `FileNotFoundError` if the page maker is missing, `Ended`, and
-    `OSError` if the page cannot be written; nothing of it is left then.
+    Raises `Damaged` if `audit` refuses the transcript, `FileNotFoundError` if the page maker is missing,
+    `Ended`, and `OSError` if the page cannot be written; nothing of the page is left then.
     """
     words = [sys.executable, page_maker(), "--program", found_program(program)]
     done = subprocess.run(words, input=transcript.encode(), stdout=subprocess.PIPE, stderr=subprocess.PIPE)
@@ -84,10 +84,10 @@ def write_page(
 
 
 def with_names(page: bytes, names: Optional[Names]) -> bytes:
-    """A page that knows the caller's names; no text in them can end the element that has them."""
+    """A page with the caller's names in an element; no text in these names can end that element."""
     shown = page_names(names)
     if shown is None:
         return page
     data = json.dumps(shown).replace("<", "\\u003c")
-    # the first one is the page's own element: the transcript is behind it, and has no such text
+    # the first such text is the page's own element: the transcript comes after it, and has no such text
     return page.replace(NO_NAMES, NO_NAMES.replace(b"null", data.encode()), 1)

@@ -77,7 +77,7 @@ class OfLibrary:
             self.checked(library.transcript(self.at, ctypes.c_bool(False)))
 
     def checked(self, status: int) -> int:
-        """0, or the number of the refusal. Raises what any other status means."""
+        """0, or the number of the refusal. Raises the error of any other status."""
         if status == DONE:
             return 0
         if status != REFUSED:
@@ -181,7 +181,7 @@ class OfProgram:
 def engine_of(
     rules: str, count: int, present: int, keeps: bool, program: Program = None, engine: Optional[str] = None
 ) -> Engine:
-    """A run of a new network; the library makes its transcript only if it is kept."""
+    """A run of a new network; the library makes a transcript only if `keeps`."""
     library = chosen(engine, program)
     if library:
         return OfLibrary(library, rules, count, present, keeps)

@@ -1,4 +1,4 @@
-"""The client's errors. Each can be pickled, so it leaves a process pool unchanged."""
+"""The client's errors. Each can be pickled, so that a process pool can raise it unchanged."""
 
 from __future__ import annotations
 
@@ -49,7 +49,7 @@ class Inherited(Ended):
 
 
 class NoReply(RudekpiError, MemoryError):
-    """The command was carried out, but memory for its reply ran out; `entry` is its last entry.
+    """The command was carried out, but memory for the reply ran out; `entry` is the command's last entry.
 
     The transcript has that entry. Any other `MemoryError` means that nothing was carried out.
     """
@@ -65,7 +65,7 @@ class NoReply(RudekpiError, MemoryError):
 
 
 class NoSuchCommand(RudekpiError):
-    """The program that plays the network has no such command; the library has."""
+    """The program, which plays this network, has no such command; only the library has."""
 
 
 class Garbled(RudekpiError):
@@ -73,7 +73,7 @@ class Garbled(RudekpiError):
 
 
 class Damaged(RudekpiError):
-    """`audit` refuses a transcript: the first wrong line, and why."""
+    """`audit` refuses a transcript: the number of the first wrong line, and why that line is wrong."""
 
     def __init__(self, line: int, why: str) -> None:
         super().__init__(f"line {line}: {why}")
@@ -84,7 +84,7 @@ class Damaged(RudekpiError):
 
     @classmethod
     def read(cls, verdict: str) -> Damaged:
-        """The error of a verdict's text; raises `ValueError` if it is none."""
+        """The error that a verdict's text describes; raises `ValueError` if the text is no such verdict."""
         found = VERDICT.fullmatch(verdict)
         if not found:
             raise ValueError(verdict)
@@ -92,7 +92,7 @@ class Damaged(RudekpiError):
 
 
 class BadLine(RudekpiError, ValueError):
-    """A line of a log is no event, or one that the machine refuses: its number, and why."""
+    """A line of a log is no event, or an event that the machine refuses: the line's number, and why."""
 
     def __init__(self, line: int, why: str) -> None:
         super().__init__(f"line {line}: {why}")

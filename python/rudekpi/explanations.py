@@ -1,7 +1,7 @@
 """Why `audit` refuses a transcript: the wrong word, the machine's reply, and the registers there.
 
-The verdict is the auditor's, the reply that of the machine, which plays the transcript up to there; the rest
-comes from the registers followed here.
+The verdict is the auditor's. The reply is that of the machine, which plays the transcript up to the wrong
+line. The rest comes from the registers followed here.
 """
 
 from __future__ import annotations
@@ -36,8 +36,8 @@ WITHOUT_REPLY = re.compile(r"[0-9]+ [^=]* = ")
 class Explanation:
     """Why a transcript is refused.
 
-    `line` and `verdict` are those of `audit`. `text` is that line, `before` the previous one; the characters
-    `start` to before `end` are wrong.
+    `line` and `verdict` are those of `audit`. `text` is the text of that line, `before` that of the line
+    before. The wrong characters are those from `start` to before `end`.
     """
 
     line: int
@@ -103,7 +103,7 @@ def explain(
     program: Program = None,
     engine: Optional[str] = None,
 ) -> Optional[Explanation]:
-    """Why `audit` refuses a transcript; None if it accepts it. Its `str` is the text for a terminal.
+    """Why `audit` refuses a transcript; None if `audit` accepts. The result's `str` is for a terminal.
 
     With the caller's `names`, in the order of the numbers, a node's number is followed by its name.
     """
@@ -156,7 +156,7 @@ def of_order(raw: bytes, expected: int) -> Fault:
 
 
 def replied(net: Network, line: str) -> str:
-    """The machine's reply to the event of a line, in the state of a network."""
+    """The reply of the machine, in the state of a network, to the event of a line."""
     event = line.partition(" ")[2].partition(" = ")[0]
     before = len(net.transcript())
     net._session.tell(event)
@@ -190,7 +190,7 @@ def whole_reply(line: str, start: int, why: str) -> Fault:
 def of_listed(
     line: str, start: int, place: int, ours: Sequence[str], theirs: Sequence[str]
 ) -> tuple[Fault, Optional[int]]:
-    """The first enabled node or pair that differs between two lists; one list may end there."""
+    """The first enabled node or pair that differs between two lists; one list may end before it."""
     mine = ours[place] if place < len(ours) else ""
     other = theirs[place] if place < len(theirs) else ""
     found = [int(number[0]) if (number := re.match(r"\d+", text)) else None for text in (mine, other)]
@@ -251,7 +251,7 @@ def notes_of(state: State, line: str, reply: str, node: Optional[int], name: Tol
 
 
 def of_base(broken: Broken, damaged: Damaged, program: Program, engine: Optional[str]) -> Explanation:
-    """Explains a line of a base: an opening base by itself, any other by the state reached."""
+    """Explains a wrong line of a base: of an opening base by itself, of any other by the state reached."""
     head = head_of(broken, program, engine)
     if not head:
         return of_first_base(broken, damaged)
@@ -274,7 +274,7 @@ def head_of(broken: Broken, program: Program, engine: Optional[str]) -> int:
     """The offset of the base that has the wrong line."""
     if broken.raw.startswith(HEAD):
         try:
-            # it is a first line, unless the base before it is not whole
+            # the line is the first of a base, unless the base before it is not whole
             audit(broken.accepted(broken.start), program=program, engine=engine)
             return broken.start
         except Damaged:

@@ -10,7 +10,7 @@ from typing import Optional, Union
 
 
 def write_whole(path: Union[str, os.PathLike[str]], data: bytes) -> None:
-    """Writes a file through a temporary one in its folder, so it is either whole or unchanged.
+    """Writes a file by way of a temporary one in the same folder, so that it is either whole or unchanged.
 
     A device, a pipe, or a file in a folder that takes no new files, is written to directly. Raises `OSError`.
     """

@@ -21,7 +21,7 @@ SMALL_TRIES, SMALL_ENDS = 10, 10_000
 
 
 def numbered(title: str, count: int, edges: Iterable[Edge]) -> Graph:
-    """A graph of the nodes 1 to `count`; reads at most one edge more than a network can have."""
+    """A graph of the nodes 1 to `count`; takes at most one edge more than a network can have."""
     check_sizes(title, count, 0)
     return Graph(title, tuple(range(1, count + 1)), tuple(itertools.islice(edges, MOST_EDGES + 1)))
 
@@ -101,9 +101,10 @@ def drawn_pairs(n: int, p: float, drawn: random.Random) -> Iterator[Edge]:
 def regular(n: int, degree: int, seed: int = 0) -> Graph:
     """A graph whose nodes each have `degree` neighbours.
 
-    Free ends are joined at random, after Steger and Wormald, "Generating random regular graphs quickly",
-    1999; if that fails, edges are switched, after McKay and Wormald, "Uniform generation of random regular
-    graphs of moderate degree", 1990. For more than half of the possible neighbours the complement is drawn.
+    Free ends of edges are joined at random, after Steger and Wormald, "Generating random regular graphs
+    quickly", 1999. If that fails, edges are switched, after McKay and Wormald, "Uniform generation of random
+    regular graphs of moderate degree", 1990. If `degree` is more than half of the possible neighbours, the
+    complement is drawn.
     """
     title = f"regular:{n},{degree},{seed}"
     if n < 0:
@@ -119,9 +120,10 @@ def regular(n: int, degree: int, seed: int = 0) -> Graph:
 
 
 def joined(n: int, degree: int, drawn: random.Random) -> set[Edge]:
-    """The edges of a regular graph of at most half of the possible neighbours.
+    """The edges of a regular graph whose degree is at most half of the possible neighbours.
 
-    A small graph is begun anew up to nine times before its edges are switched, a large one never.
+    A small graph is begun anew up to nine times before its edges are switched. A large graph is never begun
+    anew.
     """
     for _ in range(SMALL_TRIES if n * degree <= SMALL_ENDS else 1):
         made = EndJoiner(n, degree, drawn)
@@ -161,7 +163,7 @@ class EndJoiner:
                 ends.pop()
 
     def switch_edges(self) -> None:
-        """Joins the remaining ends: for free ends a and b, an edge x, y is replaced by a, x and b, y."""
+        """Joins the remaining ends: for free ends a and b, the edges a-x and b-y replace an edge x-y."""
         edges, misses = sorted(self.edges), 100 * len(self.ends) + 100
         self.drawn.shuffle(self.ends)
         while self.ends and edges and misses:
@@ -191,7 +193,7 @@ def unit_disk(n: int, radius: float, seed: int = 0) -> Graph:
 def near_pairs(at: list[tuple[float, float]], radius: float) -> Iterator[Edge]:
     """The pairs of points, numbered from 1, within the radius of each other, ascending.
 
-    A point is compared with the nine cells around it, whose side is more than the radius.
+    A point is compared with those in the nine cells around it; a cell's side is more than the radius.
     """
     most = math.isqrt(len(at))
     side = max(1, most if radius * (most + 1) < 1 else int(1 / radius) - 1)

@@ -1,4 +1,4 @@
-"""Builds a graph while its file is read; refuses at once what no network can have."""
+"""Builds a graph while its file is read; refuses at once a graph that no network can have."""
 
 from __future__ import annotations
 
@@ -15,7 +15,7 @@ DECIMAL = re.compile(r"[+-]?(?:[0-9]+\.?[0-9]*|\.[0-9]+)(?:[eE][+-]?[0-9]{1,3})?
 
 
 def whole(text: str) -> Optional[int]:
-    """The number that a text of at most 18 digits is, or None."""
+    """The number that a text of at most 18 digits means; None for any other text."""
     return int(text) if WHOLE.fullmatch(text) else None
 
 
@@ -49,7 +49,7 @@ class GraphBuilder:
         return name in self._places
 
     def add_node(self, name: Name, at: int) -> None:
-        """Adds a node unless it is there. Raises `ValueError` if it is one more than a network can have."""
+        """Adds a node, unless it is known. Raises `ValueError` for one more than a network can have."""
         if name in self._places:
             return
         if len(self._places) == MOST_NODES:
@@ -66,8 +66,8 @@ class GraphBuilder:
     def add_edge(self, a: Name, b: Name, at: int, *, both_ways: bool, weight: Optional[float] = None) -> None:
         """Adds an edge of two known nodes.
 
-        With `both_ways` it may be named once from each end, with the same weight. Raises `ValueError` if it
-        is a loop, is there already, or is one more than a network can have.
+        With `both_ways` an edge may be named once from each end, with the same weight. Raises `ValueError` if
+        the edge is a loop, is known already, or is one more than a network can have.
         """
         if a == b:
             raise self.error(at, f"{a!r} is linked with itself")
@@ -94,7 +94,7 @@ class GraphBuilder:
         return [divmod(key, MOST_NODES + 1) for key in self._edges]
 
     def one_sided(self) -> Optional[tuple[Name, Name, int]]:
-        """An edge named from one node only, that node first, and its position; None without one."""
+        """An edge that only one node names, this node first, and its position; None without such an edge."""
         names = self.nodes
         for key, at in self._edges.items():
             if key not in self._answered:

@@ -1,7 +1,7 @@
 """Graphs in GraphML and in node-link JSON, read by the standard library's parsers.
 
-Directed graphs are refused unless taken without directions; multigraphs, hypergraphs and nested graphs
-always.
+A directed graph is refused unless it is taken without its directions. Multigraphs, hypergraphs and nested
+graphs are always refused.
 """
 
 from __future__ import annotations
@@ -26,7 +26,7 @@ CHILDREN = {
 }
 SKIPPED = ("key", "data", "desc", "port", "locator")
 REFUSED = {"hyperedge": "a hypergraph", "graph": "a second or a nested graph"}
-# those that the parser reads itself
+# the encodings that the parser reads itself
 ENCODINGS = ("utf-8", "utf-16", "iso-8859-1", "us-ascii")
 MOST_XML, MOST_JSON, PIECE = 2**30, 2**28, 2**16
 DIRECTED = "a directed graph: --undirected takes its edges without directions"
@@ -159,7 +159,7 @@ def once(pairs: list[tuple[str, Any]]) -> dict[str, Any]:
 def json_of(path: str) -> Any:
     """The value of a JSON file.
 
-    Raises `ValueError` if it is no JSON, repeats a key, is nested too deeply, or has more than 256 MB.
+    Raises `ValueError` if the file is no JSON, repeats a key, is nested too deeply, or has more than 256 MB.
     """
     with open(path, "rb") as file:
         text = file.read(MOST_JSON + 1)
@@ -221,7 +221,7 @@ class NodeLinkReader:
         return found
 
     def take_nodes(self, nodes: list[dict[str, Any]]) -> None:
-        """Reads the nodes by their ids; by their places from 0 on if none has one."""
+        """Reads the nodes, named by their ids. If no node has an id, their places from 0 on are the names."""
         has_ids = any("id" in node for node in nodes)
         for at, node in enumerate(nodes, 1):
             name = name_of(node.get("id") if has_ids else at - 1)

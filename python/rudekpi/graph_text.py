@@ -1,7 +1,7 @@
 """Graphs in text files with an edge or a node a line: edge lists, DIMACS and METIS.
 
-A line that breaks the format is refused with its number and what was expected, so that another format gives
-no wrong graph.
+A line that breaks the format is refused; the error has the line's number and what was expected. So a file of
+another format gives no wrong graph.
 """
 
 from __future__ import annotations
@@ -61,7 +61,7 @@ def words_of(made: GraphBuilder, at: int, line: str, separator: str = "") -> lis
 
 
 class EdgeListReader:
-    """Reads two names a line, then perhaps a number, the weight. A single name may have no edge."""
+    """Reads two names a line, perhaps followed by a number, the weight. A line with one name adds a node."""
 
     def __init__(self, path: str) -> None:
         self.made = GraphBuilder(path)
@@ -170,7 +170,7 @@ def edge_list(path: str) -> Graph:
 
 
 class DimacsReader:
-    """Reads a line `p edge N M`, then `e A B` an edge; or `p sp N M` and `a A B W`, directed."""
+    """Reads a line `p edge N M`, then a line `e A B` for each edge; or `p sp N M` and `a A B W`, directed."""
 
     def __init__(self, path: str, undirected: bool) -> None:
         self.made, self.undirected = GraphBuilder(path), undirected
@@ -197,7 +197,7 @@ class DimacsReader:
         elif words[0] == ("a" if self.kind == "sp" else "e"):
             self.take_edge(at, words)
         elif self.kind == "sp" or words[0] not in ("n", "d", "v", "x"):
-            # those are weights of nodes and sizes of geometric graphs, which no edge depends on
+            # these lines are weights of nodes and sizes of geometric graphs, and no edge depends on them
             raise self.made.error(at, f"expected `{'a A B W' if self.kind == 'sp' else 'e A B'}`, and not {words[0]!r}")
 
     def begin(self, at: int, words: list[str]) -> None:
@@ -277,7 +277,7 @@ class MetisReader:
             self.made.add_edge(self.node, other, at, both_ways=True)
 
     def check_edges(self) -> None:
-        """Raises `ValueError` unless both ends name each edge, and the first line counts the edges."""
+        """Raises `ValueError` unless both ends name each edge, and the first line has the number of edges."""
         lone = self.made.one_sided()
         if lone:
             raise self.made.error(lone[2], f"node {lone[0]} names {lone[1]}, and {lone[1]} does not name {lone[0]}")

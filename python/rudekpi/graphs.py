@@ -99,14 +99,14 @@ def graph_of(words: str, *, undirected: bool = False) -> Graph:
 
 
 def read(path: Union[str, "os.PathLike[str]"], *, undirected: bool = False) -> Graph:
-    """The graph in a file, whose format is that of its extension.
+    """The graph in a file; the file's extension gives the format.
 
     `.col` or `.dimacs` is DIMACS, `.metis` or `.graph` METIS, `.graphml` GraphML, and `.json` node-link. Any
-    other is an edge list, with names separated by blanks, in `.csv` by commas. `undirected` takes a directed
-    graph without its directions.
+    other file is an edge list; its names are separated by blanks, or in a `.csv` file by commas. `undirected`
+    takes a directed graph without its directions.
 
-    Raises `ValueError` if the file breaks its format, with the line and what was expected; `OSError` if it
-    cannot be read. Warns if weights are left out.
+    Raises `ValueError`, with the line and what was expected, if the file breaks its format, and `OSError` if
+    the file cannot be read. Warns if weights are left out.
     """
     end = os.path.splitext(path)[1].lower()
     reader, takes_undirected = READERS.get(end, (edge_list, False))
@@ -116,8 +116,8 @@ def read(path: Union[str, "os.PathLike[str]"], *, undirected: bool = False) -> G
 def from_networkx(graph: Any, title: Optional[str] = None) -> Graph:
     """The graph of a simple undirected `networkx.Graph`, with its nodes in their order.
 
-    Its title is `title`, else its name, else its numbers of nodes and edges. Raises `TypeError` if it is no
-    graph of networkx, and `ValueError` for a directed graph, a multigraph or a loop.
+    The graph's title is `title`, else its name, else its numbers of nodes and edges. Raises `TypeError` if
+    `graph` is no graph of networkx, and `ValueError` for a directed graph, a multigraph or a loop.
     """
     if not is_networkx(graph):
         raise TypeError(f"{graph!r} is no graph of networkx")

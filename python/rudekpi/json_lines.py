@@ -13,7 +13,7 @@ from .replies import Name
 
 
 def objects_of(transcript: str, own: Optional[Iterable[Name]] = None) -> Iterator[dict[str, object]]:
-    """The objects of a transcript that `audit` accepts, by the numbers of its nodes, or by the caller's own names."""
+    """The objects of a transcript that `audit` accepts, with numbers of nodes or the caller's own names."""
     names = names_for(transcript, own)
     for part in parts_of(transcript):
         words = part[0].split(" ")
@@ -63,7 +63,7 @@ def choice_of(item: str, names: Names) -> dict[str, object]:
 
 
 def shown(names: Names, digits: str) -> object:
-    """A node's name, or an object for a number without a name, which only a refused event has."""
+    """A node's name; an object for a number that has no name. Only refused events have such numbers."""
     number = int(digits)
     if names.own is None:
         return number

@@ -1,6 +1,7 @@
-"""Graphs of a sweep that no word makes and no file has: kept next to its rows, so that these play again.
+"""Graphs of a sweep that no word makes and no file has: kept next to the rows, so that the rows play again.
 
-Those of `rows.csv` are in the folder `rows.csv.graphs`, each a node-link JSON file, named by its title.
+The graphs of `rows.csv` are in the folder `rows.csv.graphs`. Each is a node-link JSON file, named by its
+title.
 """
 
 from __future__ import annotations
@@ -39,7 +40,7 @@ def path_of(rows: str, title: str) -> str:
 
 
 def is_known(graph: Graph) -> bool:
-    """Whether its title makes the same graph again, or is the path of a file."""
+    """Whether a graph's title makes the same graph again, or is the path of a file."""
     if graph.title.partition(":")[0] not in MADE:
         return os.path.exists(graph.title)
     with contextlib.suppress(ValueError, OSError):
@@ -63,8 +64,9 @@ def read_name(given: Any) -> Name:
 def keep_graphs(rows: str, graphs: Iterable[Graph], goes_on: bool = False) -> None:
     """Keeps graphs next to the file of rows at a path.
 
-    Warns of a graph with a name that JSON cannot have: its rows do not play again. Raises `OSError`, and
-    `ValueError` if the file has rows already (`goes_on`) and another graph is kept by the same title.
+    Warns of a graph with a name that JSON cannot have: the rows of this graph do not play again. Raises
+    `OSError`, and `ValueError` if the file has rows already (`goes_on`) and another graph of that title is
+    kept.
     """
     for graph in graphs:
         if is_known(graph):
@@ -88,7 +90,7 @@ def keep_graphs(rows: str, graphs: Iterable[Graph], goes_on: bool = False) -> No
 
 
 def read_graph(path: str, title: str) -> Graph:
-    """The graph in a file. Raises `ValueError` for what is none, and `OSError`."""
+    """The graph in a file. Raises `ValueError` if the file has no graph, and `OSError`."""
     found = json_of(path)
     try:
         nodes = tuple(read_name(node["id"]) for node in found["nodes"])
@@ -112,7 +114,7 @@ def keep_beside(file: TextIO, graphs: Iterable[Graph], goes_on: bool) -> None:
 
 
 class Rows(Generator[Item, None, None]):
-    """The rows of a sweep, as they come, with its graphs."""
+    """The rows of a sweep, as they come, with the graphs of the sweep."""
 
     def __init__(self, rows: Generator[Item, None, None], graphs: Iterable[Graph]) -> None:
         self._rows, self.graphs = rows, tuple(graphs)

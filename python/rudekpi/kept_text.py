@@ -1,7 +1,7 @@
 """The text of a library session that was already copied.
 
-A signal's handler may ask for it, or cause more of it, in the middle of each function here. So no text is
-moved: one C call adds each part to a list, and a forgotten part becomes empty in its place.
+In the middle of each function here, a signal's handler may ask for the text, or cause more of it. So no text
+is moved: one C call adds each part to a list, and a part that is forgotten becomes empty at its index.
 """
 
 from __future__ import annotations
@@ -18,7 +18,7 @@ if TYPE_CHECKING:
     from ctypes import _CArgObject
 
 BASE_START = b"matching2 "
-# calls its argument, as one C call
+# calls its argument; this is one C call
 CALLED = operator.methodcaller("__call__")
 # a buffer with how many bytes came into it, 0 if they were more than it holds; or the bytes
 Part = Union["tuple[ctypes.Array[ctypes.c_char], int]", bytes]
@@ -42,7 +42,7 @@ def last_base(text: bytes) -> int:
 
 
 class KeptText:
-    """The parts of a text, in order. If not all is kept, it begins with its last base."""
+    """The parts of a text, in order. If not all is kept, the text begins with its last base."""
 
     def __init__(self, library: Library, at: _CArgObject, keeps: bool) -> None:
         self.library, self.at, self.keeps = library, at, keeps
@@ -55,7 +55,7 @@ class KeptText:
     def collect(self) -> None:
         """Copies what the session has written.
 
-        Raises `MemoryError`, and continues from there when called again.
+        Raises `MemoryError`. If called again, it continues where memory ran out.
         """
         while wanted := self.length():
             room = (ctypes.c_char * wanted)()
@@ -84,7 +84,7 @@ class KeptText:
         return text if self.keeps else text[max(0, last_base(text)) :], end
 
     def written_by(self, call: Callable[[], int]) -> tuple[int, Callable[[], bytes]]:
-        """Makes a call that writes several lines: its status, and a function that returns them."""
+        """Makes a call that writes several lines: its status, and a function that returns the lines."""
         reader = Reader()
         self.readers.append(weakref.ref(reader))
         place, start, status, end = in_one_call(functools.partial(len, self.parts), self.length, call, self.length)

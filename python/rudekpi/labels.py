@@ -1,4 +1,4 @@
-"""Names of nodes as pictures and pages show them: in one line, without signs that change what is around them."""
+"""Names of nodes as pictures and pages show them: in one line, without signs that change the text around."""
 
 from __future__ import annotations
 
@@ -21,7 +21,7 @@ NODE = re.compile(r'^([0-9]+) \[label="[0-9]+', re.MULTILINE)
 
 
 def is_hidden(letter: str) -> bool:
-    """Whether a letter is shown by its number: one that shows nothing, turns the direction, or may not be in XML."""
+    """Whether to show a letter by its number: it is invisible, turns the direction, or may not be in XML."""
     return letter in NONCHARACTERS or (letter not in JOINERS and unicodedata.category(letter) in HIDDEN)
 
 
@@ -37,7 +37,7 @@ def escaped(letter: str) -> str:
 
 
 def label(name: Name, most: int = MOST_SHOWN) -> str:
-    """The same, cut to so many letters."""
+    """The same, cut to `most` letters."""
     text = visible(name)
     return text if len(text) <= most else text[: most - 1] + CUT
 
@@ -53,7 +53,7 @@ def in_graphviz(text: str) -> str:
 
 
 def named_picture(dot: str, names: Names) -> str:
-    """A picture for Graphviz whose nodes have the caller's names; a name that is cut stands whole in a tooltip."""
+    """A picture for Graphviz whose nodes have the caller's names; a cut name is whole in its tooltip."""
 
     def sign(found: re.Match[str]) -> str:
         name = names.known(int(found[1]))
@@ -69,8 +69,8 @@ def named_picture(dot: str, names: Names) -> str:
 
 
 def page_names(names: Optional[Names]) -> Optional[list[list[str]]]:
-    """What a page shows of names: of each node, in the order of the numbers, its label and the whole name; None if
-    they are numbers."""
+    """The label and the whole name of each node, for a page, in the order of the numbers; None if the names
+    are numbers."""
     if names is None or names.own is None:
         return None
     known = [names.known(number) for number in range(1, names.count + 1)]

@@ -1,4 +1,4 @@
-"""The C library, whose engine runs in this process: its path, and its calls with their types."""
+"""The C library, whose engine runs in this process: the library's path, and its calls with their types."""
 
 from __future__ import annotations
 
@@ -63,7 +63,7 @@ def summary_of(verdict: Verdict) -> Summary:
 
 
 def verdict_of(found: Union[Summary, Damaged]) -> Verdict:
-    """The verdict that `summary_of` reads so. Raises `KeyError` for a damage that is not the library's."""
+    """The verdict that `summary_of` reads as this. Raises `KeyError` for a damage of another kind."""
     if isinstance(found, Summary):
         return Verdict(0, found.entries, found.epochs, found.moves, 0)
     return Verdict({why: kind for kind, why in DAMAGES.items()}[found.why], 0, 0, 0, found.line)
@@ -110,7 +110,7 @@ NONE = ("session_free", "audit_free")
 class Library:
     """The calls of a shared library, named without their prefix `rudekpi_`.
 
-    Raises `OSError` if there is no library at the path, or it lacks a call.
+    Raises `OSError` if there is no library at the path, or the library lacks a call.
     """
 
     def __init__(self, path: str) -> None:
@@ -143,10 +143,10 @@ class Library:
         return summary_of(verdict)
 
     def joined(self, whole: Summary, found: Union[Summary, Damaged], lines: int) -> Summary:
-        """The joint verdict on an accepted text and the text that follows it from a base on.
+        """The joint verdict on an accepted text and the next text, which begins with its last base.
 
-        `lines` precede the base; only a damage needs them. Raises `Damaged`, or `OverflowError` if a sum is
-        more than a verdict holds.
+        `lines` is how many lines precede the base; only a damage needs that. Raises `Damaged`, or
+        `OverflowError` if a sum is more than a verdict holds.
         """
         verdict, second = verdict_of(whole), verdict_of(found)
         if self.audit_join(ctypes.byref(verdict), ctypes.c_uint64(lines), ctypes.byref(second)) != DONE:
@@ -159,7 +159,7 @@ class Library:
         return self.audit(at + start, (len(text) if end is None else end) - start)
 
     def audit_file(self, file: int, start: int, end: int) -> Summary:
-        """The verdict on a range of an open file, given by number, which is not read whole."""
+        """The verdict on a range of an open file, given by its number. The file is not read whole."""
         end = min(end, os.fstat(file).st_size)
         if start >= end:
             return self.audit_bytes(b"")
@@ -180,7 +180,7 @@ def loaded(path: str) -> Library:
 
 
 def paths() -> list[str]:
-    """The paths of the library: RUDEKPI_LIBRARY's, else the package's, then the repository's."""
+    """The paths to try for the library: RUDEKPI_LIBRARY's, else the package's, then the repository's."""
     given = os.environ.get("RUDEKPI_LIBRARY")
     if given:
         return [os.path.abspath(given)]
@@ -192,7 +192,7 @@ def paths() -> list[str]:
 
 
 def found_library() -> Optional[Library]:
-    """The library; None if there is none, or none that this system loads."""
+    """The library; None if there is none, or this system cannot load it."""
     for path in paths():
         if os.path.isfile(path):
             try:
@@ -205,9 +205,9 @@ def found_library() -> Optional[Library]:
 def chosen(engine: Optional[str], program: Program) -> Optional[Library]:
     """The library if it is the engine; None if the program is.
 
-    By default it is RUDEKPI_ENGINE's, else the library if it is found and no program is given. Raises
-    `ValueError` for an unknown engine, or the library with a program, and `OSError` if the library is
-    required but not found.
+    By default the engine is the value of RUDEKPI_ENGINE, else the library if it is found and no program is
+    given. Raises `ValueError` for an unknown engine, or for the library with a program, and `OSError` if the
+    library is required but not found.
     """
     engine = engine or (None if program else os.environ.get("RUDEKPI_ENGINE") or None)
     if engine is None:

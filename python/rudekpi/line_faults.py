@@ -40,7 +40,7 @@ def whole(line: str, why: str) -> Fault:
 
 
 def at_word(line: str, place: int, why: str, start: int = 0) -> Fault:
-    """A fault at a word of a line, by index from the character `start`, or after the last word."""
+    """A fault at a word of a line, by its index from the character `start` on; or after the last word."""
     words = line[start:].split(" ")
     if place >= len(words):
         return Fault(len(line), len(line) + 1, why)

@@ -92,12 +92,12 @@ def read(path: str) -> bytes:
 
 
 def words_of_names(parser: argparse.ArgumentParser) -> None:
-    """What each command that reads a transcript and speaks of nodes is told about their names."""
+    """Adds the option for names of nodes to a command that reads a transcript."""
     parser.add_argument("--names", help="a file of the nodes' names, of which line K is that of node K")
 
 
 def names_given(given: argparse.Namespace) -> Optional[list[Name]]:
-    """The names in the file of --names, if that is given. Raises `ValueError` and `OSError`."""
+    """The names in the file that --names gives, or None. Raises `ValueError` and `OSError`."""
     return None if given.names is None else read_names(given.names)
 
 

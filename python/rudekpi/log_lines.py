@@ -1,4 +1,4 @@
-"""The log of your own implementation: JSON Lines, an object an event, read line by line as they come."""
+"""The log of your own implementation: JSON Lines, an object an event, read line by line as it comes."""
 
 from __future__ import annotations
 
@@ -85,7 +85,7 @@ def why_no_json(line: bytes, error: Exception, is_cut: bool) -> str:
 
 
 def keys_of(made: Any) -> int:
-    """How many keys an event has, with those of its moves."""
+    """How many keys an event has, including the keys of its moves."""
     if not isinstance(made, dict):
         return -1
     moves = made.get("moves")
@@ -106,7 +106,7 @@ def object_of(number: int, line: bytes, is_last: bool = False) -> Any:
 
 
 def pieces(file: BinaryIO) -> Iterator[bytes]:
-    """The bytes of a file, each piece as soon as it is there."""
+    """The bytes of a file, each piece as soon as it can be read."""
     read = getattr(file, "read1", file.read)
     while piece := read(PIECE):
         yield piece
@@ -156,7 +156,7 @@ def blocks(log: Log) -> Iterator[Block]:
 
 
 def value_of(number: int, line: Any) -> Any:
-    """The value of a line, which may be one already. Raises `BadLine`."""
+    """The value of a line; the line may be a value already. Raises `BadLine`."""
     if isinstance(line, str):
         line = line.encode("utf-8", "surrogatepass")
     return object_of(number, line) if isinstance(line, bytes) else line

@@ -36,7 +36,7 @@ def line_of(name: Name) -> str:
 def names_text(names: Iterable[Name]) -> str:
     """The text of a file of names.
 
-    Raises `ValueError` if two names would be the same in it, as 'None' and None, or one is empty.
+    Raises `ValueError` if two names would be the same in the text, as 'None' and None, or a name is empty.
     """
     given = own_names(names)
     lines: dict[str, Name] = {}
@@ -61,7 +61,8 @@ def write_names(path: Path, names: Iterable[Name]) -> None:
 def read_names(path: Path) -> list[Name]:
     """The names in a file, in the order of the numbers.
 
-    Raises `ValueError` with the file and the line for what is no name, or is there twice, and `OSError`.
+    Raises `ValueError`, with the file and the line, for a text that is no name or is there twice, and
+    `OSError`.
     """
     with open(path, "rb") as file:
         data = file.read()
@@ -69,7 +70,7 @@ def read_names(path: Path) -> list[Name]:
 
 
 def names_in(data: bytes, title: str) -> list[Name]:
-    """The same, of the bytes of a file with this title."""
+    """The names in the bytes of a file with this title."""
     lines = data.removeprefix(b"\xef\xbb\xbf").split(b"\n")
     if not lines[-1]:
         lines.pop()

@@ -17,8 +17,8 @@ NUMBER = re.compile(r"(?<=[ >])[0-9]+")
 def own_names(nodes: Iterable[Name]) -> list[Name]:
     """The caller's names, each once, none of them None; a numpy array gives Python's own values.
 
-    Raises `TypeError` if it is no iterable or an item is not hashable, and `ValueError` if it is a text, or
-    an item is None or is there twice.
+    Raises `TypeError` if `nodes` is no iterable or an item is not hashable, and `ValueError` if `nodes` is a
+    text, or an item is None or is there twice.
     """
     what = "nodes are a number or a list of names, of which none is None"
     if not isinstance(nodes, Iterable):
@@ -44,28 +44,28 @@ def is_hashable(name: Name) -> bool:
 
 
 def is_number(nodes: object) -> bool:
-    """Whether this is a whole number, also of numpy; a numpy array claims to be one, and is not."""
+    """Whether this is a whole number, also of numpy. A numpy array claims to be a number, and is none."""
     return hasattr(nodes, "__index__") and not getattr(nodes, "shape", ())
 
 
 class Names:
     """The numbers 1 to a count as names, or the caller's own names, numbered 1, 2, .. in order.
 
-    With a greater capacity more nodes may come: their names are the next numbers, or new ones of the caller's.
+    With a greater capacity more nodes may join: their names are the next numbers, or new names of the caller.
     """
 
     def __init__(self, nodes: Union[int, Iterable[Name]], capacity: Optional[int] = None) -> None:
         own = None if is_number(nodes) else own_names(cast("Iterable[Name]", nodes))
         self.numbers = {name: number for number, name in enumerate(own or [], 1)}
         count = cast(int, nodes) if own is None else len(own)
-        # how many have a name from the start on
+        # how many numbers have a name from the start on
         self.given = number_within(count, MOST_NODES, "a number of nodes")
         self.count = self.given if capacity is None else number_within(capacity, MOST_NODES, "a capacity")
         if self.count < self.given:
             raise ValueError(f"a capacity of {self.count} is less than {counted(self.given, 'node')}")
         # None for a number that has no name yet
         self.own: Optional[list[Name]] = None if own is None else own + [None] * (self.count - self.given)
-        # one call of C draws a number, so that no handler of a signal gets the same
+        # one C call draws a number, so that no handler of a signal gets the same number
         self.free = itertools.count(self.given + 1)
 
     def all(self) -> list[Name]:
@@ -90,13 +90,13 @@ class Names:
             raise TypeError(f"a node's name is hashable, as a number, a text or a tuple, and not {name!r}") from None
 
     def is_new(self, name: Name) -> bool:
-        """Whether this may be the caller's name of a node that comes, and is none yet."""
+        """Whether a node may join under this new name of the caller."""
         return self.own is not None and name is not None and is_hashable(name) and name not in self.numbers
 
     def number_to_join(self, name: Name) -> int:
-        """The number of a node that comes: a new name gets the next free one, and keeps it.
+        """The number of a node that joins: a new name gets the next free number, and keeps it.
 
-        Raises `ValueError` if there is none."""
+        Raises `ValueError` if no number is free."""
         if self.own is None or not self.is_new(name):
             return self.number_of(name)
         number = next(self.free)
@@ -107,7 +107,7 @@ class Names:
         return number
 
     def number_if_joined(self, name: Name) -> int:
-        """The same number, without drawing it."""
+        """The number that `number_to_join` would return; the name does not get it yet."""
         if self.own is None or not self.is_new(name):
             return self.number_of(name)
         if None not in self.own:
@@ -121,7 +121,7 @@ class Names:
         )
 
     def known(self, number: int) -> Optional[Name]:
-        """The name of a number, None if it has none."""
+        """The name of a number, None if the number has none."""
         if not 0 < number <= self.count:
             return None
         return number if self.own is None else self.own[number - 1]
@@ -153,7 +153,7 @@ PRESENT = re.compile(r"^(?:[0-9]+ join ([0-9]+) = ok|node ([0-9]+) .*)$", re.MUL
 
 
 def most_present(transcript: str) -> tuple[int, int]:
-    """Of an accepted transcript: its capacity, and the greatest number of a node that is ever present."""
+    """The capacity of an accepted transcript, and the greatest number of a node that is ever present."""
     kind, _, count, *rest = transcript.partition("\n")[0].split(" ")
     first = int((rest or [count])[0]) if kind == "matching" else 0
     return int(count), max([first, *(int(found[1] or found[2]) for found in PRESENT.finditer(transcript))])

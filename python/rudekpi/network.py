@@ -42,23 +42,26 @@ from .state import Follower, Seen, State
 
 
 class Network:
-    """A network that the library plays in this process, or a run of the program, one command a call.
+    """A network, played by the library in this process or by a run of the program, one command a call.
 
-    `nodes` is their number, 0 to 65,535, or a list of names, which get the numbers 1, 2, .. of the transcript
-    in order. A `Graph`, or a graph of networkx, gives the edges too. Under `manne` the numbers matter: a node
-    proposes only to neighbours with greater ones. The first `present` nodes, by default all, are there at the
-    start; others may `join`. With `keep=False` the transcript is kept only from the last checkpoint on.
+    `nodes` is the number of nodes, 0 to 65,535, or a list of their names. In the transcript these names have
+    the numbers 1, 2, .. in their order. A `Graph`, or a graph of networkx, gives the edges too. Under `manne`
+    the numbers matter: a node proposes only to neighbours with greater numbers. The first `present` nodes, by
+    default all, are present at the start; the others may `join`. With `keep=False` the transcript is kept
+    only from the last checkpoint on.
 
-    With a `capacity` nodes may also join under new names, until there are that many. A new name gets the next
-    free number, and keeps it when its node leaves. Names that are numbers are then those up to the capacity.
+    With a `capacity` nodes may also join under new names, until there are that many names. A new name gets
+    the next free number, and keeps that number when its node leaves. If names are numbers, those up to the
+    capacity may join.
 
-    The `engine` is "library" or "program"; by default RUDEKPI_ENGINE's, else the library if it is found and
-    no program is named. Replies and transcripts are the same. For the paths of both see the package.
+    The `engine` is "library" or "program". By default it is the value of RUDEKPI_ENGINE, else the library if
+    that is found and no program is given. Both give the same replies and transcripts. For the paths of both
+    see the package.
 
     If memory runs out, the library raises `MemoryError` and nothing was carried out; `NoReply`, also a
     `MemoryError`, means that only the reply is lost. An interrupt (Ctrl-C) at any moment leaves the network
     usable. The interrupted command is carried out or was never asked: `status`, `edges` and the transcript
-    show which. A network that is not referenced ends its program.
+    show which. A network that nothing refers to ends its program.
     """
 
     def __init__(
@@ -143,7 +146,7 @@ class Network:
 
     @property
     def edges(self) -> list[tuple[Name, Name]]:
-        """The edges, in the order of their numbers, each with the node of the lower number first."""
+        """The edges, in the order of their nodes' numbers, each with the node of the lower number first."""
         return [(self.name_of(a), self.name_of(b)) for a, b in self._look(State.edges)]
 
     def neighbours(self, node: Name) -> list[Name]:
@@ -162,7 +165,7 @@ class Network:
     def partner(self, node: Name) -> Optional[Name]:
         """The partner of a present node, or None. Raises `ValueError` for any other node.
 
-        The library gives its proved answer. With the program, and after `close`, the answer comes from the
+        The library's answer is proved. With the program, and after `close`, the answer is read from the
         transcript.
         """
         found = self._session.partner(self.number_of(node))
@@ -174,8 +177,8 @@ class Network:
     def number_of(self, name: Name) -> int:
         """The number of a name in the transcript.
 
-        A number from 1 to 65,535 is its own; the network refuses those of no node. Raises `ValueError` for
-        another number or an unknown name, and `TypeError` for what can be no name.
+        A number from 1 to 65,535 is its own number, also if no node has it; the network then refuses it.
+        Raises `ValueError` for another number or an unknown name, and `TypeError` for what can be no name.
         """
         return self._names.number_of(name)
 
@@ -184,7 +187,7 @@ class Network:
         return self._names.name_of(number)
 
     def follower(self) -> Follower:
-        """The network's state by node number, whenever asked for; for daemons that look at all of it."""
+        """Follows the network's state by node number: for daemons that look at the whole state."""
         return Follower(self._session)
 
     def batch(self, raises: bool = True) -> Batch:
@@ -200,7 +203,7 @@ class Network:
         return self._single.unlink(a, b).result()
 
     def point(self, node: Name, target: Optional[Name]) -> Accepted:
-        """A fault: the node's pointer becomes a neighbour, or null (None)."""
+        """A fault: sets the node's pointer to a neighbour, or to null (None)."""
         return self._single.point(node, target).result()
 
     def flag(self, node: Name, value: bool) -> Accepted:
@@ -243,28 +246,28 @@ class Network:
         return self._single.status().result()
 
     def drive(self, seed: int, turns: int) -> Turns[Moves]:
-        """At most `turns` steps of the program's seeded daemon, until silence; then the status.
+        """Makes up to `turns` steps of the program's seeded daemon, until silence; then asks for the status.
 
         `seed` is 0 to 2^64 - 1, `turns` 0 to 1,000,000. The status is an entry too.
         """
         return self._single.drive(seed, turns).result()
 
     def scramble(self, seed: int, faults: int) -> Turns[Fault]:
-        """This many faults of registers, drawn from a seed; then the status, an entry too.
+        """Makes this many faults of registers, drawn from a seed; then asks for the status, an entry too.
 
         `seed` is 0 to 2^64 - 1, `faults` 0 to 1,000,000.
         """
         return self._single.scramble(seed, faults).result()
 
     def checkpoint(self) -> Base:
-        """The current state as a base, whose lines are added to the transcript; they are no entry."""
+        """Adds the lines of a base, which are no entry, to the transcript; returns the current state."""
         return self._single.checkpoint().result()
 
     def cost_of(self, word: str, *given: Name) -> int:
         """The cost in moves of an edit or a fault if it came now: `net.cost_of("unlink", "ann", "bob")`.
 
         The words are `link`, `unlink`, `join`, `leave`, `point` and `flag`. The charge would grow by at most
-        this much. It changes nothing and adds no entry. Raises `ValueError` for an event that would be
+        this much. The call changes nothing and adds no entry. Raises `ValueError` for an event that would be
         refused, such as the unlinking of unlinked nodes, `TypeError` for a wrong number of words, and
         `NoSuchCommand` with a program.
         """
@@ -275,9 +278,9 @@ class Network:
     def silent_cost_of(self, word: str, *given: Name) -> Optional[int]:
         """The most moves that an edit or a fault of a silent network can cause; None if a rule is enabled.
 
-        The words are those of `cost_of`. Under `hh` it is at most `cost_of`, as it counts unpaired neighbours
-        alone. Under `manne` it may exceed that by 2 for a pair that may come, and by 1 for a node that leaves.
-        It changes nothing and adds no entry. Raises what `cost_of` raises.
+        The words are those of `cost_of`. Only unpaired neighbours count. Under `hh` the silent cost is at
+        most `cost_of`. Under `manne` it is at most that cost plus 2 if a new pair may form, plus 1 for
+        `leave`. The call changes nothing and adds no entry. Raises what `cost_of` raises.
         """
         return self._asked_cost(self._session.silent_cost_of, word, given)
 
@@ -321,8 +324,8 @@ class Network:
     def moves_left(self) -> int:
         """The most moves before the next edit or fault, whatever the daemon chooses.
 
-        It is the charge, and under `hh` at most n²/2 + n - 2 for n nodes, the half rounded down. The library
-        adds no entry; a program is asked for its `status`, which is one.
+        This is the charge, but under `hh` at most n²/2 + n - 2 for n nodes, the half rounded down. The
+        library adds no entry. A program is asked for the `status`, which adds one.
         """
         found = self._session.moves_left()
         if found is not None:
@@ -333,13 +336,14 @@ class Network:
     def settle(self, daemon: Union[Daemon, AnyDaemon, str], *, seed: int = 0) -> Settled:
         """Lets a daemon choose the movers until the network is silent; returns steps, moves and first charge.
 
-        The daemon maps the enabled nodes, a mapping from name to rule, to those that move, perhaps as a
-        `Wish`. Those of `rudekpi.daemons` are given as values, or by word, such as "seeded", with a `seed`.
-        The transcript gets a `status` first, and an `enabled` before each step and at the end.
+        The daemon is called with a mapping from each enabled node to its rule, and returns the nodes that are
+        to move, each as a name or a `Wish`. A daemon of `rudekpi.daemons` is given as a value or by its word,
+        such as "seeded", with a `seed`. The transcript gets a `status` first, and an `enabled` before each
+        step and at the end.
 
-        Raises `TypeError` if it is no daemon, and `WrongChoice` if it chooses no node or a node that is not
-        enabled. Raises `Refused` if the network refuses the choice otherwise (two nodes under `hh`), and
-        `PastBound` if there are more moves than the charge.
+        Raises `TypeError` if `daemon` is none, and `WrongChoice` if the daemon chooses no node or a node that
+        is not enabled. Raises `Refused` if the network refuses the choice for another reason (two nodes under
+        `hh`), and `PastBound` if there are more moves than the charge.
         """
         if isinstance(daemon, str):
             daemon = named(daemon, number_within(seed, MOST_SEED, "a seed"))
@@ -373,17 +377,16 @@ class Network:
         return audits.audit(self.transcript(), program=self._program, engine=self.engine)
 
     def picture(self, entry: Optional[int] = None) -> str:
-        """The network after an entry, 0 to 16,777,216, by default the last, as text for Graphviz, by the
-        caller's names.
+        """The network after an entry, by default the last, as text for Graphviz, with the caller's names.
 
-        Raises `ValueError` if there is no such entry.
+        An entry is 0 to 16,777,216. Raises `ValueError` if there is no such entry.
         """
         return named_picture(audits.picture(self.transcript(), entry, program=self._program), self._names)
 
     def play(self, path: Union[str, os.PathLike[str]]) -> None:
-        """Writes a page that plays the transcript in a browser, by the caller's names.
+        """Writes a page that plays the transcript in a browser, with the caller's names.
 
-        Raises `OSError` if it cannot be written; a file of that name is then unchanged, or absent.
+        Raises `OSError` if the page cannot be written; a file at that path is then unchanged, or absent.
         """
         drawings.write_page(self.transcript(), path, self._program, self._names)
 
@@ -399,9 +402,9 @@ class Network:
             write_whole(f"{os.fspath(path)}.names", names.encode())
 
     def to_networkx(self) -> Any:
-        """The present nodes and their edges as a `networkx.Graph`, by the caller's names. Needs networkx.
+        """The present nodes and their edges as a `networkx.Graph`, with the caller's names. Needs networkx.
 
-        Nodes have the attributes `pointer` and `flag`; edges have `pair`, whether their ends are paired.
+        Nodes have the attributes `pointer` and `flag`. Edges have `pair`: whether their two nodes are paired.
         """
         import networkx
 
@@ -430,7 +433,8 @@ class Network:
     ) -> Network:
         """A network with the nodes and edges of a simple undirected `networkx.Graph`, all pointers null.
 
-        `spare` nodes may join under new names. Raises `ValueError` for a directed graph, a multigraph or a loop.
+        `spare` nodes may join under new names. Raises `ValueError` for a directed graph, a multigraph or a
+        loop.
         """
         if graph.is_directed() or graph.is_multigraph():
             raise ValueError("a simple undirected graph is wanted: see to_undirected and networkx.Graph")

@@ -1,4 +1,4 @@
-"""The commands `page`, which makes a page that plays a transcript, and `picture` by the caller's own names."""
+"""The commands `page`, which makes a page that plays a transcript, and `picture`, with own names."""
 
 from __future__ import annotations
 
@@ -29,7 +29,7 @@ def run_page(given: argparse.Namespace) -> int:
 
 
 def run_picture(given: argparse.Namespace) -> int:
-    """The picture of a transcript for Graphviz, as the program draws it, by the names."""
+    """The picture of a transcript for Graphviz, as the program draws it, but with the names."""
     try:
         text = audits.picture(read(given.transcript), given.entry, names=names_given(given), program=given.program)
     except Damaged as damaged:

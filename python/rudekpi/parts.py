@@ -19,13 +19,13 @@ from .replies import Summary
 from .workers import Handing
 
 HEAD_START = b"\nmatching2 "
-# the first lines of a base, and more bytes than they may have
+# the first two lines of a base, and a size that is more than theirs
 HEAD = re.compile(rb"matching2 [^\n]*\nbase [0-9]{1,10} spent=[0-9]{1,10} nodes=([0-9]{1,10}) edges=([0-9]{1,10})\n")
 HEAD_SIZE = 256
 # how many bytes are read at once
 PIECE = 1 << 18
-# a part is about what is left divided by this many parts a thread, so that the last ones are small and all
-# end together
+# a part is about what is left divided by this many parts a thread, so that the last parts are small and all
+# threads end together
 PARTS_LEFT = 2
 # the start of a part, and its end
 Part = Tuple[int, int]
@@ -36,7 +36,7 @@ Verdict = Optional["Future[Summary]"]
 class LostPart(Lost):
     """Workers died twice over a part of a transcript: the bytes `start` to before `end`.
 
-    They begin with line number `line`. Everything before is accepted.
+    The part begins with line number `line`. Everything before the part is accepted.
     """
 
     def __init__(self, start: int, end: int, line: int) -> None:
@@ -61,7 +61,7 @@ class Held:
         return self.text[start : start + count] if self.file is None else os.pread(self.file, count, start)
 
     def part(self, start: int, end: int, executor: Executor) -> Union[bytes, Slice]:
-        """A part for a worker: without a copy if it is a thread, or may open the file."""
+        """A part for a worker: without a copy if the worker is a thread, or may open the file."""
         if self.file is None:
             return Slice(self.text, start, end) if isinstance(executor, ThreadPoolExecutor) else self.text[start:end]
         if isinstance(executor, ThreadPoolExecutor):
@@ -86,18 +86,18 @@ def audit_parts(
 ) -> Summary:
     """The verdict of `audit` on a transcript with bases, judged in parts of at least about `size` bytes.
 
-    Each part ends with the base that begins the next. So if all parts are accepted, `audit` accepts the
-    whole. If a part is refused, the first damage is that of the first such part; `Damaged` has its line in
-    the whole. Without a base inside there is one part.
+    Each part ends with the base that begins the next part. So if all parts are accepted, `audit` accepts the
+    whole. If a part is refused, the first damage of the whole is that of the first refused part; `Damaged`
+    has the line's number in the whole. Without a base inside there is one part.
 
-    The executor is any of `concurrent.futures`, or a cluster's, whose workers have this package and the
+    The executor is any of `concurrent.futures`, or that of a cluster whose workers have this package and the
     program; by default a thread for each processor of this machine. A `pathlib.Path` names a file, which is
-    not read whole and must not change meanwhile. Workers open it if they are threads or processes of this
-    machine, or if it is `shared`: all find it by this path.
+    not read whole and must not change meanwhile. Workers open the file if they are threads or processes of
+    this machine, or if the file is `shared`: all of them find it by this path.
 
-    If a cluster loses a part's verdict, the part is judged once more. If that is lost too, and everything
-    before is accepted, `LostPart` is raised. A process pool of the caller breaks if one of its processes
-    dies: it is not replaced, and raises its `BrokenExecutor`.
+    If a cluster loses a part's verdict, the part is judged once more. If the second verdict is lost too, and
+    everything before the part is accepted, `LostPart` is raised. A process pool of the caller breaks if one
+    of its processes dies: the pool is not replaced, and raises its `BrokenExecutor`.
     """
     if not isinstance(transcript, os.PathLike):
         return audit_held(Held(bytes_of(transcript)), executor, size, program, engine)
@@ -143,7 +143,7 @@ def joined(whole: Optional[Summary], found: Union[Summary, Damaged], lines: int)
     """The joint verdict on the parts so far, if any, and the next part. Raises `Damaged`.
 
     `lines` is how many lines precede the next part; only a damage needs it. If the library is found, its
-    proved call joins them, whichever engine judged; else the same sums are made here.
+    proved call joins the verdicts, whichever engine judged; else this function makes the same sums.
     """
     library = found_library()
     if whole and library:
@@ -168,9 +168,9 @@ def in_order(done: Iterator[tuple[tuple[int, Part], Verdict]]) -> Iterator[tuple
 
 
 def parts_of(held: Held, size: int, parts_left: int = 0) -> Iterator[Part]:
-    """Where parts begin and end: from the start or a base to the end of a later base or of all.
+    """Where parts begin and end: from the start or a base, to the end of a later base or of the transcript.
 
-    Each has at least the size, and with `parts_left` at least what is left divided by that.
+    Each part has at least the size, and with `parts_left` at least the bytes left divided by that.
     """
     start = 0
     while True:
@@ -186,7 +186,7 @@ def parts_of(held: Held, size: int, parts_left: int = 0) -> Iterator[Part]:
 def base_behind(held: Held, place: int) -> Optional[tuple[int, int]]:
     """The start and end of the first base after a place.
 
-    A base without a clear end is skipped: the part that contains it is refused there.
+    A base without a clear end is skipped: the part that contains this base is refused there.
     """
     while place < held.size:
         piece = held.read(place, PIECE)

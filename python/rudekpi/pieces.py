@@ -30,8 +30,8 @@ class Audit:
                 audit.feed(piece)
             print(audit.finish())
 
-    It keeps only an unfinished line or base. The engine is chosen as for a `Network`; the program runs with a
-    pipe. If an interrupt cuts a `feed` short, it is unknown whether the piece was taken.
+    The audit keeps only an unfinished line or base. The engine is chosen as for a `Network`; the program
+    reads from a pipe. If an interrupt cuts a `feed` short, it is unknown whether the piece was taken.
     """
 
     def __init__(self, *, program: Program = None, engine: Optional[str] = None) -> None:
@@ -53,21 +53,21 @@ class Audit:
     def feed(self, piece: Text) -> None:
         """Feeds the next piece.
 
-        Raises `Damaged` if what came is no transcript, whatever follows, and so do later calls; the program
-        may report it only at a later call, at the latest at `finish`. If memory runs out, raises
-        `MemoryError`, or with a program `Ended`; that ends the audit.
+        Raises `Damaged` if the pieces so far begin no transcript, whatever follows; later calls raise it
+        again. The program may report the damage only at a later call, at the latest at `finish`. If memory
+        runs out, raises `MemoryError`, or with a program `Ended`; that ends the audit.
         """
         self._judge.feed(bytes_of(piece))
 
     def finish(self) -> Summary:
         """The counts of the transcript that was fed; raises as `feed` does.
 
-        It may be called again, but nothing more can be fed.
+        May be called again. Nothing can be fed afterwards.
         """
         return self._judge.finish()
 
     def close(self) -> None:
-        """Ends the audit, without a verdict unless one was asked for."""
+        """Ends the audit. If `finish` was not called before, there is no verdict."""
         self._judge.close()
 
 
@@ -116,7 +116,8 @@ class DirectAudit:
 class AuditRun:
     """A run of the program's `audit`, fed through a pipe.
 
-    A signal's handler that uses it during a call gets an error, since the order of pieces would change.
+    A signal's handler that uses the audit during a call gets an error, since the order of pieces would
+    change.
     """
 
     # of one that is not fully built
@@ -163,7 +164,7 @@ class AuditRun:
             raise ValueError("the audit is over")
 
     def send(self, left: memoryview) -> bool:
-        """Whether the program took all bytes; after a damage it takes no more."""
+        """Whether the program took all bytes; after a damage the program takes no more."""
         ready = select.poll()
         ready.register(self.run.to.fileno(), select.POLLOUT)
         try:
@@ -184,7 +185,7 @@ class AuditRun:
         return summary_read(said_by(*self.ended))
 
     def end(self) -> tuple[int, bytes, bytes]:
-        """Closes the input and returns how the program ended. If it was cut short, call it again."""
+        """Closes the input; returns how the program ended. If the call was cut short, call it again."""
         self.run.to.close()
         ready = select.poll()
         ready.register(self.run.of.fileno(), select.POLLIN)

@@ -1,4 +1,4 @@
-"""Experiments as files: plans of sweeps, in JSON or TOML, and rows that are played again."""
+"""Files of experiments: plans of sweeps, in JSON or TOML, and rows, which can be played again."""
 
 from __future__ import annotations
 
@@ -44,8 +44,8 @@ class Plan:
 def read_plan(path: str) -> Plan:
     """The plan in a file: TOML if its name ends in `.toml`, else JSON.
 
-    Raises `ValueError` with the path if it is no plan, or is TOML before Python 3.11, and `OSError` if it
-    can't be read.
+    Raises `ValueError`, with the path, if the file is no plan, or is TOML and Python is older than 3.11.
+    Raises `OSError` if the file can't be read.
     """
     with open(path, "rb") as file:
         data = file.read()
@@ -124,7 +124,7 @@ def disturbance_of(given: Any) -> Disturbance:
 
 
 def disturbance_in(text: str) -> Disturbance:
-    """The disturbance that a row names. Raises `ValueError` if it is none."""
+    """The disturbance that a row names. Raises `ValueError` if the text names none."""
     if text == "start":
         return Disturbance()
     words: dict[str, Any] = {}
@@ -139,7 +139,7 @@ def disturbance_in(text: str) -> Disturbance:
 def experiment_of(
     row: Row, undirected: bool = False, program: Program = None, graph: Optional[Graph] = None
 ) -> Experiment:
-    """The experiment of a row, whose graph is given, or made or read again by its title.
+    """The experiment of a row. Its graph is the one given, else it is made or read again by its title.
 
     Raises `ValueError` if the daemon is the caller's own function, or there is no such graph.
     """
@@ -150,9 +150,9 @@ def experiment_of(
 
 
 def play_again(row: Row, undirected: bool = False, program: Program = None, graph: Optional[Graph] = None) -> Played:
-    """The run of a row, played again; `kept_graphs.kept_graph` has a graph that was given in Python.
+    """The run of a row, played again; `kept_graphs.kept_graph` returns a graph that was given in Python.
 
-    Raises `RudekpiError` if it gives another row, for example because a file changed.
+    Raises `RudekpiError` if the run gives another row, for example because a file changed.
     """
     experiment = experiment_of(row, undirected, program, graph)
     played = experiment.played()

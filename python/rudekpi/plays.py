@@ -20,13 +20,13 @@ class Player:
             self.choose = daemon.begin(net) if hasattr(daemon, "begin") else cast(Daemon, daemon)
 
     def play(self, least: int) -> None:
-        """Steps until at least this many moves are made, or the network is silent."""
+        """Makes steps until there are at least this many moves, or the network is silent."""
         wanted = self.moves + least
         while self.moves < wanted and self.step():
             pass
 
     def step(self) -> int:
-        """How many nodes moved in the next step: 0 if none is enabled."""
+        """Makes a step; returns how many nodes moved, 0 if none is enabled."""
         if self.is_seeded:
             moves = sum(map(len, self.net.drive(self.seed, 1)))
             self.seed = (self.seed + 1) % 2**64
@@ -37,7 +37,7 @@ class Player:
         return moves
 
     def settle(self) -> None:
-        """Steps until the network is silent."""
+        """Makes steps until the network is silent."""
         settled = self.net.settle(Seeded(self.seed) if self.is_seeded else self.choose)
         self.steps, self.moves = self.steps + settled.steps, self.moves + settled.moves
 

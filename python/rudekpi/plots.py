@@ -22,7 +22,7 @@ MOST_PANELS, ACROSS = 60, 4
 TITLE = "moves until silence"
 # the height of the legend, in inches
 LEGEND = 0.6
-# bounds above this multiple of the moves are written at the top, not drawn, so that the moves can be seen
+# a bound above this multiple of the moves is written at the top, not drawn, so that the moves can be seen
 MOST_ABOVE = 4
 
 
@@ -83,9 +83,9 @@ def in_order(found: dict[Pair, Any]) -> dict[Pair, Any]:
 def of_rows(rows: Sequence[Row], path: Path) -> None:
     """Writes a picture of each run's moves, with a panel and its bounds for each graph and disturbance.
 
-    In a panel each daemon and rules has a place on the axis; equal runs are side by side, and a line is the
-    median. The axis reaches as far as the moves, and the bounds if near. Raises `ValueError` if there are no
-    rows, or more than 60 panels.
+    In a panel each daemon with its rules has a place on the axis. Runs with equal moves are side by side, and
+    a line shows the median. The axis reaches as far as the moves, and as far as the bounds if they are near.
+    Raises `ValueError` if there are no rows, or more than 60 panels.
     """
     panels_figure(rows).savefig(path, metadata=date_of(path))
 
@@ -113,7 +113,7 @@ def panels_figure(rows: Sequence[Row]) -> Any:
 
 
 def columns_of(panels: Sequence[Pair]) -> int:
-    """How many panels are in a row: one a disturbance if there are several, a row for each graph."""
+    """How many panels a row has: with several disturbances one for each, and a row for each graph."""
     graphs, disturbances = {graph for graph, _ in panels}, {disturbance for _, disturbance in panels}
     is_table = len(panels) == len(graphs) * len(disturbances) and len(disturbances) > 1
     if is_table and len(disturbances) <= ACROSS:
@@ -124,8 +124,8 @@ def columns_of(panels: Sequence[Pair]) -> int:
 def tops_of(panels: dict[Pair, dict[Pair, list[Row]]]) -> tuple[dict[Pair, float], bool]:
     """How far each panel's axis reaches, and whether bounds are drawn.
 
-    They are if they are near the moves in all panels. Panels of one disturbance share an axis if their moves
-    differ at most by a factor of two.
+    Bounds are drawn if they are near the moves in all panels. Panels of one disturbance share an axis if
+    their moves differ at most by a factor of two.
     """
     of_panel = {key: [row for group in panel.values() for row in group] for key, panel in panels.items()}
     most = {key: max([1, *(row.moves for row in rows)]) for key, rows in of_panel.items()}
@@ -176,7 +176,7 @@ def asides(numbers: Sequence[int], width: float) -> list[float]:
 
 
 def draw_bounds(axes: Any, place: float, bounds: Sequence[int], width: float) -> None:
-    """The bounds at one place: a line, or two with a band between them if they differ."""
+    """The bounds at one place: a line; or two lines with a band between them, if the bounds differ."""
     low, high = min(bounds), max(bounds)
     ends = [place - width / 2, place + width / 2]
     for bound in {low, high}:
@@ -197,8 +197,8 @@ def tell_bounds(axes: Any, place: float, bounds: Sequence[int], _: float) -> Non
 def over_graphs(rows: Sequence[Row], path: Path) -> None:
     """Writes a picture of the moves of each run over graphs of growing size.
 
-    Each graph with its disturbance is a place of the axis, with its own bounds. The axis of the moves is
-    logarithmic; linear below 1 if a run has no moves. Raises `ValueError` if there are no rows.
+    Each graph with its disturbance has a place on the axis, with its own bounds. The axis of the moves is
+    logarithmic, but linear below 1 if a run has no moves. Raises `ValueError` if there are no rows.
     """
     growth_figure(rows).savefig(path, metadata=date_of(path))
 
@@ -257,7 +257,7 @@ def plain(text: str) -> str:
 
 
 def titles_of(graphs: Iterable[str]) -> dict[str, str]:
-    """A short title for each graph, the end of a long one; in lines if two ends are the same."""
+    """A short title for each graph: the end of a long one, or all of it in lines if two ends are equal."""
     cut = {title: title if len(title) <= 32 else f"..{title[-30:]}" for title in graphs}
     if len(set(cut.values())) < len(cut):
         cut = {title: "\n".join(textwrap.wrap(title, 32)) for title in cut}
@@ -265,7 +265,7 @@ def titles_of(graphs: Iterable[str]) -> dict[str, str]:
 
 
 def charges_of(transcript: str) -> list[tuple[int, int, bool]]:
-    """For each state after a disturbance or a step: the moves so far, the charge, and whether disturbed."""
+    """For each state after a disturbance or a step: moves so far, charge, and whether it was no step."""
     state, moves, found = State(), 0, []
     for part in parts_of(transcript):
         state.follow(part)
@@ -279,7 +279,7 @@ def charges_of(transcript: str) -> list[tuple[int, int, bool]]:
 
 
 def of_run(transcript: str, path: Path) -> None:
-    """The charge over the moves of a single run; a disturbance lets it rise."""
+    """Writes a picture of the charge over the moves of a single run; a disturbance lets the charge rise."""
     figure = figure_of(7, 4.2)
     axes = figure.add_subplot(title="the charge of a run", xlabel="moves", ylabel="charge")
     charges = charges_of(transcript)
@@ -292,5 +292,5 @@ def of_run(transcript: str, path: Path) -> None:
 
 
 def date_of(path: Path) -> Any:
-    """No date in an SVG, so that the same rows make the same picture."""
+    """Metadata that leave the date out of an SVG, so that the same rows make the same picture."""
     return {"Date": None} if os.fspath(path).lower().endswith(".svg") else None

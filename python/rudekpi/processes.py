@@ -1,7 +1,7 @@
 """Starts programs so that an interrupt at any moment loses no process and no pipe.
 
-`subprocess.Popen` loses a process if a signal's handler raises before its number is stored. Here the C call
-that makes a resource also puts it into a list.
+`subprocess.Popen` loses a process if a signal's handler raises before the process's number is stored. Here
+the C call that makes a resource also puts it into a list.
 """
 
 from __future__ import annotations
@@ -31,7 +31,7 @@ LONGEST_TOLD = 1 << 16
 
 @contextlib.contextmanager
 def no_low_numbers() -> Iterator[None]:
-    """Meanwhile no opened file gets the number of a standard stream, even a closed one."""
+    """While this context lasts, no opened file gets the number of a standard stream, even of a closed one."""
     held: list[int] = []
     try:
         while not held or held[-1] < 3:
@@ -71,7 +71,7 @@ class Run:
             os.set_blocking(end.fileno(), False)
 
     def add_file(self) -> None:
-        """Makes a nameless file; that of `tempfile` is closed twice if an interrupt cuts its making short."""
+        """Makes a nameless file. One of `tempfile` is closed twice if an interrupt cuts its making short."""
         if hasattr(os, "memfd_create"):
             self.files.extend(map(io.FileIO, map(os.memfd_create, ("told",)), ("rb+",)))
         else:
@@ -112,7 +112,7 @@ class Run:
         return os.waitstatus_to_exitcode(self.statuses[-1][1]) if self.numbers else 0
 
     def kill(self) -> None:
-        """Kills the program and what it started, which are a session."""
+        """Kills the program and all that it started: the processes of its session."""
         if self.numbers and not self.has_status():
             with contextlib.suppress(ProcessLookupError, PermissionError):
                 os.killpg(self.numbers[0], signal.SIGKILL)

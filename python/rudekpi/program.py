@@ -15,7 +15,7 @@ PACKAGE = os.path.dirname(os.path.realpath(__file__))
 
 @functools.lru_cache(maxsize=None)
 def repository_program() -> str:
-    """The program of this repository, built first if needed, which prints on standard error."""
+    """The program of this repository. It is built first if needed; the build prints on standard error."""
     path = os.path.join(os.path.dirname(os.path.dirname(PACKAGE)), "console")
     if not os.path.isfile(path):
         raise FileNotFoundError(f"no program at {path}: name one by program= or RUDEKPI_CONSOLE")
@@ -26,7 +26,7 @@ def repository_program() -> str:
 
 
 def found_program(program: Program = None) -> str:
-    """The path of the program: the given one, RUDEKPI_CONSOLE's, the package's, or the repository's.
+    """The path of the program: the given one, else RUDEKPI_CONSOLE's, the package's, or the repository's.
 
     Raises `FileNotFoundError` if there is none of these, and `Ended` if the repository's can't be built.
     """

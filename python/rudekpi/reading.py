@@ -1,4 +1,4 @@
-"""Reads the texts of replies into their types; others raise `ValueError` or `LookupError`."""
+"""Reads the texts of replies into their types. Any other text raises `ValueError` or `LookupError`."""
 
 from __future__ import annotations
 
@@ -97,7 +97,7 @@ def rises(items: list[Any]) -> bool:
 
 
 def numbers_of_base(lines: list[str]) -> tuple[int, list[Any], list[Any]]:
-    """What is spent at a base; the numbers of its nodes, pointers and flags; and those of its edges."""
+    """The moves spent at a base; the numbers of its nodes, pointers and flags; and those of its edges."""
     _, spent, count, _ = numbers_of_line(BASE, lines[1])
     places = [numbers_of_line(PLACE, line) for line in lines[2 : 2 + count]]
     edges = [numbers_of_line(EDGE, line) for line in lines[2 + count :]]

@@ -1,4 +1,4 @@
-"""Why a node may move, or may not, in words: for messages with a verdict. None is made here."""
+"""Why a node may move, or may not, in words: for messages about a verdict. No verdict is made here."""
 
 from __future__ import annotations
 
@@ -116,7 +116,7 @@ class Reasons:
         return self.why_not_seduced(node, target)
 
     def why_not_seduced(self, node: int, target: int) -> Optional[str]:
-        """The same under `manne`, for a neighbour that points nowhere."""
+        """The same as `why_not_at` under `manne`, for a neighbour that points nowhere."""
         if target < node:
             return f"{self.name(target)} stands below {self.name(node)} (they are nodes {target} and {node})"
         if target in self.state.flags:

@@ -23,11 +23,12 @@ def replay(
 ) -> Network:
     """A network in the state at the end of a transcript, so that it can go on.
 
-    Raises `Damaged` if `audit` refuses the transcript. The network's own transcript is the given one; steps
-    with other targets than the least have them as wishes. No run begins with a base: if the given one does,
-    edits and faults lead to its state, the numbers differ, and earlier moves are not counted. `names` are the
-    caller's, in the order of the numbers, one for each node that was ever present; raises `ValueError` if
-    their number differs.
+    The network's own transcript is the given one, but steps with other targets than the least have these
+    targets as wishes. No run begins with a base. If the given transcript does, edits and faults lead to the
+    state of the base; then the numbers of the entries differ, and moves before the base are not counted.
+    `names` are the caller's, in the order of the numbers, one for each node that was ever present.
+
+    Raises `Damaged` if `audit` refuses the transcript, and `ValueError` if the number of names differs.
     """
     audit(transcript, program=program, engine=engine)
     transcript = transcript if isinstance(transcript, str) else bytes(transcript).decode()
@@ -62,7 +63,7 @@ def parts_of(transcript: str) -> Iterator[list[str]]:
 def edits_to(base: list[str]) -> tuple[int, list[str]]:
     """A run that leads to a base: how many nodes are present at first, and its edits and faults."""
     _, places, edges = numbers_of_base(base)
-    # numbers rise, so those equal to their places come first
+    # the numbers rise, so those that equal their places come first
     present = sum(number == place for place, (number, _, _) in enumerate(places, 1))
     joins = [f"join {number}" for number, _, _ in places[present:]]
     links = [f"link {a} {b}" for a, b in edges]

@@ -29,7 +29,7 @@ Value = TypeVar("Value")
 
 
 class Answer(Protocol[Reply_co]):
-    """The answer to a command of a batch, which may still be under way."""
+    """The answer to a command of a batch; the command may still be under way."""
 
     def result(self) -> Reply_co:
         """Waits for the reply and returns it; raises `Refused` if the event was refused."""
@@ -50,7 +50,7 @@ class Fixed(Dict[Key, Value]):
 
 @dataclass(frozen=True)
 class Wish:
-    """An item of a choice: this node moves, and to that target."""
+    """An item of a choice: the node that is to move, and the target that it is to point at."""
 
     node: Name
     target: Name
@@ -65,7 +65,7 @@ class Accepted:
 
 @dataclass(frozen=True)
 class Move:
-    """A node moved by a rule: update, marry, seduce or abandon; marry and seduce have a target."""
+    """A node moved by a rule: update, marry, seduce or abandon. Moves by marry and seduce have a target."""
 
     node: Name
     rule: str
@@ -196,8 +196,8 @@ class Registers:
 class Base:
     """The network's state after `number` entries.
 
-    `spent` is the moves since the last disturbance, `nodes` the present nodes, ascending by number, `edges`
-    the edges. A base is no entry: the next entry has `number` + 1.
+    `spent` is the number of moves since the last disturbance; `nodes` are the present nodes, ascending by
+    number, and `edges` the edges. A base is no entry: the next entry has `number` + 1.
     """
 
     number: int
@@ -208,7 +208,7 @@ class Base:
 
 @dataclass(frozen=True)
 class Settled:
-    """How a daemon settled a network: its steps and moves, and the first charge, which bounds the moves."""
+    """How a daemon settled a network: its steps, its moves, and the first charge, which bounds the moves."""
 
     steps: int
     moves: int
@@ -228,15 +228,15 @@ class Summary:
 class Epoch:
     """The part of a run after an accepted disturbance, with its moves and their bound.
 
-    `start` is the disturbance's entry; 0 for the start of the run, and None if the transcript begins with a
-    base, which does not name it.
+    `start` is the entry of the disturbance, or 0 for the start of the run. It is None if the transcript
+    begins with a base, which does not name this entry.
 
     `bound` is 2m + n (`hh`) or 2m + 3n (`manne`) for m edges and n nodes; under `hh` also at most n²/2 + n -
-    2, the half rounded down, unless `start` is None. `cost` is the disturbance's, a sum of degrees; None in
-    the first epoch, which no disturbance began.
+    2, the half rounded down, unless `start` is None. `cost` is that of the disturbance, a sum of degrees. It
+    is None in the first epoch, which no disturbance began.
 
     `reach` is how many nodes the disturbance reached, in the state right before it; None in the first epoch.
-    If the network was silent then, no other nodes move in this epoch.
+    If the network was silent in that state, no other nodes move in this epoch.
     """
 
     start: Optional[int]

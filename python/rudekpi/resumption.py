@@ -12,7 +12,7 @@ from .sweeps import Row, read_csv
 def rows_there(path: Optional[str]) -> list[Row]:
     """The rows that an interrupted sweep left in a file; none if there is no such file.
 
-    An unfinished last line is cut off. Raises `ValueError` if it is no file of rows, and `OSError`.
+    An unfinished last line is cut off. Raises `ValueError` if the file is none of rows, and `OSError`.
     """
     if path is None or path == "-":
         raise ValueError("--resume needs a file of rows: --csv FILE")

@@ -1,8 +1,8 @@
 """Rounds, steps and moves of a run, counted along its entries, with the enabled nodes after each.
 
 A round is the shortest part of a run such that each node that was enabled at its start moved or stopped being
-enabled: Dolev, "Self-Stabilization", 2000. Rounds are measured here, not proved; the machine's own replies
-are compared.
+enabled: Dolev, "Self-Stabilization", 2000. Rounds are measured here, not proved. The enabled nodes found here
+are compared with those in the machine's own replies.
 """
 
 from __future__ import annotations
@@ -20,8 +20,9 @@ RULES = ("update", "marry", "seduce", "abandon")
 class Watch:
     """A network that is followed through the entries of an accepted transcript, from a state on.
 
-    A round begins with its first step. An edit or a fault may end it; nodes that it enables count from the
-    next round on. A step checks again the nodes that move and their neighbours.
+    A round begins with its first step. An edit or a fault may end the round; nodes that the edit or fault
+    enables count from the next round on. After a step the nodes that moved and their neighbours are checked
+    again.
     """
 
     def __init__(self, state: State) -> None:
@@ -75,7 +76,7 @@ class Watch:
         self.moved.update(moved)
         self.awaited.difference_update(moved)
         self.look_again(self.near(moved))
-        # also if all awaited nodes moved, and no other node is checked
+        # a round also ends if all awaited nodes moved, and no other node is checked
         self.rounds += not self.awaited
 
     def edit(self, word: str, numbers: Sequence[int]) -> None:
@@ -117,7 +118,7 @@ class Watch:
 
 
 def watch_after(transcript: str, entry: int) -> Watch:
-    """A network that was followed through an accepted transcript, and watched after an entry of it."""
+    """A network that is followed through an accepted transcript to an entry, and watched from there on."""
     lines = iter(transcript.splitlines())
     state = State()
     state.follow([next(lines)])

@@ -1,8 +1,8 @@
 """The rules and charge of both rule sets on a followed state, for daemons and searches.
 
-Nothing here judges a run: the program plays what it predicts, and `audit` accepts it. Sources: Hsu and Huang,
-"A self-stabilizing algorithm for maximal matching", 1992; Manne, Mjelde, Pilard and Tixeuil, "A new
-self-stabilizing maximal matching algorithm", 2009.
+Nothing here judges a run: the program plays what this module predicts, and `audit` accepts the transcript.
+Sources: Hsu and Huang, "A self-stabilizing algorithm for maximal matching", 1992; Manne, Mjelde, Pilard and
+Tixeuil, "A new self-stabilizing maximal matching algorithm", 2009.
 """
 
 from __future__ import annotations
@@ -23,7 +23,7 @@ def bound(rules: str, edges: int, nodes: int) -> int:
 def dense_bound(nodes: int) -> int:
     """The most moves between two disturbances under `hh`, whatever the edges.
 
-    It is n²/2 + n - 2, the half rounded down; 0 for one node or none.
+    This is n²/2 + n - 2, the half rounded down; 0 for one node or none.
     """
     return max(0, nodes * nodes // 2 + nodes - 2)
 
@@ -31,7 +31,7 @@ def dense_bound(nodes: int) -> int:
 def moves_left(rules: str, charge: int, nodes: int) -> int:
     """The most moves before the next disturbance, from a state with this charge and number of nodes.
 
-    It is the charge, under `hh` at most the bound by nodes alone.
+    This is the charge, but under `hh` at most the bound by nodes alone.
     """
     return min(charge, dense_bound(nodes)) if rules == "hh" else charge
 
@@ -52,7 +52,7 @@ def is_wooed(state: State, node: int) -> bool:
 
 
 def may_court(state: State, node: int) -> list[int]:
-    """The neighbours that a node may begin to point at, ascending; under `manne` only the greatest."""
+    """The neighbours that a node may begin to point at, ascending; under `manne` only the greatest one."""
     null = [other for other in state.neighbours[node] if other not in state.pointers]
     if state.rules == "hh":
         return sorted(null)
@@ -88,7 +88,7 @@ def enabled(state: State) -> dict[int, str]:
 
 
 def is_open(state: State, a: int, b: int) -> bool:
-    """Whether the edge of a lower and a higher node is open, so it counts twice in the charge."""
+    """Whether the edge between a lower and a higher node is open; an open edge counts twice in the charge."""
     if state.partner(a) or state.partner(b):
         return False
     pointers = state.pointers
@@ -110,7 +110,7 @@ def share(state: State, node: int) -> int:
 
 
 def charge(state: State, nodes: Optional[Iterable[int]] = None) -> int:
-    """The most moves that can come from this state; or the share of these nodes and their edges in it."""
+    """The most moves that can come from this state; with `nodes`, the share of these and their edges."""
     nodes = set(state.neighbours if nodes is None else nodes)
     edges = {(min(node, other), max(node, other)) for node in nodes for other in state.neighbours[node]}
     return 2 * sum(is_open(state, a, b) for a, b in edges) + sum(share(state, node) for node in nodes)

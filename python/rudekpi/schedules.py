@@ -1,8 +1,8 @@
 """The longest schedules: the most moves that a daemon can make a network do, from any state.
 
 In a small network every state, choice and target is examined. Since each move lowers the charge, no state
-comes twice, so the longest schedule continues with that of the best next state. In a larger network the
-result is the best that a search found, and is marked so.
+comes twice. So after its first step the longest schedule continues with the longest one of the next state. In
+a larger network the result is the best schedule that a search found, and is marked so.
 """
 
 from __future__ import annotations
@@ -32,7 +32,8 @@ FIRST_TRY = 60
 class Longest:
     """A schedule: the registers at its start, and the nodes that move in each step.
 
-    `is_proved` if all states and choices were examined, so that none is longer; else it is the best found.
+    `is_proved` is true if all states and choices were examined, so that no schedule is longer. Otherwise this
+    is the best schedule that the search found.
     """
 
     graph: Graph
@@ -62,7 +63,7 @@ class Longest:
         )
 
     def play(self, *, program: Program = None) -> str:
-        """The transcript of the script, which `audit` accepts, and whose last epoch has the moves.
+        """The transcript of the script. `audit` accepts it, and its last epoch has the schedule's moves.
 
         Raises `AssertionError` if the number of moves differs, and what playing raises.
         """
@@ -77,8 +78,8 @@ class Longest:
 class Search:
     """All states of a small network as numbers, with a digit for each node.
 
-    The digit has its pointer's index among its neighbours and, under `manne`, its flag. A move changes only
-    its node's digit, so the moves of a step add up.
+    A node's digit has the index of its target among its neighbours and, under `manne`, its flag. A move
+    changes only the digit of its node, so the changes of all moves in a step add up.
     """
 
     def __init__(self, graph: Graph, rules: str) -> None:
@@ -87,7 +88,7 @@ class Search:
         self.state = State(rules, len(number), range(1, len(number) + 1))
         for a, b in graph.edges:
             self.state.link(number[a], number[b])
-        # null first
+        # the null pointer comes first
         self.pointers = {node: [0, *sorted(near)] for node, near in self.state.neighbours.items()}
         self.flags = 2 if rules == "manne" else 1
         self.weights: dict[int, int] = {}
@@ -125,7 +126,7 @@ class Search:
     def steps_at(self, code: int) -> Iterator[tuple[tuple[int, int, str, int], ...]]:
         """The steps that a daemon may take.
 
-        That is one move under `hh`; under `manne` the moves of any non-empty set of enabled nodes.
+        A step is one move under `hh`; under `manne` it is the moves of any non-empty set of enabled nodes.
         """
         moves = self.moves_at(code)
         if self.rules == "hh":
@@ -174,8 +175,8 @@ class Search:
 def longest(graph: Graph, rules: str, *, seconds: float = 10.0, seed: int = 0) -> Longest:
     """The longest schedule of a network under `hh` or `manne`. Raises `ValueError` for other rules.
 
-    With at most 400,000 states it is the longest of all, in some 50 microseconds a state; else the best that
-    a search with this seed finds in `seconds`.
+    With at most 400,000 states the result is the longest of all, found in some 50 microseconds a state; else
+    it is the best that a search with this seed finds in `seconds`.
     """
     if rules not in rule_sets.WEIGHTS:
         raise ValueError(f"rules are 'hh' or 'manne', and not {rules!r}")
@@ -206,7 +207,7 @@ def told(
 def best_found(search: Search, seconds: float, drawn: random.Random) -> Longest:
     """The best of greedy schedules from random states, until the time is over.
 
-    The first is whole, or is cut after a minute.
+    The first schedule is whole, or is cut after a minute.
     """
     begun, tried = time.monotonic(), 0
     last = begun + seconds
@@ -296,7 +297,7 @@ def is_connected(n: int, edges: Sequence[tuple[int, int]]) -> bool:
 
 
 def renamed(graph: Graph) -> Iterator[Graph]:
-    """A graph of the nodes 1 to n under every numbering that gives another graph, as matters for `manne`."""
+    """A graph of the nodes 1 to n in every numbering that gives another graph: it matters for `manne`."""
     seen = set()
     for new in itertools.permutations(graph.nodes):
         edges = tuple(sorted((min(new[a - 1], new[b - 1]), max(new[a - 1], new[b - 1])) for a, b in graph.edges))

@@ -1,4 +1,4 @@
-"""A run of the program: its commands and its answers."""
+"""A run of the program: the commands to it, and its answers."""
 
 from __future__ import annotations
 
@@ -14,17 +14,17 @@ from .talk import Load, Talk
 
 # how many bytes are asked before the program has to take some of them
 UNSENT = 1 << 16
-# beyond this many parts, those that were read are looked for
+# beyond this many parts of output, the session looks for parts that were read, and drops them
 MOST_CAME = 8
 
 
 class Session:
     """The talk with a run. Each command is asked by one C call, so none is half asked.
 
-    It never waits for one pipe while the other could go on, so no reply is too large. The program is ended
-    when the session is not referenced. A signal's handler may ask in the middle of each function here, and is
-    answered first. What the function made of an older `Answers` or `Load` is then dropped, since a later one
-    already follows.
+    The session never waits for one pipe while the other could go on, so no reply is too large. The program is
+    ended when nothing refers to the session. In the middle of each function here a signal's handler may ask a
+    question, which is answered first. What the interrupted function made from an older `Answers` or `Load` is
+    then dropped, since a later one is already there.
     """
 
     def __init__(self, words: Sequence[str], setting: Setting) -> None:
@@ -35,7 +35,7 @@ class Session:
         self.reached = Answers(setting, self.asked)
         # no command below this number waits
         self.low = 0
-        # whether no more is asked, and whether the end of the run was raised
+        # whether no more commands are asked, and whether the end of the run was raised
         self.is_closed = self.is_told = False
         # about how many bytes are asked beyond those under way
         self.unloaded_bytes = 0
@@ -63,10 +63,10 @@ class Session:
         return self.answers.wrong or (ended if not self.is_closed or isinstance(ended, Inherited) else None)
 
     def since(self, place: int) -> tuple[bytes, int]:
-        """The lines from a place on, or all kept ones if they begin later, and the place after them.
+        """The lines from a place on, or all kept lines if they begin later, and the place after them.
 
         Waits until all commands are carried out. Raises `Garbled` if the program gave a wrong answer, and
-        `Ended` in a child of its process.
+        `Ended` in a child of the process that made the session.
         """
         self.wait_for_all()
         if self.answers.wrong:
@@ -84,7 +84,7 @@ class Session:
         return Batch(self, raises, keeps)
 
     def partner(self, number: int) -> Optional[int]:
-        """None, since the program has no such question."""
+        """None: the program has no such question."""
         return None
 
     def cost_of(self, word: str, numbers: Sequence[int]) -> int:
@@ -110,7 +110,7 @@ class Session:
         return None
 
     def tell(self, line: str) -> None:
-        """Carries out a line of a script, then asks for the status after one that writes several entries."""
+        """Carries out a line of a script; asks for the status after a line that writes several entries."""
         is_ended_by_status = line.startswith(("drive ", "scramble "))
         self.ask(AskedTurns(self, line, read_accepted) if is_ended_by_status else Asked(self, line, read_accepted))
 
@@ -131,7 +131,7 @@ class Session:
                 self.talk.write()
 
     def load(self) -> bool:
-        """If all is sent, loads the commands not yet under way; returns whether there were any."""
+        """If all bytes are sent, loads the commands not yet under way; returns whether there were any."""
         last, new = self.talk.load, []
         end = last.end
         while pending := self.asked.get(end):
@@ -144,7 +144,7 @@ class Session:
         return True
 
     def go_on(self) -> None:
-        """Reads on in what came; else writes what the program takes at once; else waits a while."""
+        """Reads output that came; if none, writes what the program takes at once; else waits a while."""
         answers, talk = self.answers, self.talk
         part = talk.came.get(answers.parts)
         if part is None:
@@ -183,7 +183,7 @@ class Session:
             self.exchange()
 
     def wait_for_all(self) -> None:
-        """Waits until everything asked is answered, or the run has ended."""
+        """Waits until every command is answered, or the run has ended."""
         while self.answers.front in self.asked and not self.answers.wrong and not self.talk.ended:
             self.go_on()
 
@@ -198,7 +198,7 @@ class Session:
         return text_of(self.lines_since(0)[0])
 
     def close(self) -> None:
-        """Ends the run, once all is carried out. If it was cut short, call it again."""
+        """Ends the run, once all commands are carried out. If the call was cut short, call it again."""
         if isinstance(self.talk.ended, Inherited) or (self.is_closed and self.talk.ended):
             return
         self.is_closed = True
@@ -216,7 +216,7 @@ class Session:
         self.talk.kill()
 
     def reply(self, pending: Pending[Reply]) -> Reply:
-        """The reply to a command. Raises its refusal, `NoReply`, or an error if it is no reply."""
+        """The reply to a command. Raises the refusal, `NoReply`, or an error if the text is no reply."""
         if pending._text.startswith(b"refused "):
             raise refusal(self.names, pending._event, pending._text, pending._entry)
         try:

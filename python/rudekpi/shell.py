@@ -1,4 +1,4 @@
-"""A session at a terminal that explains typing errors: a line that is no command is not sent."""
+"""A session at a terminal. It explains typing errors: a line that is no command is not sent."""
 
 from __future__ import annotations
 
@@ -31,7 +31,7 @@ class Shell:
         self.net, self.shown = net, 0
 
     def answer(self, line: str) -> str:
-        """The answer to a line. Raises `EOFError` if it ends the session."""
+        """The answer to a line. Raises `EOFError` if the line ends the session."""
         word, _, rest = line.partition(" ")
         if word in ("quit", "exit"):
             raise EOFError
@@ -101,7 +101,7 @@ def leave() -> None:
 
 
 def talk(net: Network) -> int:
-    """Reads lines until they end, or `quit`; returns the exit status."""
+    """Reads and answers lines until they end, or until `quit`; returns the exit status."""
     is_terminal = sys.stdin.isatty()
     if is_terminal:
         prepare()

@@ -10,7 +10,7 @@ from .replies import Name
 
 
 def check_sizes(title: str, nodes: int, edges: int) -> None:
-    """Raises `ValueError` if no network has that many nodes and edges; called before anything is built."""
+    """Raises `ValueError` if no network has that many nodes and edges. Call it before building anything."""
     if min(nodes, edges) < 0:
         raise ValueError(f"{title}: no number is below 0")
     if nodes > MOST_NODES:
@@ -21,7 +21,7 @@ def check_sizes(title: str, nodes: int, edges: int) -> None:
 
 @dataclass(frozen=True)
 class Disk:
-    """The points of a unit disk graph's nodes, in order, and the distance of the farthest linked ones."""
+    """The points of a unit disk graph's nodes, in order, and the greatest distance of two linked nodes."""
 
     radius: float
     points: tuple[tuple[float, float], ...]

@@ -68,7 +68,7 @@ class State:
             self.link(int(words[1]), int(words[2]))
 
     def move(self, node: int, rule: str, target: Optional[int]) -> None:
-        """A move of a step; other nodes' moves in the same step do not change its effect."""
+        """Follows a move of a step; other nodes' moves in the same step do not change its effect."""
         if rule == "update":
             # update is enabled if the flag is wrong
             self.flags ^= {node}
@@ -116,7 +116,7 @@ class State:
 
 
 class Follower:
-    """The state of a session's network, continued from the last time it was asked for."""
+    """The state of a session's network. It is followed on from the last time it was asked for."""
 
     def __init__(self, session: Union[Direct, Session]) -> None:
         self.session = session
@@ -139,7 +139,7 @@ class Follower:
         except IndexError:
             place, state = 0, State()
         text, end = self.session.since(place)
-        # if an interrupt cuts this short, it begins again at the start
+        # if an interrupt cuts this function short, it begins again at the start
         state.follow(text.decode().splitlines())
         seen = see(state)
         self.followed[:] = [(end, state)]

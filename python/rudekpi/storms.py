@@ -29,9 +29,9 @@ def storm(
 ) -> str:
     """Plays 1 to 64 scripts at once on one network of the nodes 1 to `nodes`; returns its transcript.
 
-    A script is a text, a list of lines, or a `pathlib.Path`. 1 to 64 `workers` judge a large step. With the
-    scripts, 0 to 64 more workers `roam`: in each of `turns` turns, at most 1,000,000, one lets an enabled
-    node move. How the scripts interleave is not fixed.
+    A script is a text, a list of lines, or a `pathlib.Path`. 1 to 64 `workers` judge a large step. While the
+    scripts play, `roam` more workers roam, 0 to 64: each takes `turns` turns, at most 1,000,000, and in each
+    turn lets an enabled node move. How the scripts interleave is not fixed.
 
     Raises `TypeError` for a single text, `ValueError` for numbers out of range, and `Ended` if the program
     fails: on a line that is no command (status 2), a file that can't be read (3), lack of memory or a full

@@ -1,4 +1,4 @@
-"""The standard streams of the command line: open or closed, they name what fails."""
+"""The standard streams of the command line: open or closed, they name the stream that fails."""
 
 from __future__ import annotations
 
@@ -50,7 +50,7 @@ def output_file(path: str, appends: bool = False) -> TextIO:
 
 
 def fill_closed() -> None:
-    """Opens the null device under the numbers of closed standard streams, so that no file gets them.
+    """Opens the null device under the numbers of closed standard streams, so that no file gets these.
 
     A read or write then fails as at a closed stream, and standard error goes nowhere.
     """

@@ -1,6 +1,6 @@
 """Experiments by the thousand: networks that are disturbed and settle.
 
-They run over graphs, rules, daemons, seeds and disturbances.
+A sweep has an experiment for each combination of graph, rules, daemon, seed and disturbance.
 """
 
 from __future__ import annotations
@@ -36,7 +36,7 @@ from .replies import Name, Status
 from .rounds import watch_after
 from .workers import Handing, count_of
 
-# a daemon, a function that is one, or the word of one
+# a daemon, a function that is a daemon, or the word of a daemon
 AnyDaemon = Union[daemons.AnyDaemon, Daemon, str]
 MOST_EXPERIMENTS = 1_000_000
 # about how many seconds a task takes
@@ -61,11 +61,11 @@ class LostExperiments(Lost):
 class Row:
     """The results of an experiment: its sizes, counts, bounds and time.
 
-    `charge` is that at the beginning; `pairs` counts those at the end. `bound` is that of the last `Epoch`:
-    2m + n (`hh`) or 2m + 3n (`manne`), and under `hh` at most n²/2 + n - 2. If disturbances come one by one,
-    the charge also has the sum of their costs, and the bound is that of a `Burst`. The moves exceed neither
-    charge nor bound. The rounds are measured; no bound on them is proved: see `rudekpi.rounds`. `seconds` is
-    the time for all of it.
+    `charge` is the charge at the beginning, `pairs` the number of pairs at the end. `bound` is that of the
+    last `Epoch`: 2m + n (`hh`) or 2m + 3n (`manne`), and under `hh` at most n²/2 + n - 2. If disturbances
+    come one by one, `charge` also includes the sum of their costs, and `bound` is that of a `Burst`. The
+    moves exceed neither charge nor bound. The rounds are measured; no bound on them is proved: see
+    `rudekpi.rounds`. `seconds` is the time for the whole experiment.
     """
 
     graph: str
@@ -101,7 +101,7 @@ class Played:
     after: Status
     steps: int
     moves: int
-    # in the order of the transcript's numbers
+    # the names, in the order of the transcript's numbers
     nodes: tuple[Name, ...] = ()
 
 
@@ -171,7 +171,7 @@ class Experiment:
         return Played(net.transcript(), before, after, player.steps, player.moves, self.graph.nodes)
 
     def measured(self, played: Played, began: float) -> Row:
-        """The row of a run, which is judged here.
+        """The row of a run, whose transcript is judged here.
 
         Raises `RudekpiError` if the transcript has other moves than its daemon made.
         """
@@ -235,9 +235,9 @@ def experiments_of(
 ) -> list[Experiment]:
     """All experiments of a sweep.
 
-    Under `hh`, without flags and with one mover, experiments on flags or with the synchronous daemon are left
-    out. Raises `ValueError` for wrong words or numbers, two graphs with one title, and more than 1,000,000
-    experiments, counted before any is made.
+    The rules `hh` have no flags, and one node moves at a time. So experiments on flags or with the
+    synchronous daemon are left out under `hh`. Raises `ValueError` for wrong words or numbers, for two graphs
+    with one title, and for more than 1,000,000 experiments, which are counted before any is made.
     """
     of = [it if isinstance(it, Disturbance) else Disturbance(it) for it in disturbances]
     lists = [first_of(it) for it in (graphs, rules, daemons, seeds, of)]
@@ -258,14 +258,14 @@ def experiments_of(
 
 
 def first_of(given: Iterable[Any]) -> Sequence[Any]:
-    """As many of these as a sweep may have experiments, and one more."""
+    """The first of these, at most one more than a sweep may have experiments."""
     if isinstance(given, range):
         return given[: MOST_EXPERIMENTS + 1]
     return list(itertools.islice(given, MOST_EXPERIMENTS + 1))
 
 
 def check_titles(graphs: Sequence[Any]) -> None:
-    """Raises `ValueError` if two different graphs share a title: rows and plots need it."""
+    """Raises `ValueError` if two different graphs share a title: rows and plots tell graphs by titles."""
     known: dict[str, Graph] = {}
     for graph in graphs:
         if isinstance(graph, Graph) and known.setdefault(graph.title, graph) != graph:
@@ -291,15 +291,16 @@ def sweep(
     """A row for each graph, rules, daemon, seed and disturbance, in the order of completion.
 
     A graph may be one of networkx. A disturbance is a `Disturbance`, or a number of faults. The executor is
-    any of `concurrent.futures`, or a cluster's (`distributed.Client().get_executor()`, `mpi4py.futures`),
-    whose workers have this package and the program; by default `processes` processes of this machine, or one
-    a processor. Experiments whose rows are in `there` are not played. Raises `ValueError` for wrong
-    arguments.
+    any of `concurrent.futures`, or that of a cluster whose workers have this package and the program
+    (`distributed.Client().get_executor()`, `mpi4py.futures`). By default `processes` processes of this
+    machine play, or one for each processor. Experiments whose rows are in `there` are not played. Raises
+    `ValueError` for wrong arguments.
 
-    A task takes about a second. If its worker dies, it is tried once more; if that dies too, the rest is done
-    and `LostExperiments` is raised at the end. The caller's own process pool breaks if one of its processes
-    dies: it is not replaced, and raises its `BrokenExecutor`. An error of an experiment is raised unchanged.
-    If the caller stops, no more tasks are handed out, and processes started here are ended.
+    Experiments are handed out in tasks of about a second. If a task's worker dies, the task is tried once
+    more. If the second worker dies too, the other tasks are done, and `LostExperiments` is raised at the end.
+    The caller's own process pool breaks if one of its processes dies: the pool is not replaced, and raises
+    its `BrokenExecutor`. An error of an experiment is raised unchanged. If the caller stops, no more tasks
+    are handed out, and processes started here are ended.
     """
     if processes is not None and processes < 1:
         raise ValueError(f"there is one process or more, and not {processes}")
@@ -315,7 +316,7 @@ def sweep(
 
 
 class Tasks:
-    """Tasks of about a second, as the rows so far show, each at most one worker's share of what is left."""
+    """Tasks of about a second, judged by the rows so far; each at most one worker's share of what is left."""
 
     def __init__(self, todo: Iterable[Experiment], workers: int) -> None:
         self.todo, self.workers = deque(todo), workers
@@ -339,7 +340,7 @@ class Tasks:
 
 
 def rows_of(todo: list[Experiment], given: Union[Executor, int]) -> Generator[Row, None, None]:
-    """The rows of experiments, as an executor or this many processes finish them."""
+    """The rows of experiments, each as soon as an executor, or one of this many processes, finishes it."""
     tasks, lost = Tasks(todo, count_of(given)), []
     handing: Handing[list[Experiment]] = Handing(tasks, lambda task: (run_all, task), given)
     with contextlib.closing(handing.done()) as done:
@@ -366,8 +367,8 @@ COLUMNS = tuple(it.name for it in fields(Row))
 def write_csv(rows: Iterable[Row], file: TextIO, has_head: bool = False) -> Iterator[Row]:
     """The same rows, each written to a CSV file as it comes, so that an interrupt loses none.
 
-    The head is written too, unless the file has it. Graphs of `sweep` that no word makes and no file has are
-    kept next to the CSV file: see `rudekpi.kept_graphs`.
+    The head is written first, unless the file has it. Graphs of `sweep` that no word makes and no file has
+    are kept next to the CSV file: see `rudekpi.kept_graphs`.
     """
     keep_beside(file, getattr(rows, "graphs", ()), has_head)
     writer = csv.writer(file)
@@ -380,7 +381,7 @@ def write_csv(rows: Iterable[Row], file: TextIO, has_head: bool = False) -> Iter
 
 
 def read_csv(file: TextIO) -> list[Row]:
-    """The rows of a file that `write_csv` wrote. Raises `ValueError` if it is none."""
+    """The rows of a file that `write_csv` wrote. Raises `ValueError` for another file."""
     kinds: dict[str, Callable[[str], Any]] = {"float": float, "int": int, "str": str}
     lines = csv.DictReader(file)
     if tuple(lines.fieldnames or ()) != COLUMNS:

@@ -20,8 +20,8 @@ RESAMPLES, SEED = 2000, 0
 def interval(numbers: Sequence[float]) -> tuple[float, float]:
     """The 95 % bootstrap interval of the median of at least one number.
 
-    It contains 95 % of the medians of 2,000 resamples; the seed is fixed. After Efron, "Bootstrap methods",
-    1979. No resample is made: its median is drawn as an order statistic of uniform numbers.
+    The interval contains 95 % of the medians of 2,000 resamples; the seed is fixed. After Efron, "Bootstrap
+    methods", 1979. No resample is made: its median is drawn as an order statistic of uniform numbers.
     """
     known, drawn = sorted(numbers), random.Random(SEED)
     medians = sorted(resampled_median(known, drawn) for _ in range(RESAMPLES))
@@ -29,9 +29,9 @@ def interval(numbers: Sequence[float]) -> tuple[float, float]:
 
 
 def resampled_median(known: Sequence[float], drawn: random.Random) -> float:
-    """The median of as many draws, with replacement, from sorted numbers."""
+    """The median of a resample of sorted numbers: as many draws from them, with replacement."""
     count, low = len(known), (len(known) + 1) // 2
-    # the place of the lower middle draw; then, if two are in the middle, that of the next
+    # the place of the lower middle draw; then, if two draws are in the middle, the place of the next one
     place = drawn.betavariate(low, count - low + 1)
     middle = known[min(count - 1, int(place * count))]
     if count % 2:
@@ -81,7 +81,7 @@ def table_of(rows: Sequence[Row], is_markdown: bool = False) -> list[str]:
 
 
 def markdown_of(lines: Sequence[Sequence[str]]) -> list[str]:
-    """The same in Markdown, figures aligned right."""
+    """The lines of the table in Markdown, with figures aligned right."""
     rule = ["---" if at < WORDS else "---:" for at in range(len(HEAD))]
     escaped = [[text.replace("\\", "\\\\").replace("|", "\\|") for text in line] for line in lines]
     return [f"| {' | '.join(line)} |" for line in (escaped[0], rule, *escaped[1:])]

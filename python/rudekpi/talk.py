@@ -1,10 +1,10 @@
 """A program's pipes: an interrupt loses none of their bytes, and a signal's handler may use them.
 
-A signal's handler may raise, as `KeyboardInterrupt`, after any instruction: also between the return of a
-`write` and the store of its result. It may itself ask the program something in the middle of any function
-here, and is answered first. So each transfer of bytes, or of an exit status, is one C call, which finds the
-position, moves the bytes, and records that before the next handler runs. A lock or a thread would cost more
-than the answer itself. Blocking signals would not help if another thread takes them.
+A signal's handler may raise an error, as `KeyboardInterrupt`, after any instruction: also between the return
+of a `write` and the store of its result. In the middle of any function here a handler may itself ask the
+program a question, which is answered first. So each transfer of bytes, or of an exit status, is one C call.
+That call finds the position, moves the bytes, and records the move before the next handler runs. A lock or a
+thread would cost more than the answer itself. Blocking signals would not help if another thread takes them.
 """
 
 from __future__ import annotations
@@ -26,14 +26,14 @@ TALKS: weakref.WeakSet[Talk] = weakref.WeakSet()
 
 
 class Load:
-    """The bytes of the commands below the number `end`, how many each write took, and the next load."""
+    """The bytes of the commands with numbers below `end`, how many each write took, and the next load."""
 
     __slots__ = ("data", "taken", "end", "later")
 
     def __init__(self, data: bytes, end: int) -> None:
         self.data, self.end = memoryview(data), end
         self.taken: list[int] = []
-        # at most one, which a second does not replace
+        # the next load: at most one, which a second one does not replace
         self.later: dict[int, Load] = {}
 
     def is_unsent(self) -> bool:
@@ -43,10 +43,10 @@ class Load:
 class Talk:
     """A program in its own session, which Ctrl-C at a terminal does not reach, with the bytes under way.
 
-    It is ended when no longer referenced, and with this process.
+    The program is ended when nothing refers to the talk, and when this process ends.
     """
 
-    # of one that is not fully built
+    # the values of a talk that is not fully built
     ended: Optional[Ended] = None
     owner = 0
 
@@ -86,14 +86,14 @@ class Talk:
         return self.load.is_unsent() and not self.is_deaf
 
     def write(self) -> bool:
-        """Whether the program took some of the unsent bytes."""
+        """Writes unsent bytes; returns whether the program took some."""
         load = self.load
         before, taken = len(load.taken), load.taken
         left = map(load.data.__getitem__, map(slice, map(TOTAL, (taken,)), (None,)))
         try:
             taken.extend(filter(None, map(self.run.to.write, left)))
         except BrokenPipeError:
-            # it reads no more; its end shows at the end of its text
+            # the program reads no more; that it ended shows at the end of its output
             self.is_deaf = True
         except ValueError:
             # a handler has ended it
@@ -115,12 +115,12 @@ class Talk:
                 raise
             return False
         found = ready.poll(self.pause)
-        # as long as was waited already, so that a call goes on soon after a handler has read everything
+        # waits as long as it has waited already, so that a call goes on soon after a handler read everything
         self.pause = 1 if found else min(2 * self.pause, LONGEST_PAUSE)
         return any(end == of for end, _ in found)
 
     def read(self) -> None:
-        """Keeps what the program has written: no byte, at the end."""
+        """Keeps what the program has written, which is an empty text once its output has ended."""
         try:
             said = itertools.filterfalse(IS_NONE, map(self.run.of.read, (READ,)))
             self.came.update(map(reversed, zip(said, self.numbers)))  # type: ignore[arg-type]
@@ -134,9 +134,9 @@ class Talk:
         self.run.to.close()
 
     def end(self) -> None:
-        """Waits for the program, after its text ended, and keeps its status and last line.
+        """Waits for the program, after its output ended, and keeps its status and last line.
 
-        If it was cut short, call it again.
+        If the call was cut short, call it again.
         """
         try:
             if not self.ended:
@@ -149,14 +149,14 @@ class Talk:
         self.run.release()
 
     def kill(self) -> None:
-        """Ends the program at once; does nothing if it has ended, or in a process that did not start it."""
+        """Ends the program at once; does nothing if it has ended, or if another process started it."""
         if self.owner == os.getpid():
             if not self.ended:
                 self.run.kill()
             self.end()
 
     def leave(self) -> None:
-        """In a child of this process: closes the pipes, so that the program still sees them end."""
+        """In a child of this process: closes its pipes, so that the program still sees its input end."""
         self.ended = Inherited()
         self.run.release()
 

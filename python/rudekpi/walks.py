@@ -95,7 +95,7 @@ class Walk:
         self.at = dict(enumerate(disk.points, 1))
 
     def steps(self, length: float, is_one_by_one: bool) -> Iterator[list[tuple[str, Edge]]]:
-        """One step of this length for each present node: the links that change, for all or node by node."""
+        """Walks each present node a step of this length: the links that change, in all or node by node."""
         for node in sorted(self.topology.near):
             x, y = self.at[node]
             turn = 2 * math.pi * self.drawn.random()
@@ -118,7 +118,7 @@ class Walk:
         return self.changed({*self.topology.edges}, {(nodes[a - 1], nodes[b - 1]) for a, b in pairs})
 
     def changed(self, old: set[Edge], new: set[Edge]) -> list[tuple[str, Edge]]:
-        """The edits that turn old links into new ones, done in the topology."""
+        """Changes old links of the topology into new ones; returns the edits for this."""
         gone, come = sorted(old - new), sorted(new - old)
         for edge in gone:
             self.topology.unlink(*edge)

@@ -28,8 +28,8 @@ Call = Tuple[Any, ...]
 # how many tasks a worker has under way, and how many workers an executor without a count is taken to have
 UNDER_WAY = 2
 MOST_UNKNOWN = 64
-# the longest wait, in milliseconds, to see that a thread has ended; how many bytes are taken at once of what
-# it sends
+# the longest wait, in milliseconds, to see that a thread has ended; how many bytes that it sends are taken at
+# once
 PAUSE = 10
 PIECE = 1 << 16
 
@@ -45,9 +45,9 @@ def count_of(given: Union[Executor, int]) -> int:
 
 
 def end_at_once(pool: Any) -> None:
-    """Ends a pool of processes in the middle of its work, whose results are not needed.
+    """Ends a pool of processes in the middle of its work, if the results are not needed.
 
-    From Python 3.14 on they may end a moment later.
+    From Python 3.14 on the processes may end a moment later.
     """
     if hasattr(pool, "kill_workers"):
         pool.kill_workers()
@@ -61,7 +61,7 @@ def end_at_once(pool: Any) -> None:
 def end_broken(pool: Any) -> None:
     """Ends a pool of processes whose workers are dead or dying.
 
-    Waits for its thread, so that no later fork meets it.
+    Waits for the pool's thread to end, so that a later fork does not happen while the thread runs.
     """
     if sys.version_info < (3, 11, 5):
         take_what_is_sent(pool)
@@ -71,8 +71,8 @@ def end_broken(pool: Any) -> None:
 def take_what_is_sent(pool: Any) -> None:
     """Takes what a process pool sends to dead or dying workers, until its thread has ended.
 
-    Before Python 3.11.5 that thread, and with it `shutdown`, waits forever for a worker to take it: a fault
-    of the standard library, https://github.com/python/cpython/issues/94777.
+    Before Python 3.11.5 that thread, and with it `shutdown`, waits forever for a worker to take what is sent:
+    a fault of the standard library, https://github.com/python/cpython/issues/94777.
     """
     thread = pool._executor_manager_thread
     if not (thread and thread.is_alive()):
@@ -95,8 +95,8 @@ def take_what_is_sent(pool: Any) -> None:
 def called(token: str, call: Callable[..., Any], *words: Any) -> Any:
     """In a worker: runs a task.
 
-    The token differs at each try, since distributed gives equal calls one answer, even if that is a worker's
-    death.
+    The token differs at each try, since distributed gives equal calls the same answer, even if that answer is
+    a worker's death.
     """
     return call(*words)
 
@@ -128,8 +128,8 @@ def has_died(future: Future[Any]) -> bool:
 class Handing(Generic[Task]):
     """Hands out tasks to the workers of an executor, or of `given` processes if that is a number.
 
-    `call_of` gives the call for each task. If a task's worker dies, or a cluster loses its result, it is
-    tried once more with nothing else under way, so that a second death shows the task at fault. Dead
+    `call_of` gives the call for each task. If a task's worker dies, or a cluster loses the task's result, the
+    task is tried once more with nothing else under way, so that a second death shows the task at fault. Dead
     processes started here are replaced. A given executor that breaks is not replaced: it raises its own
     error, a `BrokenExecutor`.
     """
@@ -187,7 +187,7 @@ class Handing(Generic[Task]):
     def stop(self, is_whole: bool) -> None:
         """Cancels what is under way.
 
-        Processes started here are ended, at once unless all is done and none has died.
+        Processes started here are ended: at once, unless all tasks are done and no process has died.
         """
         if self.executor is self.given:
             for future in self.under_way:

@@ -23,7 +23,7 @@ pub enum Damage {
 }
 
 impl Damage {
-    /// The text in the words of the program's `audit`.
+    /// The damage in the words of the program's `audit`.
     pub fn text(self) -> &'static str {
         match self {
             Damage::BadHeader => "bad header",
@@ -91,7 +91,7 @@ pub struct Audit {
     slot: Box<Slot>,
 }
 
-// one thread at a time may use an audit, whichever made it
+// any thread may use an audit, but only one at a time
 unsafe impl Send for Audit {}
 
 impl Audit {

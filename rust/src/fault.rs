@@ -46,7 +46,7 @@ impl Refusal {
         Some(Refusal::ALL.get(at)?.0)
     }
 
-    /// Its text in a transcript.
+    /// The refusal's text in a transcript.
     pub fn text(self) -> &'static str {
         Refusal::ALL.iter().find(|it| it.0 == self).map_or("unknown", |it| it.1)
     }

@@ -1,4 +1,4 @@
-//! The calls of `rudekpi.h`, as C has them.
+//! The calls of `rudekpi.h`, as C declares them.
 
 use std::os::raw::c_void;
 
@@ -26,7 +26,7 @@ impl Slot {
     }
 }
 
-/// What a call reports of its entry.
+/// What a call reports about the entry that it adds.
 #[repr(C)]
 #[derive(Default)]
 pub(crate) struct Told {

@@ -1,7 +1,7 @@
 //! Rudekpi for Rust: a network that maintains a maximal matching, and an auditor of its transcripts.
 //!
 //! Each method calls a function of `rudekpi.h`. Those functions are proved; the types around them are tested.
-//! A network or an audit owns its memory and may be sent between threads; one thread at a time uses it.
+//! A network or an audit owns its memory and may be sent between threads; only one thread at a time uses it.
 //!
 //! ```
 //! use rudekpi::{Fault, Network, Rules};

@@ -76,7 +76,7 @@ pub struct Network {
     slot: Box<Slot>,
 }
 
-// one thread at a time may use a session, whichever made it
+// any thread may use a session, but only one at a time
 unsafe impl Send for Network {}
 
 /// Calls that add entries and return the number of the last one.
@@ -156,11 +156,11 @@ impl Network {
         leave, rudekpi_leave, (node: Node);
         /// Writes a node's flag, as a fault does.
         flag, rudekpi_flag, (node: Node, value: bool);
-        /// Makes up to `count` steps of a seeded daemon, until no node is enabled.
+        /// Makes up to `count` steps of a seeded daemon, and stops when no node is enabled.
         drive, rudekpi_drive, (seed: u64, count: u32);
         /// Makes `count` seeded faults of registers.
         scramble, rudekpi_scramble, (seed: u64, count: u32);
-        /// Adds the lines of a base, where an audit can begin, to the transcript.
+        /// Adds the lines of a base to the transcript; an audit can begin at a base.
         checkpoint, rudekpi_checkpoint, ();
     }
 
@@ -169,7 +169,7 @@ impl Network {
         moves_left, rudekpi_moves_left, () -> u32;
         /// Whether a node is at rest: it does not move until an edit or a fault reaches it.
         is_at_rest, rudekpi_is_at_rest, (node: Node) -> bool;
-        /// The cost of adding an edge, in moves at most; 0 if it would be refused. Changes nothing.
+        /// The cost, in moves, of adding an edge at this moment; 0 if the edge would be refused. Changes nothing.
         cost_of_link, rudekpi_cost_of_link, (a: Node, b: Node) -> u32;
         /// The cost of removing an edge.
         cost_of_unlink, rudekpi_cost_of_unlink, (a: Node, b: Node) -> u32;
@@ -215,7 +215,7 @@ impl Network {
         })
     }
 
-    /// The cost of writing a pointer, in moves at most.
+    /// The cost, in moves, of writing a pointer at this moment.
     pub fn cost_of_point(&mut self, node: Node, target: Option<Node>) -> Result<u32, Fault> {
         let mut cost = 0;
         let target = target.unwrap_or(0);
@@ -225,7 +225,7 @@ impl Network {
         }
     }
 
-    /// The node's partner, if it has one. Adds no entry.
+    /// The node's partner, if the node has one. Adds no entry.
     pub fn partner(&mut self, node: Node) -> Result<Option<Node>, Fault> {
         let mut partner = 0;
         match unsafe { ffi::rudekpi_partner(&mut *self.slot, node, &mut partner) } {
@@ -293,8 +293,8 @@ impl Network {
         Ok(counts)
     }
 
-    /// Carries out a line of a script, given without its line feed. A refused event is no fault; its entry
-    /// says so.
+    /// Carries out a line of a script, given without its line feed. A refused event is no `Fault`; the event's
+    /// entry has the refusal.
     pub fn feed(&mut self, line: &[u8]) -> Result<(), Fault> {
         let mut number = 0;
         match unsafe { ffi::rudekpi_session_feed(&mut *self.slot, line.as_ptr(), line.len(), &mut number) } {
@@ -311,7 +311,7 @@ impl Network {
         text
     }
 
-    /// Decides whether the network keeps its text from here on. If not, the unread text is dropped.
+    /// Decides whether the network keeps its text from here on. If `keeps` is false, drops the unread text.
     pub fn keep_transcript(&mut self, keeps: bool) -> Result<(), Fault> {
         match unsafe { ffi::rudekpi_transcript(&mut *self.slot, keeps) } {
             ffi::DONE => Ok(()),

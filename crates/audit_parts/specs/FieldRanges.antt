@@ -1,4 +1,4 @@
--- The verdicts that the program's numbers can hold, and the line count that a join needs.
+-- The verdicts whose numbers fit the program's fields, and the line count that a join needs.
 use Rattle.std.specs.Prelude.{◌≡◌, ℕ, ◌<◌, ◌^◌, List, Ok, Err}
 use Rattle.auditor.specs.declared.damage.Damage.{Damage}
 use Rattle.auditor.specs.declared.damage.Damage.TheVariants.{BadHeader, NotALine, OutOfOrder, NotTheMachines, BadBase}
@@ -19,7 +19,7 @@ FitsFields (Ok c) = (c.entries < 2 ^ 32) × (c.epochs < 2 ^ 32) × (c.moves < 2 
 FitsFields (Err (Damaged d)) = line_of d < 2 ^ 64
 FitsFields (Err Memory) = Unit {0}
 
--- `lines` is the number of lines before the seam; this matters only if a damage is found after it
+-- `lines` is the number of lines before the seam; `lines` matters only if a damage is found after the seam
 abbrev pub AreLinesBefore : ℕ → List ℕ → Verdict → Verdict → Type 0
 AreLinesBefore lines own (Ok c) (Err (Damaged d)) = lines ≡ line_feeds own
 AreLinesBefore lines own first second = Unit {0}

@@ -14,7 +14,7 @@ use Rattle.audit_parts.specs.Seams.{IsSeam, Meets, Verdict, counted_both, furthe
 
 -- ---- two texts that meet
 
--- If both are accepted, so is the joined text: entries and moves add up, and so do epochs, less one.
+-- If both texts are accepted, so is the joined text: entries and moves add up, and so do epochs, less one.
 abbrev pub JoinedIsAccepted : Type 0
 JoinedIsAccepted =
     (first second : List ℕ) (m : Meets first second) (c d : Summary) → IsAccepted first c → IsAccepted second d → IsAccepted (m.own ++ second) (counted_both c d)
@@ -23,16 +23,16 @@ JoinedIsAccepted =
 abbrev pub IsAcceptedText : List ℕ → Type 0
 IsAcceptedText text = (c : Summary) × IsAccepted text c
 
--- If the joined text is accepted, so are both.
+-- If the joined text is accepted, so are both texts.
 abbrev pub PartsAreAccepted : Type 0
 PartsAreAccepted = (first second : List ℕ) (m : Meets first second) → IsAcceptedText (m.own ++ second) → IsAcceptedText first × IsAcceptedText second
 
--- The damage of the first is that of the joined text.
+-- The damage of the first text is the damage of the joined text.
 abbrev pub FirstDamageStays : Type 0
 FirstDamageStays = (first second : List ℕ) (m : Meets first second) (d : Damage) → IsDamage first d → IsDamage (m.own ++ second) d
 
--- If the first is accepted, the damage of the second, moved on by the first's lines before the seam, is that
--- of the joined text.
+-- If the first text is accepted and the second is damaged, the joined text has the second's damage, whose
+-- line grows by the number of lines of the first text before the seam.
 abbrev pub SecondDamageMoves : Type 0
 SecondDamageMoves =
     (first second : List ℕ) (m : Meets first second) (c : Summary) (d : Damage) → IsAccepted first c → IsDamage second d → IsDamage (m.own ++ second) (further (line_feeds m.own) d)
@@ -49,14 +49,14 @@ abbrev pub AllPartsAreAccepted : Type 0
 AllPartsAreAccepted =
     (first : List ℕ) (others : List (List ℕ)) (whole : List ℕ) → AreParts first others whole → IsAcceptedText whole → IsAcceptedText first × AllByRecursion IsAcceptedText others
 
--- the whole and its verdict: that of the first part, joined with that of all later parts
+-- the whole text and its verdict: the verdict of the first part, joined with that of all later parts
 abbrev pub HasVerdict : List ℕ → Verdict → List (List ℕ × Verdict) → List ℕ → Verdict → Type 0
 HasVerdict first v [] whole all = (whole ≡ first) × (all ≡ v)
 HasVerdict first v (next ∷ others) whole all =
     (m : Meets first next.0) × (rest : List ℕ) × (sum : Verdict) × HasVerdict next.0 next.1 others rest sum × (whole ≡ m.own ++ rest) × (all ≡ joined_verdict v (line_feeds m.own) sum)
 
--- The joined verdicts of all parts are the verdict of the whole: accepted with the sums, or the first damage
--- of the first damaged part, moved on by the lines before that part.
+-- The joined verdicts of all parts are the verdict of the whole. It is accepted with the sums, or has the
+-- first damage of the first damaged part, whose line grows by the lines before that part.
 abbrev pub PartsAreJudged : Type 0
 PartsAreJudged =
     (first : List ℕ) (v : Verdict) (others : List (List ℕ × Verdict)) (whole : List ℕ) (all : Verdict) → HasVerdict first v others whole all → IsJudged first v → AllByRecursion (λ part. IsJudged part.0 part.1) others → IsJudged whole all

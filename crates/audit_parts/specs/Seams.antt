@@ -1,4 +1,4 @@
--- Texts that meet at a base: its lines end the first and begin the second.
+-- Texts that meet at a base: the base's lines end the first text and begin the second.
 use Rattle.std.specs.Prelude.{◌≡◌, ℕ, ◌+◌, ◌-◌, List, [], ◌∷◌, ◌++◌, Result, Ok, Err}
 use Rattle.byte_streams.specs.Lines.{IsLine}
 use Rattle.line_text.specs.BaseText.{base_counts}
@@ -10,15 +10,15 @@ use Rattle.auditor.specs.declared.damage.JudgeFault.TheVariants.{Damaged, Memory
 use Rattle.auditor.specs.declared.summary.Summary.{Summary}
 use Rattle.auditor.specs.Damage.{BeginsBase, line_feeds}
 
--- nothing, or whole lines
+-- the text is empty, or consists of whole lines
 abbrev pub EndsLine : List ℕ → Type 0
 EndsLine [] = Unit {0}
 EndsLine (b ∷ []) = b ≡ 10
 EndsLine (b ∷ c ∷ bytes) = EndsLine (c ∷ bytes)
 
--- A text whose length follows from its beginning: a base's head, a second line, and whole lines after it. If
--- the second line has the numbers of a base, there are as many more lines as it counts nodes and edges,
--- whatever they contain.
+-- A text whose length follows from its beginning: a base's first line, a second line, and whole lines after
+-- these two. If the second line has the numbers of a base, one more line follows for each node and each edge
+-- that the numbers count, whatever these lines contain.
 pub record IsSeam (text : List ℕ) : Type 0 where
   pub head : List ℕ
   pub numbers : List ℕ
@@ -30,8 +30,8 @@ pub record IsSeam (text : List ℕ) : Type 0 where
   pub whole : EndsLine rest
   pub told : (number spent nodes edges : ℕ) → AreCounts (number, spent, nodes, edges) → numbers ≡ base_counts number spent nodes edges → line_feeds rest ≡ nodes + edges
 
--- The first text ends with a seam, and the second begins with it. The joined text has it once: the first's
--- own lines, then the second.
+-- The first text ends with a seam, and the second begins with the same seam. The joined text has the seam
+-- once: the first text's lines before the seam, then the second text.
 pub record Meets (first second : List ℕ) : Type 0 where
   pub own : List ℕ
   pub seam : List ℕ
@@ -46,11 +46,11 @@ pub record Meets (first second : List ℕ) : Type 0 where
 abbrev pub Verdict : Type 0
 Verdict = Result Summary JudgeFault
 
--- the counts of both: the second begins in the last epoch of the first
+-- the counts of both texts: the second begins in the last epoch of the first
 abbrev pub counted_both : Summary → Summary → Summary
 counted_both c d = record { entries = c.entries + d.entries; epochs = c.epochs + d.epochs - 1; moves = c.moves + d.moves }
 
--- the damage moved on by these lines
+-- the damage, its line increased by this many lines
 abbrev pub further : ℕ → Damage → Damage
 further lines BadHeader = BadHeader
 further lines (NotALine line) = NotALine (lines + line)
@@ -58,7 +58,7 @@ further lines (OutOfOrder line) = OutOfOrder (lines + line)
 further lines (NotTheMachines line) = NotTheMachines (lines + line)
 further lines (BadBase line) = BadBase (lines + line)
 
--- the verdict of two texts as one, if the first has this many lines before the seam
+-- the verdict of two texts as one, if the first text has this many lines before the seam
 abbrev pub joined_verdict : Verdict → ℕ → Verdict → Verdict
 joined_verdict (Err fault) lines second = Err fault
 joined_verdict (Ok c) lines (Ok d) = Ok (counted_both c d)

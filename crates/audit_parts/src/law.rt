@@ -4,16 +4,17 @@ ghost use Rattle.audit_parts.specs.Laws.{AllPartsAreAccepted, BasesAreSeams, Fir
 
 /// Two texts that meet at a base are both accepted exactly if the joined text is.
 ///
-/// Its entries and moves are the sums. Its epochs are the sum less one: the second text begins in the last
-/// epoch of the first.
+/// The joined text has as many entries and moves as both together, and one epoch less than both: the second
+/// text begins in the last epoch of the first.
 pub fn accepted_in_two()
     ensures joined { JoinedIsAccepted }
     ensures parts { PartsAreAccepted }
 {}
 
-/// The damage of a joined text is that of the first damaged part.
+/// The damage of a joined text is that of its first damaged part.
 ///
-/// If that is the second, its line moves on by the number of lines that the first has before the base.
+/// If only the second part is damaged, the damage's line grows by the number of lines before the base in the
+/// first part.
 pub fn damaged_in_two()
     ensures first { FirstDamageStays }
     ensures second { SecondDamageMoves }

@@ -8,7 +8,7 @@ ghost use Rattle.audit_parts.specs.FieldRanges.{AreLinesBefore, FitsFields};
 
 use auditor::{Damage, JudgeFault, Summary};
 
-// The sums of both, if each fits its field.
+// The sums of both summaries, less one epoch, if each number fits its field.
 fn count_both(first: Summary, second: Summary) -> Option<Summary>
     ensures both { IfSome result (λ both. both ≡ counted_both first second) }
     ensures fits { IsNone result → FitsFields (Ok (counted_both first second)) → ⊥ }
@@ -21,7 +21,7 @@ fn count_both(first: Summary, second: Summary) -> Option<Summary>
     })
 }
 
-// The damage moved on by `lines` lines, if its line fits.
+// The damage, its line increased by `lines`, if that number fits its field.
 fn move_on(lines: u64, damage: Damage) -> Option<Damage>
     ensures moved { IfSome result (λ moved. moved ≡ further lines damage) }
     ensures fits { IsNone result → FitsFields (Err (Damaged (further lines damage))) → ⊥ }
@@ -64,11 +64,12 @@ fn join_numbers(
 
 /// The verdict of two texts as one: the first ends with the base that begins the second.
 ///
-/// `lines` is the number of lines of the first text before that base. It is used only if the first is
+/// `lines` is the number of lines of the first text before that base. `lines` is used only if the first is
 /// accepted and the second is damaged.
 ///
-/// The result is the first text's `Err`; else the second's, its damage moved on by `lines`; else the sums.
-/// `None` if a number of the result does not fit its field. Takes no memory.
+/// If the first verdict is an `Err`, the result is that `Err`. Else, if the second is an `Err`, the result is
+/// that one, with a damage's line increased by `lines`. Else the result is the sums, less one epoch. `None`
+/// if a number of the result does not fit its field. Takes no memory.
 pub fn join(
     first: Result<Summary, JudgeFault>,
     lines: u64,

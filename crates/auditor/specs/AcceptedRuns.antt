@@ -1,4 +1,4 @@
--- The bytes that an audit accepts, and how far it has read them.
+-- The bytes that an audit accepts, and how far an audit has read them.
 use Rattle.std.specs.Prelude.{◌≡◌, ℕ, List, length}
 use Rattle.rule_machine.specs.declared.rules.RuleSet.{RuleSet}
 use Rattle.rule_machine.specs.Base.{LogPart, NumberedMoment, entries_in}
@@ -9,7 +9,7 @@ use Rattle.auditor.specs.Transcript.{IsTranscript, epoch_count, move_count}
 use Rattle.auditor.specs.Damage.{BeginsWithTranscript}
 use Rattle.auditor.specs.Position.{Position, stand_of}
 
--- the counts are those of the entries
+-- the counts are those of the log's entries
 pub record Counts (c : Summary) (log : List Entry) : Type 0 where
   pub entries : c.entries ≡ length log
   pub epochs : c.epochs ≡ epoch_count log
@@ -24,7 +24,7 @@ pub record IsAccepted (bytes : List ℕ) (c : Summary) : Type 0 where
   pub transcript : IsTranscript bytes rules opening log end
   pub counts : Counts c (entries_in log)
 
--- the bytes begin with a transcript, for this many names, that leads to the position; the rest follows
+-- the bytes begin with a transcript for this many names that leads to the position, and the rest follows it
 pub record IsPositionAfter (bytes : List ℕ) (rules : RuleSet) (size : ℕ) (p : Position) (rest : List ℕ) : Type 0 where
   pub log : List LogPart
   pub follows : BeginsWithTranscript bytes rules log (stand_of p) rest

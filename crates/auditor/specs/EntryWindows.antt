@@ -1,4 +1,4 @@
--- Transcripts that are looked at only up to an entry.
+-- Transcripts that are read only up to an entry.
 use Rattle.std.specs.Prelude.{◌≡◌, ℕ, ◌<◌, ◌≤◌, ◌⊎◌, Bool, true, nat_lt, List, [], Option, None, Some}
 use Rattle.std.proofs.Common.{inl, inr}
 use Rattle.rule_machine.specs.declared.rules.RuleSet.{RuleSet}
@@ -16,27 +16,28 @@ use Rattle.auditor.specs.Transcript.{IsTranscript}
 use Rattle.auditor.specs.Damage.{BeginsWithTranscript, IsDamage}
 use Rattle.auditor.specs.Position.{Position, position_at}
 
--- it ends at the entry with this number, or with the bytes
+-- the transcript ends at the entry with this number, or, if none is named, at the end of the bytes
 abbrev pub EndsAt : Option ℕ → ℕ → List ℕ → Type 0
 EndsAt None count rest = rest ≡ []
 EndsAt (Some last) count rest = count ≡ last
 
--- whether this many entries end before it
+-- whether the named entry comes after this many entries; always if no entry is named
 abbrev pub falls_short : Option ℕ → ℕ → Bool
 falls_short None count = true
 falls_short (Some last) count = nat_lt count last
 
--- if an entry is named, this many entries reach it
+-- no entry is named, or this many entries include the named one
 abbrev pub IsLongEnough : Option ℕ → ℕ → Type 0
 IsLongEnough None count = Unit {0}
 IsLongEnough (Some last) count = last ≤ count
 
--- if an entry is named, this many entries do not go beyond it
+-- no entry is named, or this many entries do not go beyond the named one
 abbrev pub IsAskedWithin : Option ℕ → ℕ → Type 0
 IsAskedWithin None count = Unit {0}
 IsAskedWithin (Some last) count = count ≤ last
 
--- The bytes begin with the transcript of a run under these rules that ends there and has led to this state.
+-- The bytes begin with a run's transcript under these rules, which ends at that entry and leads to this
+-- state.
 pub record IsStateAfter (bytes : List ℕ) (last : Option ℕ) (rules : RuleSet) (s : State) : Type 0 where
   pub log : List LogPart
   pub end : NumberedMoment
@@ -45,7 +46,8 @@ pub record IsStateAfter (bytes : List ℕ) (last : Option ℕ) (rules : RuleSet)
   pub ends : EndsAt last end.count rest
   pub state : s ≡ end.moment.state
 
--- The bytes are the transcript of a run whose last entry has this number, and a greater one was asked for.
+-- The bytes are the transcript of a run whose last entry has this number; the entry asked for has a greater
+-- one.
 pub record HasTooFew (bytes : List ℕ) (last : Option ℕ) (asked entries : ℕ) : Type 0 where
   pub last_is : last ≡ Some asked
   pub fewer : entries < asked
@@ -56,7 +58,7 @@ pub record HasTooFew (bytes : List ℕ) (last : Option ℕ) (asked entries : ℕ
   pub transcript : IsTranscript bytes rules opening log end
   pub entries_are : entries ≡ end.count
 
--- The bytes begin with a base after the entry that was asked for.
+-- The bytes begin with a base whose number is greater than that of the entry asked for.
 pub record HasDroppedEntry (bytes : List ℕ) (last : Option ℕ) (asked base : ℕ) : Type 0 where
   pub last_is : last ≡ Some asked
   pub fewer : asked < base
@@ -66,17 +68,17 @@ pub record HasDroppedEntry (bytes : List ℕ) (last : Option ℕ) (asked base : 
   pub follows : BeginsWithTranscript bytes rules [] end rest
   pub base_is : base ≡ end.count
 
--- the entry that was asked for comes after this many
+-- an entry was asked for that comes after this many entries
 abbrev pub IsAskedBeyond : Option ℕ → ℕ → Type 0
 IsAskedBeyond None count = Unit {0}
 IsAskedBeyond (Some last) count = count < last
 
--- a damaged base is looked at: at the start, or before the entry that was asked for
+-- a damaged base that is read: at the start of the bytes, or before the entry that was asked for
 abbrev pub base_looked_at : {X Y : Type 0} → Option ℕ → (Y → ℕ) → X ⊎ Y → Type 0
 base_looked_at last count (inl start) = Unit {0}
 base_looked_at last count (inr ends) = IsAskedBeyond last (count ends)
 
--- the damage is in the opening, or after fewer entries than were asked for
+-- the damage is in the opening, or comes after fewer entries than were asked for
 abbrev pub IsDamageWithin : (bytes : List ℕ) → Option ℕ → (d : Damage) → IsDamage bytes d → Type 0
 IsDamageWithin bytes last BadHeader damage = Unit {0}
 IsDamageWithin bytes last (NotALine line) damage = IsAskedBeyond last damage.at.end.count
@@ -84,19 +86,19 @@ IsDamageWithin bytes last (OutOfOrder line) damage = IsAskedBeyond last damage.a
 IsDamageWithin bytes last (NotTheMachines line) damage = IsAskedBeyond last damage.at.end.count
 IsDamageWithin bytes last (BadBase line) damage = base_looked_at last (λ ends. ends.at.end.count) damage
 
--- the first damage, in a line that is looked at
+-- the first damage of the bytes, in a line that is read
 pub record IsMetDamage (bytes : List ℕ) (last : Option ℕ) (damage : Damage) : Type 0 where
   pub is : IsDamage bytes damage
   pub looked_at : IsDamageWithin bytes last damage is
 
--- what is wrong with the lines looked at; nothing is said if memory ran out
+-- why the state was not reached: what is wrong with the lines read; nothing is said if memory ran out
 abbrev pub IsReplayFault : List ℕ → Option ℕ → ReplayFault → Type 0
 IsReplayFault bytes last (Judged (Damaged damage)) = IsMetDamage bytes last damage
 IsReplayFault bytes last (Judged Memory) = Unit {0}
 IsReplayFault bytes last (TooFew asked entries) = HasTooFew bytes last asked entries
 IsReplayFault bytes last (Forgotten asked base) = HasDroppedEntry bytes last asked base
 
--- the bytes begin with an opening for these rules and this many names, and the rest follows
+-- the bytes begin with an opening for these rules and this many names, and the rest follows the opening
 pub record IsOpened (bytes : List ℕ) (rules : RuleSet) (size : ℕ) (begun : EpochStart) (p : Position) (rest : List ℕ) : Type 0 where
   pub start : NumberedMoment
   pub follows : BeginsWithTranscript bytes rules [] start rest
@@ -104,7 +106,7 @@ pub record IsOpened (bytes : List ℕ) (rules : RuleSet) (size : ℕ) (begun : E
   pub begun_is : begun ≡ begun_at (base_in follows.opening)
   pub opening : p ≡ position_at start
 
--- a damage in the opening, or met after this many entries
+-- a damage in the opening, or a damage after this many entries
 abbrev pub IsMetBehind : List ℕ → ℕ → JudgeFault → Type 0
 IsMetBehind bytes count (Damaged damage) = (last : Option ℕ) → IsAskedBeyond last count → IsMetDamage bytes last damage
 IsMetBehind bytes count Memory = Unit {0}

@@ -48,14 +48,14 @@ pub record IsPossibleSummary (c : Summary) : Type 0 where
   pub epochs : c.epochs ≤ c.entries + 1
   pub moves : c.moves ≤ c.entries * 65535
 
--- the counts of an audit: besides a base's, at most the moves made are spent
+-- the counts of an audit: beyond what a base had spent, no more moves are spent than were made
 pub record AreAuditCounts (spent number : ℕ) (c : Summary) : Type 0 where
   pub counted : IsPossibleSummary c
   pub numbered : number ≤ max_entries
   pub entries : c.entries ≤ number
   pub made : spent ≤ c.moves + 4294967295
 
--- the line is the next entry, the machine may give its reply, and it is counted
+-- the line is the next entry, the machine may give its reply, and the entry is counted
 pub record GoodLine (t : RuleTable) (text : List ℕ) (before after : Position) : Type 0 where
   pub entry : Entry
   pub spells : SpellsEntry text (before.number + 1) entry
@@ -64,7 +64,7 @@ pub record GoodLine (t : RuleTable) (text : List ℕ) (before after : Position) 
   pub number : after.number ≡ before.number + 1
   pub counted : after.counted ≡ counted_more before.counted entry.1
 
--- the line is an entry with another number
+-- the line is an entry whose number is not the next
 pub record BadNumber (text : List ℕ) (before : Position) : Type 0 where
   pub number : ℕ
   pub entry : Entry
@@ -77,7 +77,7 @@ pub record BadReply (t : RuleTable) (text : List ℕ) (before : Position) : Type
   pub spells : SpellsEntry text (before.number + 1) entry
   pub never : (s : State) → Answers t before.state before.spent entry.0 entry.1 s → ⊥
 
--- this is the damage of the line with this number
+-- the damage of a line, which has this number
 abbrev pub LineDamaged : RuleTable → List ℕ → ℕ → Position → Damage → Type 0
 LineDamaged t text line before (NotALine at) = (at ≡ line) × SpellsNoEntry text
 LineDamaged t text line before (OutOfOrder at) = (at ≡ line) × BadNumber text before
@@ -85,13 +85,13 @@ LineDamaged t text line before (NotTheMachines at) = (at ≡ line) × BadReply t
 LineDamaged t text line before BadHeader = ⊥
 LineDamaged t text line before (BadBase at) = ⊥
 
--- what the check of the next line says of it, given its number; nothing if memory ran out
+-- the result of checking the next line, which has this number; nothing is said if memory ran out
 abbrev pub LineJudged : RuleTable → List ℕ → ℕ → Position → Position → Result Unit JudgeFault → Type 0
 LineJudged t text line before after (Ok done) = GoodLine t text before after
 LineJudged t text line before after (Err (Damaged damage)) = LineDamaged t text line before damage
 LineJudged t text line before after (Err Memory) = Unit {0}
 
--- the next part comes, leads from one position to the next, and is counted; the rest follows
+-- a next part leads from one position to the next and is counted; the rest after the part is `behind`
 pub record IsFurther (rules : RuleSet) (size : ℕ) (before : Position) (rest : List ℕ) (after : Position) (behind : List ℕ) : Type 0 where
   pub part : LogPart
   pub comes : NextPart rules size (stand_of before) rest part (stand_of after) behind

@@ -1,4 +1,4 @@
--- Transcripts: the bytes of an opening and of its parts, whose log is a run of the machine.
+-- Transcripts: the bytes of an opening and of parts whose log is a run of the machine.
 use Rattle.std.specs.Prelude.{◌≡◌, ℕ, ◌+◌, ◌≤◌, List, ◌++◌, length, sum_by, IsTrue}
 use Rattle.std.specs.List.{AllByRecursion}
 use Rattle.rule_machine.specs.declared.reply.Reply.{Reply}
@@ -22,7 +22,8 @@ abbrev pub IsLogPart : LogPart → Type 0
 IsLogPart (EntryPart entry) = IsEntryValue entry
 IsLogPart (BasePart base) = Unit {0}
 
--- The bytes are the text of an opening and of parts that the machine may give from there on, up to this end.
+-- The bytes are the text of an opening and of parts that the machine may give after it; they lead to this
+-- end.
 pub record IsTranscript (bytes : List ℕ) (rules : RuleSet) (opening : Opening) (log : List LogPart) (end : NumberedMoment) : Type 0 where
   pub start : NumberedMoment
   pub opens : Opens rules opening start
@@ -38,14 +39,14 @@ pub record SameRun (r q : RuleSet) (o p : Opening) (log also : List LogPart) (en
   pub parts : log ≡ also
   pub ends : end ≡ last
 
--- From here the text goes on with this part, which leads to the next state, and the rest follows.
+-- The rest begins with this part, which leads to the next state, and `behind` follows the part.
 pub record NextPart (rules : RuleSet) (size : ℕ) (at : NumberedMoment) (rest : List ℕ) (part : LogPart) (next : NumberedMoment) (behind : List ℕ) : Type 0 where
   pub fits : IsLogPart part
   pub within : next.count ≤ max_entries
   pub steps : StepsTo (table_of rules) at part next
   pub is : rest ≡ part_text rules size at.count part ++ behind
 
--- how many disturbances a reply reports: only they have the reply Accepted
+-- how many disturbances a reply reports: 1 if the reply is `Accepted`, else 0
 abbrev pub disturbances_in : Reply → ℕ
 disturbances_in Accepted = 1
 disturbances_in (Refused refusal) = 0
@@ -65,7 +66,7 @@ reply_moves (EnabledAre nodes) = 0
 reply_moves (Pairs pairs) = 0
 reply_moves (Counts counts) = 0
 
--- one epoch at the start, and one from each disturbance on
+-- how many epochs there are: one begins at the start, and one at each disturbance
 abbrev pub epoch_count : List Entry → ℕ
 epoch_count log = 1 + sum_by (λ entry. disturbances_in entry.1) log
 

@@ -1,4 +1,4 @@
--- Going through a transcript, keeping only what follows.
+-- Going through a transcript with a cursor that keeps only the bytes after the judged parts.
 use Rattle.std.specs.Prelude.{◌≡◌, ◌≢◌, ℕ, ◌+◌, ◌<◌, ◌≤◌, ◌^◌, ◌⊎◌, List, [], ◌++◌, length, take, slice_index, Option, None, Some, Err}
 use Rattle.rule_machine.specs.declared.rules.RuleSet.{RuleSet}
 use Rattle.rule_machine.specs.Base.{base_of}
@@ -20,17 +20,17 @@ pub record AreSameUpTo (text bytes : List ℕ) (len : ℕ) : Type 0 where
   pub inside : len ≤ length bytes
   pub alike : take len text ≡ take len bytes
 
--- if both go on, their next bytes differ
+-- if both texts are longer than this, their next bytes differ
 abbrev pub ArePartedAt : List ℕ → List ℕ → ℕ → Type 0
 ArePartedAt text bytes len = len < length text → len < length bytes → slice_index text len ≢ slice_index bytes len
 
--- The bytes begin with a transcript that leads to the replay's state, its lines were counted, and the rest
--- follows.
+-- The bytes begin with a transcript that leads to the cursor's state and has as many lines as the cursor has
+-- counted. The rest follows the transcript.
 pub record IsCursorAt (bytes : List ℕ) (replay : TranscriptCursor) (rest : List ℕ) : Type 0 where
   pub reached : IsPositionAfter bytes replay.rules replay.size replay.audit rest
   pub counted : (good : List ℕ) → bytes ≡ good ++ rest → replay.lines ≡ line_feeds good
 
--- some bytes do, and they are few enough to be counted
+-- the cursor is at the rest of some bytes, which are few enough for their lines to be counted
 pub record ReachableBy (replay : TranscriptCursor) (rest : List ℕ) : Type 0 where
   pub bytes : List ℕ
   pub few : length bytes < 2 ^ 63
@@ -39,11 +39,12 @@ pub record ReachableBy (replay : TranscriptCursor) (rest : List ℕ) : Type 0 wh
 abbrev pub IsReachable : TranscriptCursor → List ℕ → Type 0
 IsReachable replay rest = ∥ ReachableBy replay rest ∥₁
 
--- the text of the base of the replay's state
+-- the text of the base of the cursor's state
 abbrev pub base_wanted : TranscriptCursor → List ℕ
 base_wanted replay = base_text replay.rules replay.size (base_of replay.audit.number (stand_of replay.audit).moment)
 
--- a base's text is kept only if a base comes, and the rest begins with as much of it as was compared
+-- a base's text is kept only if the rest begins a base; the rest begins with the part of the text compared so
+-- far
 pub record ComparesBase (replay : TranscriptCursor) (rest : List ℕ) : Type 0 where
   pub text : (replay.wanted.items ≡ []) ⊎ (BeginsBase rest × (replay.wanted.items ≡ base_wanted replay))
   pub alike : AreSameUpTo replay.wanted.items rest replay.same
@@ -57,7 +58,7 @@ EndsIn text rest = (front : List ℕ) × (text ≡ front ++ rest)
 
 -- ---- what the text begins with
 
--- the text has no whole line, or begins with the lines of a base up to one that is not whole
+-- the text has no whole line, or it begins with the lines of a base and ends inside that base
 pub record HasCutBase (text : List ℕ) : Type 0 where
   pub rules : RuleSet
   pub size : ℕ
@@ -69,7 +70,7 @@ pub record HasCutBase (text : List ℕ) : Type 0 where
 abbrev pub HasCutStart : List ℕ → Type 0
 HasCutStart text = (first_line text ≡ None) ⊎ HasCutBase text
 
--- the replay is after the text's opening
+-- the cursor is after the text's opening
 pub record IsCursorAfter (text : List ℕ) (replay : TranscriptCursor) (rest : List ℕ) : Type 0 where
   pub opened : IsOpened text replay.rules replay.size replay.begun replay.audit rest
   pub counted : (good : List ℕ) → text ≡ good ++ rest → replay.lines ≡ line_feeds good
@@ -78,7 +79,7 @@ pub record IsCursorAfter (text : List ℕ) (replay : TranscriptCursor) (rest : L
 
 -- ---- what comes next
 
--- the text of the base of the replay's state was written
+-- the text of the base of the cursor's state has been written
 pub record AwaitsBase (before after : TranscriptCursor) : Type 0 where
   pub rules : after.rules ≡ before.rules
   pub size : after.size ≡ before.size
@@ -88,18 +89,18 @@ pub record AwaitsBase (before after : TranscriptCursor) : Type 0 where
   pub text : after.wanted.items ≡ base_wanted before
   pub before_it : (before.wanted.items ≡ []) ⊎ (before.wanted.items ≡ after.wanted.items)
 
--- the rest is a proper beginning of the base of the replay's state
+-- the rest is a proper beginning of the base of the cursor's state
 pub record BeginsWanted (replay : TranscriptCursor) (rest : List ℕ) : Type 0 where
   pub begins : BeginsBase rest
   pub missing : List ℕ
   pub some : missing ≢ []
   pub is : base_wanted replay ≡ rest ++ missing
 
--- no whole part follows, but the rest may become one
+-- the rest begins with no whole part, but may become one when bytes follow
 abbrev pub IsUnended : TranscriptCursor → List ℕ → Type 0
 IsUnended replay rest = ((first_line rest ≡ None) × (BeginsBase rest → ⊥)) ⊎ BeginsWanted replay rest
 
--- the replay has not moved
+-- the cursor has not moved
 pub record StaysInPlace (before after : TranscriptCursor) (rest : List ℕ) : Type 0 where
   pub rules : after.rules ≡ before.rules
   pub size : after.size ≡ before.size
@@ -108,7 +109,7 @@ pub record StaysInPlace (before after : TranscriptCursor) (rest : List ℕ) : Ty
   pub unended : IsUnended after rest
   pub compared : IsCompared after rest
 
--- a part follows, and the replay is after it
+-- the rest begins with a whole part, and the cursor is now after this part
 pub record IsPassed (before after : TranscriptCursor) (rest behind : List ℕ) : Type 0 where
   pub rules : after.rules ≡ before.rules
   pub size : after.size ≡ before.size
@@ -117,26 +118,26 @@ pub record IsPassed (before after : TranscriptCursor) (rest behind : List ℕ) :
   pub unwanted : after.wanted.items ≡ []
   pub none_same : after.same ≡ 0
 
--- the fault is that of the next part, whatever follows the rest
+-- the fault is that of the next part, whatever bytes follow the rest
 abbrev pub IsMetAt : TranscriptCursor → List ℕ → JudgeFault → Type 0
 IsMetAt replay rest fault = (bytes more : List ℕ) → IsCursorAt bytes replay (rest ++ more) → IsMetBehind bytes replay.audit.number fault
 
 -- ---- a transcript that is read
 
--- nothing was judged yet, or what is held follows what was judged
+-- what was read is only held, as nothing was judged yet; or the bytes held follow the judged ones
 abbrev pub IsReadOf : List ℕ → Option TranscriptCursor → List ℕ → Type 0
 IsReadOf read None held = read ≡ held
 IsReadOf read (Some run) held = IsCursorAt read run held × IsCompared run held
 
--- these bytes were read, and they were counted
+-- these bytes were read, and `len` is their number
 abbrev pub IsRead : List ℕ → IncrementalAudit → Type 0
 IsRead read trial = (length read ≡ trial.len) × IsReadOf read trial.run trial.held.items
 
--- some bytes were read, and they are few enough
+-- some bytes were read, fewer than 2^63
 abbrev pub IsUnderway : IncrementalAudit → Type 0
 IsUnderway trial = (trial.len < 2 ^ 63) × ∥ ((read : List ℕ) × IsRead read trial) ∥₁
 
--- they were read, or their damage holds whatever follows
+-- the bytes were read without a fault; or they have this fault, whatever bytes follow
 abbrev pub IsIncrementalAudit : List ℕ → IncrementalAudit → Option JudgeFault → Type 0
 IsIncrementalAudit bytes trial None = IsRead bytes trial
 IsIncrementalAudit bytes trial (Some fault) = (more : List ℕ) → IsJudged (bytes ++ more) (Err fault)

@@ -12,7 +12,7 @@ use Rattle.auditor.specs.declared.summary.Summary.{Summary}
 use Rattle.auditor.specs.AcceptedRuns.{IsAccepted}
 use Rattle.auditor.specs.Damage.{IsDamage}
 
--- the names that an audit gives to a damage, a judge's fault and an input's fault
+-- the names that an audit gives to damages, to the faults of judging, and to the faults of reading
 abbrev pub of_damage : Damage → AuditFault
 of_damage damage.BadHeader = BadHeader
 of_damage (damage.NotALine line) = NotALine line
@@ -35,7 +35,7 @@ IsJudged bytes (Ok counted) = IsAccepted bytes counted
 IsJudged bytes (Err (judge.Damaged d)) = IsDamage bytes d
 IsJudged bytes (Err judge.Memory) = Unit {0}
 
--- no fault was found, or this one
+-- no fault was found, or this fault
 abbrev pub found_by : Option JudgeFault → Result Unit JudgeFault
 found_by None = Ok tt
 found_by (Some fault) = Err fault

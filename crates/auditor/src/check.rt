@@ -40,7 +40,7 @@ impl Model for Audit {
 }
 
 impl Audit {
-    /// An audit that begins in this state, after entry `number`, with `spent` moves.
+    /// An audit that begins in the state of `judge`, after entry `number`, with `spent` moves spent.
     pub(crate) fn new(judge: Judge, spent: u32, number: u32) -> Audit
         requires { number ≤ 16777216 }
         ensures { result ≡ position_at (record { moment = record { state = judge; spent = spent }; count = number }) }
@@ -83,7 +83,7 @@ impl Audit {
         ensures few { IfOk result (λ base. (length base.nodes ≤ 65535) × (length base.edges ≤ 1048576)) }
     {
         let base = self.judge.base(alloc, self.number, 0)?;
-        // Fits: a base has few nodes and edges.
+        // The cast is exact: the moves are within the bound, and a network has few nodes and edges.
         let spent = self.spent as u32;
         Ok(Base { spent, ..base })
     }

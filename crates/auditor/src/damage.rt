@@ -2,7 +2,7 @@
 
 use std::alloc::AllocError;
 
-/// The first line that fails, and the first check that it fails. Lines count from 1.
+/// The first line that fails a check, and the first check that this line fails. Lines count from 1.
 #[derive(Clone, Copy, PartialEq, Eq)]
 pub enum Damage {
     /// The first line is missing, has no LF, or is neither a header nor the first line of a base.
@@ -15,15 +15,16 @@ pub enum Damage {
     NotTheMachines { line: u64 },
     /// A line of a base is wrong.
     ///
-    /// - In a base at the start: the first line that no base has, or line 2 if no run may begin there.
-    /// - In a later base: the first line that differs from the base of the state reached.
+    /// - If the base opens the transcript: the first line that no base has, or line 2 if no run may begin
+    ///   there.
+    /// - If the base comes later: the first line that differs from the base of the state reached.
     BadBase { line: u64 },
 }
 
 /// Why bytes were not accepted.
 #[derive(Clone, Copy, PartialEq, Eq)]
 pub enum JudgeFault {
-    /// They are no transcript of a run; this is their first damage.
+    /// The bytes are no transcript of a run; this is their first damage.
     Damaged(Damage),
     /// Memory ran out.
     Memory,

@@ -6,7 +6,7 @@ ghost use Rattle.auditor.specs.Epochs.{bound_of};
 use rule_machine::{EpochStart, RuleSet};
 use std::marker::Model;
 
-/// An epoch: the entries from an accepted disturbance, or the start, up to the next one or the end.
+/// An epoch: the entries from one accepted disturbance (or the start) up to the next (or the end).
 #[derive(Clone, Copy, Debug, PartialEq, Eq)]
 pub struct Epoch {
     start: EpochStart,
@@ -22,7 +22,7 @@ pub struct CostedEpoch {
     pub epoch: Epoch,
     /// A bound on what the disturbance added to the charge; `None` for the first epoch.
     ///
-    /// It is computed from the state before the disturbance, by the degrees of the nodes that it touched.
+    /// The bound is computed from the state before the disturbance, by the degrees of the nodes it touched.
     pub cost: Option<u32>,
 }
 
@@ -58,16 +58,16 @@ impl Epoch {
         }
     }
 
-    /// The number of the accepted disturbance that began it, 0 for the start of the run.
+    /// What began the epoch: the number of an accepted disturbance, or 0 for the start of the run.
     ///
-    /// `Forgotten` if it began before the base at the transcript's start.
+    /// `Forgotten` if the epoch began before the base that opens the transcript.
     pub fn start(self) -> EpochStart
         ensures { result ≡ self.start }
     {
         self.start
     }
 
-    /// The moves made in it.
+    /// The moves made in the epoch.
     pub fn moves(self) -> u64
         ensures { result ≡ self.moves }
     {

@@ -26,7 +26,7 @@ pub struct Epochs {
 }
 
 impl Audit {
-    /// The epoch that the last entry begins.
+    /// The new epoch that begins at the last entry.
     fn new_epoch(&self) -> Epoch
         ensures { result ≡ epoch_at self.now.number self.now.state }
     {
@@ -42,7 +42,7 @@ impl Audit {
         Epoch::new(start, self.spent(), self.judge.edges(), self.judge.nodes())
     }
 
-    /// The cost of an event in the state reached, if it is accepted there.
+    /// The cost of an event in the state reached, if the event is accepted there.
     fn cost_of(&self, rules: RuleSet, event: &Event) -> u32
         ensures { result ≡ cost_by rules self.now.state event.now }
     {
@@ -51,7 +51,7 @@ impl Audit {
 }
 
 impl TranscriptCursor {
-    /// The cost of the next entry, if its line accepts a disturbance. Other lines are not read.
+    /// The cost of the next entry, if its line ends in an accepted reply. No other line is parsed.
     fn cost_ahead(&self, alloc: Global, rest: &[u8]) -> Result<Option<u32>, Want>
         ensures { IfOk result (IsNextCost self.now.rules self.now.audit.state rest.now) }
     {
@@ -79,8 +79,8 @@ fn push(list: &mut Vec<CostedEpoch>, row: CostedEpoch) -> Result<(), Want>
     Ok(())
 }
 
-// The epoch after one more part. `before` holds the counts before it. An accepted disturbance ends `row` and
-// begins an epoch of this cost.
+// The epoch after one more part. `before` has the counts before the part. If the part is an accepted
+// disturbance, `row` is complete: it is pushed to `past`, and an epoch with this cost begins.
 fn turn(
     past: &mut Vec<CostedEpoch>,
     row: CostedEpoch,
@@ -107,11 +107,12 @@ fn turn(
 
 /// The epochs of the run whose transcript the bytes are, each with the cost of its disturbance.
 ///
-/// If the bytes begin with a base, the moves of the first epoch begin at what that base has spent. Each epoch
-/// is within its bound, and all moves are at most the costs plus the charge at the start.
+/// If the bytes begin with a base, the first epoch's moves count from the moves that the base records as
+/// spent. Each epoch's moves are within its bound. All moves together are at most the costs, plus the
+/// charge and the moves spent at the start.
 ///
-/// Errors are those of `audit_bytes`: the first damage of other bytes, or `Memory`. Costs what `audit_bytes`
-/// costs, and reads the lines of accepted disturbances twice. Takes 32 bytes an epoch.
+/// The errors are those of `audit_bytes`: the first damage of other bytes, or `Memory`. Costs what
+/// `audit_bytes` costs, and parses the lines of accepted disturbances twice. Takes 32 bytes an epoch.
 pub fn epochs_of(alloc: Global, bytes: &[u8]) -> Result<Epochs, JudgeFault>
     ensures epochs { IfOk result (λ epochs. AreCostedEpochs bytes.now epochs.rules epochs.list.items) }
     ensures bounded { IfOk result (λ epochs. All (IsWithinItsBound epochs.rules) (epochs_in epochs.list.items)) }

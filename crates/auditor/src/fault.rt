@@ -4,7 +4,7 @@ use crate::damage::{Damage, JudgeFault};
 use byte_streams::InputFault;
 use thiserror::Error;
 
-/// Why bytes were not accepted: the first line that fails, and its first failed check.
+/// Why bytes were not accepted: the first line that fails, and the first check that it fails.
 ///
 /// Lines count from 1.
 #[derive(Clone, Copy, Debug, PartialEq, Eq, Error)]
@@ -23,8 +23,9 @@ pub enum AuditFault {
     NotTheMachines { line: u64 },
     /// A line of a base is wrong.
     ///
-    /// - In a base at the start: the first line that no base has, or line 2 if no run may begin there.
-    /// - In a later base: the first line that differs from the base of the state reached.
+    /// - If the base opens the transcript: the first line that no base has, or line 2 if no run may begin
+    ///   there.
+    /// - If the base comes later: the first line that differs from the base of the state reached.
     #[error("line {line}: bad base")]
     BadBase { line: u64 },
     /// A read failed.

@@ -1,4 +1,4 @@
-//! Auditing a transcript, in memory or as it comes.
+//! Auditing a transcript, in memory or while it is read.
 
 ghost use Rattle.std.specs.Prelude.{◌≡◌, ◌<◌, ◌≤◌, ◌+◌, ◌^◌, ◌++◌, ℕ, List, [], Err, IfErr, IfOk, None, OnOk, drop, length};
 ghost use Rattle.auditor.specs.TranscriptCursors.{EndsIn, IsCursorAt, IsCompared, IsRead, IsReadOf, IsReachable, IsUnderway};
@@ -12,9 +12,10 @@ use std::alloc::Global;
 /// The most bytes of a transcript, so that its lines can be counted.
 const MOST_BYTES: u64 = (1 << 63) - 1;
 
-/// An audit of a transcript that is partly read: the lines judged, and `held`, the bytes after them.
+/// An audit of a transcript read in part: a cursor after the judged lines, and the bytes after them.
 ///
-/// The opening is tried again once `enough` bytes are held. `len` is the number of bytes read.
+/// The bytes are in `held`. While the opening is not complete, parsing is tried again once `held` has
+/// `enough` bytes. `len` is the number of bytes read.
 #[derive(Drop)]
 pub(crate) struct IncrementalAudit {
     pub(crate) run: Option<TranscriptCursor>,
@@ -36,7 +37,7 @@ fn drop_front(bytes: &mut Vec<u8>, count: usize)
 }
 
 impl TranscriptCursor {
-    // Passes the whole parts, and returns what follows.
+    // Judges the complete parts at the start of `held`, and returns the bytes after them.
     fn pass_parts<'a>(&mut self, alloc: Global, held: &'a [u8]) -> Result<&'a [u8], JudgeFault>
         requires at { IsReachable self.old held.now }
         requires compared { IsCompared self.old held.now }
@@ -52,7 +53,7 @@ impl TranscriptCursor {
         Ok(rest)
     }
 
-    // Judges the rest as the end of the text.
+    // Judges the rest, after which the text ends.
     fn judge_whole(self, alloc: Global, rest: &[u8]) -> Result<Summary, JudgeFault>
         requires at { IsReachable self rest.now }
         requires compared { IsCompared self rest.now }
@@ -80,7 +81,7 @@ pub(crate) fn judge_text(alloc: Global, text: &[u8]) -> Result<Summary, JudgeFau
     }
 }
 
-// Judges the whole parts that are held, and drops their bytes.
+// Judges the complete parts at the start of `held`, and drops their bytes.
 fn judge_parts(
     alloc: Global,
     run: &mut TranscriptCursor,
@@ -101,8 +102,8 @@ fn judge_parts(
     Ok(())
 }
 
-// Judges the whole parts of what is held and of the bytes after it, and holds the rest. If nothing is held,
-// no judged byte is copied.
+// Judges the complete parts of `held` and the bytes after it, and keeps the remaining bytes in `held`. If
+// `held` was empty, no judged byte is copied.
 fn judge_behind(
     alloc: Global,
     run: &mut TranscriptCursor,
@@ -128,8 +129,8 @@ fn judge_behind(
     }
 }
 
-// The same for a piece whose first line may end what is held. Only what the piece begins and does not end is
-// copied.
+// Like `judge_behind`, but copies less: the piece's first line, which may complete `held`, is judged first.
+// Then only the part that the piece begins and does not end is copied.
 fn judge_piece(
     alloc: Global,
     run: &mut TranscriptCursor,
@@ -153,7 +154,7 @@ fn judge_piece(
     }
 }
 
-// Reads the opening, if it is whole, and judges the parts after it.
+// Reads the opening, if it is complete, and judges the parts after it.
 fn begin(alloc: Global, held: &mut Vec<u8>) -> Result<Option<TranscriptCursor>, JudgeFault>
     requires { length held.old.items < 2 ^ 63 }
     ensures on { IfOk result (λ run. IsReadOf held.old.items run held.new.items) }
@@ -185,8 +186,8 @@ impl IncrementalAudit {
         }
     }
 
-    // Holds a piece, and tries to read the opening. If that is not whole, the next try waits for twice as
-    // many bytes.
+    // Appends a piece to `held`, and tries to read the opening. If the opening is not complete, the next try
+    // waits until `held` has twice as many bytes.
     fn begin(&mut self, alloc: Global, piece: &[u8]) -> Result<(), JudgeFault>
         requires unbegun { self.old.run ≡ None }
         ensures on { OnOk result (IsReadOf (self.old.held.items ++ piece.now) self.new.run self.new.held.items) }
@@ -206,7 +207,7 @@ impl IncrementalAudit {
         Ok(())
     }
 
-    /// Judges the lines that end in a piece, which follows what was read. An error holds whatever follows.
+    /// Judges the lines that end in the next piece. An error is final, whatever bytes follow.
     pub(crate) fn take(&mut self, alloc: Global, piece: &[u8]) -> Result<(), JudgeFault>
         requires { IsUnderway self.old }
         ensures on { OnOk result ((read : List ℕ) → IsRead read self.old → IsRead (read ++ piece.now) self.new) }
@@ -224,7 +225,7 @@ impl IncrementalAudit {
         judge_piece(alloc, run, &mut self.held, piece)
     }
 
-    /// Judges what is left as the end of the text.
+    /// Judges the bytes left over, after which the text ends.
     pub(crate) fn finish(self, alloc: Global) -> Result<Summary, JudgeFault>
         requires { IsUnderway self }
         ensures { (read : List ℕ) → IsRead read self → IsJudged read result }

@@ -25,7 +25,7 @@ pub(crate) fn lines_before(text: &[u8], rest: &[u8]) -> u64
     line_feeds(&text[..text.len() - rest.len()])
 }
 
-/// How many first bytes the two texts share, if the first `known` are known to be equal.
+/// The length of the two texts' common beginning. Their first `known` bytes must be equal.
 pub(crate) fn common_len(text: &[u8], bytes: &[u8], known: usize) -> usize
     requires known { AreSameUpTo text.now bytes.now known }
     ensures same { AreSameUpTo text.now bytes.now result }

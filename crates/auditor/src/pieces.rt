@@ -1,4 +1,4 @@
-//! The audit of a transcript that comes piece by piece.
+//! The audit of a transcript that is fed piece by piece.
 
 ghost use Rattle.std.specs.Prelude.{◌≡◌, ◌<◌, ◌^◌, ◌++◌, ℕ, List, [], Err, IfErr, None, Some};
 ghost use Rattle.auditor.specs.declared.damage.JudgeFault.{JudgeFault as Fault};
@@ -11,8 +11,8 @@ use std::alloc::Global;
 
 /// An audit that is fed a transcript in pieces, cut anywhere.
 ///
-/// It keeps only the line or base that is not whole yet. An error holds whatever is fed later, and each
-/// further call returns it.
+/// Only the line or base that is not complete yet is in memory. An error is final: every later call returns
+/// the same error.
 #[derive(Drop)]
 pub struct PieceAudit {
     trial: IncrementalAudit,
@@ -24,7 +24,7 @@ pub struct PieceAudit {
 impl PieceAudit {
     ghost use Rattle.auditor.specs.AuditPieces.{HasReadPieces};
 
-    /// An audit that was fed nothing.
+    /// An audit that has been fed nothing.
     pub fn new(alloc: Global) -> PieceAudit
         ensures fed { HasReadPieces [] result }
         ensures well { result.fault ≡ None }
@@ -35,11 +35,11 @@ impl PieceAudit {
         }
     }
 
-    /// Feeds the next bytes, and judges what is whole.
+    /// Feeds the next bytes, and judges every line and base that is now complete.
     ///
-    /// An `Err` is final: its damage is that of every text that begins with these bytes, and each later call
-    /// returns it. `Memory` if memory runs out, or if more than 2^63 - 1 bytes were fed. Costs what
-    /// `audit_bytes` costs for the lines that end in the piece.
+    /// An `Err` is final: every text that begins with the bytes fed so far has this damage, and every later
+    /// call returns the same `Err`. `Memory` if memory runs out, or if more than 2^63 - 1 bytes were fed.
+    /// Costs what `audit_bytes` costs for the lines that end in the piece.
     pub fn feed(&mut self, alloc: Global, piece: &[u8]) -> Result<(), JudgeFault>
         ensures fed { (bytes : List ℕ) → HasReadPieces bytes self.old → HasReadPieces (bytes ++ piece.now) self.new }
         ensures fault { IfErr result (λ fault. (bytes more : List ℕ) → HasReadPieces bytes self.old → IsJudged (bytes ++ piece.now ++ more) (Err fault)) }

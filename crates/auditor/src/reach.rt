@@ -30,7 +30,7 @@ pub enum ReplayFault {
     Forgotten { asked: u32, base: u32 },
 }
 
-// Whether the entry `last` is still to come, `entries` having been read; always if none is named.
+// Whether entry `last` comes after entry `entries`; always if `last` is `None`.
 fn falls_short(entries: u32, last: Option<u32>) -> bool
     ensures { result ≡ falls_short last entries }
 {
@@ -40,7 +40,7 @@ fn falls_short(entries: u32, last: Option<u32>) -> bool
     }
 }
 
-// The number that was asked for, if it is below `entries`.
+// The number `last`, if it is below `entries`.
 fn forgotten(entries: u32, last: Option<u32>) -> Option<u32>
     ensures { MatchOption result (IsAskedWithin last entries) (λ asked. (last ≡ Some asked) × (asked < entries)) }
 {
@@ -65,14 +65,14 @@ fn finish(replay: TranscriptCursor, last: Option<u32>) -> Result<ReplayedRun, Re
     }
 }
 
-/// The state after entry `last`, or after all entries if it is `None`, and the rules of the transcript.
+/// The rules of a transcript, and the state after entry `last`, or after all entries for `None`.
 ///
-/// `last` is 0 for the opening state, or the number of an opening base for its state. The line of that entry
-/// is the last one looked at. The lines up to it are good or damaged as `audit_bytes` finds them.
+/// For the opening state, `last` is 0, or the number of the base that opens the transcript. No line after
+/// entry `last` is looked at. The lines up to that entry are judged as `audit_bytes` judges them.
 ///
 /// - `Judged` with the first damage of these lines, or with `Memory` if memory runs out.
-/// - `TooFew` if all lines are good and none has that number or a greater one.
-/// - `Forgotten` if the bytes begin with a base of a greater number.
+/// - `TooFew` if all lines are good and no entry has the number `last` or a greater one.
+/// - `Forgotten` if the bytes begin with a base whose number is greater than `last`.
 ///
 /// Costs what `audit_bytes` costs for these lines.
 pub fn state_after(

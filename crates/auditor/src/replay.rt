@@ -24,7 +24,8 @@ use std::alloc::Global;
 
 /// The rules and size of a transcript, the start of its first epoch, and its audit after `lines` lines.
 ///
-/// While a base comes in pieces, `wanted` is its text, and `same` is how many bytes of it have come.
+/// While a base is compared, `wanted` is the text it must have; its first `same` bytes have come and are
+/// equal.
 #[derive(Drop)]
 pub(crate) struct TranscriptCursor {
     pub(crate) rules: RuleSet,
@@ -77,7 +78,7 @@ impl Audit {
 }
 
 impl TranscriptCursor {
-    /// Begins after a header, at the opening state.
+    /// A cursor after a header, at the opening state.
     fn at_header(
         alloc: Global,
         text: &[u8],
@@ -103,7 +104,7 @@ impl TranscriptCursor {
         })
     }
 
-    /// Begins after the base whose first line is before `rest`, if that base is whole.
+    /// Reads a base after its first line. Returns a cursor and the rest; `None` if the base is cut off.
     fn at_base<'a>(
         alloc: Global,
         text: &[u8],
@@ -144,9 +145,9 @@ impl TranscriptCursor {
         Ok(Some((replay, behind)))
     }
 
-    /// Reads the text's opening, a header or a base, and returns what follows; `None` if it is not whole.
+    /// Reads the opening, a header or a base. Returns a cursor after the opening, and the rest.
     ///
-    /// An error holds whatever follows the text.
+    /// `None` if the text ends inside the opening. An error is final, whatever would follow the text.
     pub(crate) fn open(
         alloc: Global,
         text: &[u8],
@@ -167,7 +168,7 @@ impl TranscriptCursor {
         }
     }
 
-    /// Reads the opening of a whole text.
+    /// Reads the opening of a text that is complete.
     pub(crate) fn open_whole(
         alloc: Global,
         text: &[u8],
@@ -188,7 +189,7 @@ impl TranscriptCursor {
         self.audit.number()
     }
 
-    // Passes the next entry, and returns what follows; `None` if its line is not whole.
+    // Judges the next entry, and returns the rest after it; `None` if the entry's line has no LF yet.
     fn pass_entry<'a>(
         &mut self,
         alloc: Global,
@@ -210,7 +211,7 @@ impl TranscriptCursor {
         }
     }
 
-    // Writes the text of the base of the state reached, unless it is already there.
+    // Writes into `wanted` the text of the base of the state reached, unless `wanted` has it already.
     fn want_base(&mut self, alloc: Global) -> Result<(), Want>
         requires at { (rest : List ℕ) × IsReachable self.old rest }
         requires compared { (rest : List ℕ) × IsCompared self.old rest }
@@ -224,8 +225,8 @@ impl TranscriptCursor {
         Ok(())
     }
 
-    // Passes the next base, which must be that of the state reached, and returns what follows; `None` if the
-    // rest is only its beginning.
+    // Compares the next base with the base of the state reached, and returns the rest after it; `None` if the
+    // rest is only a beginning of that base.
     fn pass_base<'a>(
         &mut self,
         alloc: Global,
@@ -253,9 +254,9 @@ impl TranscriptCursor {
         Err(JudgeFault::Damaged(Damage::BadBase { line }))
     }
 
-    /// Passes the next entry or base, and returns what follows; `None` if it is not whole.
+    /// Judges the next entry or base, and returns the rest after it; `None` if that part is not complete.
     ///
-    /// An error holds whatever follows the rest.
+    /// An error is final, whatever would follow the rest.
     pub(crate) fn advance<'a>(
         &mut self,
         alloc: Global,
@@ -272,7 +273,7 @@ impl TranscriptCursor {
         self.pass_entry(alloc, rest)
     }
 
-    // The damage of a rest that ends before its next part does.
+    // The damage of a text that ends inside a part, whose beginning is `rest`.
     fn cut_off(&self, rest: &[u8]) -> Damage
         requires at { IsReachable self.now rest.now }
         requires some { rest.now ≢ [] }
@@ -287,7 +288,7 @@ impl TranscriptCursor {
         }
     }
 
-    /// Passes the next part of a whole text, and returns what follows.
+    /// Judges the next part of a text that is complete, and returns the rest after it.
     pub(crate) fn advance_whole<'a>(
         &mut self,
         alloc: Global,

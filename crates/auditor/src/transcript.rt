@@ -13,10 +13,10 @@ use byte_streams::{CountingReader, chunk_of};
 use std::alloc::Global;
 use std::io::Read;
 
-/// Reads a transcript to its end and judges it as `audit_bytes` does, part by part as it comes.
+/// Reads a transcript to its end, and judges each part as it comes, as `audit_bytes` does.
 ///
-/// It keeps one read's bytes and the line or base that is not whole yet. A refusal comes at once, and the
-/// reader is read no further. `Read` only if a read of the reader failed, or 4,294,967,295 were made.
+/// In memory are the bytes of one read, and the line or base that is not complete yet. At the first damage
+/// the audit returns and reads no further. `Read` only if a read failed, or 4,294,967,295 reads were made.
 pub fn audit<In: Read>(
     alloc: Global,
     reader: &mut CountingReader<In>,
@@ -69,18 +69,18 @@ fn judge_read<In: Read>(
 
 /// Judges the bytes of a transcript and counts its entries, epochs and moves.
 ///
-/// It accepts exactly the texts of runs of the rule machine, whatever allowed targets they took. The text may
-/// begin with a base that a run may go on from within its bound. A base among entries must be that of the
-/// state reached.
+/// The accepted texts are exactly those of runs of the rule machine, whichever allowed targets the machine
+/// chose. A text may begin with a base, if a run may go on from that base within its bound. A base after
+/// entries must be the base of the state reached.
 ///
-/// - `Damaged` for all other bytes: the first line that fails. A line fails by its form, then its number,
-///   then its reply; a line of a base fails if it is not that base's.
+/// - `Damaged` for all other bytes, with the first line that fails. An entry's line is checked for its form,
+///   then its number, then its reply. A base's line is checked for being that line of the base.
 /// - `Memory` if memory runs out.
 ///
 /// | Part | Cost |
 /// |---|---|
 /// | an entry | its line, look-ups, and the neighbours of the nodes that move |
-/// | `enabled`, `matching`, `status` | what changed since the last of them, and what they list (`Judge::replay`) |
+/// | `enabled`, `matching`, `status` | changes since the last such query, and the list (`Judge::replay`) |
 /// | a base | a look at all names and edges, and the memory of its text |
 pub fn audit_bytes(alloc: Global, bytes: &[u8]) -> Result<Summary, JudgeFault>
     ensures judged { IsJudged bytes.now result }

@@ -1,12 +1,12 @@
--- The lines of bytes: an LF ends each.
+-- The lines of a text. An LF ends each line.
 use Rattle.std.specs.Prelude.{◌≢◌, ℕ, List, [], ◌∷◌, ◌==◌, Option, None, Some, if◌then◌else◌}
 use Rattle.std.specs.List.{AllByRecursion}
 
--- bytes of one line: no LF is among them
+-- the bytes are those of one line: they have no LF
 abbrev pub IsLine : List ℕ → Type 0
 IsLine bytes = AllByRecursion (λ b. b ≢ 10) bytes
 
--- a byte before the first line, if there is one
+-- the first line with this byte put before it, if there is a first line
 abbrev pub onto_line : ℕ → Option (List ℕ × List ℕ) → Option (List ℕ × List ℕ)
 onto_line b None = None
 onto_line b (Some found) = Some (b ∷ found.0, found.1)

@@ -1,4 +1,4 @@
--- What a writer has got of bytes that were not all written.
+-- What a writer has received if not all bytes were written.
 use Rattle.std.specs.Prelude.{ℕ, ◌<◌, List, length, take, Option}
 use Rattle.std.specs.Io.KnownBytes.{Appends}
 

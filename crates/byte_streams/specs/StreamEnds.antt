@@ -1,4 +1,4 @@
--- When a reader is read no more.
+-- When a reader does not read again.
 use Rattle.std.specs.Prelude.{◌≡◌, ◌⊎◌, ℕ, Bool, true}
 
 -- a read failed, or the greatest number of reads was made

@@ -1,12 +1,12 @@
-//! Byte streams that never retry: all that a reader gives, and bytes for a writer.
+//! Readers and writers of bytes that never retry a failed call.
 //!
-//! The writer of a `FailStopWriter` gets exactly the bytes or, up to the first failed write, a prefix of
-//! them; no byte is written twice. So the contract says for each error what the file contains. An interrupted
-//! write counts as failed, whereas std's `write_all` would retry it.
+//! A `FailStopWriter` writes exactly the given bytes or, if a write fails, a prefix of these bytes. No byte
+//! is written twice. So the contract says for each error what the file contains. An interrupted write counts
+//! as failed; std's `write_all` would retry it.
 //!
-//! `CountingReader` and `FailStopWriter` record a failed read or write, as evidence for their errors.
-//! `read_whole` reads to the end in chunks of 65,536 bytes and keeps them all. A run and an audit read line
-//! by line, from `CountingReader`.
+//! `CountingReader` and `FailStopWriter` record each failed read or write, so contracts can say that an error
+//! follows a failure. `read_whole` reads to the end in chunks of 65,536 bytes and returns all bytes. A run
+//! and an audit read line by line, from a `CountingReader`.
 //!
 //! ```rust
 //! let bytes = read_whole(alloc, &mut CountingReader::new(stdin))?;      // `InputFault`: `Read` or `Memory`

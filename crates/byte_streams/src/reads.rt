@@ -12,7 +12,7 @@ use std::io::Read;
 /// How many bytes a read asks for.
 const CHUNK: usize = 65_536;
 
-/// A reader that counts its reads and stops after a failed one. It never retries.
+/// A reader that counts its reads. It never retries: after a failed read it does not read again.
 #[derive(Drop)]
 pub struct CountingReader<In> {
     reader: In,
@@ -28,7 +28,7 @@ pub fn chunk_of(alloc: Global) -> Result<Vec<u8>, AllocError>
 }
 
 impl<In: Read> CountingReader<In> {
-    /// A fresh reader: no read, no failure.
+    /// A reader without any read or failure yet.
     pub fn new(reader: In) -> CountingReader<In>
         ensures reader { result.reader ≡ reader }
         ensures count { result.count ≡ 0 }
@@ -41,8 +41,9 @@ impl<In: Read> CountingReader<In> {
         }
     }
 
-    /// Reads once into the buffer; returns how many bytes at its front were read. 0 only at the end.
-    /// Error: `Read` if the read fails. After a failed read, and after 4,294,967,295 reads, it does not read.
+    /// Reads once into the front of the buffer; returns how many bytes were read, 0 only at the end.
+    /// Error: `Read` if the read fails. After a failed read, or after 4,294,967,295 reads, every call returns
+    /// `Read` without reading.
     pub fn read(&mut self, buf: &mut [u8]) -> Result<usize, InputFault>
         requires room { 0 < length buf.old }
         ensures bytes { IfOk result (λ len. Consumes (In.remaining self.old.reader) (In.remaining self.new.reader) (take len buf.new)) }

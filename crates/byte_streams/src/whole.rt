@@ -9,8 +9,8 @@ use crate::{CountingReader, InputFault, chunk_of};
 use std::alloc::Global;
 use std::io::Read;
 
-/// All that the reader has left.
-/// Errors: `Read` if a read failed (no retry) or at 4,294,967,295 reads; `Memory` if memory runs out.
+/// All bytes that the reader has left.
+/// Errors: `Read` if a read fails (no retry) or after 4,294,967,295 reads; `Memory` if memory runs out.
 pub fn read_whole<In: Read>(
     alloc: Global,
     reader: &mut CountingReader<In>,

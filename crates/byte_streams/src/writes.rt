@@ -7,7 +7,7 @@ ghost use Rattle.byte_streams.specs.PartialOutput.{AppendsBeginning, AppendsLess
 use crate::OutputFault;
 use std::io::Write;
 
-/// A writer that records a failed write or flush, and does not write or flush after one.
+/// A writer that records a failed write or flush. After a failure it neither writes nor flushes.
 #[derive(Drop)]
 pub struct FailStopWriter<Out> {
     writer: Out,
@@ -15,7 +15,7 @@ pub struct FailStopWriter<Out> {
 }
 
 impl<Out: Write> FailStopWriter<Out> {
-    /// A fresh writer.
+    /// A writer without a failure yet.
     pub fn new(writer: Out) -> FailStopWriter<Out>
         ensures writer { result.writer ≡ writer }
         ensures failed { result.failed ≡ false }
@@ -27,7 +27,7 @@ impl<Out: Write> FailStopWriter<Out> {
     }
 
     // Writes once; returns how many bytes the writer took, at least one.
-    // Error: the write fails or takes no byte. After a failure it does not write.
+    // Error: the write fails or takes no byte. Later calls then fail without writing.
     fn write(&mut self, bytes: &[u8]) -> Result<usize, OutputFault>
         requires some { 0 < length bytes.now }
         ensures bytes { IfOk result (λ len. Appends (Out.contents self.old.writer) (Out.contents self.new.writer) (take len bytes.now)) }
@@ -50,8 +50,8 @@ impl<Out: Write> FailStopWriter<Out> {
     }
 
     /// Writes all the bytes.
-    /// Error: at the first write that fails or takes no byte, without a retry even if it was interrupted.
-    /// The writer has then got only a proper prefix of the bytes.
+    /// Error: a write fails or takes no byte. There is no retry, even if the write was interrupted.
+    /// The underlying writer has then received only a proper prefix of the bytes.
     pub fn write_whole(&mut self, bytes: &[u8]) -> Result<(), OutputFault>
         ensures ok { OnOk result (Appends (Out.contents self.old.writer) (Out.contents self.new.writer) bytes.now) }
         ensures good { OnOk result (self.new.failed ≡ self.old.failed) }
@@ -67,7 +67,7 @@ impl<Out: Write> FailStopWriter<Out> {
     }
 
     /// Flushes the writer.
-    /// Error: the flush fails, without a retry. After a failure it does not flush.
+    /// Error: the flush fails. There is no retry. After a failure, calls fail without flushing.
     pub fn flush_once(&mut self) -> Result<(), OutputFault>
         ensures bytes { Keeps (Out.contents self.old.writer) (Out.contents self.new.writer) }
         ensures good { OnOk result (self.new.failed ≡ self.old.failed) }

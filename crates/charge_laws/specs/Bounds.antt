@@ -1,4 +1,5 @@
--- The charge is at most twice the edges and a weight for each node: each part of it counts an edge or a node.
+-- The charge is at most twice the edges and a weight for each node: each part of the charge counts an edge
+-- or a node.
 use Rattle.std.proofs.Common.{◌+◌, ◌*◌, ◌≤◌, Bool, true, false, cond, not, arith}
 use Rattle.std.proofs.lemmas.List.Sums.{count_by-le-length, sum_by-le}
 use Rattle.rule_machine.specs.Network.{names, edge_list, node_count, edge_count}

@@ -1,4 +1,5 @@
--- What it means that the charge pays for moves, and the definitions for its bounds on runs.
+-- The terms of the charge's laws: what it means that the charge pays for moves, and what is bounded in
+-- runs.
 use Rattle.std.specs.Prelude.{◌≢◌, ℕ, ◌+◌, ◌≤◌, List, length, sum_by, All}
 use Rattle.rule_machine.specs.declared.reply.Reply.{Reply}
 use Rattle.rule_machine.specs.declared.reply.Reply.TheVariants.{Accepted, Moves}
@@ -6,21 +7,21 @@ use Rattle.rule_machine.specs.RuleTable.{RuleTable}
 use Rattle.rule_machine.specs.Run.{Entry, Moment}
 pub use Rattle.rules_api.specs.Charge.{charge_bound, IsCharged}
 
--- the moves of a reply
+-- how many moves a reply has
 abbrev pub moves_of : Reply → ℕ
 moves_of (Moves moves) = length moves
 moves_of reply = 0
 
--- the moves of a log
+-- how many moves a log has
 abbrev pub moves_in : List Entry → ℕ
 moves_in log = sum_by (λ entry. moves_of entry.1) log
 
--- whether a reply is that of an accepted step: 1 or 0
+-- 1 if a reply is that of an accepted step, else 0
 abbrev pub steps_of : Reply → ℕ
 steps_of (Moves moves) = 1
 steps_of reply = 0
 
--- the accepted steps of a log
+-- how many accepted steps a log has
 abbrev pub steps_in : List Entry → ℕ
 steps_in log = sum_by (λ entry. steps_of entry.1) log
 
@@ -28,6 +29,6 @@ steps_in log = sum_by (λ entry. steps_of entry.1) log
 abbrev pub IsUndisturbed : List Entry → Type 0
 IsUndisturbed log = All (λ entry. entry.1 ≢ Accepted) log
 
--- moves spent plus the charge left are within the bound of the network
+-- moves spent plus the charge are within the bound of the network
 abbrev pub IsWithinBound : RuleTable → ℕ → Moment → Type 0
 IsWithinBound t weight m = m.spent + t.charge m.state ≤ charge_bound weight m.state.network

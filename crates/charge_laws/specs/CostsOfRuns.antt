@@ -1,5 +1,5 @@
--- What the moves of a run cost, with disturbances: the charge at its start and the costs of the disturbances
--- bound them.
+-- The moves of a run with disturbances are at most the charge at its start plus the costs of the
+-- disturbances.
 use Rattle.std.proofs.Common.{◌≡◌, ℕ, ◌+◌, ◌*◌, ◌≤◌, true, false, cond, not, ◌&&◌, List, [], ◌∷◌, length, map, nat_eq, nat_le, Option, None, Some, IsTrue, refl, sym, ap, ap₂, ◌∙◌, subst, ⊎_elim, arith, leb-true, eq-eqb}
 use Rattle.std.proofs.lemmas.Bool.{true≢false, and_parts}
 use Rattle.std.proofs.lemmas.Option.{same_Some, none-some}
@@ -39,7 +39,7 @@ use Rattle.machine_laws.specs.Neighbours.{option_cases}
 use Rattle.machine_laws.specs.Pointers.{pointer_linked, partner_some}
 use Rattle.rule_machine.specs.Disturbance.{after_leave}
 
--- an accepted disturbance adds its cost at most
+-- each accepted disturbance adds at most its cost to the charge
 abbrev pub IsCosted : RuleTable → (State → Event → ℕ) → Type 0
 IsCosted t cost =
     (s : State) → IsState s → (n : ℕ) (event : Event) (s' : State) → refusal_of t s event ≡ None → Does t s n event Accepted s' → t.charge s' ≤ t.charge s + cost s event
@@ -155,7 +155,7 @@ join_absent s v e =
     let first = cond_none (not (nat_le 1 v && nat_le v s.network.size)) UnknownNode _ e in
     (cond_none (present s.network v) AlreadyPresent None first.1).0
 
--- what a node that goes leaves to its partner, by its pointer
+-- the edges that a node which leaves may open at its partner, by its pointer
 parted_within : (s : State) (v : ℕ) → IsState s → IsTrue (present s.network v) → of_manne.parted_cost (after_leave s v).network (partner s v) ≤ manne_leave_cost s.network (is_unanswered s v) (pointer s v)
 parted_within s v good has =
     ⊎_elim
@@ -207,7 +207,7 @@ manne_path_costs start good path is = path_costs manne 3 manne_cost manne_table 
 
 -- ---- pairs that are gained
 
--- a run goes from state to state
+-- a run from a valid state ends in a valid state
 pub path_keeps : (t : RuleTable) → IsTable t → (start : Moment) → IsState start.state → (path : List (Entry × State)) → IsPath t start path → IsState (end_of_path start.state path)
 path_keeps t table start good [] is = good
 path_keeps t table start good (((event, reply), s) ∷ path) (answers, is) =

@@ -1,4 +1,4 @@
--- How many edges are left at a node when one of them goes, or a neighbour with all of its own.
+-- How many edges are left at a node after one of its edges is removed, or a neighbour leaves.
 use Rattle.std.proofs.Common.{◌≡◌, ℕ, ◌-◌, ◌≤◌, false, cond, not, ◌&&◌, nat_eq, Option, None, Some, IsTrue, refl, ap, ◌∙◌, ⊎_elim, arith}
 use Rattle.std.proofs.lemmas.Bool.{cases_Bool, and_from, not_from_false, or_left, or_right, or_cases, eq-eqb, eqb-true}
 use Rattle.rule_machine.specs.Network.{edge, is_end, linked, present, edge_list}
@@ -27,7 +27,7 @@ second_end a b =
     (or_right (nat_eq a b) (nat_eq b b) (eq-eqb b b refl))
     (or_left (nat_eq b b) (nat_eq a b) (eq-eqb b b refl))
 
--- an end of an edge that goes has one edge less
+-- each end of a removed edge has one edge less
 pub degree_without_edge : (s : State) (a b v : ℕ) → IsState s → IsTrue (linked s.network a b) → IsTrue (is_end v (edge a b)) → degree (after_unlink s a b).network v ≡ degree s.network v - 1
 degree_without_edge s a b v good near end =
     let before = edges_at s.network good.is_network v in
@@ -36,7 +36,7 @@ degree_without_edge s a b v good near end =
     let one = ap {B = ℕ} (λ t. cond t 1 0) end in
     omega (arith, before, after, count, one)
 
--- and so has a neighbour of a node that goes
+-- each neighbour of a node that leaves has one edge less
 pub degree_without_node : (s : State) (v u : ℕ) → IsState s → IsTrue (present s.network v) → IsTrue (linked s.network v u) → degree (after_leave s v).network u ≤ degree s.network u - 1
 degree_without_node s v u good has near =
     let after = edges_at (after_leave s v).network (leave_keeps s v good).is_network u in
@@ -55,7 +55,7 @@ degree_without_node s v u good has near =
         (λ free. free)
         (cases_Bool (is_end v e))
 
--- the same at the target of the leaving node's pointer
+-- the target of a node that leaves has one edge less
 pub degree_left_at : (s : State) (v : ℕ) → IsState s → IsTrue (present s.network v) → degree_at (after_leave s v).network (pointer s v) ≤ degree_at s.network (pointer s v) - 1
 degree_left_at s v good has = go (pointer s v) refl
   where

@@ -1,5 +1,5 @@
--- What a disturbance leaves of pairs, closed edges and waiting nodes. It touches the old target of a pointer
--- that it changes, and, if the two were a pair, the node that pointed too.
+-- Which pairs, closed edges and waiting nodes a disturbance leaves. A disturbance that changes a pointer
+-- touches the old target, and, if the two nodes were a pair, the pointer's node too.
 use Rattle.std.proofs.Common.{◌≡◌, ◌≢◌, ℕ, ◌+◌, ◌*◌, ◌≤◌, Bool, true, false, not, count_by, nat_eq, Option, None, Some, IsTrue, sym, ap, ◌∙◌, inl, inr, ⊎_elim, ◌⊎◌, arith}
 use Rattle.std.proofs.lemmas.Bool.{cases_Bool, not-true, not_from_false, or_parts, true≢false, eqb-false}
 use Rattle.rule_machine.specs.Network.{Network, is_end, names, edge_list}
@@ -13,7 +13,7 @@ use Rattle.charge_laws.specs.Degrees.{count_grows}
 use Rattle.charge_laws.specs.HsuHuangTurns.{IsClosed, low_paired, high_paired, low_awaits, high_awaits, courted}
 use Rattle.charge_laws.specs.HsuHuangFalls.{closed_is, closed_from}
 
--- from pointers p to p' nothing changes but at the touched nodes
+-- from p to p' only null pointers of touched nodes and pointers at touched nodes may change
 pub record IsTouching (p p' : ℕ → Option ℕ) (touched : ℕ → Bool) : Type 0 where
   -- a null pointer stays null
   pub nulls : (x : ℕ) → touched x ≡ false → p x ≡ None → p' x ≡ None
@@ -38,12 +38,12 @@ still_closed p p' touched it a b low high (courted null other u v at also) =
 
 -- ---- the charge
 
--- the edges and nodes are among the earlier ones
+-- each edge and node of the second network is one of the first
 pub record IsSubNetwork (net net' : Network) : Type 0 where
   pub edges : (e : ℕ × ℕ) → IsIn e (edge_list net') → IsIn e (edge_list net)
   pub nodes : (v : ℕ) → IsIn v (names net') → IsIn v (names net)
 
--- a node that waits did so before or is marked
+-- each node that waits by p' waits by p, or is marked
 abbrev pub WaitsOnly : (ℕ → Option ℕ) → (ℕ → Option ℕ) → (ℕ → Bool) → Type 0
 WaitsOnly p p' marked = (x w : ℕ) → p' x ≡ Some w → p' w ≢ Some x → IsTrue (is_waiting (stance p x)) ⊎ IsTrue (marked x)
 

@@ -1,4 +1,5 @@
--- The epochs of a run: the moves of each are at most twice its edges plus the weight for each of its nodes.
+-- The epochs of a run: the moves of each epoch are at most twice its edges plus a weight for each of its
+-- nodes.
 use Rattle.std.proofs.Common.{◌≡◌, ◌≢◌, ℕ, ◌+◌, ◌*◌, ◌≤◌, List, [], ◌∷◌, length, All, refl, sym, ap, ◌∙◌, arith}
 use Rattle.std.proofs.lemmas.List.Elements.{All-nil, All-cons, All-append}
 use Rattle.rule_machine.specs.declared.reply.Reply.{Reply}
@@ -15,7 +16,7 @@ use Rattle.charge_laws.specs.ChargeWords.{IsCharged, IsWithinBound}
 use Rattle.charge_laws.specs.Runs.{answer_lowers, answer_within}
 use Rattle.charge_laws.specs.Laws.{beginning_is_within}
 
--- From a moment on, the machine may give these entries, each with the state after it.
+-- From this moment on, the machine may give these entries; each is paired with the state after the entry.
 abbrev pub IsPath : RuleTable → Moment → List (Entry × State) → Type 0
 IsPath t start [] = Unit {0}
 IsPath t start (step ∷ path) =

@@ -1,8 +1,8 @@
--- The charge pays for moves, under both tables of rules. Each move lowers it by at least one. Twice the edges
--- and a weight for each node bound it. If it is zero the network is stable. So between two disturbances at
--- most as many moves come as the charge was, whatever the daemon chooses and whatever allowed targets are
--- taken. After as many moves the network is stable. Turns shows why a step's moves are paid; Epochs has the
--- bound for each epoch of a run.
+-- The charge pays for moves, under both tables of rules. Each move lowers the charge by at least one. The
+-- charge is at most twice the edges plus a weight for each node. If the charge is zero the network is
+-- stable. So between two disturbances there are at most as many moves as the charge was at first, whatever
+-- the daemon chooses and whatever allowed targets are taken. After as many moves the network is stable.
+-- Turns shows why a step's moves are paid; Epochs has the bound for each epoch of a run.
 use Rattle.std.proofs.Common.{◌≡◌, ℕ, ◌+◌, ◌*◌, ◌≤◌, true, false, List, arith}
 use Rattle.rule_machine.specs.Network.{node_count, edge_count}
 use Rattle.rule_machine.specs.State.{IsState, opening_with}
@@ -22,7 +22,7 @@ use Rattle.charge_laws.specs.Zero.{hsu_huang_zero_is_stable, manne_zero_is_stabl
 use Rattle.charge_laws.specs.Tables.{hsu_huang_table, manne_table}
 use Rattle.charge_laws.specs.Runs.{run_lowers, run_within}
 
--- Hsu and Huang: one node moves at a time, and each node weighs 1
+-- Hsu and Huang: one node moves at a time, and each node adds 1 to the bound
 pub hsu_huang_charged : IsCharged hsu_huang 1
 hsu_huang_charged = record {
   falls = hsu_huang_falls;
@@ -30,7 +30,7 @@ hsu_huang_charged = record {
   zero_is_stable = hsu_huang_zero_is_stable;
 }
 
--- Manne and others: any nodes move at once, and each node weighs 3
+-- Manne and others: any nodes move at once, and each node adds 3 to the bound
 pub manne_charged : IsCharged manne 3
 manne_charged = record {
   falls = manne_falls;
@@ -44,14 +44,14 @@ manne_charged = record {
 pub moves_are_paid : (t : RuleTable) (weight : ℕ) → IsTable t → IsCharged t weight → (start : Moment) → IsState start.state → (log : List Entry) (end : Moment) → Run t start log end → IsUndisturbed log → moves_in log + t.charge end.state ≤ t.charge start.state
 moves_are_paid t weight table charged start good log end run calm = (run_lowers t weight table charged start good log end run calm).0
 
--- They are at most twice the edges plus the weight for each node.
+-- The moves of such a run are at most twice the edges plus the weight for each node.
 pub moves_are_bounded : (t : RuleTable) (weight : ℕ) → IsTable t → IsCharged t weight → (start : Moment) → IsState start.state → (log : List Entry) (end : Moment) → Run t start log end → IsUndisturbed log → moves_in log ≤ 2 * edge_count start.state.network + weight * node_count start.state.network
 moves_are_bounded t weight table charged start good log end run calm =
     let paid = moves_are_paid t weight table charged start good log end run calm in
     let most = charged.bounded start.state good in
     omega (arith, paid, most)
 
--- When as many moves have come as the charge was, it is zero and the network is stable.
+-- After as many moves as the charge at the start, the charge is zero and the network is stable.
 pub enough_moves_settle : (t : RuleTable) (weight : ℕ) → IsTable t → IsCharged t weight → (start : Moment) → IsState start.state → (log : List Entry) (end : Moment) → Run t start log end → IsUndisturbed log → t.charge start.state ≤ moves_in log → (t.charge end.state ≡ 0) × IsStable t.flags end.state
 enough_moves_settle t weight table charged start good log end run calm enough =
     let paid = moves_are_paid t weight table charged start good log end run calm in
@@ -62,31 +62,32 @@ enough_moves_settle t weight table charged start good log end run calm enough =
 pub beginning_is_within : (t : RuleTable) (weight : ℕ) → IsCharged t weight → (size count : ℕ) → IsWithinBound t weight (beginning_with size count)
 beginning_is_within t weight charged size count = let most = charged.bounded (opening_with size count) (opening_is_state size count) in omega (arith, most)
 
--- From the opening state, with disturbances: the moves since the last accepted one plus the charge are within
--- the bound of the network as it is.
+-- In a run from the opening state, with disturbances, the moves since the last accepted disturbance plus
+-- the charge are within the bound of the network at the end.
 pub opening_runs_are_bounded : (t : RuleTable) (weight : ℕ) → IsTable t → IsCharged t weight → (size count : ℕ) (log : List Entry) (end : Moment) → Run t (beginning_with size count) log end → end.spent + t.charge end.state ≤ 2 * edge_count end.state.network + weight * node_count end.state.network
 opening_runs_are_bounded t weight table charged size count log end run =
     run_within t weight table charged (beginning_with size count) (opening_is_state size count) (beginning_is_within t weight charged size count) log end run
 
 -- ---- the two tables
 
--- Hsu and Huang: between two disturbances at most 2m + n moves, from whatever state
+-- Hsu and Huang: between two disturbances there are at most 2m + n moves, from any state
 pub hsu_huang_moves_are_bounded : (start : Moment) → IsState start.state → (log : List Entry) (end : Moment) → Run hsu_huang start log end → IsUndisturbed log → moves_in log ≤ 2 * edge_count start.state.network + node_count start.state.network
 hsu_huang_moves_are_bounded start good log end run calm =
     let bounded = moves_are_bounded hsu_huang 1 hsu_huang_table hsu_huang_charged start good log end run calm in omega (arith, bounded)
 
--- Manne and others: at most 2m + 3n, however many nodes move at once
+-- Manne and others: between two disturbances there are at most 2m + 3n moves, however many nodes move at
+-- once
 pub manne_moves_are_bounded : (start : Moment) → IsState start.state → (log : List Entry) (end : Moment) → Run manne start log end → IsUndisturbed log → moves_in log ≤ 2 * edge_count start.state.network + 3 * node_count start.state.network
 manne_moves_are_bounded start good log end run calm = moves_are_bounded manne 3 manne_table manne_charged start good log end run calm
 
--- and when as many moves have come as the charge was, the network is stable
+-- after as many moves as the charge at the start, the network is stable
 pub hsu_huang_settles : (start : Moment) → IsState start.state → (log : List Entry) (end : Moment) → Run hsu_huang start log end → IsUndisturbed log → hsu_huang.charge start.state ≤ moves_in log → IsStable false end.state
 hsu_huang_settles start good log end run calm enough = (enough_moves_settle hsu_huang 1 hsu_huang_table hsu_huang_charged start good log end run calm enough).1
 
 pub manne_settles : (start : Moment) → IsState start.state → (log : List Entry) (end : Moment) → Run manne start log end → IsUndisturbed log → manne.charge start.state ≤ moves_in log → IsStable true end.state
 manne_settles start good log end run calm enough = (enough_moves_settle manne 3 manne_table manne_charged start good log end run calm enough).1
 
--- a journal's spending is bounded by its network, at any moment
+-- in a run from the opening state, moves spent plus the charge are bounded by the network, at any moment
 pub hsu_huang_spending_is_bounded : (size count : ℕ) (log : List Entry) (end : Moment) → Run hsu_huang (beginning_with size count) log end → end.spent + hsu_huang.charge end.state ≤ 2 * edge_count end.state.network + node_count end.state.network
 hsu_huang_spending_is_bounded size count log end run =
     let bounded = opening_runs_are_bounded hsu_huang 1 hsu_huang_table hsu_huang_charged size count log end run in omega (arith, bounded)

@@ -62,12 +62,13 @@ manne_least_is_stable s good least = record {
     open_ends : (a b : ℕ) → pointer s a ≡ None → pointer s b ≡ None → IsTrue (manne_closed s (a, b)) → ⊥
     open_ends a b null other h = none_of (married s a) (married s b) (points s.registers a b) (not (flag s b)) (null_unmarried s a null) (null_unmarried s b other) (ap (λ o. is_at o b) null) h
 
--- so a state is stable exactly if its paired nodes and its charge sum to all nodes
+-- a state is stable if its charge plus its paired nodes are at most the number of nodes
 pub least_charge_is_stable : (s : State) → IsState s → manne_charge s + 2 * length (mutual_pairs s) ≤ node_count s.network → IsStable true s
 least_charge_is_stable s good least =
     let pairs = married_are_pairs s good in manne_least_is_stable s good (omega (arith, pairs, least))
 
--- and a run that has as many moves as the charge was beyond the nodes that stay unmarried ends in one
+-- a run ends stable if its moves reach the charge at its start minus the nodes that are unmarried at its
+-- end
 pub manne_enough_moves : (start : Moment) → IsState start.state → (log : List Entry) (end : Moment) → Run manne start log end → IsUndisturbed log → manne_charge start.state + 2 * length (mutual_pairs end.state) ≤ moves_in log + node_count start.state.network → IsStable true end.state
 manne_enough_moves start good log end run calm enough =
     let lowers = run_lowers manne 3 manne_table manne_charged start good log end run calm in
@@ -75,6 +76,6 @@ manne_enough_moves start good log end run calm enough =
     let nodes = ap node_count lowers.1 in
     least_charge_is_stable end.state (runs_end_in_states manne manne_table start good log end run) (omega (arith, paid, nodes, enough))
 
--- it is no less anywhere
+-- in any state the charge plus the paired nodes are at least the number of nodes
 pub charge_is_more : (s : State) → IsState s → node_count s.network ≤ manne_charge s + 2 * length (mutual_pairs s)
 charge_is_more s good = let pairs = married_are_pairs s good in let each = unmarried_charge s in omega (arith, pairs, each)

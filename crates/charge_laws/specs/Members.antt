@@ -85,7 +85,7 @@ edges_contain net e h = map.contains_key-keys net.edges e ∙ in_any e (edge_lis
 pub edges_len : (net : Network) → length (edge_list net) ≡ edge_count net
 edges_len net = length-map (map.entries net.edges) (λ e. e.0) ∙ sym (map.len-entries net.edges)
 
--- what holds of both orders of the ends holds of the edge
+-- a fact that is true for both orders of the ends is true of the edge
 pub edge_either : (P : ℕ × ℕ → Type 0) (v w : ℕ) → P (v, w) → P (w, v) → P (edge v w)
 edge_either P v w h k =
     ⊎_elim

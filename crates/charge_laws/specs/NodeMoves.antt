@@ -18,12 +18,13 @@ use Rattle.charge_laws.specs.ListCounts.{IsIn, IsWithoutRepeats}
 use Rattle.charge_laws.specs.Members.{in_names}
 use Rattle.charge_laws.specs.Writes.{pointer_after_act, flag_by, is_mover_in, NodeAfterMoves, still, moved, moves_leave, in_nodes, node_is_moved, single_from_increasing, moves_counted}
 
--- only a present node has an enabled rule, and its targets are neighbours
+-- only a present node has an enabled rule, and the targets that the rule allows are neighbours
 pub record IsInside (t : RuleTable) : Type 0 where
   pub has : (s : State) (v : ℕ) (act : Act) → IsState s → IsTrue (t.guard s v act) → IsTrue (present s.network v)
   pub near : (s : State) (v : ℕ) (act : Act) (w : ℕ) → IsTrue (t.allowed s v act w) → IsTrue (linked s.network v w)
 
--- v idles, or moves by a rule whose guard holds before the step, to a target that is allowed then
+-- v does not move, or moves by a rule that is enabled before the step, to a target that is allowed before
+-- the step
 pub data Deed (t : RuleTable) (s : State) (s' : State) (moves : List Moved) (v : ℕ) : Type 0 where
   idles : is_mover_in moves v ≡ false → pointer s' v ≡ pointer s v → flag s' v ≡ flag s v → Deed t s s' moves v
   updates : IsTrue (is_mover_in moves v) → IsTrue (t.guard s v Update) → pointer s' v ≡ pointer s v → flag s' v ≡ married s v → Deed t s s' moves v

@@ -1,4 +1,4 @@
--- Bounds on runs from the charge, for any rule set whose steps lower it.
+-- Bounds on runs from the charge, for any rule set whose steps lower the charge.
 use Rattle.std.proofs.Common.{◌≡◌, ◌≢◌, ℕ, ◌+◌, ◌≤◌, List, [], ◌∷◌, Option, None, Some, refl, sym, ap, ◌∙◌, subst, arith}
 use Rattle.std.proofs.lemmas.List.Elements.{All-head, All-tail}
 use Rattle.std.proofs.lemmas.List.Sums.{sum_by-cons}
@@ -21,7 +21,7 @@ use Rattle.charge_laws.specs.ChargeWords.{charge_bound, IsCharged, moves_of, mov
 
 -- ---- one answer
 
--- what an answer does: nothing, a step, or a disturbance
+-- what an answer does to the state: nothing, a step, or a disturbance
 pub data Effect (t : RuleTable) (s : State) (reply : Reply) (s' : State) : Type 0 where
   rests : s' ≡ s → moves_of reply ≡ 0 → ((n : ℕ) → spent_after n reply ≡ n) → Effect t s reply s'
   steps : (items : List Item) (moves : List Moved) → reply ≡ Moves moves → IsStep t s items moves s' → Effect t s reply s'

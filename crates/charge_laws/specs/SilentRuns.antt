@@ -1,5 +1,5 @@
--- A run that is long enough ends silent. If each turn moves a node or comes in a silent network, as many
--- turns as the budget lead to silence. A budget is any bound that moves use up.
+-- A run that is long enough ends silent. If each turn moves a node or is made in a silent network, the
+-- network is silent after as many turns as the budget. A budget is any bound that moves use up.
 use Rattle.std.proofs.Common.{◌≡◌, ◌≢◌, ℕ, suc, ◌-◌, ◌≤◌, List, [], ◌∷◌, length, All, Any, None, Some, IsTrue, refl, sym, ap, ◌∙◌, subst, ⊎_elim, ◌⊎◌, arith}
 use Rattle.std.proofs.lemmas.Bool.{true≢false}
 use Rattle.std.proofs.lemmas.List.Elements.{All-head, All-tail, All-cons, All-nil}
@@ -26,17 +26,18 @@ use Rattle.charge_laws.specs.NodeMoves.{IsInside}
 use Rattle.charge_laws.specs.Epochs.{IsPath}
 use Rattle.charge_laws.specs.Runs.{Effect, rests, steps, disturbs, effect}
 
--- each entry has a move, or comes in a silent network
+-- each entry has a move, or is made in a silent network
 abbrev pub IsDriven : RuleTable → State → List (Entry × State) → Type 0
 IsDriven t s [] = Unit {0}
 IsDriven t s (turn ∷ path) = ((1 ≤ moves_of turn.0.1) ⊎ (enabled_names t s ≡ [])) × IsDriven t turn.1 path
 
--- from a state within n at most n moves can be spent, and a step spends its own
+-- from a state within n, a step has at most n moves, and the state after the step is within n minus these
+-- moves
 pub record IsBudget (t : RuleTable) (within : State → ℕ → Type 0) : Type 0 where
   pub spends : (s : State) (n : ℕ) (items : List Item) (moves : List Moved) (s' : State) → IsState s → within s n → IsStep t s items moves s' → (length moves ≤ n) × within s' (n - length moves)
   pub more : (s : State) (n m : ℕ) → within s n → n ≤ m → within s m
 
--- the charge is one
+-- the charge is a budget
 pub charge_budget : (t : RuleTable) (weight : ℕ) → IsCharged t weight → IsBudget t (λ s n. t.charge s ≤ n)
 charge_budget t weight charged = record {
   spends = λ s n items moves s' good within step. let falls = charged.falls s items moves s' good step in (omega (arith, falls, within), omega (arith, falls, within));

@@ -1,4 +1,5 @@
--- The stance of a node: its pointer is null, or at a node that does not point back, or at one that does.
+-- The stance of a node: its pointer is null, or at a node that does not point back, or at a node that
+-- points back.
 use Rattle.std.proofs.Common.{◌≡◌, ◌≢◌, ℕ, Bool, true, false, cond, not, Option, None, Some, is_some, is_none, IsTrue, refl, sym, ap, ◌∙◌, true≢false}
 use Rattle.std.proofs.lemmas.Bool.{cond-true, cond-false, false_from_ne_true}
 use Rattle.rule_machine.specs.State.{State, IsState, is_at, holds_at, pointer, is_unanswered, married}
@@ -73,7 +74,7 @@ stance_cases p v = by_pointer (p v) refl
     by_pointer None e = free e (free_from p v e)
     by_pointer (Some w) e = by_back w e (is_at (p w) v) refl
 
--- an unanswered pointer is one of a waiting node
+-- a pointer is unanswered exactly if its node waits
 pub unanswered_is : (s : State) (v : ℕ) → is_unanswered s v ≡ is_waiting (stance (pointer s) v)
 unanswered_is s v = by_pointer (pointer s v)
   where

@@ -1,4 +1,4 @@
--- What the registers of each node hold after the moves of a step.
+-- The registers of each node after the moves of a step.
 use Rattle.std.proofs.Common.{◌≡◌, ℕ, ◌<◌, ◌≤◌, Bool, true, false, List, [], ◌∷◌, length, map, fold, count_by, Option, None, IsTrue, nat_eq, refl, sym, ap, ◌∙◌, subst, inl, inr, ◌⊎◌, arith}
 use Rattle.std.specs.Cmp.{nat_cmp_total}
 use Rattle.std.specs.List.{AllByRecursion, IsDistinct, list_any}
@@ -16,7 +16,7 @@ use Rattle.rule_machine.specs.Step.{written, after_move}
 use Rattle.machine_laws.specs.Writes.{pointer-with_pointer_other, pointer-with_pointer_same, flag-with_flag_other, flag-with_flag_same}
 use Rattle.charge_laws.specs.ListCounts.{IsIn, IsWithoutRepeats, count_into, count_all}
 
--- what a move leaves in its node's pointer, and in its flag
+-- the pointer of a node after its move, and the flag after its move
 abbrev pub pointer_after_act : Act → Option ℕ → Option ℕ → Option ℕ
 pointer_after_act Update target old = old
 pointer_after_act Marry target old = target
@@ -69,7 +69,7 @@ flags_kept before r v Abandon target = refl
 abbrev pub is_mover_in : List Moved → ℕ → Bool
 is_mover_in moves v = list_any (λ m. nat_eq m.node v) moves
 
--- v's registers after the moves: as before if none is v's, else what its move leaves
+-- v's registers after the moves: as before if v does not move, else as v's move writes them
 pub data NodeAfterMoves (before : State) (r r' : Registers) (moves : List Moved) (v : ℕ) : Type 0 where
   still : is_mover_in moves v ≡ false → pointer_of r' v ≡ pointer_of r v → flag_of r' v ≡ flag_of r v → NodeAfterMoves before r r' moves v
   moved : (m : Moved) → IsIn m moves → m.node ≡ v → pointer_of r' v ≡ pointer_after_act m.act m.target (pointer_of r v) → flag_of r' v ≡ flag_by m.act (married before v) (flag_of r v) → NodeAfterMoves before r r' moves v

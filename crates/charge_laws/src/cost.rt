@@ -1,4 +1,4 @@
-//! What disturbances cost, as laws.
+//! Laws of what disturbances cost: how much they add to the charge, and so to the moves.
 
 ghost use Rattle.std.specs.Prelude.{◌≡◌, ℕ, ◌+◌, ◌*◌, ◌≤◌, List, length, true, false};
 ghost use Rattle.rule_machine.specs.declared.event.Event.{Event};
@@ -22,7 +22,7 @@ pub fn stable_charge()
 
 /// An accepted disturbance adds at most its cost to the charge.
 ///
-/// The cost is a sum of degrees of the nodes that it touches (`specs/Costs`).
+/// The cost is a sum of degrees of the nodes that the disturbance touches (`specs/Costs`).
 pub fn disturbances_cost()
     ensures hsu_huang { (s : State) → IsState s → (spent : ℕ) (event : Event) (after : State) → Answers hsu_huang s spent event Accepted after
         → hsu_huang.charge after ≤ hsu_huang.charge s + hsu_huang_cost s event }
@@ -30,9 +30,9 @@ pub fn disturbances_cost()
         → manne.charge after ≤ manne.charge s + manne_cost s event }
 {}
 
-/// The moves of a run and the charge left are at most the first charge plus the costs of disturbances.
+/// A run's moves plus the charge at its end are at most the charge at its start plus all costs.
 ///
-/// Holds from any state, whatever the daemon chooses.
+/// The costs are those of the run's disturbances. Holds from any state, whatever the daemon chooses.
 pub fn disturbed_moves_are_paid()
     ensures hsu_huang { (start : Moment) → IsState start.state → (path : List (Entry × State)) → IsPath hsu_huang start path
         → moves_in (path_entries path) + hsu_huang.charge (end_of_path start.state path) ≤ hsu_huang.charge start.state + path_cost hsu_huang_cost start.state path }
@@ -40,10 +40,10 @@ pub fn disturbed_moves_are_paid()
         → moves_in (path_entries path) + manne.charge (end_of_path start.state path) ≤ manne.charge start.state + path_cost manne_cost start.state path }
 {}
 
-/// From a stable state the costs of the disturbances alone bound all moves.
+/// If a run starts at a stable state, the costs of its disturbances alone bound its moves.
 ///
-/// This is for Hsu and Huang's rules, whatever the size of the network. By Manne's rules add two for each
-/// mutual pair that was gained and one for each node that went.
+/// By Hsu and Huang's rules nothing is added, whatever the size of the network. By Manne's rules the bound
+/// is 2 more for each mutual pair more at the end than at the start, and 1 more for each node fewer.
 pub fn stable_moves_are_paid()
     ensures hsu_huang { (start : Moment) → IsState start.state → IsStable false start.state → (path : List (Entry × State)) → IsPath hsu_huang start path
         → moves_in (path_entries path) ≤ path_cost hsu_huang_cost start.state path }
@@ -52,10 +52,10 @@ pub fn stable_moves_are_paid()
         ≤ path_cost manne_cost start.state path + 2 * length (mutual_pairs (end_of_path start.state path)) + node_count start.state.network }
 {}
 
-/// After one disturbance of a stable state, its cost bounds the moves up to the next disturbance.
+/// The cost of one disturbance of a stable state bounds the moves up to the next disturbance.
 ///
-/// This is for Hsu and Huang's rules, whatever the size of the network. By Manne's rules add two for each
-/// mutual pair that was gained and one for a node that went.
+/// By Hsu and Huang's rules nothing is added, whatever the size of the network. By Manne's rules the bound
+/// is 2 more for each mutual pair more at the end than before the disturbance, and 1 more if a node left.
 pub fn one_disturbance_pays()
     ensures hsu_huang { (s : State) → IsState s → IsStable false s → (spent : ℕ) (event : Event) (after : State) → Answers hsu_huang s spent event Accepted after
         → (log : List Entry) (end : Moment) → Run hsu_huang (record { state = after; spent = 0 }) log end → IsUndisturbed log

@@ -13,9 +13,10 @@ ghost use Rattle.machine_laws.specs.HalfMatchings.{IsMatching};
 ghost use Rattle.charge_laws.specs.ChargeWords.{charge_bound, moves_in, steps_in, IsUndisturbed};
 ghost use Rattle.charge_laws.specs.Epochs.{IsPath, IsBoundedEpoch};
 
-/// Between two disturbances: at most 2m + n moves (Hsu and Huang) or 2m + 3n (Manne and others).
+/// Between two disturbances nodes make at most 2m + n moves (Hsu and Huang) or 2m + 3n (Manne).
 ///
-/// Holds from any state, whatever the daemon chooses and however many nodes move at once.
+/// There are m edges and n nodes. Holds from any state, whatever the daemon chooses and however many nodes
+/// move at once.
 pub fn moves_are_bounded()
     ensures hsu_huang { (start : Moment) → IsState start.state → (log : List Entry) (end : Moment) → Run hsu_huang start log end → IsUndisturbed log
         → moves_in log ≤ 2 * edge_count start.state.network + node_count start.state.network }
@@ -25,7 +26,7 @@ pub fn moves_are_bounded()
 
 /// Without a disturbance, the moves so far plus the charge left are at most the charge at the start.
 ///
-/// That charge is at most 2m + n (Hsu and Huang) or 2m + 3n (Manne and others). Holds from any state,
+/// The charge at the start is at most 2m + n (Hsu and Huang) or 2m + 3n (Manne). Holds from any state,
 /// whatever the daemon chooses.
 pub fn moves_are_paid()
     ensures hsu_huang { (start : Moment) → IsState start.state → (log : List Entry) (end : Moment) → Run hsu_huang start log end → IsUndisturbed log
@@ -36,7 +37,7 @@ pub fn moves_are_paid()
         × (manne.charge start.state ≤ 2 * edge_count start.state.network + 3 * node_count start.state.network) }
 {}
 
-/// A run without a disturbance is stable after as many moves as the charge was at its start.
+/// A run without a disturbance ends stable if it has as many moves as the charge at its start.
 pub fn enough_moves_settle()
     ensures hsu_huang { (start : Moment) → IsState start.state → (log : List Entry) (end : Moment) → Run hsu_huang start log end → IsUndisturbed log
         → hsu_huang.charge start.state ≤ moves_in log → IsStable false end.state }
@@ -44,7 +45,7 @@ pub fn enough_moves_settle()
         → manne.charge start.state ≤ moves_in log → IsStable true end.state }
 {}
 
-/// A run without a disturbance is stable after as many accepted steps as the charge was at its start.
+/// A run without a disturbance ends stable if its accepted steps reach the charge at its start.
 ///
 /// Each step makes at least one move.
 pub fn enough_steps_settle()
@@ -54,9 +55,9 @@ pub fn enough_steps_settle()
         → manne.charge start.state ≤ steps_in log → IsStable true end.state }
 {}
 
-/// After as many moves as the charge at the start, pairs are at least half of any matching's edges.
+/// After enough moves there are at least half as many mutual pairs as edges in any matching.
 ///
-/// The run has no disturbance.
+/// Enough: as many as the charge at the start of the run. The run has no disturbance.
 pub fn enough_moves_give_half()
     ensures hsu_huang { (start : Moment) → IsState start.state → (log : List Entry) (end : Moment) → Run hsu_huang start log end → IsUndisturbed log
         → hsu_huang.charge start.state ≤ moves_in log → (other : List (ℕ × ℕ)) → IsMatching end.state.network other → length other ≤ 2 * length (mutual_pairs end.state) }
@@ -64,10 +65,10 @@ pub fn enough_moves_give_half()
         → manne.charge start.state ≤ moves_in log → (other : List (ℕ × ℕ)) → IsMatching end.state.network other → length other ≤ 2 * length (mutual_pairs end.state) }
 {}
 
-/// From the opening state, the moves since the last disturbance plus the charge are within the bound.
+/// In a run from the opening state, moves since the last disturbance plus the charge are bounded.
 ///
-/// The bound is that of the network as it is: 2m + n or 2m + 3n. The run may have disturbances; only accepted
-/// ones count as the last.
+/// The bound is 2m + n (Hsu and Huang) or 2m + 3n (Manne) for the m edges and n nodes at the end. The last
+/// disturbance is the last accepted one.
 pub fn spending_is_bounded()
     ensures hsu_huang { (size count : ℕ) (log : List Entry) (end : Moment) → Run hsu_huang (beginning_with size count) log end
         → end.spent + hsu_huang.charge end.state ≤ 2 * edge_count end.state.network + node_count end.state.network }
@@ -75,9 +76,9 @@ pub fn spending_is_bounded()
         → end.spent + manne.charge end.state ≤ 2 * edge_count end.state.network + 3 * node_count end.state.network }
 {}
 
-/// Each epoch from the opening state has at most 2m + n moves (Hsu and Huang) or 2m + 3n (Manne).
+/// Each epoch of a run has at most 2m + n moves (Hsu and Huang) or 2m + 3n (Manne).
 ///
-/// m and n are the edges and nodes that the epoch began with.
+/// The epoch begins with m edges and n nodes. The run starts at the opening state.
 pub fn epochs_are_bounded()
     ensures hsu_huang { (size count : ℕ) (path : List (Entry × State)) → IsPath hsu_huang (beginning_with size count) path
         → All (IsBoundedEpoch 1) (epochs_from 1 (epoch_at 0 (opening_with size count)) path) }
@@ -85,9 +86,9 @@ pub fn epochs_are_bounded()
         → All (IsBoundedEpoch 3) (epochs_from 1 (epoch_at 0 (opening_with size count)) path) }
 {}
 
-/// Each moment of a run from the opening state is a valid base: a run may begin there.
+/// Each moment of a run from the opening state gives a valid base: a run may begin there.
 ///
-/// It is a state for the same names, without a flag if flags are not used, and its spent moves and charge are
+/// The base has a state for the same names, no true flag if flags are not used, and spent moves plus charge
 /// within the bound.
 pub fn runs_may_begin()
     ensures hsu_huang { (size count number : ℕ) (log : List Entry) (end : Moment) → Run hsu_huang (beginning_with size count) log end
@@ -96,7 +97,7 @@ pub fn runs_may_begin()
         → IsBaseMoment manne (charge_bound 3) size (base_of number end) end }
 {}
 
-/// Each moment of a run that began at a base is a valid base too.
+/// Each moment of a run that began at a valid base gives a valid base.
 pub fn runs_may_go_on()
     ensures hsu_huang { (size number : ℕ) (base : Base) (start : Moment) → IsBaseMoment hsu_huang (charge_bound 1) size base start
         → (log : List Entry) (end : Moment) → Run hsu_huang start log end → IsBaseMoment hsu_huang (charge_bound 1) size (base_of number end) end }

@@ -1,15 +1,15 @@
-//! Laws of the charge (the potential of convergence): moves lower it, the network's size bounds it,
-//! disturbances raise it.
+//! Laws of the charge (the potential of convergence): moves lower the charge, the network's size
+//! bounds it, and disturbances raise it.
 //!
 //! Laws only: each public function is empty and its contract is the law. The laws hold for any run of the
 //! rule machine, from any state, whatever the daemon chooses. With m edges and n nodes:
 //!
-//! - Between two disturbances come at most 2m + n moves by Hsu and Huang's rules and 2m + 3n by Manne's
-//!   (`moves_are_bounded`).
+//! - Between two disturbances nodes make at most 2m + n moves by Hsu and Huang's rules and 2m + 3n by
+//!   Manne's (`moves_are_bounded`).
 //! - Moves spent plus the charge left are at most the charge at the start (`moves_are_paid`).
 //! - From a stable state the costs of edits and faults bound all moves (`stable_moves_are_paid`). Each cost
-//!   is a sum of degrees of the nodes that it touches. By Manne's rules two for each pair gained and one for
-//!   each node gone are added.
+//!   is a sum of degrees of the nodes that the event touches. By Manne's rules the bound is 2 more for each
+//!   pair gained and 1 more for each node gone.
 //!
 //! docs/BOUNDS.md has the bounds on one page.
 //!

@@ -1,4 +1,4 @@
-//! When a run has come to its end, as laws.
+//! Laws of when a run ends stable or silent.
 
 ghost use Rattle.std.specs.Prelude.{◌≡◌, ℕ, ◌+◌, ◌*◌, ◌≤◌, ◌↔◌, List, [], length, true};
 ghost use Rattle.rule_machine.specs.Network.{node_count};
@@ -21,16 +21,16 @@ pub fn least_charge_is_stable()
     ensures least { (s : State) → IsState s → node_count s.network ≤ manne.charge s + 2 * length (mutual_pairs s) }
 {}
 
-/// By Manne's rules a run without a disturbance settles sooner: unmarried nodes count off.
+/// By Manne's rules fewer moves settle a run: one fewer for each node that is unmarried at its end.
 ///
-/// It is stable once its moves reach the charge at its start less one for each node that is in no mutual pair
-/// at its end.
+/// A run without a disturbance is stable once its moves reach the charge at its start minus the number of
+/// nodes that are in no mutual pair at its end.
 pub fn fewer_moves_settle()
     ensures { (start : Moment) → IsState start.state → (log : List Entry) (end : Moment) → Run manne start log end → IsUndisturbed log
         → manne.charge start.state + 2 * length (mutual_pairs end.state) ≤ moves_in log + node_count start.state.network → IsStable true end.state }
 {}
 
-/// A silent network stays silent without a disturbance.
+/// A silent network stays silent until a disturbance.
 pub fn silence_lasts()
     ensures hsu_huang { (start : Moment) → IsState start.state → enabled_names hsu_huang start.state ≡ [] → (path : List (Entry × State)) → IsPath hsu_huang start path
         → IsUndisturbed (path_entries path) → enabled_names hsu_huang (end_of_path start.state path) ≡ [] }
@@ -38,9 +38,9 @@ pub fn silence_lasts()
         → IsUndisturbed (path_entries path) → enabled_names manne (end_of_path start.state path) ≡ [] }
 {}
 
-/// A driven run without a disturbance is silent after as many entries as the charge was at its start.
+/// A driven run without a disturbance ends silent if its entries reach the charge at its start.
 ///
-/// Driven: each entry moves a node, or comes when no rule is enabled.
+/// A run is driven if each entry moves a node or is made while no rule is enabled.
 pub fn long_runs_end_silent()
     ensures hsu_huang { (start : Moment) → IsState start.state → (path : List (Entry × State)) → IsPath hsu_huang start path → IsUndisturbed (path_entries path)
         → IsDriven hsu_huang start.state path → hsu_huang.charge start.state ≤ length path → enabled_names hsu_huang (end_of_path start.state path) ≡ [] }

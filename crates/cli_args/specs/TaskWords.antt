@@ -1,4 +1,4 @@
--- The tasks of command line words, by clap's definition of what a command reads in words.
+-- The tasks of command line words, by clap's definition of how a command reads words.
 use Rattle.std.specs.Prelude.{◌≡◌, ◌⊎◌, ℕ, ◌<◌, ◌≤◌, ◌^◌, List, [], ◌∷◌, ◌++◌, map, Option, None, Some, pos, true, codes, if◌then◌else◌, nat_le}
 use Rattle.std.specs.Borrow.{Bor}
 use Rattle.std.specs.Fmt.{decimal}
@@ -42,7 +42,7 @@ present_rule = record (valued_rule (codes "present")) { parser = Some (vp.Signed
 abbrev pub workers_rule : Rule
 workers_rule = record (valued_rule (codes "workers")) { defaults = codes "1" ∷ []; parser = Some (vp.Signed (pos 1) (pos 64)) }
 
--- a subcommand with these four
+-- a subcommand with `--rules`, `--nodes`, `--present` and `--workers`
 abbrev pub network_app : App → Names → App
 network_app app names = with_rule (with_rule (with_rule (with_rule app (rules_rule names)) nodes_rule) present_rule) workers_rule
 
@@ -84,15 +84,15 @@ script_rule = record (new_rule (codes "SCRIPT")) { range = Some (record { start_
 abbrev pub storm_app : Names → App
 storm_app names = with_rule (with_rule (with_rule (network_app (new_app (codes "storm")) names) roam_rule) turns_rule) script_rule
 
--- the command with these, `picture` and `epochs`
+-- the command with `run`, `audit`, `picture` and `epochs`
 abbrev pub showing_app : Names → App
 showing_app names = with_subcommand (with_subcommand (judging_app names) picture_app.top) (new_app (codes "epochs")).top
 
--- the command with all five
+-- the command with all five subcommands
 abbrev pub console_app : Names → App
 console_app names = with_subcommand (showing_app names) (storm_app names).top
 
--- the text is a number below the limit in decimal, perhaps with a plus and zeros in front
+-- the text is a number below the limit in decimal; a plus and zeros may come before it
 abbrev pub IsNumber : ℕ → Text → ℕ → Type 0
 IsNumber limit text n = (IsNumeral 10 (without_leading_plus text) × (digits_value 10 (without_leading_plus text) < limit)) × (n ≡ digits_value 10 (without_leading_plus text))
 
@@ -102,24 +102,24 @@ pub record GivesNumber (limit : ℕ) (id : Text) (found : List Row) (n : ℕ) : 
   pub given : one_of id found ≡ Some text
   pub is : IsNumber limit text n
 
--- the optional argument's value is this number, or it has none
+-- the optional argument's value is this number, or the argument is not given and there is no number
 abbrev pub MayGive : ℕ → Text → List Row → Option ℕ → Type 0
 MayGive limit id found None = one_of id found ≡ None
 MayGive limit id found (Some n) = (text : Text) × (one_of id found ≡ Some text) × IsNumber limit text n
 
--- the values of `run` are this rule set, and these numbers of names, of nodes at the start, and of workers
+-- the values of `run` are this rule set and these numbers of names, of nodes at the start, and of workers
 pub record HoldsRun (found : List Row) (rules : RuleSet) (nodes : ℕ) (present : Option ℕ) (workers : ℕ) : Type 0 where
   pub rules_is : first_of (codes "rules") found ≡ Some (rules_word rules)
   pub nodes_is : GivesNumber (2 ^ 16) (codes "nodes") found nodes
   pub present_is : MayGive (2 ^ 16) (codes "present") found present
   pub workers_is : GivesNumber (2 ^ 16) (codes "workers") found workers
 
--- the value of `picture` is this entry, or none
+-- the value of `picture` is this entry, or there is no value and no entry
 abbrev pub HoldsPicture : List Row → Option ℕ → Type 0
 HoldsPicture found entry = MayGive (2 ^ 32) (codes "entry") found entry
 
--- a storm: its rule set, names, nodes at the start (if given), step workers, roaming workers and their turns,
--- and script files
+-- a storm: its rule set, names, nodes at the start (if given), workers for a step, roaming workers, their
+-- turns, and script files
 pub record Storm : Type 0 where
   pub rules : RuleSet
   pub nodes : ℕ
@@ -140,7 +140,7 @@ storm_of words = record {
   scripts = map (λ s. s.now) words.scripts.items;
 }
 
--- the values of `storm` are these
+-- the values of `storm` are those of this storm
 pub record HoldsStorm (found : List Row) (storm : Storm) : Type 0 where
   pub run_is : HoldsRun found storm.rules storm.nodes storm.present storm.workers
   pub roamers_is : GivesNumber (2 ^ 16) (codes "roam") found storm.roamers
@@ -152,7 +152,7 @@ abbrev pub IsStormTask : Option (Text × List Row) → Storm → Type 0
 IsStormTask None storm = ⊥
 IsStormTask (Some p) storm = (p.0 ≡ codes "storm") × HoldsStorm p.1 storm
 
--- the subcommand and its values are the task's
+-- the subcommand and its values are those of the task
 abbrev pub MatchesTask : Option (Text × List Row) → Task → Type 0
 MatchesTask (Some p) (Run rules nodes present workers) = (p.0 ≡ codes "run") × HoldsRun p.1 rules nodes present workers
 MatchesTask (Some p) Audit = p.0 ≡ codes "audit"
@@ -161,7 +161,7 @@ MatchesTask (Some p) Epochs = p.0 ≡ codes "epochs"
 MatchesTask (Some p) (variants.Storm words) = (p.0 ≡ codes "storm") × HoldsStorm p.1 (storm_of words)
 MatchesTask found task = ⊥
 
--- they are no task's
+-- the subcommand and its values are those of no task
 abbrev pub HoldsNothing : Option (Text × List Row) → Type 0
 HoldsNothing found = ((task : Task) → MatchesTask found task → ⊥) × ((storm : Storm) → IsStormTask found storm → ⊥)
 
@@ -169,38 +169,38 @@ HoldsNothing found = ((task : Task) → MatchesTask found task → ⊥) × ((sto
 abbrev pub Asks : List Text → Task → Type 0
 Asks words task = (names : Names) × AreRules names × MatchesTask (subcommand_of (console_app names) words) task
 
--- the result for the words: the help or the version if asked for, or their task
+-- the result for the words: the help or the version, if the words ask for it, or else the words' task
 abbrev pub ParsesTo : List Text → Task → Type 0
 ParsesTo words (Show text) = (kind_of text ≡ DisplayHelp) ⊎ (kind_of text ≡ DisplayVersion)
 ParsesTo words task = Asks words task
 
--- the words are good, and are read as the task
+-- the words are good, and are read as this task
 abbrev pub ParsesAsTask : List Text → Task → Type 0
 ParsesAsTask words task =
     (names : Names) → AreRules names → (takes (console_app names) words ≡ true) × MatchesTask (subcommand_of (console_app names) words) task
 
--- the words are good, and are read as the storm
+-- the words are good, and are read as this storm
 abbrev pub WantsStorm : List Text → Storm → Type 0
 WantsStorm words storm =
     (names : Names) → AreRules names → (takes (console_app names) words ≡ true) × IsStormTask (subcommand_of (console_app names) words) storm
 
--- how many nodes are present at the start: as many as given, or all names; none if more are given than there
--- are names
+-- how many nodes are present at the start: as many as given, or all names if no number is given; none if the
+-- number given is greater than that of the names
 abbrev pub present_at_start : ℕ → Option ℕ → Option ℕ
 present_at_start nodes None = Some nodes
 present_at_start nodes (Some present) = if nat_le present nodes then Some present else None
 
--- `--present`, if a number is given
+-- the words for `--present`, if a number is given
 abbrev pub present_words : Option ℕ → List Text
 present_words None = []
 present_words (Some p) = (codes "--present=" ++ decimal p) ∷ []
 
--- `--workers`, if a number is given
+-- the words for `--workers`, if a number is given
 abbrev pub workers_words : Option ℕ → List Text
 workers_words None = []
 workers_words (Some k) = (codes "--workers=" ++ decimal k) ∷ []
 
--- a valid number of workers, if one is given
+-- the number of workers is valid, if one is given
 abbrev pub AreWorkers : Option ℕ → Type 0
 AreWorkers None = Unit {0}
 AreWorkers (Some k) = (1 ≤ k) × (k ≤ 64)

@@ -27,7 +27,7 @@ fn valued_arg<'a>(alloc: Global, name: &'a str, value: &'a str, help: &'a str) -
         .help(help)
 }
 
-// `--rules`, one of the given words.
+// `--rules`, whose value is one of these names.
 fn rules_arg<'a>(alloc: Global, names: &'a [&'a str]) -> Arg<'a>
     ensures rule { rule_of result ≡ rules_rule names.entry }
     ensures local { result.global ≡ false }
@@ -87,7 +87,7 @@ fn reading_command<'a>(
     told_command(alloc, name, about, notes).override_usage(usage)
 }
 
-// Adds the arguments of a network: the rules, the names, the nodes at the start, and the workers.
+// Adds the arguments of a network: rules, names, nodes at the start, and workers.
 fn network_command<'a>(
     alloc: Global,
     command: Command<'a>,
@@ -178,7 +178,7 @@ fn storm_command<'a>(alloc: Global, names: &'a [&'a str]) -> Result<Command<'a>,
         .arg(script_arg(alloc))
 }
 
-// The command without its subcommands.
+// The command before its subcommands are added.
 fn top_command<'a>(alloc: Global) -> Command<'a>
     ensures { app_of result ≡ top_app }
 {
@@ -190,7 +190,7 @@ fn top_command<'a>(alloc: Global) -> Command<'a>
         .arg_required_else_help(true)
 }
 
-// The command with `run` and `audit`.
+// The command with the subcommands `run` and `audit`.
 fn judging_command<'a>(alloc: Global, names: &'a [&'a str]) -> Result<Command<'a>, AllocError>
     ensures { IfOk result (λ command. app_of command ≡ judging_app names.entry) }
 {
@@ -199,7 +199,7 @@ fn judging_command<'a>(alloc: Global, names: &'a [&'a str]) -> Result<Command<'a
         .subcommand(reading_command(alloc, "audit", AUDIT_ABOUT, AUDIT_NOTES, AUDIT_USAGE))
 }
 
-// The command with these, `picture` and `epochs`.
+// The command with the subcommands `run`, `audit`, `picture` and `epochs`.
 fn showing_command<'a>(alloc: Global, names: &'a [&'a str]) -> Result<Command<'a>, AllocError>
     ensures { IfOk result (λ command. app_of command ≡ showing_app names.entry) }
 {

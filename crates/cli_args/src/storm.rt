@@ -15,9 +15,9 @@ use std::alloc::Global;
 pub struct StormWords<'a> {
     /// The rule set.
     pub rules: RuleSet,
-    /// How many names there are, from 1 on.
+    /// How many names there are; the names begin at 1.
     pub nodes: u16,
-    /// How many nodes are present at the start; all if `None`.
+    /// How many nodes are present at the start; `None` means all.
     pub present: Option<u16>,
     /// How many workers evaluate a step, 1 to 64.
     pub workers: u16,
@@ -37,7 +37,7 @@ fn turns(storm: &ArgMatches<'_>) -> Option<u32>
     storm.get_one::<u32>("turns")
 }
 
-/// The task of `storm`; `None` if a value is missing or not one of its argument's.
+/// The task of `storm`; `None` if a value is missing or is not one that its argument allows.
 ///
 /// Fails only if memory runs out.
 pub(crate) fn storm_task<'a>(

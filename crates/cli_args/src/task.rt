@@ -15,9 +15,9 @@ use std::alloc::Global;
 /// The task that good words ask for.
 #[derive(Debug, Drop)]
 pub enum Task<'a> {
-    /// Run a script under a rule set, with these names and this many workers for each step.
+    /// Run a script under a rule set, with this many names, and this many workers for each step.
     ///
-    /// The nodes 1 to `present` are there at the start, or all names if it is `None`.
+    /// The nodes 1 to `present` are present at the start, or all if `present` is `None`.
     Run {
         rules: RuleSet,
         nodes: u16,
@@ -26,13 +26,13 @@ pub enum Task<'a> {
     },
     /// Judge a transcript.
     Audit,
-    /// Draw the network after this entry of a transcript, or after the last.
+    /// Draw the network after this entry of a transcript, or after the last entry.
     Picture {
         entry: Option<u32>,
     },
     /// List the epochs of a transcript.
     Epochs,
-    /// Play scripts at once.
+    /// Play several scripts at once.
     Storm(StormWords<'a>),
     /// Show this text: the help or the version.
     Show(Error),
@@ -52,7 +52,7 @@ fn rules_named(word: &str) -> Option<RuleSet>
     None
 }
 
-/// The number of an argument; `None` if there is none below 65,536.
+/// The number that is an argument's value; `None` if there is none, or none below 65,536.
 pub(crate) fn number(found: &ArgMatches<'_>, id: &str) -> Option<u16>
     ensures { MatchOption result
         ((n : ℕ) → GivesNumber (2 ^ 16) id.now (rows_of (found_of found.now)) n → ⊥)
@@ -61,9 +61,9 @@ pub(crate) fn number(found: &ArgMatches<'_>, id: &str) -> Option<u16>
     found.get_one::<u16>(id)
 }
 
-/// The rule set, names, nodes at the start (if given) and workers.
+/// The rule set, the names, the nodes at the start (if given) and the workers.
 ///
-/// `None` if a value is missing or not one of its argument's.
+/// `None` if a value is missing or is not one that its argument allows.
 pub(crate) fn network(found: &ArgMatches<'_>) -> Option<(RuleSet, u16, Option<u16>, u16)>
     ensures { MatchOption result
         ((rules : RuleSet) (nodes : ℕ) (present : Option ℕ) (workers : ℕ) → HoldsRun (rows_of (found_of found.now)) rules nodes present workers → ⊥)
@@ -87,7 +87,7 @@ pub(crate) fn network(found: &ArgMatches<'_>) -> Option<(RuleSet, u16, Option<u1
     Some((rules, nodes, present, workers))
 }
 
-// The task of `run`; `None` if a value is missing or not one of its argument's.
+// The task of `run`; `None` if a value is missing or is not one that its argument allows.
 fn run_task<'a>(run: &ArgMatches<'a>) -> Option<Task<'a>>
     ensures { MatchOption result
         ((rules : RuleSet) (nodes : ℕ) (present : Option ℕ) (workers : ℕ) → HoldsRun (rows_of (found_of run.now)) rules nodes present workers → ⊥)
@@ -104,7 +104,7 @@ fn run_task<'a>(run: &ArgMatches<'a>) -> Option<Task<'a>>
     })
 }
 
-// The task of `picture`; `None` if the value is no number.
+// The task of `picture`; `None` if the value of `--entry` is no number.
 fn picture_task<'a>(picture: &ArgMatches<'a>) -> Option<Task<'a>>
     ensures { MatchOption result
         ((entry : Option ℕ) → HoldsPicture (rows_of (found_of picture.now)) entry → ⊥)
@@ -116,7 +116,7 @@ fn picture_task<'a>(picture: &ArgMatches<'a>) -> Option<Task<'a>>
     }
 }
 
-/// The task of the parsed words; `None` if they are none. Fails only if memory runs out.
+/// The task that clap's result asks for; `None` if it asks for none. Fails only if memory runs out.
 pub(crate) fn asked<'a>(alloc: Global, found: &ArgMatches<'a>) -> Result<Option<Task<'a>>, Error>
     ensures read { IfOk result (λ read. MatchOption read
         (HoldsNothing (subcommand_rows_of found.now))
@@ -144,7 +144,7 @@ pub(crate) fn asked<'a>(alloc: Global, found: &ArgMatches<'a>) -> Result<Option<
     Ok(None)
 }
 
-/// How many of `nodes` names are present at the start: `named`, or all if it is `None`.
+/// How many of `nodes` names are present at the start: `named`, or all if `named` is `None`.
 ///
 /// `None` if `named` is above `nodes`.
 pub fn present_at_start(nodes: u16, named: Option<u16>) -> Option<u16>

@@ -16,10 +16,10 @@ use clap::error::ErrorKind;
 use std::alloc::Global;
 use std::convert::AsStr;
 
-/// Reads the words of the command line, the program's name first, as clap defines the command.
+/// Reads the words of the command line as clap defines the command. The first is the program's name.
 ///
-/// The error is clap's: bad words, or memory ran out. Good words that ask for a task fail only if memory runs
-/// out.
+/// The error is clap's: the words are bad, or memory ran out. For good words that ask for a task, the only
+/// error is that memory ran out.
 pub fn read_words<'a, S: AsStr>(alloc: Global, words: &'a [S]) -> Result<Task<'a>, Error>
     ensures answers { IfOk result (λ task. ParsesTo (map S.text words.entry.now) task) }
     ensures mistake { IfErr result (λ e. IsMistake (kind_of e)) }
@@ -38,7 +38,7 @@ pub fn read_words<'a, S: AsStr>(alloc: Global, words: &'a [S]) -> Result<Task<'a
     }
 }
 
-/// The usual words are good and ask for their task; a run has one worker by default.
+/// The usual words are good and ask for their tasks. By default a run has one worker.
 pub fn usual_words()
     ensures run { (program : Text) (rules : RuleSet) (nodes : ℕ) (present workers : Option ℕ)
         → nodes ≤ 65535 → IfSome present (λ p. p ≤ 65535) → AreWorkers workers

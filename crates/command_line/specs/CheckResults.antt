@@ -13,8 +13,8 @@ use Rattle.command_line.specs.declared.verdict.CheckEnd.{CheckEnd}
 use Rattle.command_line.specs.declared.verdict.CheckEnd.TheVariants.{Accepted, Refused}
 use Rattle.command_line.specs.VerdictText.{verdict_line}
 
--- the bytes are the transcript of a run with these counts, or have this damage; a failed read or no memory
--- gives no verdict
+-- the bytes are the transcript of a run with these counts, or have this damage; after a failed read or
+-- without memory there is no verdict
 abbrev pub IsVerdict : List ℕ → CheckEnd → Type 0
 IsVerdict bytes (Accepted counted) = IsAccepted bytes counted
 IsVerdict bytes (Refused f) = IsAuditFault bytes f × (f ≢ fault.Read) × (f ≢ fault.Memory)
@@ -26,7 +26,7 @@ check_result (Err fault.Read) = Err Read
 check_result (Err fault.Memory) = Err Memory
 check_result (Err f) = Ok (Refused f)
 
--- what the writer has: the verdict's line, a beginning of one if a write failed, else nothing
+-- what was written: the verdict's line, or a beginning of that line if a write failed, else nothing
 abbrev pub TellsVerdict : Option (List ℕ) → Option (List ℕ) → Result CheckEnd RunFault → Type 0
 TellsVerdict old new (Ok end) = Appends old new (verdict_line end)
 TellsVerdict old new (Err Write) = (end : CheckEnd) × AppendsBeginning old new (verdict_line end)
@@ -36,7 +36,7 @@ TellsVerdict old new (Err LogFull) = ⊥
 TellsVerdict old new (Err (BadLine line)) = ⊥
 TellsVerdict old new (Err (Pool why)) = ⊥
 
--- the exit status
+-- the exit status of a verdict
 abbrev pub verdict_status : CheckEnd → ℕ
 verdict_status (Accepted counted) = 0
 verdict_status (Refused f) = 1

@@ -14,7 +14,7 @@ pool_line pool.ZeroWorkers = codes "! no workers\n"
 pool_line pool.Thread = codes "! no thread\n"
 pool_line pool.Memory = codes "! out of memory\n"
 
--- a line of a script that is no command, with its number and the LF
+-- the text that reports a script's bad line: the line's number, and an LF
 abbrev pub run_bad_line : ℕ → List ℕ
 run_bad_line line = codes "! line " ++ (number_text line ++ codes ": not a command\n")
 
@@ -32,11 +32,11 @@ abbrev pub IsLinelessRunFault : RunFault → Type 0
 IsLinelessRunFault (BadLine line) = ⊥
 IsLinelessRunFault fault = Unit {0}
 
--- too many nodes for the start
+-- the line that reports too many nodes for the start
 abbrev pub bad_present_line : List ℕ
 bad_present_line = codes "! bad present\n"
 
--- words that could not be read
+-- the line that reports words that could not be read
 abbrev pub no_words_line : io.ErrorKind → List ℕ
 no_words_line InvalidData = codes "! a word is not UTF-8\n"
 no_words_line _ = run_fault_line Memory

@@ -23,7 +23,7 @@ use Rattle.command_line.specs.Network.{asked_storm}
 use Rattle.command_line.specs.StormEnds.{PlaysStorm}
 use Rattle.command_line.specs.CheckResults.{IsVerdict, TellsVerdict, verdict_status}
 
--- the line of the fault, or a beginning of it if a write failed; nothing without a fault
+-- what was written: the fault's line, or a beginning of it if a write failed; nothing if there is no fault
 abbrev pub TellsFault : {X : Type 0} → WrittenBytes → WriterState → Result X RunFault → Type 0
 TellsFault before after (Ok _) = Keeps before after.got
 TellsFault before after (Err fault) = WritesLine before after (run_fault_line fault)
@@ -33,38 +33,38 @@ abbrev pub ended_status : Result Unit RunFault → ℕ
 ended_status (Ok _) = 0
 ended_status (Err fault) = run_status fault
 
--- and of an audit
+-- the exit status of an audit
 abbrev pub checked_status : Result CheckEnd RunFault → ℕ
 checked_status (Ok end) = verdict_status end
 checked_status (Err fault) = run_status fault
 
--- the script was run, the writer has its transcript, a fault was reported, and the status fits
+-- the script was run, the writer has its transcript, a fault was reported, and the exit status fits
 abbrev pub TellsOutcome : RuleSet → ℕ → ℕ → ℕ → List ℕ → WrittenBytes → WrittenBytes → WrittenBytes → WriterState → ℕ → Type 0
 TellsOutcome rules nodes present limit script old new before after status =
     (ended : Result Unit RunFault) × IsRunOutcome rules nodes present limit script old new ended × TellsFault before after ended × (status ≡ ended_status ended)
 
--- too many nodes for the start are reported, and nothing is read or written
+-- too many nodes for the start are reported, nothing is read, and nothing is written to the writer
 abbrev pub TellsBadPresent : WrittenBytes → WrittenBytes → WrittenBytes → WriterState → ℕ → Type 0
 TellsBadPresent old new before after status = (status ≡ 2) × Keeps old new × WritesLine before after bad_present_line
 
--- a run: if that many nodes can be present at the start, it is run with them
+-- a run: if this many nodes can be present at the start, the script is run with them; else that is reported
 abbrev pub DoesRun : RuleSet → ℕ → Option ℕ → List ℕ → WrittenBytes → WrittenBytes → WrittenBytes → WriterState → ℕ → Type 0
 DoesRun rules nodes None input old new before after status = TellsBadPresent old new before after status
 DoesRun rules nodes (Some present) input old new before after status = TellsOutcome rules nodes present 16777216 input old new before after status
 
--- the transcript was judged, the writer has the line of its verdict, a fault was reported, and the status
--- fits
+-- the transcript was judged, the writer has the line of its verdict, a fault was reported, and the exit
+-- status fits
 abbrev pub TellsCheck : List ℕ → WrittenBytes → WrittenBytes → WrittenBytes → WriterState → ℕ → Type 0
 TellsCheck bytes old new before after status =
     (ended : Result CheckEnd RunFault) × IfOk ended (IsVerdict bytes) × TellsVerdict old new ended × TellsFault before after ended × (status ≡ checked_status ended)
 
--- a storm: if that many nodes can be present at the start, its scripts are played on them
+-- a storm: if this many nodes can be present at the start, its scripts are played; else that is reported
 abbrev pub DoesStorm : Storm → Option ℕ → WrittenBytes → WrittenBytes → WrittenBytes → WriterState → ℕ → Type 0
 DoesStorm storm None old new before after status = TellsBadPresent old new before after status
 DoesStorm storm (Some present) old new before after status = PlaysStorm (asked_storm storm present) (length storm.scripts) old new before after status
 
--- each task: the bytes and status of a run are the same for any number of workers; for the help or the
--- version a text is shown
+-- what each task does. The bytes and the status of a run are the same for any number of workers. For the help
+-- or the version some text is shown.
 abbrev pub DoesTask : Task → List ℕ → WrittenBytes → WrittenBytes → WrittenBytes → WriterState → ℕ → Type 0
 DoesTask (Run rules nodes present workers) input old new before after status = DoesRun rules nodes (present_at_start nodes present) input old new before after status
 DoesTask Audit input old new before after status = TellsCheck input old new before after status
@@ -74,13 +74,14 @@ DoesTask (variants.Storm words) input old new before after status =
     DoesStorm (storm_of words) (present_at_start words.nodes words.present) old new before after status
 DoesTask (Show text) input old new before after status = ShowsSome old new before after status
 
--- what is written about bad words: that memory ran out, if it did, else an unspecified text, or its beginning
+-- what is written about bad words: that memory ran out, or else an unspecified text or a beginning of that
+-- text
 abbrev pub TellsMistake : ErrorKind → WrittenBytes → WriterState → Type 0
 TellsMistake kind before after =
     (kind ≡ OutOfMemory → WritesLine before after (run_fault_line Memory)) × ((text : List ℕ) × WritesLine before after text)
 
--- the task is done; bad words, or memory that ran out for reading them, are reported, and the writer gets
--- nothing
+-- the task is done; or bad words, or a lack of memory for reading them, are reported, and nothing is written
+-- to the writer
 abbrev pub ActsOnWords : Result Task Error → List ℕ → WrittenBytes → WrittenBytes → WrittenBytes → WriterState → ℕ → Type 0
 ActsOnWords (Ok task) input old new before after status = DoesTask task input old new before after status
 ActsOnWords (Err e) input old new before after status = Keeps old new × TellsMistake (kind_of e) before after × (status ≡ words_status (kind_of e))

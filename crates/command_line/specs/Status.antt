@@ -1,4 +1,4 @@
--- The exit statuses: 0 done, 1 a transcript refused, 2 bad words or a bad line, 3 a failed read or write, 4
+-- The exit statuses: 0 done, 1 a refused transcript, 2 bad words or a bad line, 3 a failed read or write, 4
 -- no memory, a full log, or failed workers.
 use Rattle.std.specs.Prelude.{ℕ, ◌≢◌, ◌≤◌}
 use Rattle.clap.specs.declared.error.kind.ErrorKind.{ErrorKind}
@@ -31,6 +31,6 @@ no_words_status _ = 4
 abbrev pub IsStatus : ℕ → Type 0
 IsStatus n = n ≤ 4
 
--- one of these but 1, the status of a refused transcript
+-- one of 0 to 4, but not 1, which is the status of a refused transcript
 abbrev pub IsRunStatus : ℕ → Type 0
 IsRunStatus n = (n ≤ 4) × (n ≢ 1)

@@ -8,17 +8,18 @@ use Rattle.storm_runner.specs.Outcome.{IsStormOutcome}
 use Rattle.storm_runner.specs.Status.{end_status}
 use Rattle.command_line.specs.WriterStates.{WrittenBytes, WriterState, WritesLine}
 
--- one of these files cannot be opened, or memory ran out for them
+-- one of these files cannot be opened, or memory ran out for opening them
 abbrev pub FailsToOpen : ℕ → StormFault → Type 0
 FailsToOpen files Read = 0 < files
 FailsToOpen files Memory = Unit {0}
 FailsToOpen files _ = ⊥
 
--- it ended as a storm of this many scripts may; nothing is said of their texts
+-- the storm of this many scripts ended in one of the ways in which a storm may; nothing is said of their
+-- texts
 abbrev pub EndsStorm : OptionsView → ℕ → WrittenBytes → WrittenBytes → Result Unit StormFault → Type 0
 EndsStorm asked scripts old new ended = (texts : List WrittenBytes) × (length texts ≡ scripts) × IsStormOutcome asked texts old new ended
 
--- the end was reported, and the status fits
+-- the storm's end was reported, and the exit status fits
 abbrev pub PlaysStorm : OptionsView → ℕ → WrittenBytes → WrittenBytes → WrittenBytes → WriterState → ℕ → Type 0
 PlaysStorm asked scripts old new before after status =
     (ended : Result Unit StormFault) × EndsStorm asked scripts old new ended × WritesLine before after (end_line ended) × (status ≡ end_status ended)

@@ -7,12 +7,12 @@ use Rattle.auditor.specs.declared.summary.Summary.{Summary}
 use Rattle.command_line.specs.declared.verdict.CheckEnd.{CheckEnd}
 use Rattle.command_line.specs.declared.verdict.CheckEnd.TheVariants.{Accepted, Refused}
 
--- the counts
+-- the counts of a verdict
 abbrev pub summary_text : Summary → List ℕ
 summary_text c =
     codes "accepted: " ++ (number_text c.entries ++ codes " entries, ") ++ (number_text c.epochs ++ codes " epochs, ") ++ (number_text c.moves ++ codes " moves")
 
--- the line that fails, and its failed check
+-- the line of a damage: the number of the line that fails, and its failed check
 abbrev pub damage_line : ℕ → List ℕ → List ℕ
 damage_line line text = codes "line " ++ (number_text line ++ text)
 
@@ -29,6 +29,6 @@ abbrev pub verdict_text : CheckEnd → List ℕ
 verdict_text (Accepted counted) = summary_text counted
 verdict_text (Refused fault) = fault_text fault
 
--- the verdict and its LF
+-- the line of a verdict, with its LF
 abbrev pub verdict_line : CheckEnd → List ℕ
 verdict_line end = verdict_text end ++ 10 ∷ []

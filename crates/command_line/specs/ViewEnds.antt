@@ -18,7 +18,7 @@ use Rattle.command_line.specs.WriterStates.{WriterState, WritesLine}
 use Rattle.command_line.specs.Status.{run_status}
 use Rattle.command_line.specs.VerdictText.{verdict_line}
 
--- that the entry is missing, and what there is, with the LF
+-- the line of a missing entry, with its LF: the number asked for, and the number that there is
 abbrev pub missing_line : ℕ → List ℕ → ℕ → List ℕ → List ℕ
 missing_line asked told number end = codes "! no entry " ++ (number_text asked ++ told) ++ (number_text number ++ end)
 
@@ -28,35 +28,37 @@ too_few_line asked entries = missing_line asked (codes ": the transcript has ") 
 abbrev pub forgotten_line : ℕ → ℕ → List ℕ
 forgotten_line asked base = missing_line asked (codes ": the transcript begins behind entry ") base (codes "\n")
 
--- a fault is reported, and nothing is written
+-- a fault is reported, and nothing is written to the writer
 abbrev pub TellsEarly : RunFault → WrittenBytes → WrittenBytes → WrittenBytes → WriterState → ℕ → Type 0
 TellsEarly fault old new before after status = (status ≡ run_status fault) × Keeps old new × WritesLine before after (run_fault_line fault)
 
--- the text is written, or a beginning of it if a write failed, which is reported
+-- the text is written; or a write failed, a beginning of the text is written, and the failed write is
+-- reported
 abbrev pub ShowsText : List ℕ → ℕ → WrittenBytes → WrittenBytes → WrittenBytes → WriterState → ℕ → Type 0
 ShowsText text good old new before after status =
     ((status ≡ good) × Appends old new text × Keeps before after.got)
     ⊎ ((status ≡ 3) × AppendsBeginning old new text × WritesLine before after (run_fault_line run.Write))
 
--- some unspecified text is shown; or memory ran out for it, and nothing is written
+-- an unspecified text is shown; or memory ran out for that text, and nothing is written to the writer
 abbrev pub ShowsSome : WrittenBytes → WrittenBytes → WrittenBytes → WriterState → ℕ → Type 0
 ShowsSome old new before after status =
     ((text : List ℕ) × ShowsText text 0 old new before after status)
     ⊎ TellsEarly run.Memory old new before after status
 
--- the verdict of an audit is written, or memory ran out
+-- an audit's verdict is written, or memory ran out for it
 abbrev pub ShowsRefusal : Damage → WrittenBytes → WrittenBytes → WrittenBytes → WriterState → ℕ → Type 0
 ShowsRefusal damage old new before after status =
     ShowsText (verdict_line (verdict.Refused (of_damage damage))) 1 old new before after status
     ⊎ TellsEarly run.Memory old new before after status
 
--- this line reports that there is no such entry, or memory ran out; nothing is written
+-- the line of a missing entry, or that memory ran out, is reported; nothing is written to the writer
 abbrev pub TellsMissing : List ℕ → WrittenBytes → WrittenBytes → WrittenBytes → WriterState → ℕ → Type 0
 TellsMissing line old new before after status =
     ((status ≡ 2) × Keeps old new × WritesLine before after line)
     ⊎ TellsEarly run.Memory old new before after status
 
--- what is done with a view: its text is written, or an audit's verdict, for which memory may run out
+-- what is done with a view: its text is written, or the verdict of damage; or a missing entry or fault is
+-- reported
 abbrev pub TellsView : Result View InputFault → WrittenBytes → WrittenBytes → WrittenBytes → WriterState → ℕ → Type 0
 TellsView (Ok (Text text)) old new before after status = ShowsText text.items 0 old new before after status
 TellsView (Ok (Refused damage)) old new before after status = ShowsRefusal damage old new before after status
@@ -65,7 +67,7 @@ TellsView (Ok (Forgotten asked base)) old new before after status = TellsMissing
 TellsView (Err input.Read) old new before after status = TellsEarly run.Read old new before after status
 TellsView (Err input.Memory) old new before after status = TellsEarly run.Memory old new before after status
 
--- the view of the input was made, or the input was not read, or memory ran out; each is reported
+-- the view of the input was made; or the input was not read, or memory ran out, and that was reported
 abbrev pub Views : (View → Type 0) → WrittenBytes → WrittenBytes → WrittenBytes → WriterState → ℕ → Type 0
 Views is old new before after status =
     (viewed : Result View InputFault) × IfOk viewed is × TellsView viewed old new before after status

@@ -4,11 +4,11 @@ use Rattle.std.specs.Io.KnownBytes.{Appends}
 use Rattle.byte_streams.specs.PartialOutput.{AppendsBeginning}
 use Rattle.byte_streams.specs.declared.writes.FailStopWriter.{FailStopWriter}
 
--- what a writer has
+-- what a writer has received
 abbrev pub WrittenBytes : Type 0
 WrittenBytes = Option (List ℕ)
 
--- that, and whether one of its writes or flushes failed
+-- what a writer has received, and whether one of its writes or flushes failed
 pub record WriterState : Type 0 where
   pub got : WrittenBytes
   pub failed : Bool
@@ -16,6 +16,6 @@ pub record WriterState : Type 0 where
 abbrev pub heard : {W : Type 0} → (W → WrittenBytes) → FailStopWriter W → WriterState
 heard contents w = record { got = contents w.writer; failed = w.failed }
 
--- the line is written, and less of it only if a write failed
+-- the line is written; if a write failed, perhaps only a beginning of the line
 abbrev pub WritesLine : WrittenBytes → WriterState → List ℕ → Type 0
 WritesLine before after line = AppendsBeginning before after.got line × (after.failed ≡ false → Appends before after.got line)

@@ -1,15 +1,17 @@
 //! The program from the words of its command line to its exit status.
 //!
 //! `start` reads the words, does their task on the given streams, and returns the status: 0 done or accepted,
-//! 1 refused, 2 bad words or a bad line, 3 a failed device, 4 no memory or a full log. Its clause `does`
-//! joins the contracts of the words and of their task; so the words and the script determine the transcript
-//! bytes of a `run`. A verdict is one line, written once. The line of a fault takes no memory.
+//! 1 refused, 2 bad words or a bad line, 3 a failed device, 4 no memory or a full log. The clause `does` of
+//! `start` joins the contracts of the words and of their task; so the words and the script determine the
+//! transcript bytes of a `run`. A verdict is one line, written once. Writing the line of a fault takes no
+//! memory.
 //!
-//! `console` passes it the process's words and streams. It opens the script files of a storm and nothing
-//! else.
+//! `console` passes the process's words and streams to `start`. `start` opens the script files of a storm and
+//! nothing else.
 //!
 //! ```rust
-//! let status = start(rt, alloc, &words, &mut Reads::new(stdin), &mut Writes::new(stdout), &mut Writes::new(stderr));
+//! let (mut input, mut output) = (CountingReader::new(stdin), FailStopWriter::new(stdout));
+//! let status = start(rt, alloc, &words, &mut input, &mut output, &mut FailStopWriter::new(stderr));
 //! ```
 #![tactic(auto)]
 

@@ -11,8 +11,8 @@ use script_run::Options;
 
 /// The options of a run on the names 1 to `nodes`; `None` if `named` is above `nodes`.
 ///
-/// `named` nodes are present at the start, or all if it is `None`; `workers` workers evaluate each step. All
-/// other options have their defaults.
+/// `named` nodes are present at the start, or all if `named` is `None`. `workers` workers evaluate each step.
+/// All other options have their defaults.
 pub fn network_options(
     rules: RuleSet,
     nodes: u16,

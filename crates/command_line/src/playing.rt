@@ -1,4 +1,4 @@
-//! Playing the scripts of files at once.
+//! Playing the scripts of several files at once.
 
 ghost use Rattle.std.specs.Prelude.{◌≡◌, length, IfErr, IfOk};
 ghost use Rattle.script_run.specs.RunOptions.{asked_of};
@@ -22,7 +22,7 @@ use std::thread::Threads;
 use steal_pool::NoGate;
 use storm_runner::{StormFault, storm, storm_end};
 
-// Opens these files in order: `Read` at the first that cannot be opened.
+// Opens these files in order; `Read` at the first file that cannot be opened.
 fn open_all<T: Files>(rt: &T, alloc: Global, names: &[&str]) -> Result<Vec<T::File>, StormFault>
     ensures count { IfOk result (λ files. length files.items ≡ length names.now) }
     ensures fault { IfErr result (FailsToOpen (length names.now)) }
@@ -54,9 +54,9 @@ fn play_files<Out: Write, T: Threads + Wait + Sync + Files>(
     }
 }
 
-/// Plays the scripts of a storm's words, and returns the exit status.
+/// Plays the scripts that a storm's words name, and returns the exit status.
 ///
-/// If more nodes are named for the start than there are names, it reports that instead.
+/// If the words ask for more nodes at the start than there are names, it reports that and plays nothing.
 pub fn play_storm<Out: Write, Faults: Write, T: Threads + Wait + Sync + Files>(
     rt: &T,
     alloc: Global,

@@ -1,4 +1,4 @@
-//! The program from its words to its exit status.
+//! The program: from the words of the command line to the exit status.
 
 ghost use Rattle.std.specs.Prelude.{◌≡◌, ◌≢◌, ◌⊎◌, false, true, IfErr, IfOk, IfSome, MatchOption, OnErr, Result, map, string_bytes};
 ghost use Rattle.std.specs.Io.KnownBytes.{Appends};
@@ -35,7 +35,8 @@ use std::thread::Threads;
 
 /// The exit status of a run that ended early.
 ///
-/// 2 for a bad line; 3 for a failed read or write; 4 for a full log, no memory, or failed workers.
+/// The status is 2 for a bad line; 3 for a failed read or write; 4 for a full log, no memory, or failed
+/// workers.
 pub fn status(fault: RunFault) -> u8
     ensures { result ≡ run_status fault }
 {
@@ -48,7 +49,7 @@ pub fn status(fault: RunFault) -> u8
 
 /// Writes why a run ended early, as one line, and returns the exit status.
 ///
-/// If a write fails, only a beginning of the line is written; the status is the same.
+/// If a write fails, only a beginning of the line is written; the exit status is the same.
 pub fn tell<Faults: Write>(fault: RunFault, faults: &mut FailStopWriter<Faults>) -> u8
     ensures status { result ≡ run_status fault }
     ensures told { AppendsBeginning (Faults.contents faults.old.writer) (Faults.contents faults.new.writer) (run_fault_line fault) }
@@ -60,7 +61,7 @@ pub fn tell<Faults: Write>(fault: RunFault, faults: &mut FailStopWriter<Faults>)
 
 /// Writes why the words could not be read, as one line, and returns the exit status.
 ///
-/// 2 for a word that is not UTF-8, else 4.
+/// The status is 2 for a word that is not UTF-8, and 4 for any other failure.
 pub fn tell_no_words<Faults: Write>(kind: io::ErrorKind, faults: &mut FailStopWriter<Faults>) -> u8
     ensures status { result ≡ no_words_status kind }
     ensures told { AppendsBeginning (Faults.contents faults.old.writer) (Faults.contents faults.new.writer) (no_words_line kind) }
@@ -83,8 +84,8 @@ pub fn tell_bad_present<Faults: Write>(faults: &mut FailStopWriter<Faults>) -> u
     2
 }
 
-// Writes clap's text about bad words, and returns 2, or 4 if memory ran out for reading them. If memory runs
-// out for the text, it writes that instead.
+// Writes clap's text about bad words, and returns 2. If memory ran out while the words were read, reports
+// that, and returns 4. If memory runs out for clap's text, reports that instead of the text, and returns 2.
 fn refuse<Faults: Write>(alloc: Global, error: Error, faults: &mut FailStopWriter<Faults>) -> u8
     ensures status { result ≡ words_status (kind_of error) }
     ensures device { result ≢ 3 }
@@ -101,7 +102,7 @@ fn refuse<Faults: Write>(alloc: Global, error: Error, faults: &mut FailStopWrite
     2
 }
 
-// Writes a text, or that memory ran out for it, and returns the exit status.
+// Writes a text, or reports that memory ran out for it, and returns the exit status.
 fn show_made<Out: Write, Faults: Write>(
     made: Result<String, AllocError>,
     writer: &mut FailStopWriter<Out>,
@@ -120,7 +121,7 @@ fn show_made<Out: Write, Faults: Write>(
     }
 }
 
-// Writes clap's text of the help or the version. Any failure to make it is reported as memory.
+// Writes clap's text of the help or the version. If the text cannot be made, reports that memory ran out.
 fn show<Out: Write, Faults: Write>(
     alloc: Global,
     text: Error,
@@ -156,7 +157,8 @@ fn run_script<In: Read, Out: Write, Faults: Write, T: Threads + Wait + Sync>(
     }
 }
 
-// Runs the script under the options, or reports that there are none, and returns the exit status.
+// Runs the script under the options, or, without options, reports too many nodes at the start. Returns the
+// exit status.
 fn run_network<In: Read, Out: Write, Faults: Write, T: Threads + Wait + Sync>(
     rt: &T,
     alloc: Global,
@@ -198,7 +200,7 @@ fn check_transcript<In: Read, Out: Write, Faults: Write>(
     }
 }
 
-/// Does the task of the words, the program's name first, and returns the exit status.
+/// Does the task of the words, of which the first is the program's name. Returns the exit status.
 ///
 /// | Status | When |
 /// |---|---|
@@ -208,8 +210,8 @@ fn check_transcript<In: Read, Out: Write, Faults: Write>(
 /// | 3 | a failed read or write, or a storm's script that could not be opened |
 /// | 4 | no memory, a full log, or a clerk that is behind |
 ///
-/// Faults are written to `faults`; with bad words nothing goes to `writer`. Only a run and a storm may wait,
-/// for the workers and scripts that have threads from `rt`.
+/// Faults are written to `faults`. After bad words nothing is written to `writer`. Only a run and a storm may
+/// wait, for the threads that they start from `rt`.
 pub fn start<S: AsStr, In: Read, Out: Write, Faults: Write, T: Threads + Wait + Sync + Files>(
     rt: &T,
     alloc: Global,

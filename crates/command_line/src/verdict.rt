@@ -32,7 +32,7 @@ impl CheckEnd {
     }
 }
 
-// The verdict, or why there is none.
+// The verdict of an audit's result, or the fault that left no verdict.
 fn verdict_of(audited: Result<Summary, AuditFault>) -> Result<CheckEnd, RunFault>
     ensures verdict { result ≡ check_result audited }
     ensures unread { IsErrOf result RunFault.Read → IsErrOf audited AuditFault.Read }
@@ -67,7 +67,7 @@ fn tell_verdict<Out: Write>(
 
 /// Judges a transcript and writes the verdict as one line, once.
 ///
-/// - `Read` only if a read failed, or 4,294,967,295 were made.
+/// - `Read` only if a read failed, or 4,294,967,295 reads were made.
 /// - `Write` only if a write failed.
 /// - `Memory` if memory runs out.
 ///

@@ -18,7 +18,7 @@ use std::alloc::{AllocError, Global};
 use std::io::{Read, Write};
 use transcript_view::{View, view_epochs, view_picture};
 
-// The line, with its LF, that reports a missing entry, and the number that there is.
+// The line, with its LF, that reports a missing entry: the number asked for, and the number that there is.
 fn missing_line(
     alloc: Global,
     asked: u32,
@@ -35,7 +35,7 @@ fn missing_line(
     Ok(line)
 }
 
-/// Writes the text, and returns the exit status: `good` if it was written.
+/// Writes the text, and returns the exit status: `good` if the text was written.
 pub fn show_text<Out: Write, Faults: Write>(
     text: &[u8],
     good: u8,
@@ -54,7 +54,7 @@ pub fn show_text<Out: Write, Faults: Write>(
     }
 }
 
-// Writes an audit's verdict of damage, and returns the exit status.
+// Writes an audit's verdict that names a damage, and returns the exit status.
 fn show_refusal<Out: Write, Faults: Write>(
     alloc: Global,
     damage: Damage,
@@ -72,7 +72,7 @@ fn show_refusal<Out: Write, Faults: Write>(
     }
 }
 
-// Writes the line of a missing entry, or that memory ran out for it, and returns the exit status.
+// Writes the line of a missing entry, or reports that memory ran out for it. Returns the exit status.
 fn tell_missing<Faults: Write>(
     line: Result<Vec<u8>, AllocError>,
     faults: &mut FailStopWriter<Faults>,
@@ -91,7 +91,7 @@ fn tell_missing<Faults: Write>(
     }
 }
 
-// Writes a view, or why there is none, and returns the exit status.
+// Writes a view, or the reason why there is none, and returns the exit status.
 fn tell_view<Out: Write, Faults: Write>(
     alloc: Global,
     viewed: Result<View, InputFault>,
@@ -154,13 +154,13 @@ fn view_epochs_of(alloc: Global, read: Result<Vec<u8>, InputFault>) -> Result<Vi
     }
 }
 
-/// Writes the picture of the state after an entry, or after the last, and returns the exit status.
+/// Writes the picture of the state after an entry, or after the last entry. Returns the exit status.
 ///
 /// | Status | When |
 /// |---|---|
-/// | 0 | it was written |
+/// | 0 | the picture was written |
 /// | 1 | a line up to the entry is refused; the audit's verdict was written |
-/// | 2 | there is no such entry, or the transcript begins after it |
+/// | 2 | there is no such entry, or the transcript begins after that entry |
 /// | 3 | a read or a write failed |
 /// | 4 | memory ran out |
 pub fn draw<In: Read, Out: Write, Faults: Write>(
@@ -183,7 +183,7 @@ pub fn draw<In: Read, Out: Write, Faults: Write>(
 ///
 /// | Status | When |
 /// |---|---|
-/// | 0 | it was written |
+/// | 0 | the table was written |
 /// | 1 | the transcript is refused; the audit's verdict was written |
 /// | 3 | a read or a write failed |
 /// | 4 | memory ran out |

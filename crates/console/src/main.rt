@@ -1,11 +1,11 @@
-//! The program: runs a script, judges or shows a transcript, or plays the scripts of files at once.
+//! The program: runs a script, judges or shows a transcript, or plays the scripts of several files at once.
 //!
-//! `main` passes the process's words and streams to `command_line::start`, and exits with the status that it
-//! returns. The contracts of `start` say all about what is written; `main` is proved to be safe and to
-//! return.
+//! `main` passes the process's words and streams to `command_line::start`, and exits with the status that
+//! `start` returns. The contracts of `start` say all about what is written; `main` is proved to be safe and
+//! to return.
 //!
-//! The crate is small since the check of a program links the code of all its libraries before it proves
-//! anything.
+//! The crate is small for a reason: before the check of a program proves anything, it links the code of all
+//! the program's libraries.
 //!
 //! ```text
 //! ./console run --rules hh --nodes 2 < examples/pair.script

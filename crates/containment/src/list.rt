@@ -33,7 +33,7 @@ fn without_head(nodes: &[Node], v: Node) -> &[Node]
     }
 }
 
-/// Returns the neighbours of a node; an absent one has none.
+/// Returns the neighbours of a node; none if the node is absent.
 fn near(net: &NetState, v: Node) -> &[Node]
     ensures { result.now ≡ neighbours net.now.state.network v }
 {
@@ -74,9 +74,11 @@ fn parts_a_pair(net: &NetState, event: &Event) -> bool
     }
 }
 
-/// Whether the event touches a node, if `parts` is whether it parts a pair.
+/// Whether the event hits or parts `v`, or parts a pair while `v` is unmarried.
 ///
-/// Cost: a few looks, none at the node's neighbours.
+/// `parts` is whether the event parts a pair.
+///
+/// Cost: a few looks, none at the neighbours of `v`.
 fn is_touched(net: &NetState, event: &Event, parts: bool, v: Node) -> bool
     requires { parts ≡ of.parts_a_pair net.now.state event.now }
     ensures { result ≡ among.is_hit_or_parted net.now.state event.now v }
@@ -84,7 +86,7 @@ fn is_touched(net: &NetState, event: &Event, parts: bool, v: Node) -> bool
     is_hit(net, event, v) || is_parted(net, event, v) || (parts && !is_married(net, v))
 }
 
-/// Returns the nodes of two ascending lists that the event touches, in one pass over both.
+/// Returns those nodes of two ascending lists that the event touches (`is_touched`), ascending.
 fn touched(
     alloc: Global,
     net: &NetState,
@@ -109,7 +111,7 @@ fn touched(
     Ok(list)
 }
 
-/// Returns `one`, the list of `v` alone, if a node has that name, else the empty list.
+/// Returns `one`, which contains `v` alone, if `v` is present, else the empty list.
 fn only<'a>(net: &NetState, v: Node, one: &'a [Node]) -> &'a [Node]
     requires { one.now ≡ v ∷ [] }
     ensures { result.now ≡ filter (λ x. nat_eq x v) (names net.now.state.network) }
@@ -120,7 +122,7 @@ fn only<'a>(net: &NetState, v: Node, one: &'a [Node]) -> &'a [Node]
     &[]
 }
 
-/// Returns the reach of an event that parts a pair: those parted, and their unmarried neighbours.
+/// Returns the reach of an event that parts a pair: parted nodes and their unmarried neighbours.
 fn list_beside(alloc: Global, net: &NetState, event: &Event) -> Result<Vec<Node>, Want>
     requires { IsTrue (of.parts_a_pair net.now.state event.now) }
     ensures { IfOk result (λ list. list.items ≡ filter (of.is_in_reach net.now.state event.now) (names net.now.state.network)) }
@@ -141,7 +143,7 @@ fn list_beside(alloc: Global, net: &NetState, event: &Event) -> Result<Vec<Node>
     }
 }
 
-/// Returns the nodes, ascending, that an event would reach in this state, if it is not refused.
+/// Returns the nodes, ascending, that an event would reach if this state accepted the event.
 ///
 /// `AllocError` if memory runs out.
 ///

@@ -1,4 +1,4 @@
-//! What a disturbance can reach.
+//! Which nodes a disturbance would reach.
 
 ghost use Rattle.std.specs.Prelude.{◌≡◌, ◌&&◌, ◌||◌, nat_eq, is_some, find};
 ghost use Rattle.rule_machine.specs.Network.{neighbours};
@@ -15,14 +15,14 @@ fn is_mutual(net: &NetState, v: Node, w: Node) -> bool
     net.points(v, w) && net.points(w, v)
 }
 
-/// Whether a node is `a`, and married, or `a`'s partner.
+/// Whether `v` is the partner of `a`, or is `a` while `a` is married.
 fn is_of_pair(net: &NetState, a: Node, v: Node) -> bool
     ensures { result ≡ (state.is_mutual net.now.state a v || (nat_eq v a && state.married net.now.state a)) }
 {
     is_mutual(net, a, v) || (v == a && is_married(net, a))
 }
 
-/// Whether the event parts a node from its partner.
+/// Whether the event parts `v` from its partner.
 pub(crate) fn is_parted(net: &NetState, event: &Event, v: Node) -> bool
     ensures { result ≡ of.is_parted net.now.state event.now v }
 {
@@ -35,7 +35,10 @@ pub(crate) fn is_parted(net: &NetState, event: &Event, v: Node) -> bool
     }
 }
 
-/// Whether the event hits the node itself.
+/// Whether the event hits `v`.
+///
+/// An event hits `v` if `v` is unmarried and gets an edge to an unmarried node or a new target, or if the
+/// flag of `v` becomes wrong.
 pub(crate) fn is_hit(net: &NetState, event: &Event, v: Node) -> bool
     ensures { result ≡ of.is_hit net.now.state event.now v }
 {
@@ -63,10 +66,10 @@ fn is_beside_parted(net: &NetState, event: &Event, v: Node) -> bool
     false
 }
 
-/// Whether an event would reach a node in this state, if it is not refused.
+/// Whether an event would reach node `v` if this state accepted the event.
 ///
-/// The event reaches a node that it hits, a node that it parts from its partner, and an unmarried neighbour
-/// of a parted node. A node at rest that is not in reach stays at rest.
+/// An event reaches the nodes that it hits, the nodes that it parts from their partners, and the unmarried
+/// neighbours of parted nodes. A node at rest that the event does not reach stays at rest.
 ///
 /// Cost: a pass over the node's neighbours.
 pub fn is_in_reach(net: &NetState, event: &Event, v: Node) -> bool

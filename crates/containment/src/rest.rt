@@ -8,7 +8,9 @@ ghost use Rattle.containment_laws.specs.Rest as of;
 use net_state::NetState;
 use rule_machine::Node;
 
-/// Whether each neighbour of a node is married: two looks at each, up to the first that is not.
+/// Whether each neighbour of a node is married.
+///
+/// Cost: two looks at each neighbour, up to the first unmarried one.
 fn is_surrounded(net: &NetState, v: Node) -> bool
     requires { IsTrue (network.present net.now.state.network v) }
     ensures { result ≡ of.is_surrounded net.now.state v }
@@ -21,7 +23,7 @@ fn is_surrounded(net: &NetState, v: Node) -> bool
     true
 }
 
-/// Whether a node is married; an absent one is not.
+/// Whether a node is married; false if the node is absent.
 pub(crate) fn is_married(net: &NetState, v: Node) -> bool
     ensures { result ≡ state.married net.now.state v }
 {
@@ -33,12 +35,12 @@ pub(crate) fn is_married(net: &NetState, v: Node) -> bool
     net.married(v)
 }
 
-/// Whether a node is at rest; an absent one is.
+/// Whether a node is at rest; true if the node is absent.
 ///
 /// A node is at rest if its flag is right (if flags are used), and it is married, or its pointer is null and
 /// each of its neighbours is married.
 ///
-/// Cost: a pass over the neighbours if its pointer is null, else a few looks.
+/// Cost: a pass over the neighbours if the node's pointer is null, else a few looks.
 pub fn is_at_rest(net: &NetState, uses_flags: bool, v: Node) -> bool
     ensures { result ≡ of.is_at_rest uses_flags net.now.state v }
 {

@@ -1,5 +1,4 @@
--- What it is to be at rest, taken apart and put together; a network is stable if each of its nodes is at
--- rest.
+-- What being at rest means and follows from; a network is stable if each of its nodes is at rest.
 use Rattle.std.proofs.Common.{◌≡◌, ◌≢◌, ℕ, Bool, true, false, cond, not, ◌&&◌, ◌||◌, Option, None, Some, is_none, find, IsTrue, refl, sym, ap, ◌∙◌, subst, inl, inr, ◌⊎◌, ⊎_elim}
 use Rattle.std.proofs.lemmas.Bool.{and_parts, and_from, or_cases, or_left, or_right, true≢false, cases_Bool, not-true, not-false, not_from_false, not_from_true, false_from_ne_true}
 use Rattle.std.proofs.lemmas.Option.{none-some, same_Some}
@@ -82,7 +81,7 @@ rest_near uses_flags s v w rest null near =
 pub rest_no_null : (uses_flags : Bool) (s : State) (v w : ℕ) → IsAtRest uses_flags s v → pointer s v ≡ None → IsTrue (linked s.network v w) → pointer s w ≢ None
 rest_no_null uses_flags s v w rest null near other = true≢false (sym (rest_near uses_flags s v w rest null near) ∙ null_unmarried s w other)
 
--- and none of them points at it
+-- no node points at a node at rest whose pointer is null
 pub rest_no_suitor : (uses_flags : Bool) (s : State) (v w : ℕ) → IsState s → IsAtRest uses_flags s v → pointer s v ≡ None → pointer s w ≢ Some v
 rest_no_suitor uses_flags s v w good rest null at =
     let is = rest_near uses_flags s v w rest null (suitor_linked s v w good at) in

@@ -1,4 +1,4 @@
--- A node at rest stays so through steps, and through each disturbance that does not reach it.
+-- A node at rest stays at rest through steps, and through each disturbance that does not reach the node.
 use Rattle.std.proofs.Common.{◌≡◌, ◌≢◌, ℕ, true, false, not, ◌&&◌, ◌||◌, List, [], ◌∷◌, Contains, Option, None, Some, is_some, find, IsTrue, refl, sym, ap, ◌∙◌, subst, inl, ⊎_elim, arith}
 use Rattle.std.proofs.lemmas.Bool.{true≢false, and_from, or_parts, or_from, cases_Bool, not_from_false, false_from_ne_true}
 use Rattle.std.proofs.lemmas.List.Elements.{All-head, All-tail}
@@ -32,7 +32,8 @@ use Rattle.containment_laws.specs.Edits.{IsMild, accepted_mild}
 
 -- ---- one disturbance
 
--- a node not in reach is not hit, not parted, and if it is unmarried none of its neighbours is parted
+-- v is not in the reach: v is not hit and not parted, and if v is unmarried none of its neighbours is
+-- parted
 pub record IsBeyond (s : State) (event : Event) (v : ℕ) : Type 0 where
   pub calm : is_hit s event v ≡ false
   pub kept : is_parted s event v ≡ false

@@ -24,7 +24,7 @@ use Rattle.containment_laws.specs.Movers.{moves_at, has_moved, is_ever_reached, 
 abbrev pub RestIsIdle : RuleTable → Type 0
 RestIsIdle t = (s : State) → IsState s → (v : ℕ) → IsTrue (is_at_rest t.flags s v) → rule_at t s v ≡ None
 
--- In a step a node at rest does not move, keeps its registers and stays at rest, whatever nodes move.
+-- In a step a node at rest does not move, keeps its registers and stays at rest, whatever other nodes move.
 abbrev pub StepsLeaveRest : RuleTable → Type 0
 StepsLeaveRest t =
     (s : State) → IsState s → (items : List Item) (moves : List Moved) (s' : State) → IsStep t s items moves s'
@@ -38,14 +38,14 @@ StepsKeepPairs t =
 
 -- ---- runs without a disturbance
 
--- A node at rest never moves, keeps its registers, and is at rest at the end: from any state, whatever the
--- daemon chooses.
+-- In a run without a disturbance a node at rest never moves, keeps its registers and ends at rest, from any
+-- state, whatever the daemon chooses.
 abbrev pub RunsLeaveRest : RuleTable → Type 0
 RunsLeaveRest t =
     (start : Moment) → IsState start.state → (log : List Entry) (end : Moment) → Run t start log end → IsUndisturbed log
     → (v : ℕ) → IsTrue (is_at_rest t.flags start.state v) → (has_moved log v ≡ false) × KeepsRegisters start.state end.state v × IsTrue (is_at_rest t.flags end.state v)
 
--- Each node that moves was not at rest at the start.
+-- Each node that moves in a run without a disturbance was not at rest at the start.
 abbrev pub MoversWereRestless : RuleTable → Type 0
 MoversWereRestless t =
     (start : Moment) → IsState start.state → (log : List Entry) (end : Moment) → Run t start log end → IsUndisturbed log
@@ -59,47 +59,49 @@ RunsKeepPairs t =
 
 -- ---- one disturbance
 
--- A node at rest and not in its reach is at rest after it, with the same registers if it is still present.
+-- A node at rest that is not in the disturbance's reach is at rest after the disturbance, with the same
+-- registers if the node is still present.
 abbrev pub DisturbancesReach : RuleTable → Type 0
 DisturbancesReach t =
     (s : State) → IsState s → (spent : ℕ) (event : Event) (after : State) → Answers t s spent event Accepted after
     → (v : ℕ) → IsTrue (is_at_rest t.flags s v) → is_in_reach s event v ≡ false
     → IsTrue (is_at_rest t.flags after v) × (IsTrue (present after.network v) → KeepsRegisters s after v)
 
--- The nodes in its reach are at most a sum of degrees, whatever the size of the network.
+-- At most `reach_size` nodes are in the reach of an event, whatever the size of the network.
 abbrev pub ReachIsSmall : Type 0
 ReachIsSmall =
     (s : State) → IsState s → (event : Event) → count_by (is_in_reach s event) (names s.network) ≤ reach_size s event
 
--- In a stable network the reach is exact: after the disturbance no node in it is at rest. One exception, if
--- flags are not used: a node that is parted among married neighbours may have no enabled rule.
+-- In a stable network the reach is exact: after the disturbance no node in the reach is at rest. One
+-- exception, if flags are not used: a parted node whose neighbours were all married may be at rest.
 abbrev pub ReachIsExact : RuleTable → Type 0
 ReachIsExact t =
     (s : State) → IsState s → IsStable t.flags s → (spent : ℕ) (event : Event) (after : State) → Answers t s spent event Accepted after
     → (v : ℕ) → IsTrue (is_in_reach s event v) → IsTrue t.flags ⊎ (is_parted s event v ≡ false) ⊎ (is_surrounded s v ≡ false)
     → is_at_rest t.flags after v ≡ false
 
--- It breaks at most one pair: any two that it breaks are the same.
+-- A disturbance breaks at most one pair: any two pairs that it breaks are the same.
 abbrev pub DisturbancesBreakOne : RuleTable → Type 0
 DisturbancesBreakOne t =
     (s : State) → IsState s → (spent : ℕ) (event : Event) (after : State) → Answers t s spent event Accepted after
     → (e f : ℕ × ℕ) → Contains (mutual_pairs s) e → Contains (mutual_pairs s) f
     → (Contains (mutual_pairs after) e → ⊥) → (Contains (mutual_pairs after) f → ⊥) → e ≡ f
 
--- two links away at most
+-- v is at most two links away from a
 abbrev pub IsWithinTwo : Network → ℕ → ℕ → Type 0
 IsWithinTwo net a v =
     (v ≡ a) ⊎ IsTrue (linked net a v) ⊎ ((w : ℕ) × IsTrue (linked net a w) × IsTrue (linked net w v))
 
--- Its reach is within two links of a node that it names: that is the radius of containment.
+-- Each node in the reach of an event is within two links of a node that the event names: the containment
+-- radius is 2.
 abbrev pub ReachIsNear : Type 0
 ReachIsNear =
     (s : State) → IsState s → (event : Event) (v : ℕ) → IsTrue (is_in_reach s event v) → Any (λ a. IsWithinTwo s.network a v) (named_by event)
 
 -- ---- containment
 
--- After one disturbance of a stable network only nodes in its reach ever move, whatever the daemon chooses.
--- Each other node that is still present keeps its registers, and is at rest.
+-- After one disturbance of a stable network only nodes in the disturbance's reach ever move, whatever the
+-- daemon chooses. Each other node that is still present keeps its registers, and is at rest.
 abbrev pub OneIsContained : RuleTable → Type 0
 OneIsContained t =
     (s : State) → IsState s → IsStable t.flags s → (spent : ℕ) (event : Event) (after : State) → Answers t s spent event Accepted after
@@ -107,14 +109,14 @@ OneIsContained t =
     → (v : ℕ) → is_in_reach s event v ≡ false
     → (has_moved log v ≡ false) × (IsTrue (present end.state.network v) → KeepsRegisters s end.state v) × IsTrue (is_at_rest t.flags end.state v)
 
--- So each node that moves is in it.
+-- So each node that moves after one disturbance of a stable network is in the disturbance's reach.
 abbrev pub MoversWereReached : RuleTable → Type 0
 MoversWereReached t =
     (s : State) → IsState s → IsStable t.flags s → (spent : ℕ) (event : Event) (after : State) → Answers t s spent event Accepted after
     → (log : List Entry) (end : Moment) → Run t (record { state = after; spent = 0 }) log end → IsUndisturbed log
     → (v : ℕ) → IsTrue (has_moved log v) → IsTrue (is_in_reach s event v)
 
--- And at most one pair is lost at the end, from any state.
+-- After one disturbance of any state at most one pair is lost at the end.
 abbrev pub OnePairIsLost : RuleTable → Type 0
 OnePairIsLost t =
     (s : State) → IsState s → (spent : ℕ) (event : Event) (after : State) → Answers t s spent event Accepted after
@@ -130,19 +132,19 @@ AllAreContained t =
     → (v : ℕ) → IsTrue (is_at_rest t.flags start.state v) → is_ever_reached start.state path v ≡ false
     → (has_moved (path_entries path) v ≡ false) × IsTrue (is_at_rest t.flags (end_of_path start.state path) v)
 
--- Each node that moves was not at rest at the start, or is in the reach of one of them.
+-- Each node that moves was not at rest at the start, or is in the reach of a disturbance.
 abbrev pub MoversAreAccountedFor : RuleTable → Type 0
 MoversAreAccountedFor t =
     (start : Moment) → IsState start.state → (path : List (Entry × State)) → IsPath t start path
     → (v : ℕ) → IsTrue (has_moved (path_entries path) v) → (is_at_rest t.flags start.state v ≡ false) ⊎ IsTrue (is_ever_reached start.state path v)
 
--- At the end at most as many of the pairs at the start are lost as disturbances part one.
+-- A run loses at most one pair of its start for each disturbance that parts a pair.
 abbrev pub PairsAreAccountedFor : RuleTable → Type 0
 PairsAreAccountedFor t =
     (start : Moment) → IsState start.state → (path : List (Entry × State)) → IsPath t start path
     → lost_pairs start.state (end_of_path start.state path) ≤ partings_in start.state path
 
--- So the number of pairs falls by at most as many.
+-- So the number of pairs falls by at most the number of disturbances that part a pair.
 abbrev pub PairsAreLeft : RuleTable → Type 0
 PairsAreLeft t =
     (start : Moment) → IsState start.state → (path : List (Entry × State)) → IsPath t start path

@@ -1,4 +1,4 @@
--- Lost pairs: at most as many of the pairs at the start as disturbances part one.
+-- A run loses at most one pair of its start for each disturbance that parts a pair.
 use Rattle.std.proofs.Common.{◌≡◌, ◌≢◌, ℕ, ◌+◌, ◌≤◌, Bool, true, false, cond, not, ◌&&◌, List, [], ◌∷◌, count_by, Contains, Option, None, Some, filter_map, nat_lt, IsTrue, refl, sym, ap, ◌∙◌, subst, inl, inr, ◌⊎◌, ⊎_elim, arith}
 use Rattle.std.specs.List.{cons_option}
 use Rattle.std.proofs.lemmas.Bool.{true≢false, and_parts, cases_Bool, cases_eq, cond-true, cond-false, not-true, not_from_true}

@@ -17,12 +17,13 @@ moves_at v reply = false
 abbrev pub has_moved : List Entry → ℕ → Bool
 has_moved log v = list_any (λ entry. moves_at v entry.1) log
 
--- whether v is in the reach of an entry, if that is an accepted disturbance
+-- whether the entry is an accepted disturbance that has v in its reach
 abbrev pub is_reached_by : State → Event → Reply → ℕ → Bool
 is_reached_by s event Accepted v = is_in_reach s event v
 is_reached_by s event reply v = false
 
--- whether v is in the reach of a disturbance along a path from this state, each in the state before it
+-- whether v is in the reach of a disturbance of a path from this state, each reach taken in the state
+-- before the disturbance
 abbrev pub is_ever_reached : State → List (Entry × State) → ℕ → Bool
 is_ever_reached s [] v = false
 is_ever_reached s (step ∷ path) v = is_reached_by s step.0.0 step.0.1 v || is_ever_reached step.1 path v

@@ -129,7 +129,7 @@ share e f a (inl x) (inr y) = inr (inl (x ∙ sym y))
 share e f a (inr x) (inl y) = inr (inr (inl (x ∙ sym y)))
 share e f a (inr x) (inr y) = inr (inr (inr (x ∙ sym y)))
 
--- So two pairs that a disturbance breaks are one.
+-- So two pairs that a disturbance breaks are the same pair.
 pub one_pair_lost : (t : RuleTable) → IsTable t → (s : State) → IsState s → (n : ℕ) (event : Event) (s' : State) → Answers t s n event Accepted s' → (e f : ℕ × ℕ) → Contains (mutual_pairs s) e → Contains (mutual_pairs s) f → (Contains (mutual_pairs s') e → ⊥) → (Contains (mutual_pairs s') f → ⊥) → e ≡ f
 one_pair_lost t table s good n event s' answers e f in_e in_f lost_e lost_f =
     pairs_apart s e f in_e in_f (share e f (main_node event) (lost_has t table s good n event s' answers e in_e lost_e) (lost_has t table s good n event s' answers f in_f lost_f))

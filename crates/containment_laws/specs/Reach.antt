@@ -1,4 +1,5 @@
--- The reach of a disturbance: the nodes at which it may enable a rule. Each other node at rest stays at rest.
+-- The reach of an event: the nodes at which the event may enable a rule. Each other node at rest stays at
+-- rest.
 use Rattle.std.specs.Prelude.{ℕ, ◌+◌, Bool, false, cond, not, ◌&&◌, ◌||◌, None, Some, List, [], ◌∷◌, count_by, is_some, find, nat_eq}
 use Rattle.rule_machine.specs.declared.event.Event.{Event}
 use Rattle.rule_machine.specs.declared.event.Event.TheVariants.{Link, Unlink, Point, Flag, Join, Leave}
@@ -10,8 +11,8 @@ use Rattle.rule_machine.specs.Stable.{mutual_pairs}
 use Rattle.rule_machine.specs.Run.{Entry}
 use Rattle.charge_laws.specs.Degrees.{degree, degree_at}
 
--- The event parts v from its partner: the edge of a pair goes, the pointer of one of the two changes, or one
--- of them leaves.
+-- Whether the event parts v from its partner: the edge between the two is removed, the pointer of one of
+-- the two changes, or the partner leaves.
 abbrev pub is_parted : State → Event → ℕ → Bool
 is_parted s (Unlink a b) v = is_mutual s a b && (nat_eq v a || nat_eq v b)
 is_parted s (Point a None) v = is_mutual s a v || (nat_eq v a && married s a)
@@ -19,22 +20,22 @@ is_parted s (Point a (Some w)) v = not (points s.registers a w) && (is_mutual s 
 is_parted s (Leave a) v = is_mutual s a v
 is_parted s event v = false
 
--- The event hits v itself: an edge links it to another node and neither is married, the pointer of v, which
--- is unmarried, changes to another node, or its flag becomes wrong.
+-- Whether the event hits v: v is unmarried and gets an edge to an unmarried node or a new target, or the
+-- flag of v becomes wrong.
 abbrev pub is_hit : State → Event → ℕ → Bool
 is_hit s (Link a b) v = not (married s a) && not (married s b) && (nat_eq v a || nat_eq v b)
 is_hit s (Point a (Some w)) v = nat_eq v a && not (married s a) && not (points s.registers a w)
 is_hit s (Flag a value) v = nat_eq v a && cond (married s a) (not value) value
 is_hit s event v = false
 
--- v is hit, or parted from its partner, or not married and a neighbour of one that is parted
+-- whether v is in the reach: v is hit, or parted, or an unmarried neighbour of a parted node
 abbrev pub is_in_reach : State → Event → ℕ → Bool
 is_in_reach s event v =
     is_hit s event v || is_parted s event v || (not (married s v) && is_some (find (is_parted s event) (neighbours s.network v)))
 
--- how many nodes may be in reach: the two nodes of a new edge; if a pair is parted, its nodes and their other
--- neighbours, but only the partner and its neighbours if a node leaves; else the node whose pointer or flag
--- is written
+-- at most how many nodes are in the reach: the two nodes of a new edge; if a pair is parted, the two nodes
+-- and their other neighbours, but only the partner and the partner's other neighbours if a node leaves;
+-- else the node whose pointer or flag is written
 abbrev pub reach_size : State → Event → ℕ
 reach_size s (Link a b) = 2
 reach_size s (Unlink a b) = cond (is_mutual s a b) (degree s.network a + degree s.network b) 0
@@ -56,12 +57,12 @@ abbrev pub partings_of : State → Event → Reply → ℕ
 partings_of s event Accepted = cond (parts_a_pair s event) 1 0
 partings_of s event reply = 0
 
--- along a path from this state, each disturbance in the state before it
+-- how many pairs the disturbances of a path from this state part, each judged in the state before it
 abbrev pub partings_in : State → List (Entry × State) → ℕ
 partings_in s [] = 0
 partings_in s (step ∷ path) = partings_of s step.0.0 step.0.1 + partings_in step.1 path
 
--- how many mutual pairs of one state are none of another
+-- how many mutual pairs of the first state are no mutual pairs of the second
 abbrev pub lost_pairs : State → State → ℕ
 lost_pairs s s' = count_by (λ e. not (is_mutual s' e.0 e.1)) (mutual_pairs s)
 

@@ -106,7 +106,7 @@ own_few net p u v there_v out near =
 
 -- ---- who is in reach
 
--- how a node comes to be in reach
+-- a node in reach is hit, parted, or an unmarried neighbour of a parted node
 pub reach_cases : (s : State) (event : Event) (v : ℕ) → is_in_reach s event v ≡ true → (is_hit s event v ≡ true) ⊎ (is_parted s event v ≡ true) ⊎ ((married s v ≡ false) × ((w : ℕ) × IsTrue (linked s.network w v) × (is_parted s event w ≡ true)))
 reach_cases s event v h =
     ⊎_elim

@@ -1,4 +1,4 @@
-//! What cannot move, whatever the daemon chooses.
+//! Laws of which nodes cannot move, whatever the daemon chooses.
 
 ghost use Rattle.std.specs.Prelude.{ℕ, Bool, IsTrue};
 ghost use Rattle.rule_machine.specs.Network.{present};
@@ -43,7 +43,7 @@ pub fn runs_leave_rest()
     ensures manne { RunsLeaveRest manne }
 {}
 
-/// Between two disturbances every node that moves was not at rest at the start.
+/// Between two disturbances only nodes that were not at rest at the start move.
 pub fn movers_were_restless()
     ensures hsu_huang { MoversWereRestless hsu_huang }
     ensures manne { MoversWereRestless manne }
@@ -55,7 +55,7 @@ pub fn runs_keep_pairs()
     ensures manne { RunsKeepPairs manne }
 {}
 
-/// After an accepted disturbance a node that was at rest and is not in its reach is still at rest.
+/// A node at rest that is not in the reach of an accepted disturbance is at rest after it.
 pub fn disturbances_reach()
     ensures hsu_huang { DisturbancesReach hsu_huang }
     ensures manne { DisturbancesReach manne }
@@ -67,15 +67,16 @@ pub fn disturbances_break_one()
     ensures manne { DisturbancesBreakOne manne }
 {}
 
-/// After one disturbance of a stable network only nodes in its reach ever move.
+/// After one disturbance of a stable network only nodes in the disturbance's reach ever move.
 ///
-/// All others are at rest, and keep their registers if they are still present, whatever the daemon chooses.
+/// All other nodes are at rest, and keep their registers if they are still present, whatever the daemon
+/// chooses.
 pub fn one_is_contained()
     ensures hsu_huang { OneIsContained hsu_huang }
     ensures manne { OneIsContained manne }
 {}
 
-/// After one disturbance of a stable network every node that moves is in its reach.
+/// After one disturbance of a stable network each node that moves is in the disturbance's reach.
 pub fn movers_were_reached()
     ensures hsu_huang { MoversWereReached hsu_huang }
     ensures manne { MoversWereReached manne }
@@ -95,40 +96,42 @@ pub fn all_are_contained()
     ensures manne { AllAreContained manne }
 {}
 
-/// Every node that moves was not at rest at the start, or is in the reach of a disturbance.
+/// Each node that moves was not at rest at the start, or is in the reach of a disturbance.
 ///
-/// The reach is that in the state before the disturbance.
+/// The reach of a disturbance is determined in the state before the disturbance.
 pub fn movers_are_accounted_for()
     ensures hsu_huang { MoversAreAccountedFor hsu_huang }
     ensures manne { MoversAreAccountedFor manne }
 {}
 
-/// At the end at most as many of the first pairs are lost as disturbances part one.
+/// A run loses at most one pair of its start for each disturbance that parts a pair.
 pub fn pairs_are_accounted_for()
     ensures hsu_huang { PairsAreAccountedFor hsu_huang }
     ensures manne { PairsAreAccountedFor manne }
 {}
 
-/// The number of pairs falls by at most the number of disturbances that part one.
+/// The number of pairs falls by at most the number of disturbances that part a pair.
 pub fn pairs_are_left()
     ensures hsu_huang { PairsAreLeft hsu_huang }
     ensures manne { PairsAreLeft manne }
 {}
 
-/// The containment radius is two: the reach of a disturbance is within two links of a node it names.
+/// The containment radius is 2: the reach of an event is within two links of the nodes it names.
 pub fn reach_is_near()
     ensures { ReachIsNear }
 {}
 
-/// In a stable network the reach is exact: each node in it is not at rest after the disturbance.
+/// In a stable network the reach is exact: after the disturbance no node in the reach is at rest.
 ///
-/// One exception, if flags are not used: a node that is parted among married neighbours may be at rest.
+/// One exception, if flags are not used: a parted node whose neighbours were all married may be at rest.
 pub fn reach_is_exact()
     ensures hsu_huang { ReachIsExact hsu_huang }
     ensures manne { ReachIsExact manne }
 {}
 
-/// The number of nodes in the reach is at most a degree or the sum of two, whatever the network's size.
+/// The number of nodes in the reach is at most 2, or at most a sum of two degrees.
+///
+/// The bound, `reach_size`, does not depend on the size of the network.
 pub fn reach_is_small()
     ensures { ReachIsSmall }
 {}

@@ -3,11 +3,12 @@
 //!
 //! Laws only: each public function is empty and its contract is the law, which `specs/Laws` states in words.
 //!
-//! - A node is *at rest* if its flag is right (if flags are used), and it is married, or its pointer is null
-//!   and each of its neighbours is married (`specs/Rest`). No rule is enabled at it, and no step of others
-//!   enables one. No step breaks a pair.
-//! - An edit or fault has a *reach* (`specs/Reach`). It is within two links of the nodes that the event names
-//!   (`reach_is_near`) and no larger than their degrees (`reach_is_small`).
+//! - A node is *at rest* if its flag is right (if flags are used), and it is married, or its pointer is
+//!   null and each of its neighbours is married (`specs/Rest`). No rule is enabled at a node at rest, and
+//!   no step of other nodes enables one. No step breaks a pair.
+//! - Each edit and fault has a *reach* (`specs/Reach`): the nodes at which it may enable a rule. They are
+//!   within two links of the nodes that the event names (`reach_is_near`). How many they are is bounded by
+//!   degrees (`reach_is_small`).
 //! - From a stable network only nodes in the reach ever move, all others keep their registers, and at most
 //!   one pair is lost (`one_is_contained`, `one_pair_is_lost`). The same holds for any number of disturbances
 //!   (`all_are_contained`).

@@ -13,8 +13,8 @@ nodes_of choice = map (λ item. item.node) choice
 abbrev pub plain : List ℕ → List Item
 plain names = map (λ v. record { node = v; wish = None }) names
 
--- A lawful choice from a set: not empty, distinct members, ascending, without wishes, and only one item if
--- the daemon is central.
+-- A choice from a set is lawful if it has at least one item, and only one if the daemon is central.
+-- Its nodes are distinct members of the set, ascending, without wishes.
 pub record IsLawful (bits : List Bool) (central : Bool) (choice : List Item) : Type 0 where
   pub some : 1 ≤ length choice
   pub chosen : All (λ item. IsTrue (is_in bits item.node)) choice

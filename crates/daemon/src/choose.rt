@@ -8,14 +8,15 @@ ghost use Rattle.daemon.specs.DaemonLaws.{IsLawful};
 use enabled_set::EnabledSet;
 use rule_machine::{Choice, MAX_NAME, Node, Want};
 
-/// A daemon: it chooses the nodes of a step from the enabled ones.
+/// A daemon chooses which enabled nodes move in the next step.
 pub trait Daemon {
-    /// Relates names (ascending), central or not, and the daemon to its choice and the daemon afterwards.
+    /// Relates the names (ascending), whether the daemon is central, and the daemon before
+    /// to the daemon's choice and the daemon afterwards.
     ghost chooses: { List ℕ → Bool → Self → Option (List Item) → Self → Type 0 };
 
-    /// The choice for the next step; `None` if the daemon has none to make.
-    /// A choice has distinct members of the set, ascending, without wishes: one if `central`, else 1 to
-    /// 65,535.
+    /// The choice for the next step; `None` if the daemon makes no choice.
+    /// The nodes of a choice are distinct members of the set, ascending, without wishes: one node if
+    /// `central`, else 1 to 65,535.
     /// Error: out of memory.
     fn choose(&mut self, set: &EnabledSet, central: bool) -> Result<Option<Choice>, Want>
         ensures lawful { IfOk result (λ choice. IfSome choice (IsLawful set.now central)) }

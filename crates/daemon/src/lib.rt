@@ -1,8 +1,8 @@
 //! Daemons choose the nodes that move.
 //!
-//! A `Daemon` chooses the next step among the enabled nodes, central or not, and every choice is lawful.
-//! `Seeded` draws from a random generator, `Recorded` plays lists; their contracts define each choice as a
-//! function. Any crate may add another daemon.
+//! A `Daemon`, central or not, chooses the nodes of the next step among the enabled nodes. Its contract says
+//! that every choice is lawful. `Seeded` draws choices from a random generator, `Recorded` takes them from
+//! lists; their contracts define each choice exactly. Any crate may add another daemon.
 //!
 //! The bounds on moves hold for every daemon. Fairness is not claimed.
 //!

@@ -24,7 +24,7 @@ fn marks_of(alloc: Global, list: &[Node]) -> Result<Vec<bool>, Want>
     Ok(marks)
 }
 
-/// An item for each of these nodes that the list has, in their order. One look a node.
+/// An item for each node of `names` that `list` has, in the order of `names`. One look at each node.
 fn items_of(alloc: Global, names: &[Node], list: &[Node]) -> Result<Vec<Item>, Want>
     ensures { IfOk result (λ items. items.items ≡ plain (named_of names.now list.now)) }
 {
@@ -62,8 +62,8 @@ fn choice_of(
     Ok(Choice::new(items))
 }
 
-/// The first choice that a list at or after `from` gives, and the index after that list.
-/// If none gives one: no choice, and the end of the lists.
+/// Finds the first list at or after `from` that gives a choice; returns the next index and the choice.
+/// If no list gives a choice, returns the number of lists and `None`.
 fn play(
     alloc: Global,
     names: &[Node],
@@ -85,10 +85,11 @@ fn play(
     Ok((lists.len(), None))
 }
 
-/// A daemon that plays lists in their order. Contracts see the lists left.
+/// A daemon that plays recorded lists of nodes in order. Contracts see the lists still to be played.
 ///
-/// A list chooses those of its nodes that are in the set, each once, ascending; under a central daemon only
-/// the first of these. A list without such nodes is skipped. After the last list there is no choice.
+/// A list chooses those of its nodes that are in the set, each once, ascending. If the daemon is central, the
+/// list chooses only the first of these nodes. A list without a node of the set is skipped. After the last
+/// list there is no choice.
 #[derive(Drop)]
 pub struct Recorded {
     alloc: Global,
@@ -107,7 +108,7 @@ impl Model for Recorded {
 }
 
 impl Recorded {
-    /// A daemon with all of these lists left.
+    /// A daemon that has all these lists still to play.
     pub fn new(alloc: Global, lists: Vec<Vec<Node>>) -> Recorded
         ensures { result ≡ map (λ list. list.items) lists.items }
     {
@@ -122,11 +123,12 @@ impl Recorded {
 impl Daemon for Recorded {
     ghost chooses = { λ names central old choice new. (choice, new) ≡ played central names old };
 
-    /// The choice of the next list that gives one.
-    /// Returns `None` if and only if no list left has a member; then all lists are used up.
+    /// The choice of the next list that gives a choice.
+    /// Returns `None` if and only if no list still to be played has a member of the set; then all lists are
+    /// used up.
     /// Error: out of memory; no list has been used.
-    /// Takes a list of the members, and for each list tried a table of 65,536 bytes. Writes once for each
-    /// node of a tried list, and looks once at each member.
+    /// Takes memory for a list of the members and, for each list tried, a table of 65,536 bytes.
+    /// For each list tried, writes once for each node of the list and looks once at each member.
     fn choose(&mut self, set: &EnabledSet, central: bool) -> Result<Option<Choice>, Want>
         ensures lawful { IfOk result (λ choice. IfSome choice (IsLawful set.now central)) }
         ensures played { IfOk result (λ choice. (choice, self.new) ≡ played central (members set.now) self.old) }

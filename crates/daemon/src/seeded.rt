@@ -13,7 +13,7 @@ use rule_machine::{Choice, Item, Node, Want};
 use std::alloc::Global;
 use std::marker::Model;
 
-/// The member that the next word picks: number (word mod count), ascending from 0.
+/// The member that the next word picks: the one with index (word mod count), ascending from 0.
 fn next_member<G: Rng>(generator: &mut G, set: &EnabledSet) -> Node
     requires { 1 ≤ length (members set.now) }
     ensures { (result ∷ [], G.stream generator.new) ≡ draw_one (members set.now) (G.stream generator.old) }
@@ -23,7 +23,7 @@ fn next_member<G: Rng>(generator: &mut G, set: &EnabledSet) -> Node
     set.nth(word % count).unwrap()
 }
 
-/// A choice of one member by one word. Takes no memory.
+/// A choice of one member, picked by one word. Takes no memory.
 fn choose_one<G: Rng>(generator: &mut G, set: &EnabledSet) -> Choice
     requires { 1 ≤ length (members set.now) }
     ensures { (result, G.stream generator.new) ≡ as_choice (draw_one (members set.now) (G.stream generator.old)) }
@@ -38,7 +38,7 @@ fn is_odd(word: u32) -> bool
     word % 2 == 1
 }
 
-/// Appends an item for each node whose word is odd. Draws one word a node.
+/// Draws one word for each node, and appends an item for the node if its word is odd.
 /// Each item is written first and removed if its word is even: a branch would be mispredicted half the time.
 fn push_odd<G: Rng>(generator: &mut G, names: &[Node], items: &mut Vec<Item>)
     requires empty { items.old.items ≡ [] }
@@ -61,7 +61,7 @@ fn push_odd<G: Rng>(generator: &mut G, names: &[Node], items: &mut Vec<Item>)
     }
 }
 
-/// Items of the members whose words are odd; if there are none, of one member by one more word.
+/// An item for each member whose word is odd. If no word is odd, one more word picks one member.
 /// Makes room before the first word is drawn.
 fn some_items<G: Rng>(
     alloc: Global,
@@ -96,9 +96,10 @@ fn choose_some<G: Rng>(alloc: Global, generator: &mut G, set: &EnabledSet) -> Re
 
 /// A daemon that draws its choices from a random generator. Contracts see the generator.
 ///
-/// Under a central daemon one word w picks member (w mod count), ascending from 0.
-/// Otherwise one word is drawn for each member, ascending: an odd word chooses it. If none was chosen, one
-/// more word picks a member as above. An empty set gives no choice and draws no word.
+/// A central daemon draws one word w, which picks the member with index (w mod count), ascending from 0.
+/// Any other daemon draws one word for each member, ascending, and chooses the members whose words are odd.
+/// If no word is odd, one more word picks a member as above. From an empty set the daemon draws no word and
+/// makes no choice.
 #[derive(Drop)]
 pub struct Seeded<G: Rng> {
     alloc: Global,
@@ -125,10 +126,11 @@ impl<G: Rng> Seeded<G> {
 impl<G: Rng> Daemon for Seeded<G> {
     ghost chooses = { λ names central old choice new. (choice, G.stream new) ≡ choice_drawn central names (G.stream old) };
 
-    /// The choice of the generator's next words; `None` if and only if the set is empty.
+    /// The choice that the generator's next words pick; `None` if and only if the set is empty.
     /// Error: out of memory; no word has been drawn.
-    /// A central daemon draws one word, with some 40 looks and no memory. Any other draws a word for each
-    /// member and at most one more, and takes room for as many nodes and items: at most 65,535.
+    /// A central daemon draws one word, with some 40 looks and no memory. Any other daemon draws a word for
+    /// each member and at most one more, and takes memory for a node and an item for each member: at most
+    /// 65,535 of each.
     fn choose(&mut self, set: &EnabledSet, central: bool) -> Result<Option<Choice>, Want>
         ensures lawful { IfOk result (λ choice. IfSome choice (IsLawful set.now central)) }
         ensures drawn { IfOk result (λ choice. (choice, G.stream self.new) ≡ choice_drawn central (members set.now) (G.stream self.old)) }

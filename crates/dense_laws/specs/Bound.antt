@@ -1,4 +1,4 @@
--- The bound by nodes alone, as a number.
+-- The bound on moves by the number of nodes alone, as a number.
 use Rattle.std.proofs.Common.{ℕ, ◌+◌, ◌-◌, ◌*◌, ◌/◌, ◌≤◌, List, arith}
 use Rattle.rule_machine.specs.Network.{node_count}
 use Rattle.rule_machine.specs.State.{IsState}

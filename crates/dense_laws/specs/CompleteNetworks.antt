@@ -176,7 +176,7 @@ cycle_is_state n two = record {
 
 -- ---- the bound is reached
 
--- a run without a disturbance among n nodes of half of n² + 2n - 4 moves, rounded down
+-- there is a run of n nodes, without a disturbance, with half of n² + 2n - 4 moves, rounded down
 pub record HasLongRun (n : ℕ) : Type 0 where
   pub start : Moment
   pub is_state : IsState start.state

@@ -46,7 +46,7 @@ charge_is s good =
     by_count : (k' k c f : ℕ) → k' ≡ k → 2 * k ≤ k * k + 4 * c + 2 * f → (k' * k' + 4 * c + 2 * f - 2 * k') + 2 * k ≡ k * k + 4 * c + 2 * f
     by_count k' k c f same below = let square = ap (λ x. x * x) same in omega (arith, square, same, below)
 
--- one step: a state of the same network, with both sides lower
+-- what one step does: the network stays the same, and both sides are lower
 pub record IsFall (s s' : State) (moves : List Moved) : Type 0 where
   pub one : length moves ≡ 1
   pub is_state : IsState s'

@@ -42,7 +42,7 @@ pub record IsLong (spent : ℕ) (s : State) (q : ℕ) : Type 0 where
 pub long_at_once : (spent : ℕ) (s : State) (q : ℕ) → q ≤ 1 → IsLong spent s q
 long_at_once spent s q few = record { log = []; last = record { state = s; spent = spent }; run = refl; calm = All-nil (λ e. e.1 ≢ Accepted); enough = omega (arith, few) }
 
--- v's pointer is this in the next state, and a run from there is one from here
+-- in the next state the target of v is this one, and a run from the next state gives a run from s
 pub record IsPlayed (s : State) (v : ℕ) (target : Option ℕ) : Type 0 where
   pub next : State
   pub is_state : IsState next

@@ -1,5 +1,5 @@
--- What a run by Hsu and Huang's rules can still cost, however many edges there are: a function of the
--- unmarried nodes alone, twice the bound on moves. This project's own.
+-- The dense charge: twice a bound on the moves that a run by Hsu and Huang's rules can still make, whatever
+-- the edges. It depends on the unmarried nodes alone. This potential is the project's own.
 use Rattle.std.specs.Prelude.{ℕ, ◌+◌, ◌-◌, ◌*◌, not, count_by, is_none}
 use Rattle.rule_machine.specs.declared.act.Act.TheVariants.{Abandon}
 use Rattle.rule_machine.specs.Network.{names}
@@ -9,11 +9,11 @@ use Rattle.rule_machine.specs.HsuHuang.{hsu_huang_guard}
 abbrev pub unmarried_nodes : State → ℕ
 unmarried_nodes s = count_by (λ v. not (married s v)) (names s.network)
 
--- those that point nowhere
+-- the unmarried nodes whose pointer is null
 abbrev pub idle_nodes : State → ℕ
 idle_nodes s = count_by (λ v. is_none (pointer s v)) (names s.network)
 
--- those that point at a node that points at a third
+-- the unmarried nodes that point at a node which points at another node
 abbrev pub stuck_nodes : State → ℕ
 stuck_nodes s = count_by (λ v. hsu_huang_guard s v Abandon) (names s.network)
 

@@ -91,14 +91,14 @@ dense_moves_are_paid start good log end run calm =
     by_sides : (s e hs ls he le : ℕ) → s + ls ≡ hs → e + le ≡ he → 2 * moves_in log + he + ls + 0 ≤ hs + le → 2 * moves_in log + e ≤ s
     by_sides s e hs ls he le before after paid = omega (arith, before, after, paid)
 
--- so there are at most half of n² + 2n
+-- a run without a disturbance has at most half of n² + 2n moves
 pub dense_moves_are_bounded : (start : Moment) → IsState start.state → (log : List Entry) (end : Moment) → Run hsu_huang start log end → IsUndisturbed log → 2 * moves_in log ≤ node_count start.state.network * node_count start.state.network + 2 * node_count start.state.network
 dense_moves_are_bounded start good log end run calm =
     let paid = dense_moves_are_paid start good log end run calm in
     let bound = dense_bounded start.state good in
     omega (arith, paid, bound)
 
--- and at most half of n² + 2n - 4 if there are two nodes
+-- a run without a disturbance has at most half of n² + 2n - 4 moves if there are at least two nodes
 pub dense_moves_are_few : (start : Moment) → IsState start.state → 2 ≤ node_count start.state.network → (log : List Entry) (end : Moment) → Run hsu_huang start log end → IsUndisturbed log → 2 * moves_in log + 4 ≤ node_count start.state.network * node_count start.state.network + 2 * node_count start.state.network
 dense_moves_are_few start good two log end run calm =
     ⊎_elim

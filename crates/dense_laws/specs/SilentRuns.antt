@@ -1,5 +1,5 @@
--- A run that is long enough ends silent, however many edges there are: as many turns as the most moves that
--- can come.
+-- A run that is long enough ends silent, however many edges there are: after as many turns as the bound on
+-- moves.
 use Rattle.std.proofs.Common.{◌≡◌, ℕ, ◌+◌, ◌-◌, ◌*◌, ◌<◌, ◌≤◌, List, [], length, inl, inr, ⊎_elim, ◌⊎◌, arith}
 use Rattle.std.proofs.lemmas.Bool.{cases_lt}
 use Rattle.rule_machine.specs.declared.act.Moved.{Moved}
@@ -18,7 +18,7 @@ use Rattle.dense_laws.specs.Moves.{IsTrap}
 use Rattle.dense_laws.specs.Starts.{not_below, trap_above, trap_or_less, most, lone_is_low}
 use Rattle.dense_laws.specs.Falls.{among_from, high_of, low_of, IsFall, step_falls}
 
--- at most n moves can come: the two sides differ by at most 2n + 1, or in a trap by four more
+-- at most n moves can still be made: the two sides differ by at most 2n + 1, or in a trap by four more
 abbrev pub HasMovesWithin : State → ℕ → Type 0
 HasMovesWithin s n = (IsTrap (pointer s) × (high_of s ≤ low_of s + 2 * n + 5)) ⊎ (high_of s ≤ low_of s + 2 * n + 1)
 

@@ -1,4 +1,4 @@
-//! The bound by nodes alone, as laws of all runs by Hsu and Huang's rules.
+//! Laws of Hsu and Huang's rules: a bound on moves that depends on the number of nodes alone.
 
 ghost use Rattle.std.specs.Prelude.{◌≡◌, ℕ, ◌+◌, ◌-◌, ◌*◌, ◌≤◌, List, [], length};
 ghost use Rattle.rule_machine.specs.declared.act.Moved.{Moved};
@@ -17,16 +17,16 @@ ghost use Rattle.dense_laws.specs.Bound.{dense_bound};
 ghost use Rattle.dense_laws.specs.CompleteNetworks.{HasLongRun};
 ghost use Rattle.dense_laws.specs.Potential.{dense_charge};
 
-/// Each move lowers the dense charge by at least two, whatever the edges; it is at most n² + 2n.
+/// Each move lowers the dense charge, which is at most n² + 2n, by at least 2, whatever the edges.
 pub fn dense_charge_falls()
     ensures falls { (s : State) (items : List Item) (moves : List Moved) (after : State) → IsState s → IsStep hsu_huang s items moves after
         → dense_charge after + 2 * length moves ≤ dense_charge s }
     ensures bounded { (s : State) → IsState s → dense_charge s ≤ node_count s.network * node_count s.network + 2 * node_count s.network }
 {}
 
-/// Without a disturbance, twice the moves plus the dense charge left are at most the one at the start.
+/// Twice a run's moves plus the dense charge at its end are at most the dense charge at its start.
 ///
-/// Holds from any state, whatever the daemon chooses.
+/// The run has no disturbance. Holds from any state, whatever the daemon chooses.
 pub fn dense_moves_are_paid()
     ensures { (start : Moment) → IsState start.state → (log : List Entry) (end : Moment) → Run hsu_huang start log end → IsUndisturbed log
         → 2 * moves_in log + dense_charge end.state ≤ dense_charge start.state }
@@ -40,9 +40,9 @@ pub fn moves_are_few()
         → 2 * moves_in log ≤ node_count start.state.network * node_count start.state.network + 2 * node_count start.state.network - 4 }
 {}
 
-/// A driven run without a disturbance is silent after n²/2 + n - 2 entries, rounded down.
+/// A driven run without a disturbance ends silent if it has n²/2 + n - 2 entries, rounded down.
 ///
-/// Driven: each entry moves a node, or comes when no rule is enabled.
+/// A run is driven if each entry moves a node or is made while no rule is enabled.
 pub fn enough_turns_end_silent()
     ensures { (start : Moment) → IsState start.state → (path : List (Entry × State)) → IsPath hsu_huang start path → IsUndisturbed (path_entries path)
         → IsDriven hsu_huang start.state path
@@ -50,7 +50,7 @@ pub fn enough_turns_end_silent()
         → enabled_names hsu_huang (end_of_path start.state path) ≡ [] }
 {}
 
-/// The bound is reached: for n of 2 or more there is a run with n²/2 + n - 2 moves, rounded down.
+/// For each n of 2 or more some run of n nodes has n²/2 + n - 2 moves, rounded down.
 ///
 /// The run has no disturbance.
 pub fn bound_is_reached()

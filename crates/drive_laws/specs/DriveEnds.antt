@@ -8,12 +8,12 @@ use Rattle.rule_machine.specs.RuleTable.{RuleTable, enabled_names}
 use Rattle.rule_machine.specs.Least.{state_after}
 use Rattle.daemon.specs.DrawnChoices.{choice_drawn}
 
--- a step of the chosen nodes; with no choice the state stays
+-- the state after a step of the chosen nodes; the same state if there is no choice
 abbrev pub after_turn : RuleTable → State → Option (List Item) → State
 after_turn t s None = s
 after_turn t s (Some items) = state_after t s (Step items)
 
--- the state after this many turns, each drawn among the nodes that are enabled
+-- the state after this many turns, each of which draws a choice among the enabled nodes
 abbrev pub driven : RuleTable → ℕ → Stream → State → State
 driven t zero stream s = s
 driven t (suc turns) stream s =

@@ -3,12 +3,12 @@ use Rattle.std.specs.Prelude.{◌≡◌, ℕ, zero, suc, ◌+◌, ◌*◌, ◌�
 use Rattle.std.specs.List.{filter, range_with_len}
 use Rattle.enabled_set.specs.Members.{is_in, is_bit_on}
 
--- how many numbers below the second argument pass
+-- how many numbers below the second argument pass the test
 unfoldable pub tally : (ℕ → Bool) → ℕ → ℕ
 tally p zero = 0
 tally p (suc n) = cond (p n) (suc (tally p n)) (tally p n)
 
--- the numbers below the second argument that pass, ascending
+-- the numbers below the second argument that pass the test, ascending
 unfoldable pub below : (ℕ → Bool) → ℕ → List ℕ
 below p n = filter p (range_with_len 0 n)
 
@@ -23,9 +23,9 @@ pub record AreBlockCounts (bits : List Bool) (width : ℕ) (counts : List ℕ) :
   pub covers : length bits ≤ width * length counts
   pub counted : (i : ℕ) → before counts i ≡ tally (is_in bits) (width * i)
 
--- The words have these places and at most eight words more, 0 is not a member, and the counts and the total
--- are right.
--- From any place on there are eight words and eight counts of 512; the counts of 4,096 are sixteen.
+-- The words have these bits and at most 512 bits more, 0 is not a member, and the counts and the total
+-- are right. From any index on there are eight words and eight counts of 512; there are sixteen counts of
+-- 4,096.
 pub record HasRightCounts (bits : List Bool) (words by_512 by_4096 : List ℕ) (total : ℕ) : Type 0 where
   pub few : length bits ≤ 65536
   pub covered : length bits + 448 ≤ 64 * length words

@@ -4,7 +4,7 @@ use Rattle.std.specs.Prelude.{ℕ, Bool, false, List, length, slice_index_or, �
 use Rattle.std.specs.List.{filter, range_with_len}
 use Rattle.std.specs.Int.{bit_at}
 
--- whether a name is a member; a name past the end is none
+-- whether a name is a member; names past the end are not
 abbrev pub is_in : List Bool → ℕ → Bool
 is_in bits v = slice_index_or bits v false
 
@@ -12,18 +12,18 @@ is_in bits v = slice_index_or bits v false
 abbrev pub members : List Bool → List ℕ
 members bits = filter (is_in bits) (range_with_len 0 (length bits))
 
--- whether a word has this bit, from 0
+-- whether the bit with this index, from 0, is set in a word
 unfoldable pub has_bit : ℕ → ℕ → Bool
 has_bit word i = nat_eq (bit_at word i) 1
 
--- whether words have this bit; none past the end
+-- whether the bit with this index is set in the words; bits past the end are not
 unfoldable pub is_bit_on : List ℕ → ℕ → Bool
 is_bit_on words v = has_bit (slice_index words (v / 64)) (v % 64)
 
--- the first `len` places of words
+-- the first `len` bits of words
 unfoldable pub first_bits : ℕ → List ℕ → List Bool
 first_bits len words = map (is_bit_on words) (range_with_len 0 len)
 
--- all bits are those of names
+-- each bit that is set is that of a name, 1 to 65,535
 abbrev pub HasOnlyNames : List ℕ → Type 0
 HasOnlyNames words = (v : ℕ) → is_bit_on words v ≡ true → (1 ≤ v) × (v ≤ 65535)

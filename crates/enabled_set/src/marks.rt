@@ -9,7 +9,7 @@ use std::marker::Model;
 
 /// Names that are marked until they are taken, one by one.
 /// Contracts see a list of booleans, one for each name; index 0 belongs to no node.
-/// The marked names are also listed in order of arrival, so taking all costs only what was marked.
+/// The marked names are also listed in the order of marking, so taking all marks looks only at these names.
 #[derive(Drop)]
 pub struct Marks {
     is_marked: Vec<bool>,
@@ -37,8 +37,8 @@ fn node_above(name: u16) -> Node
 }
 
 impl Marks {
-    /// No marks, for the names 1 to `nodes`, at most 65,535. Takes three bytes a name.
-    /// Error: out of memory.
+    /// A table without marks, for the names 1 to `nodes`, which is at most 65,535.
+    /// Takes three bytes for each name. Error: out of memory.
     pub fn new(alloc: Global, nodes: u32) -> Result<Marks, Want>
         requires { nodes ≤ 65535 }
         ensures { IfOk result (λ marks. marks ≡ replicate (nodes + 1) false) }
@@ -61,7 +61,7 @@ impl Marks {
         self.is_marked.get(v.place()).copied().unwrap_or(false)
     }
 
-    /// Marks a name, which may be marked already. At most three writes.
+    /// Marks a name; the name may be marked already. At most three writes.
     #[inline(always)]
     pub fn mark(&mut self, v: Node)
         requires { v < length self.old }
@@ -76,7 +76,7 @@ impl Marks {
         self.count += 1;
     }
 
-    /// Marks all names. One look at each.
+    /// Marks all names. One look at each name.
     pub fn mark_all(&mut self)
         ensures places { length self.new ≡ length self.old }
         ensures marked { (v : ℕ) → 1 ≤ v → v < length self.old → is_in self.new v ≡ true }
@@ -87,8 +87,8 @@ impl Marks {
         }
     }
 
-    /// Takes and returns the name that was marked last (tested); `None` if none is marked.
-    /// Two looks and two writes.
+    /// Unmarks and returns the name that was marked last; `None` if no name is marked.
+    /// Tests, not the contract, check that it is the last name. Two looks and two writes.
     #[inline(always)]
     pub fn take(&mut self) -> Option<Node>
         ensures none { IsNone result → (v : ℕ) → is_in self.old v ≡ false }
@@ -104,7 +104,7 @@ impl Marks {
         self.is_marked[v.place()] = false;
         Some(v)
     }
-    /// Takes all marks. Two looks and two writes for each.
+    /// Unmarks all names. Two looks and two writes for each marked name.
     pub fn clear(&mut self)
         ensures clear { (v : ℕ) → is_in self.new v ≡ false }
         ensures places { length self.new ≡ length self.old }

@@ -25,8 +25,8 @@ pub fn look(words: &[u64], place: usize) -> bool
     bit_is_set(word_at(words, place / 64), place % 64)
 }
 
-/// Which of 16 counts includes member `to_pass`, and the member's rank in it, from 0.
-/// Stops at that count, since a network has few counts to pass.
+/// Finds the block that has member `to_pass`, and the index of this member in the block; both from 0.
+/// Looks at the counts of 16 blocks. Stops at the block found, since a network has few blocks to pass.
 #[inline(always)]
 pub fn pass_in_16(counts: &[u16], to_pass: u32) -> Spot
     requires room { 16 ≤ length counts.now }
@@ -46,7 +46,8 @@ pub fn pass_in_16(counts: &[u16], to_pass: u32) -> Spot
     Spot { place: 15, left }
 }
 
-/// The same for the eight counts from `from` on. Sums each, to avoid a mispredicted branch.
+/// Like `pass_in_16`, for the eight counts from index `from` on.
+/// Sums all of these counts, to avoid a mispredicted branch.
 #[inline(always)]
 pub fn pass_in_8(counts: &[u16], from: usize, to_pass: u32) -> Spot
     requires room { from + 8 ≤ length counts.now }
@@ -68,7 +69,7 @@ pub fn pass_in_8(counts: &[u16], from: usize, to_pass: u32) -> Spot
     spot
 }
 
-/// The same for the bits of the eight words from `from` on.
+/// Like `pass_in_8`, for the bits of the eight words from index `from` on.
 #[inline(always)]
 pub fn pass_words(words: &[u64], from: usize, to_pass: u32) -> Spot
     requires room { from + 8 ≤ length words.now }
@@ -90,7 +91,7 @@ pub fn pass_words(words: &[u64], from: usize, to_pass: u32) -> Spot
     spot
 }
 
-/// Appends the names in a word to a list of the names before it.
+/// Appends the names in the word at index `place` to `list`, which has the names in all words before.
 #[inline(always)]
 pub fn push_word(list: &mut Vec<Node>, words: &[u64], place: usize) -> Result<(), Want>
     requires named { HasOnlyNames words.now }

@@ -11,8 +11,9 @@ use std::marker::Model;
 
 /// A set of names. Contracts see a list of booleans, one for each name; index 0 belongs to no node.
 ///
-/// Each name is a bit. Each 512 and each 4,096 bits have a count of their members.
-/// The vectors are padded, so that eight words, eight counts or sixteen can be read from any member on.
+/// Each name is a bit. Each block of 512 bits and each block of 4,096 bits has a count of its members.
+/// The vectors are padded: from any member on, eight words and eight counts of 512 can be read. There are
+/// always sixteen counts of 4,096.
 #[derive(Drop)]
 pub struct EnabledSet {
     len: usize,
@@ -35,8 +36,8 @@ impl Model for EnabledSet {
 }
 
 impl EnabledSet {
-    /// The empty set, for the names 1 to `nodes`, at most 65,535.
-    /// Takes a bit a name and some two bytes for each 512 names: at most some nine kilobytes.
+    /// The empty set for the names 1 to `nodes`, which is at most 65,535.
+    /// Takes a bit for each name and some two bytes for each 512 names: at most some nine kilobytes.
     /// Error: out of memory.
     pub fn new(alloc: Global, nodes: u32) -> Result<EnabledSet, Want>
         requires { nodes ≤ 65535 }
@@ -70,8 +71,8 @@ impl EnabledSet {
         self.total
     }
 
-    /// The k-th member by ascending name, from 0; `None` from `count()` on.
-    /// Looks at most at 16 counts, eight counts, eight words, and the bits of one.
+    /// The member at index `k` by ascending name, from 0; `None` if `k` is at least `count()`.
+    /// Looks at most at 24 counts, eight words, and the bits of one word.
     pub fn nth(&self, k: u32) -> Option<Node>
         ensures { result ≡ slice_get (members self.now) k }
     {
@@ -86,7 +87,7 @@ impl EnabledSet {
         Node::new(u32::from(name))
     }
 
-    /// The members, ascending: at most 65,535. Takes two bytes a member.
+    /// The members, ascending: at most 65,535. Takes two bytes for each member.
     /// Looks at each word and at each member. Error: out of memory.
     pub fn to_list(&self) -> Result<Vec<Node>, Want>
         ensures { IfOk result (λ list. list.items ≡ members self.now) }
@@ -98,7 +99,7 @@ impl EnabledSet {
         Ok(list)
     }
 
-    /// Makes a name a member; it may be one already. At most four writes.
+    /// Inserts a name; the name may be a member already. At most four writes.
     pub fn insert(&mut self, v: Node)
         requires { v < length self.old }
         ensures { self.new ≡ slice_set self.old v true }
@@ -114,7 +115,7 @@ impl EnabledSet {
         self.total += 1;
     }
 
-    /// Removes a name; it need not be a member. At most four writes.
+    /// Removes a name; the name need not be a member. At most four writes.
     pub fn remove(&mut self, v: Node)
         ensures { self.new ≡ slice_set self.old v false }
     {

@@ -47,7 +47,7 @@ pub struct Spot {
     pub left: u32,
 }
 
-/// Skips a block of `width` bits if it has no more members than remain to be skipped. Branch-free.
+/// Skips a block of `width` bits if the block has at most `spot.left` members. Branch-free.
 #[inline(always)]
 fn pass_over(spot: Spot, width: usize, members: u32) -> Spot
     requires { spot.place + width ≤ 65536 }
@@ -65,7 +65,8 @@ fn pass_over(spot: Spot, width: usize, members: u32) -> Spot
     }
 }
 
-/// The spot at `place` if at most `to_pass` members come before it, else the old spot.
+/// The spot at `place` if at most `to_pass` members come before `place`, else the old spot.
+/// `members` is how many members come before `place`.
 #[inline(always)]
 pub fn spot_behind(spot: Spot, place: usize, to_pass: u32, members: u32) -> Spot
     ensures stays_place { to_pass < members → result.place ≡ spot.place }
@@ -82,7 +83,7 @@ pub fn spot_behind(spot: Spot, place: usize, to_pass: u32, members: u32) -> Spot
     }
 }
 
-/// The half of the `2 * width` bits from `spot` on that has the bit searched for.
+/// Of the `2 * width` bits from `spot` on, the half that has the bit searched for.
 fn half(word: u64, spot: Spot, width: usize) -> Spot
     requires some { 1 ≤ width }
     requires inside { spot.place + 2 * width ≤ 64 }
@@ -95,7 +96,7 @@ fn half(word: u64, spot: Spot, width: usize) -> Spot
     pass_over(spot, width, low.count_ones())
 }
 
-/// The bit with exactly `to_pass` set bits below it.
+/// The index of the set bit that has exactly `to_pass` set bits below it.
 pub fn find_bit(word: u64, to_pass: u32) -> usize
     requires { to_pass < tally (has_bit word) 64 }
     ensures inside { result < 64 }

@@ -1,5 +1,5 @@
--- The lines of a base after its head: their order, their text, and the first line at which a text departs
--- from them.
+-- The lines of a base after its first line (the head): their order, their text, and the first wrong
+-- line of a text.
 use Rattle.std.specs.Prelude.{◌≡◌, ℕ, zero, suc, ◌+◌, ◌<◌, ◌⊎◌, List, [], ◌∷◌, ◌++◌, length, map, IfSome}
 use Rattle.std.specs.List.{AllByRecursion}
 use Rattle.rule_machine.specs.declared.base.NodeRecord.{NodeRecord as PlaceKept}
@@ -11,16 +11,17 @@ use Rattle.entry_grammar.specs.declared.base_line.BaseLine.{BaseLine}
 use Rattle.entry_grammar.specs.declared.base_line.BaseLine.TheVariants.{Base, Place, Link}
 use Rattle.entry_grammar.specs.Spelling.{IsOrderedPair, IsBaseLine, base_line_text}
 
--- the edge comes after another: its lower end is above, or they share that and its higher end is above
+-- `edge` comes after `last`: its lower end is above that of `last`, or the lower ends are equal and
+-- its higher end is above
 abbrev pub IsEdgeAbove : ℕ × ℕ → ℕ × ℕ → Type 0
 IsEdgeAbove last edge = (last.0 < edge.0) ⊎ ((last.0 ≡ edge.0) × (last.1 < edge.1))
 
--- nodes by ascending name, all above this one
+-- the nodes ascend by name, all above `last`
 abbrev pub NodesRise : ℕ → List PlaceKept → Type 0
 NodesRise last [] = Unit {0}
 NodesRise last (place ∷ places) = (last < place.node) × NodesRise place.node places
 
--- edges that ascend, all after this one
+-- the edges ascend, all after `last`
 abbrev pub EdgesRise : ℕ × ℕ → List (ℕ × ℕ) → Type 0
 EdgesRise last [] = Unit {0}
 EdgesRise last (edge ∷ edges) = IsEdgeAbove last edge × EdgesRise edge edges
@@ -53,33 +54,34 @@ abbrev pub lines_of_base : BaseKept → List BaseLine
 lines_of_base base =
     Base base.number base.spent (length base.nodes) (length base.edges) ∷ (map place_line base.nodes ++ map (λ edge. Link edge) base.edges)
 
--- the lines are at most `left` edges that ascend after the last one
+-- the lines are at most `left` edges, which ascend and come after `last`
 abbrev pub EdgesFollow : (left : ℕ) → (last : ℕ × ℕ) → List BaseLine → Type 0
 EdgesFollow left last [] = Unit {0}
 EdgesFollow (suc left) last (Link edge ∷ lines) = IsEdgeAbove last edge × EdgesFollow left edge lines
 EdgesFollow left last (line ∷ lines) = ⊥
 
--- the lines are at most `left` nodes that ascend above the last one; if exactly `left`, such edges follow
+-- The lines are at most `left` nodes, which ascend and are above `last`. After exactly `left` nodes
+-- there may be edges: at most `edges`, which ascend.
 abbrev pub NodesFollow : (left edges last : ℕ) → List BaseLine → Type 0
 NodesFollow left edges last [] = Unit {0}
 NodesFollow zero edges last lines = EdgesFollow edges (0, 0) lines
 NodesFollow (suc left) edges last (Place node target flagged ∷ lines) = (last < node) × NodesFollow left edges node lines
 NodesFollow (suc left) edges last (line ∷ lines) = ⊥
 
--- the lines are the first of a base, as far as they go: its numbers, its nodes, its edges
+-- the lines are the first lines of a base, perhaps not all: the numbers, the nodes, then the edges
 abbrev pub MayFollow : List BaseLine → Type 0
 MayFollow [] = Unit {0}
 MayFollow (Base number spent nodes edges ∷ lines) = NodesFollow nodes edges 0 lines
 MayFollow (line ∷ lines) = ⊥
 
--- by its numbers the base lacks a line
+-- there are fewer lines than the base's numbers say
 abbrev pub LacksLines : List BaseLine → Type 0
 LacksLines [] = Unit {0}
 LacksLines (Base number spent nodes edges ∷ lines) = length lines < nodes + edges
 LacksLines (line ∷ lines) = ⊥
 
--- Line k, counted from 1, is the first that is wrong: the lines before it are the first of a base, one is
--- missing, and the rest does not begin with a line, with its LF, that may come next.
+-- Line k, counted from 1, is the first wrong line: the lines before line k are the first lines of a
+-- base, but not all. The rest does not begin with a line, with its LF, that may come next.
 pub record BreaksAt (bytes : List ℕ) (k : ℕ) : Type 0 where
   pub lines : List BaseLine
   pub rest : List ℕ

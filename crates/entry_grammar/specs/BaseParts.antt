@@ -12,7 +12,7 @@ use Rattle.entry_grammar.specs.BaseLines.{IsEdgeAbove, NodesRise, EdgesRise, IsP
 abbrev pub numbers_text : ℕ × ℕ × ℕ × ℕ → List ℕ
 numbers_text q = base_counts q.0 q.1 q.2 q.3
 
--- the name of the last of some nodes, or the last one before them
+-- the name of the last node; `last` if there are no nodes
 abbrev pub last_node : ℕ → List NodeRecord → ℕ
 last_node last [] = last
 last_node last (place ∷ places) = last_node place.node places
@@ -27,7 +27,8 @@ pub record NodesRead (bytes : List ℕ) (places : List NodeRecord) (rest : List 
   pub fit : AllByRecursion IsPlace places
   pub rise : NodesRise 0 places
 
--- after fewer than `count` nodes comes none that ascends further; the first of them is line 2
+-- The bytes begin with fewer than `count` ascending nodes; then line k is not a node that ascends
+-- further. The first node is line 2.
 pub record NodesBreak (bytes : List ℕ) (count k : ℕ) : Type 0 where
   pub places : List NodeRecord
   pub rest : List ℕ
@@ -42,7 +43,8 @@ pub record EdgesRead (bytes : List ℕ) (edges : List (ℕ × ℕ)) (rest : List
   pub fit : AllByRecursion IsOrderedPair edges
   pub rise : EdgesRise (0, 0) edges
 
--- after fewer than `count` edges comes none that ascends further; the first of them is line `first`
+-- The bytes begin with fewer than `count` ascending edges; then line k is not an edge that ascends
+-- further. The first edge is line `first`.
 pub record EdgesBreak (bytes : List ℕ) (count first k : ℕ) : Type 0 where
   pub edges : List (ℕ × ℕ)
   pub rest : List ℕ

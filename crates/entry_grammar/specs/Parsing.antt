@@ -47,14 +47,14 @@ first_byte act = slice_index_or (act_word act) 0 0
 abbrev pub deed_text : Act → Option ℕ → List ℕ
 deed_text act target = act_word act ++ marked_text (codes ">") target
 
--- the bytes are a rule, perhaps a target after a `>`; the rest is empty or begins with a space
+-- the bytes are a rule, perhaps with a target after a `>`; the rest is empty or begins with a space
 pub record DeedThen (bytes : List ℕ) (act : Act) (target : Option ℕ) (rest : List ℕ) : Type 0 where
   pub fits : IfSome target IsName
   pub ends : EndsWord rest
   pub is : bytes ≡ deed_text act target ++ rest
 
--- the line is an entry's number, event and reply with what comes between them: the number has no space, the
--- event no `=`
+-- The line is an entry's number, event and reply, with the separators between them. The number has no
+-- space, and the event has no `=`.
 pub record PartsOf (line number event reply : List ℕ) : Type 0 where
   pub numbered : IsFree 32 number
   pub asked : IsFree 61 event
@@ -98,7 +98,7 @@ abbrev pub are_counts : Reply → Bool
 are_counts (Counts counts) = true
 are_counts reply = false
 
--- whether replies of this kind may answer the event
+-- whether a reply of this kind may answer the event
 abbrev pub reply_suits : Event → Reply → Bool
 reply_suits (Link a b) reply = is_done reply
 reply_suits (Unlink a b) reply = is_done reply
@@ -112,7 +112,8 @@ reply_suits Enabled reply = are_enabled reply
 reply_suits Matching reply = are_pairs reply
 reply_suits Status reply = are_counts reply
 
--- the bytes spell the reply found, of the kind tested; if none was found, they spell no such reply
+-- the bytes spell the reply found, which is of the kind tested; if no reply was found, they spell no
+-- such reply
 abbrev pub ReadsReply : (Reply → Bool) → List ℕ → Option Reply → Type 0
 ReadsReply kind bytes found = ParsesAs (λ reply. IsTrue (kind reply) × IsReply reply) reply_text bytes found
 
@@ -128,7 +129,7 @@ AreCounts q = IsCountValue q.0 × IsCountValue q.1 × IsCountValue q.2 × IsCoun
 abbrev pub registers_text : Option ℕ → Bool → List ℕ
 registers_text target flag = target_text target ++ 32 ∷ bool_text flag
 
--- the bytes are the node found with its registers; if none was found, they are no node
+-- the bytes are the node found, with its registers; if no node was found, the bytes are no node
 abbrev pub ReadsPlace : List ℕ → Option (ℕ × Option ℕ × Bool) → Type 0
 ReadsPlace bytes found = ParsesAs (λ p. IsName p.0 × IfSome p.1 IsName) (λ p. number_text p.0 ++ 32 ∷ registers_text p.1 p.2) bytes found
 

@@ -31,7 +31,7 @@ pub enum BaseLine {
         spent: u32,
         /// How many node lines follow.
         nodes: u32,
-        /// How many edge lines follow them.
+        /// How many edge lines follow the node lines.
         edges: u32,
     },
     /// A node, its pointer, and its flag.
@@ -56,7 +56,7 @@ fn read_head(bytes: &[u8]) -> Option<(RuleSet, u32)>
     Some((rules, size))
 }
 
-// Reads four numbers, the last three after their names.
+// Reads the four numbers of a base; each number except the first comes after a name.
 fn read_base(bytes: &[u8]) -> Option<(u32, u32, u32, u32)>
     ensures { ParsesAs AreCounts (λ q. joined_texts field_text (base_fields q.0 q.1 q.2 q.3)) bytes.now result }
 {
@@ -140,7 +140,7 @@ fn find_base_line(line: &[u8]) -> Option<BaseLine>
 }
 
 /// Reads a line of a base, without its LF.
-/// Error: `NotALine` if the line spells none. Takes no memory.
+/// Error: `NotALine` if the line spells no line of a base. Takes no memory.
 pub fn read_base_line(line: &[u8]) -> Result<BaseLine, EntryFault>
     ensures ok { IfOk result (λ found. SpellsBaseLine line.now found) }
     ensures not_a_line { IfErr result (λ fault. (fault ≡ NotALine) × ((found : Line) → SpellsBaseLine line.now found → ⊥)) }

@@ -17,7 +17,7 @@ use byte_streams::split_line;
 use rule_machine::{Base, Edge, Listing, NodeRecord};
 use std::alloc::Global;
 
-// Reads the first line and its LF, and returns the rest.
+// Reads the first line and its LF; returns the line and the rest.
 fn next_line(bytes: &[u8]) -> Option<(BaseLine, &[u8])>
     ensures { MatchOption result
         ((line : Line) (more : List ℕ) → Starts IsBaseLine base_line_text bytes.now line more → ⊥)
@@ -189,9 +189,10 @@ fn read_edges<'a>(
     Ok((edges, rest))
 }
 
-/// Reads the lines of a base after its head, each with its LF; returns the base and the rest.
-/// Its numbers come first and say how many nodes and edges follow, each ascending.
-/// Errors: `BadLine` names the first line that is wrong or missing; `Memory` if memory runs out before it.
+/// Reads the lines of a base after its first line, each with its LF; returns the base and the rest.
+/// The line that comes first says how many nodes and how many edges follow, both ascending.
+/// Errors: `BadLine` with the number of the first line that is wrong or missing; `Memory` if memory runs out
+/// before that line. Line 1 is the line after the base's first line.
 /// One look at each line. Takes memory only for what was read, whatever the numbers say.
 pub fn read_base<'a>(alloc: Global, bytes: &'a [u8]) -> Result<(Base, &'a [u8]), BaseFault>
     ensures base { IfOk result (λ found. bytes.now ≡ base_lines found.0 ++ found.1.now) }

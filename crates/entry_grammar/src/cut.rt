@@ -5,7 +5,7 @@ ghost use Rattle.entry_grammar.specs.Parsing.{IsFree, CutAt, EndsWord};
 
 use memchr::memchr;
 
-/// What comes before and after the first `mark`; `None` if there is none.
+/// The text before the first `mark`, and the text after; `None` if the text has no `mark`.
 pub fn cut(bytes: &[u8], mark: u8) -> Option<(&[u8], &[u8])>
     ensures { MatchOption result
         (IsFree mark bytes.now)
@@ -19,7 +19,7 @@ pub fn cut(bytes: &[u8], mark: u8) -> Option<(&[u8], &[u8])>
     None
 }
 
-/// The same for a mark that may be far away: looks at many bytes at once.
+/// Like `cut`, for a mark that may be far away: looks at many bytes at once.
 pub fn cut_far(bytes: &[u8], mark: u8) -> Option<(&[u8], &[u8])>
     ensures { MatchOption result
         (IsFree mark bytes.now)
@@ -39,7 +39,7 @@ pub(crate) fn ends(bytes: &[u8]) -> bool
     bytes.get(0).copied().unwrap_or(b' ') == b' '
 }
 
-/// What follows `mark` at the front; `None` if the text begins otherwise.
+/// The text after its first byte `mark`; `None` if the text does not begin with `mark`.
 #[inline(always)]
 pub(crate) fn behind(bytes: &[u8], mark: u8) -> Option<&[u8]>
     ensures { MatchOption result
@@ -52,7 +52,7 @@ pub(crate) fn behind(bytes: &[u8], mark: u8) -> Option<&[u8]>
     }
 }
 
-/// What precedes `back` at the end; `None` if the text ends otherwise.
+/// The text before its ending `back`; `None` if the text does not end with `back`.
 pub fn before<'a>(bytes: &'a [u8], back: &[u8]) -> Option<&'a [u8]>
     ensures { MatchOption result
         ((front : List ℕ) → bytes.now ≡ front ++ back.now → ⊥)

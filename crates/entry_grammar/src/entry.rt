@@ -41,7 +41,7 @@ fn parts(line: &[u8]) -> Option<(u32, &[u8], &[u8])>
     Some((number, event, reply))
 }
 
-/// The line of the entry with this number, without its LF. `read_entry` reads it back.
+/// The line of the entry with this number, without an LF. `read_entry` reads the line back.
 /// Error: out of memory.
 pub fn entry_text(alloc: Global, number: u32, entry: &Entry) -> Result<Vec<u8>, Want>
     requires { (1 ≤ number) × (number ≤ max_entries) }
@@ -56,7 +56,7 @@ pub fn entry_text(alloc: Global, number: u32, entry: &Entry) -> Result<Vec<u8>, 
 
 /// Reads an entry and its number from a line without its LF.
 /// Errors: `NotALine` if the line spells no entry; `Memory` if memory runs out.
-/// Only lines of a step, `enabled` or `matching` take memory. Any other line, also a bad one, takes none.
+/// Only lines of a step, `enabled` or `matching` take memory. Other lines, also bad ones, take none.
 #[inline(always)]
 pub fn read_entry(alloc: Global, line: &[u8]) -> Result<(u32, Entry), EntryFault>
     ensures ok { IfOk result (λ found. SpellsEntry line.now found.0 found.1) }

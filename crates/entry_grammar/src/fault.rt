@@ -9,7 +9,7 @@ use thiserror::Error;
 /// Why a line was not read.
 #[derive(Clone, Copy, Debug, PartialEq, Eq, Error)]
 pub enum EntryFault {
-    /// The line does not spell what was to be read: an entry, a header or a line of a base.
+    /// The line does not spell what the caller reads: an entry, a header, or a line of a base.
     #[error("not a transcript line")]
     NotALine,
     /// Memory ran out.
@@ -28,7 +28,8 @@ impl From<AllocError> for EntryFault {
 /// Why the lines of a base were not read.
 #[derive(Clone, Copy, Debug, PartialEq, Eq, Error)]
 pub enum BaseFault {
-    /// This line is missing, lacks its LF, or may not come there. Line 1 comes after the head.
+    /// The line with this number is missing, lacks its LF, or may not come there.
+    /// Line 1 is the line after the head, which is the base's first line.
     #[error("line {0} behind the head of a base is not as it has to be")]
     BadLine(u64),
     /// Memory ran out.

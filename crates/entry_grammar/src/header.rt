@@ -35,7 +35,8 @@ pub(crate) fn read_size(bytes: &[u8]) -> Option<u32>
     read_up_to(bytes, MAX_NAME)
 }
 
-// Reads the number of names and, if it follows, how many are present at the start: fewer than all.
+// Reads the number of names, and how many are present at the start.
+// Without a second number all names are present. `None` if the second number is not below the first.
 fn read_sizes(bytes: &[u8]) -> Option<(u32, u32)>
     ensures { ReadsTwo AreSizes sizes_text bytes.now result }
 {
@@ -77,8 +78,8 @@ fn find_header(line: &[u8]) -> Option<(RuleSet, u32, u32)>
     Some((rules, size, count))
 }
 
-/// The header for these rules and names, without its LF. `read_header` reads it back.
-/// `count` of the `size` names are present at the start; it is left out if all are.
+/// The header for these rules and names, without an LF. `read_header` reads the header back.
+/// `count` of the `size` names are present at the start; the header omits `count` if all names are.
 /// Error: out of memory.
 pub fn header_text(alloc: Global, rules: RuleSet, size: u32, count: u32) -> Result<Vec<u8>, Want>
     requires few { size ≤ 65535 }

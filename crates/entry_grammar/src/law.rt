@@ -19,7 +19,7 @@ pub fn one_spelling()
 {}
 
 /// A text begins with the lines of at most one base.
-/// Its lines break off at one line at most, and not at all if the base is whole.
+/// A text has at most one first wrong line, and none if the text begins with a whole base.
 pub fn one_base()
     ensures base { (bytes : List ℕ) (a b : Base) (x y : List ℕ)
         → IsShaped a → IsShaped b → bytes ≡ base_lines a ++ x → bytes ≡ base_lines b ++ y → (a ≡ b) × (x ≡ y) }
@@ -28,8 +28,8 @@ pub fn one_base()
 {}
 
 /// Every entry's line has at most 2,031,600 bytes: less than 2 MiB (2,097,152).
-/// The longest are steps late in a full log: 65,535 items, each with a wish, and as many moves, each with a
-/// target.
+/// The longest lines are steps late in a full log, with 65,535 items that have wishes and as many moves that
+/// have targets.
 pub fn entry_lines_are_short()
     ensures { (line : List ℕ) (number : ℕ) (entry : Event × Reply) → SpellsEntry line number entry → length line ≤ 2031600 }
 {}

@@ -1,12 +1,12 @@
 //! The lines of a transcript. Each entry and each header has one spelling.
 //!
-//! A line is read as an entry, a header or a line of a base if and only if it spells one. It spells at most
-//! one (the law `one_spelling`). `read_base` reads all lines of a base, or names the first that is wrong or
-//! missing. So a leading zero, two spaces or a pair in the wrong order is refused, and two transcripts of one
-//! run are the same bytes.
+//! A line is read as an entry, a header or a line of a base if and only if the line spells one. A line spells
+//! at most one of each (the law `one_spelling`). `read_base` reads all lines of a base, or names the first
+//! line that is wrong or missing. So a leading zero, two spaces or a pair in the wrong order is refused, and
+//! two transcripts of one run are the same bytes.
 //!
-//! The auditor, not this crate, checks that numbers are consecutive and replies are the machine's. Reading
-//! takes memory only for lists of several items.
+//! The auditor, not this crate, checks that entry numbers are consecutive and that the machine may give each
+//! reply. Reading takes memory only for lists of several items.
 //!
 //! ```rust
 //! let (number, entry) = read_entry(alloc, b"3 show 2 = 1")?;        // `NotALine`, or `Memory`

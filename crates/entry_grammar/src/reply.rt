@@ -1,4 +1,4 @@
-//! Replies, read by their event's kind.
+//! Reads replies. The kind of the event decides what a reply may be.
 
 ghost use Rattle.std.specs.Prelude.{⊤, IfOk, IsTrue, OnErr};
 ghost use Rattle.rule_machine.specs.declared.refusal.Refusal.{Refusal};
@@ -72,7 +72,7 @@ fn read_shown(bytes: &[u8]) -> Option<Reply>
     read_target(bytes).map(|target| Reply::Shown(target))
 }
 
-/// Reads a reply to this event; `None` if the bytes spell none of its kind.
+/// Reads a reply to this event; `None` if the bytes spell no reply of the event's kind.
 /// Takes memory only for lists. Error: out of memory.
 pub fn read_reply(alloc: Global, event: &Event, bytes: &[u8]) -> Result<Option<Reply>, Want>
     ensures reply { IfOk result (ReadsReply (reply_suits event.now) bytes.now) }

@@ -14,7 +14,7 @@ use crate::words::Token;
 use line_text::{after, read_name};
 use rule_machine::{Act, Edge, Moved, Node};
 
-/// Reads a name and `mark` at the front, and returns the rest.
+/// Reads a name and `mark` at the front of the text; returns the name and the rest.
 #[inline(always)]
 pub(crate) fn read_marked(bytes: &[u8], mark: u8) -> Option<(Node, &[u8])>
     requires { IsInRange 48 57 mark → ⊥ }
@@ -61,7 +61,8 @@ fn after_act(bytes: &[u8], act: Act) -> Option<&[u8]>
     }
 }
 
-// Reads the rule's word at the front, chosen by its first byte, and returns the rest.
+// Reads a rule's word at the front of the text; returns the rule and the rest.
+// The first byte decides which word is tested.
 #[inline(always)]
 fn read_act(bytes: &[u8]) -> Option<(Act, &[u8])>
     ensures { MatchOption result
@@ -77,7 +78,7 @@ fn read_act(bytes: &[u8]) -> Option<(Act, &[u8])>
     Some((act, rest))
 }
 
-// Reads a rule at the front, and its target if a `>` follows, and returns the rest.
+// Reads a rule at the front of the text, and a target if `>` follows; returns both and the rest.
 fn read_deed(bytes: &[u8]) -> Option<(Act, Option<Node>, &[u8])>
     ensures { MatchOption result
         ((act : Act) (target : Option ℕ) (rest : List ℕ) → DeedThen bytes.now act target rest → ⊥)
@@ -101,7 +102,7 @@ fn read_deed(bytes: &[u8]) -> Option<(Act, Option<Node>, &[u8])>
     Some((act, Some(target), rest))
 }
 
-// Reads an edge's ends with `mark` between them, the lower one first, and returns the rest.
+// Reads an edge's ends with `mark` between them, the lower end first; returns the edge and the rest.
 #[inline(always)]
 fn read_pair(bytes: &[u8], mark: u8) -> Option<(Edge, &[u8])>
     requires { IsInRange 48 57 mark → ⊥ }
@@ -124,7 +125,7 @@ fn read_pair(bytes: &[u8], mark: u8) -> Option<(Edge, &[u8])>
     Some((pair, rest))
 }
 
-/// Reads an edge's ends with `mark` between them, the lower one first, to the end of the text.
+/// Reads a text that is an edge's ends with `mark` between them, the lower end first.
 pub(crate) fn read_ends(bytes: &[u8], mark: u8) -> Option<Edge>
     requires { IsInRange 48 57 mark → ⊥ }
     ensures { ParsesAs IsOrderedPair (λ e. number_text e.0 ++ mark ∷ number_text e.1) bytes.now result }

@@ -10,7 +10,7 @@ use crate::cut::behind;
 use rule_machine::{Listing, Want};
 use std::alloc::Global;
 
-/// A value read from one word.
+/// A value that is read from one word.
 pub trait Token {
     // The word's text.
     ghost text: { Self → List ℕ };
@@ -18,8 +18,8 @@ pub trait Token {
     // What each value of the type satisfies.
     ghost fits: { Self → Type 0 };
 
-    /// Reads the word at the front, which ends at a space or the end of the text; returns the rest.
-    /// Returns `None` if there is none.
+    /// Reads the word at the front, up to a space or the end of the text; returns the value and the rest.
+    /// Returns `None` if the text begins with no such word.
     fn read(bytes: &[u8]) -> Option<(Self, &[u8])>
         ensures { MatchOption result
             ((word : Self) (rest : List ℕ) → TokenThen fits text bytes.now word rest → ⊥)
@@ -54,8 +54,8 @@ fn read_many<W: Token + Copy>(alloc: Global, bytes: &[u8]) -> Result<Option<List
     Ok(None)
 }
 
-/// Reads words joined by one space, none from an empty text; `None` for any other text.
-/// Takes memory for two or more words. Error: out of memory.
+/// Reads words joined by one space; an empty text has no words. `None` for any other text.
+/// Takes memory only for two or more words. Error: out of memory.
 pub fn read_words<W: Token + Copy>(alloc: Global, bytes: &[u8]) -> Result<Option<Listing<W>>, Want>
     requires no_space { (word : W) → W.fits word → IsFree 32 (W.text word) }
     ensures { IfOk result (ParsesAs (AllByRecursion W.fits) (joined_texts W.text) bytes.now) }

@@ -22,11 +22,11 @@ behind (suc words) stream = behind words (rest stream)
 abbrev pub is_odd : ℕ → Bool
 is_odd w = nat_eq (w % 2) 1
 
--- the node that a word picks, among the names ascending
+-- the node that a word picks among the nodes, ascending
 abbrev pub node_at : Network → ℕ → ℕ
 node_at net w = slice_index (names net) (w % node_count net)
 
--- the new pointer of v: null for 0, else the neighbour with that number, from 1
+-- the new pointer of v: null for 0, otherwise the neighbour with that number, counted from 1
 abbrev pub pointer_at : Network → ℕ → ℕ → Option ℕ
 pointer_at net v number = if nat_eq number 0 then None else slice_get (neighbours net v) (number - 1)
 
@@ -38,11 +38,11 @@ drawn_target net v w = pointer_at net v (w % (length (neighbours net v) + 1))
 abbrev pub pointer_fault : Network → ℕ → Stream → Option Event × Stream
 pointer_fault net v stream = (Some (Point v (drawn_target net v (word stream))), rest stream)
 
--- a fault of v's flag, by one word: true if it is odd
+-- a fault of v's flag, by one word: the flag becomes true if the word is odd
 abbrev pub flag_fault : ℕ → Stream → Option Event × Stream
 flag_fault v stream = (Some (Flag v (is_odd (word stream))), rest stream)
 
--- a fault at v if there are flags: of the flag if the word is odd, else of the pointer
+-- a fault at v if there are flags: a fault of the flag if the word is odd, otherwise of the pointer
 abbrev pub either_fault : Network → ℕ → Stream → Option Event × Stream
 either_fault net v stream = if is_odd (word stream) then flag_fault v (rest stream) else pointer_fault net v (rest stream)
 
@@ -50,8 +50,8 @@ either_fault net v stream = if is_odd (word stream) then flag_fault v (rest stre
 abbrev pub fault_at : Network → Bool → ℕ → Stream → Option Event × Stream
 fault_at net flags v stream = if flags then either_fault net v stream else pointer_fault net v stream
 
--- the fault drawn by a stream's words, and the stream after them; none, and no word taken, if there is no
--- node
+-- the fault drawn by a stream's words, and the stream after these words; no fault, and no word taken, if
+-- there is no node
 abbrev pub fault_drawn : Network → Bool → Stream → Option Event × Stream
 fault_drawn net flags stream =
     if nat_eq (node_count net) 0 then (None, stream) else fault_at net flags (node_at net (word stream)) (rest stream)

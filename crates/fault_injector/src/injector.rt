@@ -34,15 +34,16 @@ impl<G: Rng> Injector<G> {
     }
 
     /// A fault of a register that the network accepts; `None` exactly if the network has no node.
-    /// Takes no word if there is no node, three if the rules use flags, and two otherwise. Takes no memory,
-    /// and looks at one neighbour at most.
+    /// Takes no word if there is no node; otherwise takes three words if the rules use flags, and two if
+    /// not. Takes no memory, and looks at one neighbour at most.
     ///
     /// The words come from `next_u32`:
     ///
-    /// - The first picks the node: of n nodes the one at index `word mod n`, from 0, names ascending.
-    /// - If the rules use flags, the next picks the register: the flag if odd, the pointer if even.
-    /// - The last picks the value. A flag is true if the word is odd. A pointer, with d neighbours, is null
-    ///   if `word mod (d + 1)` is 0, otherwise the neighbour with that number, from 1, names ascending.
+    /// - The first word picks the node: of the n nodes, ascending, the one at index `word mod n`, from 0.
+    /// - If the rules use flags, the next word picks the register: the flag if odd, the pointer if even.
+    /// - The last word picks the value. A flag becomes true if the word is odd. A pointer of a node with d
+    ///   neighbours becomes null if `word mod (d + 1)` is 0; otherwise it gets the neighbour with that
+    ///   number, from 1, names ascending.
     pub fn draw<R: Rules>(&mut self, net: &Net<R>) -> Option<Event>
         ensures event { (result, G.stream self.new) ≡ fault_drawn net.now.state.network R.table.flags (G.stream self.old) }
         ensures none { IsNone result ↔ (node_count net.now.state.network ≡ 0) }

@@ -1,10 +1,11 @@
 //! Faults of registers, drawn from the words of a generator.
 //!
-//! An `Injector` draws a write of a pointer or a flag that the network accepts, a function of the generator's
-//! words and the network's state. Without a node there is no fault and no word is taken; otherwise two words
-//! are, or three if the rules use flags. The injector changes nothing: its caller carries out the event.
+//! An `Injector` draws a write of a pointer or a flag that the network accepts. The fault depends only on
+//! the generator's words and the network's state. A draw takes two words, or three if the rules use flags.
+//! If the network has no node, there is no fault and no word is taken. The injector changes nothing in the
+//! network: the caller carries out the event.
 //!
-//! A fault looks at one neighbour at most and takes no memory. Nothing is claimed about the distribution of
+//! A draw looks at one neighbour at most and takes no memory. Nothing is claimed about the distribution of
 //! faults.
 //!
 //! ```rust

@@ -9,7 +9,7 @@ use graph_store::EdgeStore;
 use rule_machine::Node;
 
 /// The node at an index, from 0, names ascending.
-/// It looks at 24 counts and eight words at most, and at none if every name is present.
+/// Looks at 24 counts and eight words at most, and at none of them if every name is a node.
 fn nth_node(store: &EdgeStore, place: u32) -> Node
     requires { place < node_count store.now.network }
     ensures { result ≡ slice_index (names store.now.network) place }
@@ -20,7 +20,7 @@ fn nth_node(store: &EdgeStore, place: u32) -> Node
     store.nth(place).unwrap()
 }
 
-/// The node that a word picks: of n nodes the one at index `word mod n`, from 0, names ascending.
+/// The node that a word picks: of the n nodes, ascending, the one at index `word mod n`, from 0.
 pub(crate) fn pick_node(store: &EdgeStore, word: u32) -> Node
     requires { 0 < node_count store.now.network }
     ensures node { result ≡ node_at store.now.network word }

@@ -34,7 +34,7 @@ stance_of_bits Free = refl
 abbrev pub end_code : Coded EdgeStance
 end_code = code_by (Bool × Bool) (coded× coded_bool coded_bool) to_bools of_bools stance_of_bits
 
--- whether an edge between two such nodes is open
+-- whether an edge is open if its ends have these two stances
 abbrev pub are_open : EdgeStance → EdgeStance → Bool
 are_open a b = not (is_shut a) && not (is_shut b) && not (is_courted_stance a && is_courted_stance b)
 
@@ -54,7 +54,7 @@ open_among ends edges = count_by (λ e. are_open (end_at ends e.0) (end_at ends 
 abbrev pub open_edges : Network → List EdgeStance → ℕ
 open_edges net ends = open_among ends net.edges
 
--- each name has its entry, and `count` edges of the rows are open
+-- `ends` has an entry for each name, and `count` edges of the rows are open
 pub record CountsOpenEdges (size : ℕ) (rows : List (List ℕ)) (ends : List EdgeStance) (count : ℕ) : Type 0 where
   pub places : length ends ≡ size + 1
   pub counted : open_among ends (edges_of rows) ≡ count

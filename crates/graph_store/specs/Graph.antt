@@ -9,8 +9,8 @@ use Rattle.graph_store.specs.declared.ends.EdgeStance.{EdgeStance}
 use Rattle.graph_store.specs.EdgeStances.{end_code}
 use Rattle.graph_store.specs.Rows.{contents, network_of}
 
--- the network, the room for further neighbours of each name, and the stance of each; every list has an entry
--- for each name
+-- A network; for each name, the room for further neighbours and the stance on its edges. Both lists
+-- have an entry for each name.
 pub record Graph : Type 0 where
   pub network : Network
   pub room : List ℕ
@@ -20,7 +20,7 @@ abbrev pub graph_code : Coded Graph
 graph_code =
     code_by (Network × (List ℕ × List EdgeStance)) (coded× network_code (coded× (coded_list coded_ℕ) (coded_list end_code))) (λ g. (g.network, (g.room, g.ends))) (λ p. record { network = p.0; room = p.1.0; ends = p.1.1 }) (λ _. refl)
 
--- the graph of a store by its parts
+-- the graph that contracts see of a store with these parts
 abbrev pub graph_of : ℕ → List Bool → List (Vec ℕ Global) → List EdgeStance → Graph
 graph_of size roll rows ends = record {
   network = network_of size roll (contents rows);
@@ -28,7 +28,7 @@ graph_of size roll rows ends = record {
   ends = ends;
 }
 
--- inserting an edge between these two takes no memory
+-- inserting an edge between these two names takes no memory
 pub record HasRoomFor (room : List ℕ) (a b : ℕ) : Type 0 where
   pub at_a : 0 < slice_index_or room a 0
   pub at_b : 0 < slice_index_or room b 0

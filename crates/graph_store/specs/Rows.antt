@@ -19,22 +19,22 @@ row_at rows v = slice_index_or rows v []
 abbrev pub has : List ℕ → ℕ → Bool
 has row w = list_any (nat_eq w) row
 
--- the pairs of the rows from v on, each at its lower end
+-- the edges in the rows from v on, each listed once, at its lower end
 abbrev pub pairs_from : ℕ → List (List ℕ) → List (ℕ × ℕ)
 pairs_from v [] = []
 pairs_from v (row ∷ rows) = map (λ w. (v, w)) (filter (nat_lt v) row) ++ pairs_from (v + 1) rows
 
--- the pairs of all rows
+-- the edges in all rows
 unfoldable pub edges_of : List (List ℕ) → PairSet
 edges_of rows = pair_set (pairs_from 0 rows)
 
--- the network of `size` names whose present names are those of the roll, and whose edges are the pairs of the
--- rows
+-- the network of `size` names in which the roll says which names are present and the rows say which
+-- edges there are
 abbrev pub network_of : ℕ → List Bool → List (List ℕ) → Network
 network_of size roll rows = record { size = size; here = roll; edges = edges_of rows }
 
--- The roll says which names are present. Each row ascends and has only other nodes of the network, and two
--- names are in each other's rows or in neither's.
+-- The roll says which names are present. Each row ascends and has only other nodes of the network. The
+-- row of v has w if and only if the row of w has v.
 pub record IsRows (size : ℕ) (roll : List Bool) (rows : List (List ℕ)) : Type 0 where
   pub places : length rows ≡ size + 1
   pub roll_len : length roll ≡ size + 1
@@ -51,12 +51,12 @@ pub record IsStore (size : ℕ) (roll : List Bool) (edges : ℕ) (rows : List (L
   pub counted : edge_count (network_of size roll rows) ≡ edges
   pub few_edges : edges ≤ 1048576
 
--- the rows with two names put into each other's, at these places
+-- the rows after two names were inserted into each other's rows, at these indices
 abbrev pub put_both : List (List ℕ) → ℕ → ℕ → ℕ → ℕ → List (List ℕ)
 put_both rows a i b j =
     slice_set (slice_set rows a (insert (row_at rows a) i b)) b (insert (row_at rows b) j a)
 
--- and with the two taken out of each other's
+-- the rows after two names were removed from each other's rows, at these indices
 abbrev pub take_both : List (List ℕ) → ℕ → ℕ → ℕ → ℕ → List (List ℕ)
 take_both rows a i b j =
     slice_set (slice_set rows a (remove (row_at rows a) i)) b (remove (row_at rows b) j)
@@ -65,14 +65,15 @@ take_both rows a i b j =
 abbrev pub IsPlaceOf : List ℕ → ℕ → ℕ → Type 0
 IsPlaceOf row w i = (i < length row) × (slice_index row i ≡ w)
 
--- w belongs into the row at index i: the names before it are lower, and those from there on are higher
+-- w belongs into the row at index i: the names before index i are lower, and the names from i on are
+-- higher
 pub record IsGapFor (row : List ℕ) (w i : ℕ) : Type 0 where
   pub inside : i ≤ length row
   pub below : (k : ℕ) → k < i → slice_index row k < w
   pub above : (k : ℕ) → i ≤ k → k < length row → w < slice_index row k
 
--- the index of w is in this part of the row or at its end: names before it are lower, and names after it are
--- higher
+-- the index of w is in this part of the row or at the part's end: names before the part are lower, and
+-- names after the part are higher
 pub record IsPartFor (row : List ℕ) (w start size : ℕ) : Type 0 where
   pub inside : start + size ≤ length row
   pub some : 0 < size

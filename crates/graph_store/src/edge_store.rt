@@ -22,7 +22,7 @@ use std::marker::Model;
 /// A network of nodes named 1 to a fixed capacity, as sorted neighbour lists.
 ///
 /// Contracts see the network, the room in each list, and each name's stance (`EdgeStance`) on its edges.
-/// Memory: two bytes a neighbour; a list, a bit (present) and a byte (stance) a name.
+/// Memory: two bytes for each neighbour; for each name a list, a bit (present) and a byte (stance).
 /// An absent name has no neighbours.
 #[derive(Drop)]
 pub struct EdgeStore {
@@ -32,7 +32,7 @@ pub struct EdgeStore {
     edges: u32,
     ends: Vec<EdgeStance>,
     open_edges: u32,
-    // A guess, checked before use: the gap for the last reserved edge in the row of its first end.
+    // A guess, checked before use: the last reserved edge's index in the row of the edge's first end.
     last_gap: usize,
 }
 
@@ -51,9 +51,9 @@ impl Model for EdgeStore {
 }
 
 impl EdgeStore {
-    /// The graph of the nodes 1 to `nodes` without edges. No further node can join.
-    /// Takes memory for one empty list a node.
-    /// Errors: `TooManyNodes` above 65,535; `Memory`.
+    /// The graph of the nodes 1 to `nodes`, all present, without edges. No further node can join.
+    /// Takes memory for an empty list, a byte and a bit for each node.
+    /// Errors: `TooManyNodes` if `nodes` is above 65,535; `Memory` if memory runs out.
     pub fn new(alloc: Global, nodes: u32) -> Result<EdgeStore, GraphFault>
         ensures ok { IfOk result (λ store. store.network ≡ edgeless nodes) }
         ensures small { OnOk result (nodes ≤ 65535) }
@@ -63,8 +63,8 @@ impl EdgeStore {
     }
 
     /// The graph of the names 1 to `nodes` without edges. Nodes 1 to `present` are present.
-    /// Takes memory for one empty list, a byte and a bit a name.
-    /// Errors: `TooManyNodes` above 65,535 names; `Memory`.
+    /// Takes memory for an empty list, a byte and a bit for each name.
+    /// Errors: `TooManyNodes` if `nodes` is above 65,535; `Memory` if memory runs out.
     pub fn with_present(alloc: Global, nodes: u32, present: u32) -> Result<EdgeStore, GraphFault>
         requires within { present ≤ nodes }
         ensures ok { IfOk result (λ store. store.network ≡ edgeless_with nodes present) }
@@ -88,7 +88,7 @@ impl EdgeStore {
         })
     }
 
-    /// The number of nodes: the names that are present, at most 65,535. One look.
+    /// The number of nodes, which are the names that are present; at most 65,535. One look.
     pub fn nodes(&self) -> u32
         ensures count { result ≡ node_count self.now.network }
         ensures few { result ≤ 65535 }
@@ -104,7 +104,7 @@ impl EdgeStore {
         self.nodes
     }
 
-    /// The k-th node by ascending name, from 0; `None` from `nodes()` on.
+    /// The node at index `k` by ascending name, from 0; `None` if `k` is at least `nodes()`.
     /// Looks at most at 24 counts and eight words.
     pub fn nth(&self, k: u32) -> Option<Node>
         ensures { result ≡ slice_get (names self.now.network) k }
@@ -112,7 +112,7 @@ impl EdgeStore {
         self.here.nth(k)
     }
 
-    /// Whether this name is present: a node of the graph. One look at one bit.
+    /// Whether the graph has a node of this name. One look at one bit.
     #[inline(always)]
     pub fn has(&self, node: Node) -> bool
         ensures { result ≡ present self.now.network node }
@@ -128,8 +128,8 @@ impl EdgeStore {
         self.edges
     }
 
-    /// Whether two nodes have an edge; `false` if either is not a node of the graph.
-    /// A binary search among the neighbours of `a`.
+    /// Whether an edge joins two nodes; `false` if either is not a node of the graph.
+    /// Costs a binary search among the neighbours of `a`.
     pub fn linked(&self, a: Node, b: Node) -> bool
         ensures value { result ≡ linked self.now.network a b }
         ensures present { IsTrue result → IsTrue (present self.now.network a) × IsTrue (present self.now.network b) }
@@ -154,7 +154,7 @@ impl EdgeStore {
     }
 
     /// The edges, ascending by lower end, then by higher end.
-    /// Looks at every name and at both ends of every edge; takes four bytes an edge.
+    /// Looks at every name and at both ends of every edge; takes four bytes for each edge.
     /// Error: out of memory.
     pub fn list(&self) -> Result<Vec<Edge>, Want>
         ensures list { IfOk result (λ edges. edges.items ≡ edge_list self.now.network) }
@@ -171,8 +171,8 @@ impl EdgeStore {
         self.open_edges
     }
 
-    /// Sets a name's stance on its edges. At first each name shuts them.
-    /// One look if the stance is unchanged, else one at each neighbour. Takes no memory.
+    /// Sets a name's stance on its edges. At first each name's stance is `Shut`.
+    /// One look if the stance is unchanged, else one look at each neighbour. Takes no memory.
     pub fn set_stance(&mut self, v: Node, end: EdgeStance)
         requires { v ≤ self.old.network.size }
         ensures told { end_at self.new.ends v ≡ end }
@@ -204,7 +204,7 @@ impl EdgeStore {
         Ok(())
     }
 
-    // The gap for `b` among the neighbours of `a`, if an edge may join them.
+    // The index where `b` belongs among the neighbours of `a`. Errors: those of `link`, except `Memory`.
     fn check_link(&self, a: Node, b: Node) -> Result<usize, GraphFault>
         ensures free { OnOk result (link_fault self.now.network a b ≡ None) }
         ensures gap { IfOk result (λ place. IsGapFor (neighbours self.now.network a) b place) }
@@ -220,8 +220,8 @@ impl EdgeStore {
         Ok(place)
     }
 
-    /// Why `link` would refuse an edge, apart from a lack of memory; `None` if it would not.
-    /// A binary search.
+    /// Why `link` would refuse an edge, apart from a lack of memory; `None` if it would not refuse.
+    /// Costs a binary search.
     pub fn link_fault(&self, a: Node, b: Node) -> Option<GraphFault>
         ensures { result ≡ link_fault self.now.network a b }
     {
@@ -236,7 +236,7 @@ impl EdgeStore {
         find_gap(self.neighbours(v), w)
     }
 
-    // The gap for `w` among the neighbours of `v`: two looks if the last gap found is right.
+    // The index where `w` belongs among the neighbours of `v`. Two looks if `last_gap` is right.
     fn guess_gap(&self, v: Node, w: Node) -> usize
         requires present { IsTrue (present self.now.network v) }
         requires apart { linked self.now.network v w ≡ false }
@@ -256,7 +256,7 @@ impl EdgeStore {
         reserve_both(&mut self.rows, a, b).map_err(|_| GraphFault::Memory)
     }
 
-    // Inserts a reserved edge, each end in its gap among the other's neighbours.
+    // Inserts an edge that has room in both rows: each end among the other's neighbours, at these indices.
     fn put_edge(&mut self, a: Node, place_in_a: usize, b: Node, place_in_b: usize)
         requires free { link_fault self.old.network a b ≡ None }
         requires room { HasRoomFor self.old.room a b }
@@ -287,9 +287,9 @@ impl EdgeStore {
         Ok(())
     }
 
-    /// Makes room for the edge between two nodes, so that `link_reserved` of it takes no memory.
-    /// A binary search among the neighbours of `a`, and the growth of at most two rows.
-    /// Errors: those of `link`, in its order. No edge changes.
+    /// Makes room for the edge between two nodes, so that `link_reserved` can insert the edge.
+    /// Costs a binary search among the neighbours of `a`, and the growth of at most two rows.
+    /// Errors: those of `link`, in the same order. No edge changes.
     pub fn reserve_link(&mut self, a: Node, b: Node) -> Result<(), GraphFault>
         ensures ok { OnOk result ((link_fault self.old.network a b ≡ None) × HasRoomFor self.new.room a b) }
         ensures fault { IfErr result (λ fault. ExplainsGraphFault (link_fault self.old.network a b) fault) }
@@ -300,9 +300,9 @@ impl EdgeStore {
         self.make_room(a, b)
     }
 
-    /// Inserts an edge after room was made for it. Takes no memory.
-    /// A binary search in the row of `b`, and in that of `a` unless the last `reserve_link` was of this edge;
-    /// a shift in both.
+    /// Inserts an edge after room was made for the edge. Takes no memory.
+    /// Costs a binary search in the row of `b`, another in the row of `a` unless the last `reserve_link` was
+    /// for this edge, and a shift in both rows.
     pub fn link_reserved(&mut self, a: Node, b: Node)
         requires free { link_fault self.old.network a b ≡ None }
         requires room { HasRoomFor self.old.room a b }
@@ -354,8 +354,8 @@ impl EdgeStore {
         Ok(())
     }
 
-    /// Makes a name a node without neighbours: writes a bit and its counts. Takes no memory.
-    /// Errors, in this order: `UnknownNode` above the capacity, `AlreadyPresent`.
+    /// Adds a node without neighbours: writes a bit and the counts of nodes. Takes no memory.
+    /// Errors, in this order: `UnknownNode` if the name is above the capacity, `AlreadyPresent`.
     /// An error leaves the network unchanged.
     pub fn join(&mut self, v: Node) -> Result<(), GraphFault>
         ensures ok { OnOk result ((join_fault self.old.network v ≡ None) × (self.new.network ≡ with_node self.old.network v)) }
@@ -381,9 +381,9 @@ impl EdgeStore {
         self.rows[v.place()].last().copied()
     }
 
-    /// Removes a node and its remaining edges. Takes no memory.
-    /// For each neighbour a binary search in two rows and a shift in the neighbour's row.
-    /// Error: `UnknownNode` if it is not a node of the graph, which leaves the network unchanged.
+    /// Removes a node and its edges. Takes no memory.
+    /// Costs, for each neighbour, a binary search in two rows and a shift in the neighbour's row.
+    /// Error: `UnknownNode` if `v` is not a node of the graph; the network is then unchanged.
     pub fn leave(&mut self, v: Node) -> Result<(), GraphFault>
         ensures ok { OnOk result ((leave_fault self.old.network v ≡ None) × (self.new.network ≡ without_node self.old.network v)) }
         ensures fault { IfErr result (λ fault. leave_fault self.old.network v ≡ Some fault) }
@@ -401,7 +401,7 @@ impl EdgeStore {
         Ok(())
     }
 
-    /// Removes a node without edges: writes a bit and its counts. Takes no memory.
+    /// Removes a node without edges: writes a bit and the counts of nodes. Takes no memory.
     pub fn part(&mut self, v: Node)
         requires present { IsTrue (present self.old.network v) }
         requires alone { neighbours self.old.network v ≡ [] }
@@ -413,7 +413,7 @@ impl EdgeStore {
     }
 }
 
-/// The set of the names 1 to `count`, for names up to `size`.
+/// The set with the members 1 to `count`, for names up to `size`.
 /// Memory and error are those of `EnabledSet::new`.
 pub fn first_names(alloc: Global, size: u32, count: u32) -> Result<EnabledSet, Want>
     requires few { size ≤ 65535 }

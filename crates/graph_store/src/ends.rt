@@ -8,19 +8,19 @@ use rule_machine::{Node, Want};
 use std::alloc::Global;
 
 /// A node's stance on its edges.
-/// An edge is open if neither end shuts it and its ends are not both courted.
+/// An edge is open if neither end is `Shut` and not both ends are `Courted`.
 #[derive(Clone, Copy, PartialEq, Eq)]
 pub enum EdgeStance {
     /// No edge at the node is open.
     Shut,
-    /// An edge at the node is open if its other end is free.
+    /// An edge at the node is open if the edge's other end is `Free`.
     Courted,
-    /// An edge at the node is open unless its other end shuts it.
+    /// An edge at the node is open unless the edge's other end is `Shut`.
     Free,
 }
 
 impl EdgeStance {
-    /// Whether an edge between two such ends is open.
+    /// Whether an edge is open if its ends have these two stances.
     #[inline(always)]
     pub fn is_open_to(self, other: EdgeStance) -> bool
         ensures { result ≡ are_open self other }
@@ -59,7 +59,8 @@ fn open_to(row: &[Node], ends: &[EdgeStance], end: EdgeStance) -> u32
     count
 }
 
-/// Sets the stance of the name with this row; returns the new number of open edges, given the old.
+/// Sets the stance of `v`, whose neighbours are `row`. Returns how many edges are open afterwards.
+/// `count` is how many edges were open before.
 pub fn turn_end(row: &[Node], ends: &mut [EdgeStance], count: u32, v: Node, end: EdgeStance) -> u32
     requires few { length row.now ≤ 65536 }
     requires within { All (λ w. w < length ends.old) row.now }

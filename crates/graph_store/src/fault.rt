@@ -2,7 +2,7 @@
 
 use thiserror::Error;
 
-/// Why a store of edges was not made or not changed.
+/// Why an edge store could not be made, or could not be changed.
 #[derive(Clone, Copy, Debug, PartialEq, Eq, Error)]
 pub enum GraphFault {
     /// The graph would have more than 65,535 names.
@@ -18,13 +18,13 @@ pub enum GraphFault {
     /// The two ends are the same node.
     #[error("an edge needs two different nodes")]
     SelfLoop,
-    /// The edge is there already.
+    /// The graph has this edge already.
     #[error("these nodes are linked already")]
     AlreadyLinked,
-    /// The edge is not there.
+    /// The graph does not have this edge.
     #[error("these nodes are not linked")]
     NotLinked,
-    /// The graph has 1,048,576 edges.
+    /// The graph has 1,048,576 edges already, the most allowed.
     #[error("a graph has at most 1048576 edges")]
     TooManyEdges,
     /// Memory ran out.

@@ -1,12 +1,13 @@
 //! The edges of a network as sorted neighbour lists.
 //!
-//! `EdgeStore` is a finite set of edges, with the names that are present. It keeps each edge at both ends, in
-//! ascending lists, and counts the edges and the open edges (by each node's stance: `set_stance`,
-//! `open_edges`). It refuses exactly what the definitions refuse, in their order. A refusal leaves the
-//! network unchanged.
+//! An `EdgeStore` has the edges of a network and the names that are present. Each node has an ascending list
+//! of its neighbours, so each edge is listed at both ends. The store counts its edges and its open edges
+//! (`open_edges`): which edges are open depends on each node's stance (`set_stance`). The store refuses
+//! exactly what the definitions refuse, for the same first reason. A refusal leaves the network unchanged.
 //!
-//! An edge costs a binary search and a shift in two lists. Only a new store, `link` and `list` take memory.
-//! `link` splits into `reserve_link`, which may fail, and `link_reserved`, which can't.
+//! Inserting or removing an edge costs a binary search and a shift in two lists. Only a new store, `link` and
+//! `list` take memory. `link` can be done in two calls: `reserve_link`, which may fail, then `link_reserved`,
+//! which can't fail.
 //!
 //! ```rust
 //! let mut store = EdgeStore::new(alloc, 3)?;

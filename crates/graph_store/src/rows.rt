@@ -25,14 +25,15 @@ const SHORT: usize = 64;
 // This many halvings reduce `SHORT` entries to one.
 const HALVINGS: usize = 6;
 
-/// A part of a row. Names before it are below the name searched for, names after it above.
+/// A part of a row, in a binary search for a name.
+/// Names before the part are below the name searched for, names after the part are above.
 #[derive(Clone, Copy)]
 struct Part {
     start: usize,
     size: usize,
 }
 
-/// The half with the place of the name.
+/// Halves a part of a row; returns the half that has the index of the name.
 #[inline(always)]
 fn halve(row: &[Node], name: Node, part: Part) -> Part
     requires rising { IsStrictlyIncreasing row.now }
@@ -53,7 +54,7 @@ fn halve(row: &[Node], name: Node, part: Part) -> Part
     }
 }
 
-/// The whole row, or a short part of it that has the place of the name.
+/// A part of at most 64 entries that has the index of the name; the whole row if the row is short.
 fn shorten(row: &[Node], name: Node) -> Part
     requires rising { IsStrictlyIncreasing row.now }
     requires some { 0 < length row.now }
@@ -70,8 +71,8 @@ fn shorten(row: &[Node], name: Node) -> Part
     part
 }
 
-/// The index of the last name not above `name`, or 0.
-/// The number of turns is fixed: idle turns cost less than a mispredicted end.
+/// The index of the last entry that is at most `name`; 0 if there is no such entry.
+/// The last loop has a fixed number of turns: idle turns cost less than a mispredicted exit.
 fn narrow(row: &[Node], name: Node) -> usize
     requires rising { IsStrictlyIncreasing row.now }
     requires some { 0 < length row.now }
@@ -84,7 +85,8 @@ fn narrow(row: &[Node], name: Node) -> usize
     part.start
 }
 
-/// A name's index in a row (`Ok`), or the index where it belongs (`Err`). A binary search.
+/// A name's index in a row (`Ok`); if the row lacks the name, the index where the name belongs (`Err`).
+/// Costs a binary search.
 pub fn find_place(row: &[Node], name: Node) -> Result<usize, usize>
     requires { IsStrictlyIncreasing row.now }
     ensures { MatchResult result (IsPlaceOf row.now name) (IsGapFor row.now name) }
@@ -100,7 +102,7 @@ pub fn find_place(row: &[Node], name: Node) -> Result<usize, usize>
     }
 }
 
-/// The index where a new name belongs. A binary search.
+/// The index where a new name belongs. Costs a binary search.
 pub fn find_gap(row: &[Node], name: Node) -> usize
     requires rising { IsStrictlyIncreasing row.now }
     requires apart { has row.now name ≡ false }
@@ -144,7 +146,7 @@ pub fn guess_gap(row: &[Node], guess: usize, name: Node) -> usize
     find_gap(row, name)
 }
 
-// By how many names a full row grows: as many as the smallest block of memory holds.
+// By how many names a full row grows: as many as fit the smallest block of memory.
 const MORE: usize = 12;
 
 /// Makes room for one more name in a node's row. Changes no names.
@@ -162,7 +164,7 @@ fn make_room(rows: &mut [Vec<Node>], node: Node) -> Result<(), Want>
 }
 
 /// Shifts a row's tail up by one, dropping its last name, and puts `name` first.
-/// The loop compiles to one move of memory, which `Vec::insert` does not.
+/// The loop compiles to one move of memory; `Vec::insert` does not.
 fn put_first(tail: &mut [Node], name: Node)
     requires { 0 < length tail.old }
     ensures { tail.new ≡ name ∷ take (length tail.old - 1) tail.old }
@@ -205,7 +207,7 @@ pub fn reserve_both(rows: &mut [Vec<Node>], a: Node, b: Node) -> Result<(), Want
     make_room(rows, b)
 }
 
-/// Inserts two nodes into each other's rows at these places. Both rows have room.
+/// Inserts two nodes into each other's rows at these indices. Both rows have room.
 pub fn put_both(rows: &mut [Vec<Node>], a: Node, place_in_a: usize, b: Node, place_in_b: usize)
     requires apart { a ≢ b }
     requires a_known { a < length rows.old }
@@ -220,7 +222,7 @@ pub fn put_both(rows: &mut [Vec<Node>], a: Node, place_in_a: usize, b: Node, pla
     put_in(rows, b, place_in_b, a);
 }
 
-/// Shifts a row's tail down by one, dropping its first name; its last name then comes twice.
+/// Shifts a row's tail down by one, over its first name. The last name is then there twice.
 fn drop_first(tail: &mut [Node])
     ensures { take (length tail.old - 1) tail.new ≡ drop 1 tail.old }
 {
@@ -245,7 +247,7 @@ fn take_out(rows: &mut [Vec<Node>], node: Node, place: usize)
     take_at(&mut rows[node.place()], place);
 }
 
-/// Removes two nodes from each other's rows at these places.
+/// Removes two nodes from each other's rows at these indices.
 pub fn take_both(rows: &mut [Vec<Node>], a: Node, place_in_a: usize, b: Node, place_in_b: usize)
     requires apart { a ≢ b }
     requires a_known { a < length rows.old }
@@ -269,7 +271,7 @@ fn push_above(pairs: &mut Vec<Edge>, v: Node, row: &[Node]) -> Result<(), Want>
     Ok(())
 }
 
-/// The pairs of all rows, each once, in order. Takes memory for `count` pairs.
+/// The edges in all rows, each once, in order. Takes memory for `count` edges.
 pub fn list_pairs(alloc: Global, rows: &[Vec<Node>], count: u32) -> Result<Vec<Edge>, Want>
     requires few { length rows.now ≤ 65536 }
     requires nobody { row_at (contents rows.now) 0 ≡ [] }

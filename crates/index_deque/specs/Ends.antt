@@ -33,13 +33,13 @@ abbrev pub end_ledger : DequeEnd → Ledger
 end_ledger (end.Owner o) = owner_ledger o
 end_ledger (end.Thief t) = thief_ledger t
 
--- 1 at the owner's end
+-- 1 at the owner's end, 0 at any other
 abbrev pub end_owners : DequeEnd → ℕ
 end_owners (end.Owner o) = 1
 end_owners (end.Thief t) = 0
 
--- what stays of an end while it takes: its deque, how many places were put, its parts of the 64 that make the
--- whole, and whether it is the owner's
+-- what does not change of an end while it takes blocks: its deque, how many places were put, how many of the
+-- deque's 64 parts the end has, and whether it is the owner's
 pub record EndView : Type 0 where
   pub deque : DequeName
   pub count : ℕ
@@ -49,7 +49,7 @@ pub record EndView : Type 0 where
 abbrev pub end_hold : DequeEnd → EndView
 end_hold e = record { deque = end_deque e; count = (end_ledger e).count; parts = (end_ledger e).parts; owners = end_owners e }
 
--- the places that an end has taken, in that order
+-- the places that an end has taken, in the order taken
 abbrev pub end_taken : DequeEnd → List ℕ
 end_taken e = (end_ledger e).taken
 
@@ -60,7 +60,7 @@ pub record AreAllEnds (count : ℕ) (holds : List EndView) : Type 0 where
   pub whole : sum_by (λ h. h.parts) holds ≡ 64
   pub owner : sum_by (λ h. h.owners) holds ≡ 1
 
--- after joining these ends: it knows what each of them took, and has the whole
+-- the ledger after joining these ends: it knows what each end took, and has the whole
 pub record AreJoined (count : ℕ) (ends : List DequeEnd) (v : Ledger) : Type 0 where
   pub size : v.count ≡ count
   pub whole : v.parts ≡ 64

@@ -1,4 +1,4 @@
--- The rule of a deque of places: what it holds and what each pass knows.
+-- The rule of a deque of places: what is on the deque and what each pass knows.
 use Rattle.std.specs.Prelude.{◌≡◌, ℕ, ◌+◌, ◌-◌, ◌<◌, ◌≤◌, List, [], ◌∷◌, ◌++◌, length}
 use Rattle.std.specs.List.{sum_by, range_with_len}
 use mathlib.Core.Option.{some}
@@ -22,12 +22,13 @@ abbrev pub places_in : List Block → List ℕ
 places_in [] = []
 places_in (b ∷ bs) = block_places b ++ places_in bs
 
--- a pass with no part has taken nothing, and one with a part knows how many places were put
+-- a pass without a part has taken nothing, and a pass with a part knows how many places were put
 abbrev pub Knows : ℕ → Ledger → Type 0
 Knows count v = (v.parts ≡ 0 → v.taken ≡ []) × (0 < v.parts → v.count ≡ count)
 
--- For any weight of places, those that the passes took and those on the deque together weigh as much as those
--- put: each is in one of them, once. The parts of all passes make the whole.
+-- For any weight of places, the places that the passes took and the places on the deque together have the
+-- weight of the places put. So each place is in one of these lists, once. The parts of all passes make the
+-- whole.
 pub record Balanced (items : List Block) (views : List Ledger) : Type 0 where
   pub count : ℕ
   pub whole : sum_by (λ v. v.parts) views ≡ 64
@@ -39,7 +40,7 @@ abbrev pub with_put : Ledger → List Block → Ledger
 with_put v [] = v
 with_put v (b ∷ bs) = ledger v.parts b.end v.taken
 
--- these are some of the places that were put, each once
+-- these are some of the places that were put, none twice
 abbrev pub ArePlaces : ℕ → List ℕ → Type 0
 ArePlaces count taken = (h : ℕ → ℕ) → sum_by h taken ≤ sum_by h (first_places count)
 
@@ -59,13 +60,13 @@ AreAllPlaces count taken = (h : ℕ → ℕ) → sum_by h taken ≡ sum_by h (fi
 abbrev pub KnowsAll : Ledger → Type 0
 KnowsAll v = v.parts ≡ 64 → AreAllPlaces v.count v.taken
 
--- what a pass keeps when it is split in two, and what the other gets
+-- what a pass keeps when it is split in two, and what the new pass gets
 abbrev pub rest_of : Ledger → Ledger
 rest_of v = ledger (v.parts - 1) v.count v.taken
 
 abbrev pub part_of : Ledger → Ledger
 part_of v = ledger 1 v.count []
 
--- what a pass knows when it has joined another
+-- what a pass knows after joining another pass
 abbrev pub joined_ledger : Ledger → Ledger → Ledger
 joined_ledger v w = ledger (v.parts + w.parts) v.count (v.taken ++ w.taken)

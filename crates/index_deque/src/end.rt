@@ -11,14 +11,14 @@ use std::sync::Wait;
 /// One worker's end of a deque.
 #[derive(Drop)]
 pub enum DequeEnd {
-    /// The end that can also join what others took.
+    /// The one end that can also join what the other ends took.
     Owner(Owner),
     /// An end that only takes.
     Thief(Thief),
 }
 
 impl DequeEnd {
-    /// Takes the block in front; `None` if there was none at one moment of the call.
+    /// Takes the block in front; `None` if the deque had no block at one moment of the call.
     pub fn take<W: Wait>(&mut self, rt: &W) -> Option<Block>
         ensures hold { end_hold self.new ≡ end_hold self.old }
         ensures taken { MatchOption result (end_taken self.new ≡ end_taken self.old) (λ block. end_taken self.new ≡ end_taken self.old ++ block_places block) }
@@ -32,8 +32,9 @@ impl DequeEnd {
     }
 }
 
-/// `workers` ends of one new deque that holds the places 0 to `count - 1`.
-/// The first 64 blocks have one place each, later ones a 64th of the places left, but 1 to 64.
+/// Puts the places 0 to `count - 1` on a new deque, in blocks, and returns `workers` ends of the deque.
+/// The first 64 blocks have one place each. A later block has a 64th of the places left, but at least 1 and
+/// at most 64.
 /// `AllocError` if memory runs out.
 pub fn ends(alloc: Global, count: u32, workers: u32) -> Result<Vec<DequeEnd>, AllocError>
     requires some { 0 < workers }

@@ -8,7 +8,7 @@ use crate::ledger::{EachOnce, Ledger};
 use crossbeam_deque::{Pass, Stealer, Worker};
 use std::alloc::Global;
 
-/// The one end of a deque that puts blocks, makes the other ends and joins what they took.
+/// The one end of a deque that puts blocks, makes the other ends, and joins what these ends took.
 #[derive(Drop)]
 pub struct Owner {
     pub(crate) worker: Worker<Block, Global, Ledger, EachOnce>,
@@ -16,7 +16,7 @@ pub struct Owner {
     ghost has_part: { 0 < (worker_view worker).parts },
 }
 
-/// An end of a deque that only takes blocks, with its pass.
+/// An end of a deque that only takes blocks. The pass says, for contracts, what this end has taken.
 #[derive(Drop)]
 pub struct Thief {
     pub(crate) stealer: Stealer<Block, Global, Ledger, EachOnce>,

@@ -7,7 +7,7 @@ ghost use Rattle.index_deque.specs.Ends.{end_hold, end_owners, owner_ledger, Are
 
 use crate::{DequeEnd, Owner};
 
-/// Joins all ends of one deque.
+/// Joins all ends of one deque, and returns the owner's end.
 pub fn gather(mut ends: Vec<DequeEnd>, count: u32) -> Owner
     requires { AreAllEnds count (map end_hold ends.items) }
     ensures { AreJoined count ends.items (owner_ledger result) }

@@ -4,15 +4,16 @@ use crate::Block;
 use crossbeam_deque::protocol::{Join, Outcome, Protocol, Split};
 use std::collections::LinkedList;
 
-/// What a pass knows. No value of it is made.
-/// Its parts of the 64 that make the whole, how many places were put, and which it has taken.
+/// What a pass knows, for contracts only: no value of this type is made.
+/// `parts`: how many of the deque's 64 parts the pass has. `count`: how many places were put on the deque.
+/// `taken`: the places that the pass has taken.
 pub struct Ledger {
     pub parts: u64,
     pub count: u64,
     pub taken: LinkedList<u32>,
 }
 
-/// The rule: the places put are those taken and those on the deque, each once.
+/// The rule of the deque: each place that was put is either taken or still on the deque, once.
 pub struct EachOnce;
 
 impl Protocol<Block, Ledger> for EachOnce {
@@ -26,7 +27,7 @@ impl Protocol<Block, Ledger> for EachOnce {
     ghost guest = { ledger 0 0 [] };
 }
 
-/// A block is put.
+/// The step that puts a block.
 pub(crate) struct Put;
 
 impl Outcome<Block, Ledger> for Put {
@@ -36,7 +37,7 @@ impl Outcome<Block, Ledger> for Put {
     ghost then = { λ v xs w. w ≡ with_put v xs };
 }
 
-/// A block is taken, or none is found.
+/// The step that takes a block, or finds no block.
 pub(crate) struct Took;
 
 impl Outcome<Block, Ledger> for Took {
@@ -47,7 +48,7 @@ impl Outcome<Block, Ledger> for Took {
     ghost empty = { KnowsAll };
 }
 
-/// A pass is split in two, or joined to another.
+/// The steps that split a pass in two and that join two passes.
 pub(crate) struct Cut;
 
 impl Split<Ledger> for Cut {

@@ -1,12 +1,12 @@
-//! A deque of the places of a list, in blocks; workers take each place once from its ends.
+//! A deque of the places of a list, in blocks; workers take each place once, at the deque's ends.
 //!
-//! `ends` puts the places 0 to n - 1 on one work-stealing deque and gives each worker a `DequeEnd`, to take
-//! blocks until none is left. `gather` joins all ends again. No code checks that each place was taken once:
-//! the deque's rule says so, by a ledger of no bytes at each end. For any weight of places, those taken and
-//! those left weigh as much as those put.
+//! `ends` puts the places 0 to n - 1 on one work-stealing deque and gives each worker a `DequeEnd`. A worker
+//! takes blocks from its end until no block is left. `gather` joins all ends again. No code checks that each
+//! place was taken once: the deque's rule says so, by a ledger of no bytes at each end. For any weight of
+//! places, the places taken and the places left together have the weight of the places put.
 //!
-//! The first 64 blocks, one for each possible end, have one place, so that a held worker delays no other.
-//! Later blocks have at most 64. Taking takes no memory.
+//! The first 64 blocks, one for each possible end, have one place each, so that a worker made to wait delays
+//! no other worker. Later blocks have at most 64 places. Taking a block takes no memory.
 //!
 //! ```rust
 //! let mut ends = ends(alloc, n, workers)?;

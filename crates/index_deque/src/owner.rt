@@ -10,11 +10,11 @@ use crate::{Block, Owner, Thief};
 use crossbeam_deque::Worker;
 use std::alloc::{AllocError, Global};
 
-// How many blocks a new deque has room for: enough for more than 65,535 places. It can grow.
+// How many blocks a new deque has room for: enough for more than 65,535 places. The deque can grow.
 const MOST_AT_FIRST: u32 = 2_048;
 
 impl Owner {
-    /// A new deque that holds the places 0 to `count - 1`, the least in front.
+    /// A new deque of the places 0 to `count - 1`, the least in front, as the owner's end.
     /// `AllocError` if memory runs out.
     pub fn filled(alloc: Global, count: u32) -> Result<Owner, AllocError>
         ensures { IfOk result (λ owner. owner_ledger owner ≡ ledger 64 count []) }
@@ -32,7 +32,7 @@ impl Owner {
         Ok(Owner { worker })
     }
 
-    /// Another end of the deque, with one part of the whole. `AllocError` if memory runs out.
+    /// Makes another end of the deque, with one part of the whole. `AllocError` if memory runs out.
     pub fn thief(&mut self) -> Result<Thief, AllocError>
         requires { 1 < (owner_ledger self.old).parts }
         ensures part { IfOk result (λ thief. (thief_deque thief ≡ owner_deque self.old) × (thief_ledger thief ≡ part_of (owner_ledger self.old))) }
@@ -43,7 +43,7 @@ impl Owner {
         Ok(Thief::of(stealer, pass))
     }
 
-    /// Takes the block in front; `None` if there was none at one moment of the call.
+    /// Takes the block in front; `None` if the deque had no block at one moment of the call.
     pub fn take(&mut self) -> Option<Block>
         ensures same { owner_deque self.new ≡ owner_deque self.old }
         ensures taken { MatchOption result
@@ -54,7 +54,7 @@ impl Owner {
         self.worker.pop_as::<Took>()
     }
 
-    /// Joins what another end of the deque took, and its part.
+    /// Takes over what another end of the deque took, and that end's part of the whole.
     pub fn absorb(&mut self, thief: Thief)
         requires { thief_deque thief ≡ owner_deque self.old }
         ensures same { owner_deque self.new ≡ owner_deque self.old }

@@ -31,8 +31,8 @@ impl Thief {
         pass
     }
 
-    /// Takes the block in front; `None` if there was none at one moment of the call.
-    /// It tries again if another thread takes a block first.
+    /// Takes the block in front; `None` if the deque had no block at one moment of the call.
+    /// Tries again if another thread takes a block first.
     pub fn take<W: Wait>(&mut self, rt: &W) -> Option<Block>
         ensures same { thief_deque self.new ≡ thief_deque self.old }
         ensures taken { MatchOption result

@@ -1,4 +1,4 @@
--- A state with what the index keeps of it.
+-- A state with what an index stores about the state.
 use Rattle.std.specs.Prelude.{ℕ, Bool, List, refl}
 use Rattle.std.specs.Coded.{Coded, code_by, coded×, coded_ℕ, coded_bool, coded_list}
 use Rattle.rule_machine.specs.State.{State, state_code}
@@ -6,7 +6,7 @@ use Rattle.graph_store.specs.declared.ends.EdgeStance.{EdgeStance}
 use Rattle.graph_store.specs.EdgeStances.{end_code}
 
 -- a state, how many more neighbours each name has room for, the stance of each name towards its edges, and
--- which names are stale: their nodes may contribute otherwise than at the last look
+-- which names are stale: their contributions may have changed since the last look
 pub record IndexedView : Type 0 where
   pub state : State
   pub room : List ℕ

@@ -1,11 +1,11 @@
-//! A state of the rule machine that keeps what each node contributes to the totals that questions need.
+//! A state of the rule machine that stores what each node contributes to the totals of the network.
 //!
-//! `IndexedState` is a `SuitorIndex` with a contribution for each name. Each write marks as stale at most
-//! three names, whose nodes may contribute otherwise to the charge and the pairs. A question (`totals`,
-//! `lower_ends`) looks at the stale names alone and keeps the sums.
+//! `IndexedState` is a `SuitorIndex` with a contribution for each name. Each write marks at most three
+//! names as stale: what their nodes contribute to the charge and the pairs may have changed. A question
+//! (`totals`, `lower_ends`) looks at the stale names alone and updates the sums.
 //!
 //! A write that opens or closes its node scans that node's neighbours; every other write costs a few looks.
-//! Only a new state, `reserve_link` and `lower_ends` take memory.
+//! Only `with_present`, `reserve_link` and `lower_ends` take memory.
 //!
 //! ```rust
 //! let change = state.write_pointer(v, Some(w));     // where it pointed before, and whether it turned

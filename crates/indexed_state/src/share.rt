@@ -14,8 +14,8 @@ use suitor_index::SuitorIndex;
 
 /// What a node contributes to the totals of its network.
 ///
-/// It has what the node adds to the charge apart from its edges, and how many pointers at it close an edge
-/// that is open by its ends.
+/// `added` is what the node adds to the charge apart from its edges. `closing` is how many pointers at the
+/// node close an edge that is open by the stances of its ends.
 #[derive(Clone, Copy)]
 pub(crate) struct Contribution {
     pub(crate) added: u16,
@@ -50,7 +50,7 @@ fn is_unanswered(registers: &Registers, node: &ChargeInput) -> bool
     }
 }
 
-/// Returns what the charge depends on at a node. A few looks.
+/// Returns the facts about a node that the charge depends on. A few looks.
 #[inline(always)]
 fn standing<R: Rules>(index: &SuitorIndex<R>, v: Node) -> ChargeInput
     requires { IsTrue (present index.now.state.network v) }
@@ -67,7 +67,7 @@ fn standing<R: Rules>(index: &SuitorIndex<R>, v: Node) -> ChargeInput
     }
 }
 
-/// Whether `w` points at the node, and so closes an edge that is open by its ends.
+/// Whether `w` points at the node and thereby closes an edge that is open by the ends' stances.
 #[inline(always)]
 fn closes_edge<R: Rules>(index: &SuitorIndex<R>, w: Node, node: &ChargeInput) -> bool
     requires { IsChargeInput index.now.state node.now }
@@ -133,7 +133,7 @@ pub(crate) fn is_lower_end<R: Rules>(index: &SuitorIndex<R>, v: Node) -> bool
     }
 }
 
-/// Returns the stance of the name's node towards its edges, if there is one.
+/// Returns the stance of node `v` towards its edges; `None` if `v` is absent.
 pub(crate) fn end_at<R: Rules>(index: &SuitorIndex<R>, v: Node) -> Option<EdgeStance>
     ensures { MatchOption result (present index.now.state.network v ≡ false) (λ end. end ≡ stance_of R.COURTED_PAIR_CLOSES_EDGE index.now.state v) }
 {

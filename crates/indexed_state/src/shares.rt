@@ -13,7 +13,7 @@ use std::alloc::Global;
 
 /// What each node contributed at the last look, whether it was the lower end of a pair, and the sums.
 ///
-/// The nodes of stale names may contribute otherwise.
+/// The contribution of a stale name may have changed since the last look.
 #[derive(Drop)]
 pub(crate) struct Contributions {
     pub(crate) each: Vec<Contribution>,
@@ -27,7 +27,9 @@ pub(crate) struct Contributions {
 }
 
 impl Contributions {
-    /// Creates empty contributions; all names up to `nodes` are stale. Takes seven bytes and a bit a name.
+    /// Creates empty contributions of names up to `nodes`, all stale.
+    ///
+    /// Takes 7 bytes and a bit a name.
     pub(crate) fn new(alloc: Global, nodes: u32) -> Result<Contributions, Want>
         requires { nodes ≤ 65535 }
         ensures each { IfOk result (λ it. it.each.items ≡ replicate (nodes + 1) no_contribution) }
@@ -70,7 +72,7 @@ impl Contributions {
         }
     }
 
-    /// After a write of a pointer: marks the node, the old target and the new one as stale.
+    /// Marks the node of a pointer write, the old target and the new target as stale.
     #[inline(always)]
     pub(crate) fn mark_pointer(&mut self, v: Node, was: Option<Node>, is: Option<Node>)
         requires node { v < length self.old.stale }

@@ -24,8 +24,8 @@ use suitor_index::{Change, SuitorIndex};
 
 /// A network with an index of what the guards of `R` need, and each node's contribution to the totals.
 ///
-/// Contracts see the state, how many more neighbours each node has room for, the stance of each node towards
-/// its edges at the last look, and which names are stale since.
+/// Contracts see the state, how many more neighbours each node has room for, the stance of each node
+/// towards its edges at the last look, and which names have become stale since.
 #[derive(Drop)]
 pub struct IndexedState<R: Rules> {
     pub(crate) index: SuitorIndex<R>,
@@ -46,9 +46,11 @@ impl<R: Rules> Model for IndexedState<R> {
 }
 
 impl<R: Rules> IndexedState<R> {
-    /// Creates names 1 to `nodes`; 1 to `present` are nodes, without an edge, pointers null, flags false.
+    /// Creates a state with names 1 to `nodes`, of which 1 to `present` are nodes.
     ///
-    /// `TooManyNodes` above 65,535 names; `Memory` if memory runs out.
+    /// There is no edge; all pointers are null and all flags false.
+    ///
+    /// Errors: `TooManyNodes` above 65,535 names; `Memory` if memory runs out.
     pub fn with_present(
         alloc: Global,
         nodes: u32,
@@ -102,9 +104,9 @@ impl<R: Rules> IndexedState<R> {
         R::opens(net.pointer(v), net.flag(v))
     }
 
-    /// Whether no neighbour but `v` that the guard of `w` asks for is open. One look.
+    /// Whether, of the neighbours that the guard of `w` asks for, none but `v` is open. One look.
     ///
-    /// `v` is a neighbour of `w`, and `is_open` is whether `v` is open.
+    /// `v` is a neighbour of `w`. `is_open` is whether `v` is open.
     pub fn is_only_open_neighbour(&self, w: Node, v: Node, is_open: bool) -> bool
         requires present { IsTrue (present self.now.state.network w) }
         requires linked { IsTrue (linked self.now.state.network w v) }
@@ -114,7 +116,7 @@ impl<R: Rules> IndexedState<R> {
         self.index.is_only_open_neighbour(w, v, is_open)
     }
 
-    /// Returns the only neighbour that points at a node; `None` if none or several do. One look.
+    /// Returns the node's suitor if there is exactly one, else `None`. One look.
     pub fn lone_suitor(&self, v: Node) -> Option<Node>
         requires { IsTrue (present self.now.state.network v) }
         ensures { MatchOption result (suitor_count self.now.state v ≢ 1) (IsLoneSuitor self.now.state v) }
@@ -149,7 +151,7 @@ impl<R: Rules> IndexedState<R> {
     /// Writes a node's pointer, to null or to a neighbour, and returns what that changed.
     ///
     /// Cost: looks at the old and the new target, and at the node's neighbours only if the node became open
-    /// or ceased to be; no memory.
+    /// or ceased to be open; no memory.
     pub fn write_pointer(&mut self, v: Node, target: Option<Node>) -> Change
         requires present { IsTrue (present self.old.state.network v) }
         requires near { IfSome target (λ w. IsTrue (linked self.old.state.network v w)) }
@@ -166,9 +168,9 @@ impl<R: Rules> IndexedState<R> {
         change
     }
 
-    /// Writes a node's flag, and returns whether the node became open or ceased to be.
+    /// Writes a node's flag, and returns whether the node became open or ceased to be open.
     ///
-    /// Cost: looks at the node's neighbours only if it did; no memory.
+    /// Cost: looks at the node's neighbours only if the result is true; no memory.
     pub fn write_flag(&mut self, v: Node, value: bool) -> bool
         requires { IsTrue (present self.old.state.network v) }
         ensures value { self.new.state ≡ after_flag self.old.state v value }
@@ -182,7 +184,7 @@ impl<R: Rules> IndexedState<R> {
         self.index.write_flag(v, value)
     }
 
-    /// Makes a name a node, without an edge, its pointer null and its flag false. Takes no memory.
+    /// Adds a node without an edge; its pointer is null and its flag false. Takes no memory.
     pub fn join(&mut self, v: Node)
         requires within { v ≤ self.old.state.network.size }
         requires absent { present self.old.state.network v ≡ false }

@@ -1,4 +1,4 @@
-//! The totals that questions need, updated by looks at the nodes that may contribute otherwise.
+//! The totals that questions need, updated by looks at the stale names.
 
 ghost use Rattle.std.specs.Prelude.{◌≡◌, ◌&&◌, ℕ, ◌+◌, ◌<◌, ◌≤◌, false, not, filter, length, slice_set, cond, count_by, sum_by, IfOk, IsTrue, MatchOption};
 ghost use Rattle.std.specs.List.{range_with_len};
@@ -23,15 +23,15 @@ pub struct Totals {
     pub open_edges: u32,
     /// What all nodes add to the charge apart from their edges.
     pub added: u32,
-    /// How many pointers close an edge that is open by its ends.
+    /// How many pointers close an edge that is open by the stances of its ends.
     pub closing: u32,
 }
 
 impl<R: Rules> IndexedState<R> {
-    /// Updates the contribution of each stale name, so that none is stale.
+    /// Updates the contribution of each stale name, so that no name is stale.
     ///
-    /// Cost: a few looks at a node whose stance stays and that has at most one suitor, else one at each
-    /// neighbour.
+    /// Cost: a few looks at each stale name, and a look at each neighbour of a node whose stance changed or
+    /// that has several suitors.
     fn look_again(&mut self)
         ensures state { self.new.state ≡ self.old.state }
         ensures room { self.new.room ≡ self.old.room }
@@ -50,8 +50,8 @@ impl<R: Rules> IndexedState<R> {
 
     /// Returns the totals that a status needs.
     ///
-    /// Cost: looks at the nodes that may contribute otherwise than at the last call of this or `lower_ends`,
-    /// and at the neighbours of those whose stance changed or that have several suitors. Takes no memory.
+    /// Cost: looks at the names that became stale since the last call of `totals` or `lower_ends`, and at
+    /// the neighbours of each such node whose stance changed or that has several suitors. Takes no memory.
     pub fn totals(&mut self) -> Totals
         ensures state { self.new.state ≡ self.old.state }
         ensures room { self.new.room ≡ self.old.room }

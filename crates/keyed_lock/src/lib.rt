@@ -1,12 +1,13 @@
-//! A lock for one value, with an invariant under the lock's key.
+//! A lock for one value, with an invariant that depends on the lock's key.
 //!
-//! Taking the lock gives exclusive access to the value, and the fact that `I::holds` for key and value.
-//! Giving it back requires such a value again. So later threads rely on what an earlier one proved, without a
-//! check: `locked_net` keeps its log so. The key never changes; only contracts compare it.
+//! `take` gives exclusive access to the value, and the fact that `I::holds` is true of the key and the value.
+//! `give` requires the same fact of the value given back. So a thread can rely on what earlier threads
+//! proved, without a check: `locked_net` guards its log this way. The key never changes; only contracts
+//! compare it.
 //!
-//! The lock is one word and one slot of the kit's `atomic_table`. A waiting thread sleeps. No claim is made
-//! that it ever gets the lock. Neither lock nor `Hold` can be dropped: `give` ends a hold, `into_inner` the
-//! lock.
+//! The lock occupies one word and one slot of the kit's `atomic_table`. A waiting thread sleeps; no claim is
+//! made that the thread ever gets the lock. Neither the lock nor a `Hold` can be dropped: `give` ends a hold,
+//! `into_inner` ends the lock.
 //!
 //! ```rust
 //! let (mut value, hold) = lock.take(rt);

@@ -12,25 +12,27 @@ const FREE: u64 = 0;
 
 const TAKEN: u64 = 1;
 
-/// Taken, and a thread may sleep until it is free.
+/// The lock is taken, and a thread may sleep until the lock is free.
 const AWAITED: u64 = 2;
 
-/// The invariant of a locked value under its lock's key. Only contracts use it; none of it runs.
+/// What a locked value satisfies, given its lock's key. Only contracts use this trait; none of it runs.
 pub trait Invariant<T, K> {
     ghost holds: { K → T → Type 0 };
 }
 
 /// A lock for one value, with a key that never changes and that only contracts compare.
 ///
-/// Taking it gives exclusive access to a value that satisfies `I.holds` under the key. Only such a value may
-/// be given back. It is a word and a slot of memory. It can't be dropped: `into_inner` ends it.
+/// Taking the lock gives exclusive access to a value that satisfies `I.holds` under the key. Only such a
+/// value may be given back. The lock occupies a word and a slot. It can't be dropped, only ended by
+/// `into_inner`.
 pub struct KeyedLock<T, K, I: Invariant<T, K>> {
     table: Table<Option<T>, K, K, OneValue<I>, Global>,
     ghost one_word: { table.shared.table_id.words ≡ 1 },
     ghost one_slot: { table.shared.table_id.slots ≡ 1 },
 }
 
-/// The right to give a lock's value back. It takes no bytes. It can't be dropped: `give` ends it.
+/// The right to give a lock's value back. A hold takes no bytes.
+/// A hold can't be dropped, only ended by `give`.
 pub struct Hold<T, K> {
     seat: Seat<Option<T>, K>,
 }
@@ -38,7 +40,7 @@ pub struct Hold<T, K> {
 impl<T, K, I: Invariant<T, K>> KeyedLock<T, K, I> {
     ghost use Rattle.keyed_lock.specs.Locks.{key_of, IsHoldOf};
 
-    /// A free lock. If memory runs out, the value comes back in the error.
+    /// A free lock for this value and key. If memory runs out, the error returns the value.
     pub fn new(alloc: Global, value: T, key: &K) -> Result<KeyedLock<T, K, I>, AllocFailed<T>>
         requires { I.holds key.now value }
         ensures key { IfOk result (λ lock. key_of lock ≡ key.now) }
@@ -64,7 +66,7 @@ impl<T, K, I: Invariant<T, K>> KeyedLock<T, K, I> {
     }
 
     /// Waits until the lock is free and takes its value.
-    /// A waiting thread sleeps. A thread that already has the value waits for ever.
+    /// A waiting thread sleeps. If the calling thread already has the value, the call waits for ever.
     pub fn take<R: Wait>(&self, rt: &R) -> (T, Hold<T, K>)
         ensures value { I.holds (key_of self.now) result.0 }
         ensures hold { IsHoldOf self.now result.1 }
@@ -76,7 +78,7 @@ impl<T, K, I: Invariant<T, K>> KeyedLock<T, K, I> {
         (value, Hold { seat })
     }
 
-    /// Waits until the slot belongs to the seat.
+    /// Waits until the slot belongs to the calling thread, whose place at the table is `seat`.
     fn claim<R: Wait>(&self, rt: &R, seat: &mut Seat<Option<T>, K>)
         requires { Waits self.now.table.shared.table_id (key_of self.now) seat.old }
         ensures table { seat.new.table_id ≡ seat.old.table_id }
@@ -95,7 +97,7 @@ impl<T, K, I: Invariant<T, K>> KeyedLock<T, K, I> {
         unreachable!()
     }
 
-    /// Gives a value back, which frees the lock, and wakes one waiting thread, if any.
+    /// Gives a value back and frees the lock. Wakes one waiting thread, if any.
     pub fn give(&self, hold: Hold<T, K>, value: T)
         requires hold { IsHoldOf self.now hold }
         requires value { I.holds (key_of self.now) value }
@@ -108,8 +110,8 @@ impl<T, K, I: Invariant<T, K>> KeyedLock<T, K, I> {
         }
     }
 
-    /// The value of a lock that is no longer shared.
-    /// If the lock was taken and not given back, it waits for ever.
+    /// Ends a lock that is no longer shared, and returns the lock's value.
+    /// If the value was taken and not given back, the call waits for ever.
     pub fn into_inner<R: Wait>(self, rt: &R) -> T
         ensures { I.holds (key_of self) result }
     {

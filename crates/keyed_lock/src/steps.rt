@@ -1,4 +1,4 @@
-//! The rule of the table that the lock uses, and its steps.
+//! The rule of the table that a lock uses, and the steps that the lock takes.
 
 ghost use Rattle.keyed_lock.specs.LockSteps.{IsLockState, arrived, claimed, left};
 
@@ -6,7 +6,7 @@ use crate::Invariant;
 use atomic_table::{Play, TableRule};
 use std::marker::PhantomData;
 
-/// The slot has the value while the word is 0.
+/// The rule: while the word is 0, the slot has the value.
 pub struct OneValue<I> {
     invariant: PhantomData<I>,
 }

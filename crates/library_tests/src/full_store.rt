@@ -1,4 +1,4 @@
-//! A full store of edges.
+//! A store of edges that is full.
 
 use crate::helpers::named;
 use graph_store::{EdgeStore, GraphFault};

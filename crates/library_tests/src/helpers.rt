@@ -1,4 +1,4 @@
-//! Helpers of many tests. A test ends if memory runs out.
+//! Helpers that many tests use. A test ends if memory runs out.
 
 ghost use Rattle.std.specs.Prelude.{◌≡◌};
 

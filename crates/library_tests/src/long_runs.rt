@@ -9,7 +9,7 @@ use rules_manne::Manne;
 use std::alloc::Global;
 use std::process::Abort;
 
-/// A name, which may be one above the last.
+/// A drawn name, which may be one above the last name.
 fn drawn_name(rt: &impl Abort, generator: &mut Pcg32, nodes: u16) -> Node {
     let most = u32::from(nodes) + 1;
     Node::new(generator.next_u32() % most + 1).expect(rt, "a name")
@@ -58,7 +58,7 @@ fn drawn_event<R: Rules>(
     }
 }
 
-/// Both reply to an event alike.
+/// Checks that the engine and the plain machine give the same reply to an event.
 fn agree<R: Rules>(
     rt: &impl Abort,
     alloc: Global,
@@ -70,9 +70,9 @@ fn agree<R: Rules>(
     assert!(rt; reply == plain.answer(rt, alloc, event));
 }
 
-/// Both reply alike to twenty drawn events.
+/// Checks twenty drawn events: the engine and the plain machine give the same replies.
 ///
-/// They list the same enabled nodes after each, and have the same counts at the end.
+/// After each event both list the same enabled nodes; at the end both have the same counts.
 fn agree_a_while<R: Rules>(
     rt: &impl Abort,
     alloc: Global,
@@ -89,7 +89,7 @@ fn agree_a_while<R: Rules>(
     agree(rt, alloc, net, plain, &Event::Status);
 }
 
-/// Both agree along 600 drawn events.
+/// Checks that the engine and the plain machine agree along 600 drawn events.
 fn agree_along<R: Rules>(rt: &impl Abort, alloc: Global, rules: RuleSet, nodes: u16, seed: u64) {
     let mut net = net_of::<R>(rt, alloc, u32::from(nodes));
     let mut plain = plain_of(rt, alloc, rules, nodes);

@@ -1,4 +1,4 @@
-//! Networks of the engine, and plain ones that reply to the same events.
+//! Networks of the engine, and plain networks that reply to the same events.
 
 ghost use Rattle.std.specs.Prelude.{◌≤◌};
 
@@ -19,7 +19,7 @@ pub(crate) fn net_with<R: Rules>(rt: &impl Abort, alloc: Global, nodes: u32, pre
     Net::with_present(alloc, nodes, present).expect(rt, "a network")
 }
 
-/// A plain network, its rules, and the moves since it was last disturbed.
+/// A plain network, its rules, and the moves since the network was last disturbed.
 #[derive(Drop)]
 pub(crate) struct Plain {
     net: PlainNet,

@@ -27,7 +27,7 @@ use std::process::Abort;
 /// The names, each with its bit in a set of present names.
 const BITS: [(u32, u8); 3] = [(1, 1), (2, 2), (3, 4)];
 
-/// How many names there are, and the set of those present; the lowest bit is for the first.
+/// How many names there are, and the set of the present ones. The set's lowest bit is for the name 1.
 #[derive(Clone, Copy)]
 struct Names {
     all: u8,
@@ -42,10 +42,10 @@ enum Kind {
     Other,
 }
 
-/// A network under a rule set, the plain one, the judge, and the state that all are in.
+/// A network of the engine, the same network of the plain machine, the judge, and their common state.
 ///
-/// The state has for each node a base-4 digit for its pointer, and then a bit for its flag if there are
-/// flags.
+/// The state is a number. For each node it has a base-4 digit for the pointer and then, if the rules have
+/// flags, a bit for the flag.
 #[derive(Drop)]
 struct Twins<R: Rules> {
     net: Net<R>,
@@ -57,7 +57,7 @@ struct Twins<R: Rules> {
 }
 
 impl<R: Rules> Twins<R> {
-    /// Two networks without nodes.
+    /// A network of the engine and one of the plain machine, both without nodes.
     fn new(rt: &impl Abort, alloc: Global, rules: RuleSet, names: Names, edges: u32) -> Twins<R> {
         let all = u32::from(names.all);
         let judge = Judge::with_present(alloc, all, 0);
@@ -71,7 +71,7 @@ impl<R: Rules> Twins<R> {
         }
     }
 
-    /// Asks the judge about a refusal, and about the reply.
+    /// Asks the judge whether the event is refused, and whether the reply is right.
     fn judge(&mut self, rt: &impl Abort, spent: u64, event: &Event, reply: &Reply) {
         let refusal = Reply::Refused(Refusal::NotEnabled);
         let refused = self.judge.replay(self.plain.rules, spent, event, &refusal);
@@ -83,7 +83,7 @@ impl<R: Rules> Twins<R> {
         assert!(rt; right.expect(rt, "memory"), "{event:?}");
     }
 
-    /// Gives both an event, and compares their replies.
+    /// Gives an event to both machines, and compares their replies.
     fn ask(&mut self, rt: &impl Abort, alloc: Global, event: Event) -> Kind {
         let spent = u64::from(self.net.spent());
         let reply = self.net.apply(&event).expect(rt, "memory");
@@ -101,12 +101,12 @@ impl<R: Rules> Twins<R> {
         }
     }
 
-    /// Whether both accept a change.
+    /// Whether both machines accept a change.
     fn change(&mut self, rt: &impl Abort, alloc: Global, event: Event) -> bool {
         self.ask(rt, alloc, event) == Kind::Accepted
     }
 
-    /// Lets the present names join.
+    /// Makes the present names join.
     fn join(&mut self, rt: &impl Abort, alloc: Global) {
         let here = self.names.here;
         for (name, bit) in BITS {
@@ -116,9 +116,9 @@ impl<R: Rules> Twins<R> {
         }
     }
 
-    /// Links the nodes; `false` if an edge has an absent end.
+    /// Makes the links that `edges` asks for; returns `false` if an edge has an absent end.
     ///
-    /// The edges 1-2, 1-3 and 2-3 have a bit each.
+    /// In `edges`, the edges 1-2, 1-3 and 2-3 have a bit each.
     fn link(&mut self, rt: &impl Abort, alloc: Global) -> bool {
         let edges = self.edges;
         for (a, b, place) in [(1, 2, 1), (1, 3, 2), (2, 3, 4)] {
@@ -130,7 +130,7 @@ impl<R: Rules> Twins<R> {
         true
     }
 
-    /// Writes the registers; `false` if a pointer is at no neighbour, or a digit belongs to no node.
+    /// Writes the state's registers; `false` if a pointer is at no neighbour, or a digit has no node.
     fn set(&mut self, rt: &impl Abort, alloc: Global) -> bool {
         let (mut rest, here) = (self.state, self.names.here);
         for (name, bit) in BITS {
@@ -141,7 +141,7 @@ impl<R: Rules> Twins<R> {
         rest == 0
     }
 
-    /// Writes the registers of a node from the next digits; `false` if its pointer is at no neighbour.
+    /// Writes a node's registers from the next digits; `false` if the pointer is at no neighbour.
     fn write(&mut self, rt: &impl Abort, alloc: Global, name: u32, rest: &mut u32) -> bool {
         let v = named(rt, name);
         if !self.change(rt, alloc, Event::Point(v, Node::new(*rest % 4))) {
@@ -174,9 +174,9 @@ impl<R: Rules> Twins<R> {
         );
     }
 
-    /// Lets the nodes of a choice move.
+    /// Asks both machines to move the nodes of a choice.
     ///
-    /// If they do, it checks the charge, asks for all answers, and restores the state.
+    /// If nodes move, checks the charge, asks all questions, and restores the state.
     fn step(&mut self, rt: &impl Abort, alloc: Global, number: u32) {
         let choice = choice_of(rt, alloc, self.names.all, number);
         let charge = self.net.charge();
@@ -198,8 +198,8 @@ fn digits_of(nodes: u8) -> u32
 
 /// The choice with this number.
 ///
-/// Its digits have the base 1 + (n + 1)(n + 2), the lowest first. 0 is no item; another digit encodes a node,
-/// 1 to n + 1, and a wish, 1 to n + 1, or 0 for none.
+/// The digits of the number have the base 1 + (n + 1)(n + 2), the lowest digit first. The digit 0 is no item.
+/// Any other digit encodes a node, 1 to n + 1, and a wish, 1 to n + 1, or 0 for no wish.
 fn choice_of(rt: &impl Abort, alloc: Global, nodes: u8, number: u32) -> Choice {
     let (names, digits) = (u32::from(nodes) + 2, digits_of(nodes));
     let mut rest = number;
@@ -215,9 +215,9 @@ fn choice_of(rt: &impl Abort, alloc: Global, nodes: u8, number: u32) -> Choice {
     Choice::new(items).expect(rt, "a choice")
 }
 
-/// How many numbers have two digits: the square of a digit's values.
+/// How many numbers have at most two digits: the square of the values of one digit.
 ///
-/// A product would be costly to prove.
+/// A table, since a product would be costly to prove.
 fn two_digits(nodes: u8) -> u32 {
     match nodes {
         0 => 9,
@@ -227,12 +227,12 @@ fn two_digits(nodes: u8) -> u32 {
     }
 }
 
-/// Whether a number of two digits is the first that has its items.
+/// Whether a number of at most two digits is the first number with the same items.
 fn is_first(nodes: u8, number: u32) -> bool {
     number == 0 || number % digits_of(nodes) > 0
 }
 
-/// Tries every choice of up to two items in the state; returns how many.
+/// Tries every choice of up to two items in the state; returns how many choices were tried.
 fn try_pairs<R: Rules>(rt: &impl Abort, alloc: Global, twins: &mut Twins<R>) -> u64 {
     let nodes = twins.names.all;
     let mut tried = 0u64;
@@ -245,7 +245,7 @@ fn try_pairs<R: Rules>(rt: &impl Abort, alloc: Global, twins: &mut Twins<R>) -> 
     tried
 }
 
-/// Tries all six orders of three nodes in the state; returns how many.
+/// Tries all six orders of three nodes in the state; returns how many choices were tried.
 fn try_orders<R: Rules>(rt: &impl Abort, alloc: Global, twins: &mut Twins<R>) -> u64 {
     for (a, b, c) in [
         (1, 6, 11),
@@ -260,7 +260,7 @@ fn try_orders<R: Rules>(rt: &impl Abort, alloc: Global, twins: &mut Twins<R>) ->
     6
 }
 
-/// Tries every choice in the state, if it is one; returns how many choices that were.
+/// Tries every choice in the state, if the state is valid; returns how many choices were tried.
 fn try_state<R: Rules>(rt: &impl Abort, alloc: Global, twins: &mut Twins<R>) -> u64 {
     if !twins.set(rt, alloc) {
         return 0;
@@ -273,7 +273,7 @@ fn try_state<R: Rules>(rt: &impl Abort, alloc: Global, twins: &mut Twins<R>) -> 
     tried.wrapping_add(try_orders(rt, alloc, twins))
 }
 
-/// Tries every state of a network, if its edges join present nodes; returns how many choices that were.
+/// Tries every state of a network, if its edges join present nodes; returns how many choices it tried.
 fn try_network<R: Rules>(
     rt: &impl Abort,
     alloc: Global,
@@ -294,7 +294,7 @@ fn try_network<R: Rules>(
     tried
 }
 
-/// Tries every network with these names and `count` edges, and checks how many choices that were.
+/// Tries every network with these names and `count` edges, and checks how many choices were tried.
 fn try_networks<R: Rules>(
     rt: &impl Abort,
     alloc: Global,
@@ -324,7 +324,7 @@ fn try_manne(rt: &impl Abort, alloc: Global, names: Names, count: u32, wanted: u
     try_networks::<Manne>(rt, alloc, RuleSet::Manne, names, count, wanted);
 }
 
-/// `all` names; those in `here` are present.
+/// The names 1 to `all`; those in `here` are present.
 fn some_of(all: u8, here: u8) -> Names {
     Names { all, here }
 }

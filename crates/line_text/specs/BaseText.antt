@@ -12,8 +12,8 @@ use Rattle.line_text.specs.EventText.{pair_text, target_text, bool_text}
 abbrev pub base_head : RuleSet → ℕ → List ℕ
 base_head rules size = codes "matching2 " ++ rules_word rules ++ codes " " ++ number_text size
 
--- how many entries led to it, the moves spent, and the numbers of nodes and edges; all but the first with
--- their names
+-- the fields of a base's second line: how many entries led to the base, the moves spent, and the
+-- numbers of nodes and edges; each field except the first has a name
 abbrev pub base_fields : ℕ → ℕ → ℕ → ℕ → List (List ℕ × ℕ)
 base_fields number spent nodes edges =
     (codes "", number) ∷ (codes "spent=", spent) ∷ (codes "nodes=", nodes) ∷ (codes "edges=", edges) ∷ []

@@ -25,7 +25,7 @@ header_line rules size count = header_text rules size count ++ 10 ∷ []
 abbrev pub numbered_text : ℕ → List ℕ → Reply → List ℕ
 numbered_text number line reply = number_text number ++ codes " " ++ line ++ codes " = " ++ reply_text reply
 
--- the same for an event
+-- the entry with this number: the script line of the event, and the reply
 abbrev pub entry_text : ℕ → Event → Reply → List ℕ
 entry_text number event reply = numbered_text number (event_text event) reply
 

@@ -75,6 +75,6 @@ IsEventLine line = (event : Event) × Spells line event
 abbrev pub NotACommand : List ℕ → Type 0
 NotACommand line = (event : Event) → Spells line event → ⊥
 
--- the line is a step, the one event that has a list
+-- the line is a step, which is the only event that has a list
 abbrev pub SpellsStep : List ℕ → Type 0
 SpellsStep line = (items : List Item) × Spells line (Step items)

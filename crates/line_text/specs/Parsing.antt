@@ -5,11 +5,12 @@ use Rattle.rule_machine.specs.declared.choice.Item.{Item}
 use Rattle.line_text.specs.Words.{number_text, IsName, spaced}
 use Rattle.line_text.specs.EventText.{IsItem, AreChoiceItems, item_text}
 
--- the bytes are the text of what was found; if none was found, they are the text of no such value
+-- the bytes are the text of the value found; if no value was found, the bytes are not the text of such
+-- a value
 abbrev pub ParsesAs : {X : Type 0} → (X → Type 0) → (X → List ℕ) → List ℕ → Option X → Type 0
 ParsesAs {X} fits text bytes found = MatchOption found ((x : X) → fits x → bytes ≡ text x → ⊥) (λ x. fits x × (bytes ≡ text x))
 
--- the same for two parts
+-- like `ParsesAs`, for a value of two parts
 abbrev pub ReadsTwo : {X Y : Type 0} → (X → Y → Type 0) → (X → Y → List ℕ) → List ℕ → Option (X × Y) → Type 0
 ReadsTwo {X} {Y} fits text bytes found =
     MatchOption found ((x : X) (y : Y) → fits x y → bytes ≡ text x y → ⊥) (λ p. fits p.0 p.1 × (bytes ≡ text p.0 p.1))
@@ -50,11 +51,11 @@ pub record ItemThen (bytes : List ℕ) (item : Item) (rest : List ℕ) : Type 0 
 abbrev pub SpellsChoice : List ℕ → Type 0
 SpellsChoice bytes = (items : List Item) × AreChoiceItems items × (bytes ≡ spaced item_text items)
 
--- the same, and how many items there are
+-- the bytes are this many items of a choice, each after one space
 abbrev pub HasItems : List ℕ → ℕ → Type 0
 HasItems bytes count = (items : List Item) × AreChoiceItems items × (bytes ≡ spaced item_text items) × (length items ≡ count)
 
--- the value stored, if one was
+-- the value that was stored; None if the flag says that no value was
 abbrev pub kept_if : {X : Type 0} → Bool → X → Option X
 kept_if true x = Some x
 kept_if false x = None

@@ -17,7 +17,7 @@ six_digits n =
 abbrev pub IsName : ℕ → Type 0
 IsName n = (1 ≤ n) × (n ≤ 65535)
 
--- a mark and a name, if there is one
+-- a mark and a name; empty if there is no name
 abbrev pub marked_text : List ℕ → Option ℕ → List ℕ
 marked_text mark None = []
 marked_text mark (Some n) = mark ++ number_text n
@@ -44,7 +44,7 @@ joined_or word text (item ∷ items) = joined_texts text (item ∷ items)
 abbrev pub lines_with_ends : {X : Type 0} → (X → List ℕ) → List X → List ℕ
 lines_with_ends text items = flat_map (λ item. text item ++ 10 ∷ []) items
 
--- new is old with more after it
+-- `new` begins with `old`
 pub record Extends (old new : List ℕ) : Type 0 where
   pub more : List ℕ
   pub is : new ≡ old ++ more

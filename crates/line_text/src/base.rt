@@ -9,7 +9,7 @@ use crate::numbers::{put_name, put_name_then, put_number, put_target};
 use crate::replies::put_field;
 use rule_machine::{Base, Edge, NodeRecord, RuleSet, Want};
 
-/// A value written as one line.
+/// A value that is written as one line.
 trait Line {
     // The line's text, without its LF.
     ghost text: { Self → List ℕ };
@@ -90,8 +90,8 @@ fn append_base(out: &mut Vec<u8>, rules: RuleSet, size: u32, base: &Base) -> Res
     put_lines(out, base.edges.as_slice())
 }
 
-/// Appends the lines of a base, each with its LF; `size` is its number of names.
-/// At most some 18 megabytes. If memory runs out, it writes nothing.
+/// Appends the lines of a base with `size` names, each line with its LF.
+/// The lines have at most some 18 megabytes. If memory runs out, `out` is unchanged.
 pub fn put_base(out: &mut Vec<u8>, rules: RuleSet, size: u32, base: &Base) -> Result<(), Want>
     requires few_nodes { length base.now.nodes ≤ 65535 }
     requires few_edges { length base.now.edges ≤ 1048576 }

@@ -22,7 +22,7 @@ fn read_pair(bytes: &[u8]) -> Option<(Node, Node)>
     Some((a, b))
 }
 
-/// Reads a name, or `-` for null.
+/// Reads a name, or `-` for null; `None` for any other text.
 pub fn read_target(bytes: &[u8]) -> Option<Option<Node>>
     ensures { ParsesAs (λ target. IfSome target IsName) target_text bytes.now result }
 {
@@ -47,7 +47,7 @@ fn read_point(bytes: &[u8]) -> Option<(Node, Option<Node>)>
     Some((node, target))
 }
 
-/// Reads `1` for true, or `0` for false.
+/// Reads `1` for true, or `0` for false; `None` for any other text.
 pub fn read_bool(bytes: &[u8]) -> Option<bool>
     ensures { ParsesAs (λ (b : Bool). ⊤) bool_text bytes.now result }
 {
@@ -72,7 +72,7 @@ fn read_flag(bytes: &[u8]) -> Option<(Node, bool)>
     Some((node, value))
 }
 
-// Stores the event found, if any; returns whether there was one.
+// Stores the event found in `event`, if there is one; returns whether there is.
 #[inline(always)]
 fn put(event: &mut Event, found: Option<Event>) -> bool
     ensures { kept_if result event.new ≡ found }
@@ -84,7 +84,8 @@ fn put(event: &mut Event, found: Option<Event>) -> bool
     true
 }
 
-/// Reads a line's command into `event`, which saves a move; returns false if it is no command.
+/// Reads a line's command into `event`; returns false if the line is no command.
+/// Writing the event into `event` saves a move of the event in memory.
 /// Takes memory only for the items of a step, and none if the line is no command.
 /// Error: out of memory.
 #[inline(always)]
@@ -138,7 +139,8 @@ pub fn read_command_into(alloc: Global, line: &[u8], event: &mut Event) -> Resul
     Ok(put(event, None))
 }
 
-/// Reads a line's command; `None` if it is no command. Memory and error: as `read_command_into`.
+/// Reads a line's command; `None` if the line is no command.
+/// Memory and error are those of `read_command_into`.
 pub fn read_command(alloc: Global, line: &[u8]) -> Result<Option<Event>, Want>
     ensures command { IfOk result
         (λ found. MatchOption found (NotACommand line.now) (λ event. Spells line.now event)) }

@@ -15,7 +15,7 @@ use crate::room::{TOO_LONG, put_digits, put_window};
 use crate::word::Word;
 use rule_machine::{Event, Item, Moved, Reply, RuleSet, Want};
 
-// More bytes than an entry with one item and one move has.
+// An entry with one item and one move has fewer bytes than this.
 const ROOM: usize = 72;
 
 // Writes the number of names and, if not all are present, how many are.
@@ -78,7 +78,7 @@ fn one_move<'a>(event: &'a Event, reply: &'a Reply) -> Option<(&'a Item, &'a Mov
     }
 }
 
-// Writes the entry of a one-move step at `at`, and returns its end.
+// Writes the entry of a one-move step at index `at`; returns the index after the entry.
 #[inline(always)]
 fn put_one_move(room: &mut [u8], at: usize, number: u32, item: &Item, moved: &Moved) -> usize
     requires below { number < 1000000 }
@@ -132,7 +132,7 @@ fn append_line(out: &mut Vec<u8>, number: u32, line: &[u8], reply: &Reply) -> Re
     append_answer(out, reply)
 }
 
-/// Cuts the text back to `len` bytes if the write failed.
+/// If the write failed, cuts the text back to its first `len` bytes.
 pub(crate) fn whole_or_none(
     out: &mut Vec<u8>,
     len: usize,
@@ -149,8 +149,9 @@ pub(crate) fn whole_or_none(
 }
 
 /// Appends a transcript's header, with its LF.
-/// It has the rules, the number of names and, if not all are present at the start, how many are.
-/// A `count` above `size` is written as `size`. If memory runs out, it writes nothing.
+/// The header has the rules and the number of names. If some names are absent at the start, it also has
+/// the number of names present.
+/// A `count` above `size` counts as `size`. If memory runs out, `out` is unchanged.
 pub fn put_header(out: &mut Vec<u8>, rules: RuleSet, size: u32, count: u32) -> Result<(), Want>
     ensures ok { OnOk result (out.new.items ≡ out.old.items ++ header_line rules size count) }
     ensures err { OnErr result (out.new.items ≡ out.old.items) }
@@ -160,8 +161,8 @@ pub fn put_header(out: &mut Vec<u8>, rules: RuleSet, size: u32, count: u32) -> R
     whole_or_none(out, len, done)
 }
 
-/// Appends the entry with this number, with its LF: the event, and the reply to it.
-/// If memory runs out, it writes nothing.
+/// Appends the entry with this number: the event and its reply, with an LF.
+/// If memory runs out, `out` is unchanged.
 pub fn put_entry(out: &mut Vec<u8>, number: u32, event: &Event, reply: &Reply) -> Result<(), Want>
     ensures ok { OnOk result (out.new.items ≡ out.old.items ++ entry_line number event.now reply.now) }
     ensures err { OnErr result (out.new.items ≡ out.old.items) }
@@ -172,8 +173,8 @@ pub fn put_entry(out: &mut Vec<u8>, number: u32, event: &Event, reply: &Reply) -
     whole_or_none(out, len, done)
 }
 
-/// Appends an entry like `put_entry`, but copies the event's script line.
-/// If memory runs out, it writes nothing.
+/// Like `put_entry`, but copies the event's script line instead of writing the event.
+/// If memory runs out, `out` is unchanged.
 pub fn put_entry_of_line(
     out: &mut Vec<u8>,
     number: u32,

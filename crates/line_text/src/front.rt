@@ -1,4 +1,4 @@
-//! Reads the front of a text: a given text, digits, a name.
+//! Reads what a text begins with: a given text, digits, a name.
 
 ghost use Rattle.std.specs.Prelude.{◌≡◌, ℕ, ◌≤◌, List, ◌++◌, length, take, drop, MatchOption};
 ghost use Rattle.std.specs.Str.Parse.{AllDigits, digits_value};
@@ -10,13 +10,13 @@ use rule_machine::{MAX_NAME, Node};
 /// The most digits of a name.
 const NAME_DIGITS: usize = 5;
 
-/// How many bytes decide on a name and its end.
+/// How many bytes are enough to read a name and to see that the name ends.
 const ENOUGH: usize = 6;
 
 /// The byte of the digit 0.
 const ZERO: u32 = 48;
 
-/// What follows `front` at the front; `None` if the text begins otherwise.
+/// The text after its beginning `front`; `None` if the text does not begin with `front`.
 #[inline]
 pub fn after<'a>(bytes: &'a [u8], front: &[u8]) -> Option<&'a [u8]>
     ensures { MatchOption result
@@ -26,7 +26,7 @@ pub fn after<'a>(bytes: &'a [u8], front: &[u8]) -> Option<&'a [u8]>
     bytes.strip_prefix(front)
 }
 
-/// The number of digits at the front, and their value if they are at most eight.
+/// How many digits the text begins with, and the value of these digits if there are at most eight.
 #[inline(always)]
 pub(crate) fn digits_in_front(bytes: &[u8]) -> (usize, u32)
     ensures within { result.0 ≤ length bytes.now }
@@ -45,8 +45,8 @@ pub(crate) fn digits_in_front(bytes: &[u8]) -> (usize, u32)
     (bytes.len(), number)
 }
 
-/// The same for a name: counts at most six digits. With six there may be more.
-/// If there are six bytes, no digit needs a test for the end.
+/// Like `digits_in_front`, but counts at most six digits. If it counts six, more may follow.
+/// If the text has six bytes, the loop needs no test for the end of the text.
 #[inline(always)]
 fn name_digits(bytes: &[u8]) -> (usize, u32)
     ensures within { result.0 ≤ length bytes.now }
@@ -60,8 +60,8 @@ fn name_digits(bytes: &[u8]) -> (usize, u32)
     digits_in_front(&bytes[..ENOUGH])
 }
 
-/// Reads the name at the front in one pass, and returns the rest.
-/// Returns `None` if there is no name from 1 to 65,535, or it has a leading zero.
+/// Reads the name at the front of the text in one pass; returns the name and the rest.
+/// Returns `None` if the text does not begin with a name from 1 to 65,535, or the name has a leading zero.
 #[inline(always)]
 pub fn read_name(bytes: &[u8]) -> Option<(Node, &[u8])>
     ensures { MatchOption result
@@ -95,7 +95,7 @@ pub fn read_last(bytes: &[u8]) -> Option<Node>
     Some(node)
 }
 
-/// Reads the name and the space at the front, and returns the rest.
+/// Reads a name and a space at the front of the text; returns the name and the rest.
 pub(crate) fn read_word(bytes: &[u8]) -> Option<(Node, &[u8])>
     ensures { MatchOption result
         ((name : ℕ) (rest : List ℕ) → WordThen bytes.now name rest → ⊥)

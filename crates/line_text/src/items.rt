@@ -10,10 +10,11 @@ use crate::front::{after, read_name};
 use rule_machine::{Choice, Item, MAX_ITEMS, Want};
 use std::alloc::{AllocError, Global};
 
-/// The most bytes of an item without a wish. Room made for such items grows if they are shorter.
+/// The most bytes of an item without a wish.
+/// Room is made for items of this width, and grows if the items are shorter.
 const WIDTH: usize = 6;
 
-// Reads the space and the item at the front, and returns the rest.
+// Reads a space and an item at the front of the text; returns the item and the rest.
 fn read_item(bytes: &[u8]) -> Option<(Item, &[u8])>
     ensures { MatchOption result
         ((item : Item) (rest : List ℕ) → ItemThen bytes.now item rest → ⊥)
@@ -40,7 +41,7 @@ fn read_item(bytes: &[u8]) -> Option<(Item, &[u8])>
     ))
 }
 
-// How many items there are, each after one space; `None` if they are not a choice.
+// Counts the items, each after one space; `None` if the text is not the items of a choice.
 fn count_items(bytes: &[u8]) -> Option<usize>
     ensures { MatchOption result
         (SpellsChoice bytes.now → ⊥)
@@ -61,7 +62,7 @@ fn count_items(bytes: &[u8]) -> Option<usize>
     Some(count)
 }
 
-// The result if there is no memory for items: an error, or `None` if they are not a choice.
+// The result if memory runs out: an error, or `None` if the text is not the items of a choice.
 fn read_none(bytes: &[u8]) -> Result<Option<Choice>, Want>
     ensures items { IfOk result (ParsesAs AreChoiceItems (spaced item_text) bytes.now) }
     ensures memory { OnErr result (SpellsChoice bytes.now) }
@@ -82,8 +83,8 @@ fn read_one(bytes: &[u8]) -> Option<Choice>
     }
 }
 
-/// Reads items, each after one space; `None` for any other text, and above 65,535 items.
-/// Takes memory for two or more items; a line that is no choice needs none.
+/// Reads items, each after one space; `None` for any other text, or if there are more than 65,535.
+/// Takes memory only for two or more items. If the text is no choice, a lack of memory is no error.
 /// Each item but the first is read once.
 pub(crate) fn read_items(alloc: Global, bytes: &[u8]) -> Result<Option<Choice>, Want>
     ensures items { IfOk result (ParsesAs AreChoiceItems (spaced item_text) bytes.now) }

@@ -1,10 +1,10 @@
 //! The text of scripts and transcripts: reads commands and writes entries.
 //!
 //! Each event, reply, entry and base has one spelling, defined in `specs/`. `read_command_into` accepts
-//! exactly the texts of events, and a line is the text of at most one (the law `one_reading`). Writers append
-//! a whole line, or leave the buffer unchanged if memory runs out.
+//! exactly the texts of events, and a line is the text of at most one event (the law `one_reading`). Writers
+//! append whole lines, or leave the buffer unchanged if memory runs out.
 //!
-//! Reading takes memory only for the items of a step. One crate up, `entry_grammar` reads transcripts.
+//! Reading takes memory only for the items of a step. The crate `entry_grammar` reads transcripts.
 //!
 //! ```rust
 //! let mut event = Event::Status;

@@ -34,8 +34,8 @@ fn append_digits(out: &mut Vec<u8>, number: u32, behind: u8) -> Result<(), Want>
     Ok(())
 }
 
-// Appends a long number, or one without room yet, and a byte.
-// Out of line: it is rare, so the common path saves no registers for it.
+// Appends a number and a byte if the number is long, or if room must still be made.
+// Not inlined: both cases are rare, so the common path saves no registers for this call.
 #[cold]
 #[inline(never)]
 fn put_rare(out: &mut Vec<u8>, number: u32, behind: u8) -> Result<(), Want>

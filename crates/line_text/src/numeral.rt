@@ -11,8 +11,8 @@ use std::str;
 /// The most digits that are read in one pass.
 const FEW_DIGITS: usize = 8;
 
-/// Reads the number at the front in one pass over its digits, and returns the rest.
-/// Returns `None` if there is no digit, above eight digits, and for a leading zero.
+/// Reads the number at the front of the text in one pass; returns the number and the rest.
+/// Returns `None` if there is no digit, if there are more than eight, or if the number has a leading zero.
 #[inline]
 pub fn number_in_front(bytes: &[u8]) -> Option<(u32, &[u8])>
     ensures { MatchOption result
@@ -69,7 +69,7 @@ fn read_any(bytes: &[u8]) -> Option<u64>
     Some(u64::from(number))
 }
 
-/// Reads a number up to `most`; `None` for a greater one, and for any other text.
+/// Reads a number up to `most`; `None` for a greater number, and for any other text.
 /// A sign or a leading zero is refused. Takes no memory.
 pub fn read_number(bytes: &[u8], most: u64) -> Option<u64>
     ensures { ParsesAs (λ n. n ≤ most) number_text bytes.now result }

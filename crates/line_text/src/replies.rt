@@ -9,7 +9,7 @@ use crate::room::{put_node, put_window};
 use crate::word::{Word, put_joined, put_joined_or};
 use rule_machine::{Act, Counts, Edge, Moved, Node, Refusal, Reply, Want};
 
-// A rule's word at the front of a window.
+// A window of eight bytes that begins with the rule's word.
 #[inline(always)]
 fn act_window(act: Act) -> [u8; 8]
     ensures { take (length (act_word act)) result ≡ act_word act }
@@ -33,7 +33,7 @@ fn act_length(act: Act) -> usize
     }
 }
 
-// Writes a rule's word and a byte at `at`, and returns their end. Branch-free.
+// Writes a rule's word and a byte at index `at`; returns the index after the byte. Branch-free.
 #[inline(always)]
 fn put_act(room: &mut [u8], at: usize, act: Act, behind: u8) -> usize
     requires { at + 8 ≤ length room.old }

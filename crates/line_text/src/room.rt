@@ -6,10 +6,10 @@ ghost use Rattle.line_text.specs.Words.{number_text, six_digits, IsName};
 
 use rule_machine::Node;
 
-/// How many bytes are written at once. Shorter texts are cut to their length.
+/// The length of a window: how many bytes are written at once. Shorter texts are cut to their length.
 pub(crate) const WINDOW: usize = 8;
 
-/// The least number that is too long for a window together with a byte.
+/// The least number that does not fit a window together with a byte.
 pub(crate) const TOO_LONG: u32 = 1_000_000;
 
 /// The two digits of each number below 100.
@@ -26,7 +26,8 @@ fn pair(number: u32) -> u64
     u64::from(u16::from_le_bytes([PAIRS[at], PAIRS[at + 1]]))
 }
 
-// Added to six digits, takes the code of `0` off each, and sets the top bit of the last: it counts even if 0.
+// Adding this to six digits subtracts the code of `0` from each digit, and sets the top bit of the
+// last digit, so that the last digit counts even if it is 0.
 const LAST_COUNTS: u64 = (0x80 << 40) - 0x3030_3030_3030;
 
 // The six digits of a number, the first in the lowest byte.
@@ -39,7 +40,7 @@ fn digits(number: u32) -> u64
     pair(first) + (pair(front - first * 100) << 16) + (pair(number - front * 100) << 32)
 }
 
-// How many of six digits are leading zeros: below the first other digit, eight bits each are clear.
+// How many of six digits are leading zeros. After the addition each leading zero is eight clear bits.
 #[inline(always)]
 fn leading_zeros(digits: u64) -> u32
     requires { digits < 2 ^ 48 }
@@ -48,7 +49,7 @@ fn leading_zeros(digits: u64) -> u32
     (digits + LAST_COUNTS).trailing_zeros() / 8
 }
 
-// A window with a number's digits and a byte, and its length.
+// A window with a number's digits and a byte, and how many bytes these are.
 #[inline(always)]
 fn number_window(number: u32, behind: u8) -> ([u8; 8], usize)
     requires { number < 1000000 }
@@ -61,7 +62,7 @@ fn number_window(number: u32, behind: u8) -> ([u8; 8], usize)
     (window.to_le_bytes(), 7 - zeros as usize)
 }
 
-// Writes a window over eight bytes. As an array: a copy of a slice tests for overlap.
+// Writes a window over eight bytes. Assigns an array: a copy of a slice would test for overlap.
 #[inline(always)]
 fn put_whole(place: &mut [u8], window: [u8; 8])
     requires { length place.old ≡ 8 }
@@ -73,7 +74,8 @@ fn put_whole(place: &mut [u8], window: [u8; 8])
     }
 }
 
-/// Writes the first bytes of a window at `at`, and returns their end. Branch-free.
+/// Writes a window at index `at`; returns the index after the window's first `count` bytes.
+/// Branch-free.
 #[inline(always)]
 pub(crate) fn put_window(room: &mut [u8], at: usize, window: [u8; 8], count: usize) -> usize
     requires space { at + 8 ≤ length room.old }
@@ -86,7 +88,7 @@ pub(crate) fn put_window(room: &mut [u8], at: usize, window: [u8; 8], count: usi
     at + count
 }
 
-/// Writes a number of at most six digits and a byte at `at`, and returns their end.
+/// Writes a number of at most six digits and a byte at index `at`; returns the index after the byte.
 #[inline(always)]
 pub(crate) fn put_digits(room: &mut [u8], at: usize, number: u32, behind: u8) -> usize
     requires below { number < 1000000 }
@@ -99,7 +101,7 @@ pub(crate) fn put_digits(room: &mut [u8], at: usize, number: u32, behind: u8) ->
     put_window(room, at, window, count)
 }
 
-/// Writes a node's name and a byte at `at`, and returns their end.
+/// Writes a node's name and a byte at index `at`; returns the index after the byte.
 #[inline(always)]
 pub(crate) fn put_node(room: &mut [u8], at: usize, node: Node, behind: u8) -> usize
     requires { at + 8 ≤ length room.old }

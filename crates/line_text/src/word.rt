@@ -6,7 +6,7 @@ ghost use Rattle.line_text.specs.Words.{space_ended, spaced, joined_texts, joine
 
 use rule_machine::Want;
 
-/// A value written as one word.
+/// A value that is written as one word.
 pub(crate) trait Word {
     // The word's text.
     ghost text: { Self → List ℕ };
@@ -14,7 +14,7 @@ pub(crate) trait Word {
     // What each value of the type satisfies.
     ghost fits: { Self → Type 0 };
 
-    /// Writes the word and a byte at `at`, and returns their end.
+    /// Writes the word and a byte at index `at`; returns the index after the byte.
     fn put(&self, room: &mut [u8], at: usize, behind: u8) -> usize
         requires { at + 24 ≤ length room.old }
         ensures text { take result room.new ≡ take at room.old ++ (text self.now ++ behind ∷ []) }
@@ -23,13 +23,13 @@ pub(crate) trait Word {
         ensures fit { fits self.now };
 }
 
-// More bytes than any word and a byte have.
+// A word and a byte have fewer bytes than this.
 const ROOM: usize = 24;
 
-// For how many words room is made at once: bounds the room made ahead.
+// For how many words room is made at once. The limit bounds the room made ahead.
 const BATCH: usize = 64;
 
-// Writes each word and a space at `at`, and returns their end.
+// Writes each word and a space, from index `at` on; returns the index after the last space.
 #[inline(always)]
 fn put_words<W: Word>(room: &mut [u8], at: usize, words: &[W]) -> usize
     requires { at + 24 * length words.now ≤ length room.old }

@@ -32,7 +32,7 @@ abbrev pub checkpoint_fault : ℕ → Log → Option CallFault
 checkpoint_fault seen log =
     if nat_lt (length log.entries) seen then Some (Behind (length log.entries) seen) else None
 
--- the fault is the call's, and `Memory` only if there is none
+-- the fault is the one found; if none was found, the fault is `Memory`
 abbrev pub ExplainsCallFault : Option CallFault → CallFault → Type 0
 ExplainsCallFault None fault = fault ≡ Memory
 ExplainsCallFault (Some found) fault = fault ≡ found
@@ -43,24 +43,24 @@ MayAnswer seen (Behind front told) = (told ≡ seen) × (front < seen)
 MayAnswer seen LogFull = Unit {0}
 MayAnswer seen Memory = Unit {0}
 
--- the same of a checkpoint
+-- the same for a checkpoint
 abbrev pub MayRefuseCheckpoint : ℕ → CallFault → Type 0
 MayRefuseCheckpoint seen (Behind front told) = (told ≡ seen) × (front < seen)
 MayRefuseCheckpoint seen LogFull = ⊥
 MayRefuseCheckpoint seen Memory = Unit {0}
 
--- a journal's fault as a call's
+-- a journal's fault as the fault of a call
 abbrev pub call_fault_of : RecordFault → CallFault
 call_fault_of record_fault.LogFull = LogFull
 call_fault_of record_fault.Memory = Memory
 
--- One receipt was added: of this event and this reply, with a number above all before.
+-- One receipt was added: of this event and this reply, with a number above all earlier ones.
 pub record Keeps (old new : List Receipt) (event : Event) (reply : Reply) : Type 0 where
   pub seq : ℕ
   pub above : front_of old < seq
   pub added : new ≡ old ++ record { seq = seq; event = event; reply = reply } ∷ []
 
--- One was added, of a step with its moves; of one node if the daemon is central.
+-- One receipt was added: of a step with its moves. The step is of one node if the daemon is central.
 pub record KeepsStep (central : Bool) (old new : List Receipt) (reply : Reply) : Type 0 where
   pub items : List Item
   pub moves : List Moved
@@ -68,20 +68,20 @@ pub record KeepsStep (central : Bool) (old new : List Receipt) (reply : Reply) :
   pub moved : reply ≡ Moves moves
   pub one : IsTrue central → length items ≡ 1
 
--- One was added, of an accepted change of a register.
+-- One receipt was added: of an accepted change of a register.
 pub record KeepsFault (old new : List Receipt) (reply : Reply) : Type 0 where
   pub event : Event
   pub kept : Keeps old new event reply
   pub register : IsTrue (is_register_fault event)
   pub accepted : reply ≡ Accepted
 
--- An event was recorded with this reply, and its receipt added.
+-- An event was recorded with this reply, and the receipt of this event was added.
 pub record RecordsEvent (t : RuleTable) (before after : Log) (old new : List Receipt) (event : Event) (reply : Reply) : Type 0 where
   pub log : after ≡ recorded t before event
   pub receipt : new ≡ old ++ receipt_of t before event ∷ []
   pub reply_is : reply ≡ (receipt_of t before event).reply
 
--- The event is a step with its moves, of one node if the daemon is central.
+-- The recorded event is a step with its moves. The step is of one node if the daemon is central.
 pub record Drives (t : RuleTable) (before after : Log) (old new : List Receipt) (reply : Reply) : Type 0 where
   pub items : List Item
   pub moves : List Moved
@@ -89,7 +89,7 @@ pub record Drives (t : RuleTable) (before after : Log) (old new : List Receipt) 
   pub moved : reply ≡ Moves moves
   pub one : IsTrue t.central → length items ≡ 1
 
--- The event is an accepted change of a register.
+-- The recorded event is an accepted change of a register.
 pub record Breaks (t : RuleTable) (before after : Log) (old new : List Receipt) (reply : Reply) : Type 0 where
   pub event : Event
   pub told : RecordsEvent t before after old new event reply
@@ -98,7 +98,7 @@ pub record Breaks (t : RuleTable) (before after : Log) (old new : List Receipt) 
 
 -- ---- steps that workers judge
 
--- the fault is the call's, then no workers, and `Memory` only if it is neither
+-- the fault is the one found; if none was found, it is `ZeroWorkers` without workers, and `Memory` otherwise
 abbrev pub ExplainsStep : Option CallFault → ℕ → StepFault → Type 0
 ExplainsStep (Some found) workers fault = fault ≡ Call found
 ExplainsStep None zero fault = fault ≡ Pool ZeroWorkers
@@ -112,7 +112,7 @@ MayAnswerStep seen workers (Call Memory) = 0 < workers
 MayAnswerStep seen workers (Pool ZeroWorkers) = workers ≡ 0
 MayAnswerStep seen workers (Pool other) = ⊥
 
--- the workers' fault as a step's
+-- a fault of the workers as the fault of a step
 abbrev pub step_fault : PoolFault → StepFault
 step_fault pool_fault.ZeroWorkers = Pool ZeroWorkers
 step_fault pool_fault.Thread = Pool pool_fault.Thread

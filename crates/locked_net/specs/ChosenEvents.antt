@@ -1,7 +1,7 @@
 -- Calls whose event a daemon or an injector chooses, checkpoints, and their faults.
 --
--- A caller does not see the log. So a clause says that there is one under the lock: a run of the network's
--- rules, with its nodes and limit.
+-- A caller does not see the log. So a clause says that there is a log under the lock: a run of the network's
+-- rules, with the network's nodes and limit.
 use Rattle.std.specs.Prelude.{◌≡◌, ◌↔◌, ◌≤◌, ℕ, Bool, List, [], ◌∷◌, ◌++◌, length, Option, None, Some, IfSome, IsNone}
 use Rattle.std.specs.Option.{option_map}
 use mathlib.Core.List.{IsPrefix}
@@ -28,23 +28,23 @@ abbrev pub ChoosesStep : RuleTable → (List ℕ → Option (List Item) → Type
 ChoosesStep t Chooses s event =
     (choice : Option (List Item)) × (event ≡ option_map (λ items. Step items) choice) × Chooses (enabled_names t s) choice
 
--- a daemon's choice, which advances the daemon, as an event
+-- a daemon's choice as an event; `old` and `new` are the daemon before and after the choice
 abbrev pub ByDaemon : {D : Type 0} → (List ℕ → Bool → D → Option (List Item) → D → Type 0) → RuleTable → D → D → State → Option Event → Type 0
 ByDaemon chooses t old new s event = ChoosesStep t (λ names choice. chooses names t.central old choice new) s event
 
--- the fault that these words draw, and the words left
+-- the fault that `words` draw; `left` are the words left
 abbrev pub DrawsFault : RuleTable → Stream → Stream → State → Option Event → Type 0
 DrawsFault t words left s event = (event, left) ≡ fault_drawn s.network t.flags words
 
--- an injector's fault, which advances the injector, as an event
+-- an injector's fault as an event; `old` and `new` are the injector before and after the draw
 abbrev pub ByInjector : {G : Type 0} → (G → Stream) → RuleTable → G → G → State → Option Event → Type 0
 ByInjector stream t old new s event = DrawsFault t (stream old) (stream new) s event
 
--- there is no answer exactly if there is no node
+-- there is no reply exactly if there is no node
 abbrev pub NoneIfEmpty : Option Reply → State → Option Event → Type 0
 NoneIfEmpty told s event = IsNone told ↔ (node_count s.network ≡ 0)
 
--- the reply and the receipt of the event chosen on a log; neither if none was chosen
+-- the reply and the receipt of the event chosen on a log; neither reply nor receipt if no event was chosen
 abbrev pub IsChosenReply : RuleTable → Log → Option Event → List Receipt → List Receipt → Option Reply → Type 0
 IsChosenReply t log None old new told = (told ≡ None) × (new ≡ old)
 IsChosenReply t log (Some event) old new told = (told ≡ Some (receipt_of t log event).reply) × (new ≡ old ++ receipt_of t log event ∷ [])
@@ -55,8 +55,8 @@ pub record ChoosesOn (t : RuleTable) (log : Log) (Chooses : State → Option Eve
   pub chosen : Chooses log.state event
   pub is_told : IsChosenReply t log event old new told
 
--- The log includes all that the clerk has seen and has room for an entry. If the event was recorded, this log
--- is a prefix of the clerk's note.
+-- A log includes all that the clerk has seen and has room for an entry; the event was chosen on this log. If
+-- the event was recorded, this log is a prefix of the log of the clerk's note.
 pub record TakesChoice (setting : Setting) (Chooses : State → Option Event → Type 0) (old new : List Receipt) (note : Option PublishedLog) (told : Option Reply) : Type 0 where
   pub log : Log
   pub own : IsLogIn setting log
@@ -64,11 +64,11 @@ pub record TakesChoice (setting : Setting) (Chooses : State → Option Event →
   pub taken : ChoosesOn setting.table log Chooses old new told
   pub begins : IfSome told (λ _. IsPrefix log.entries (noted note))
 
--- the same of a clerk before and after
+-- the same for a clerk before and after the call
 abbrev pub ClerkTakes : Setting → (State → Option Event → Type 0) → ClerkView → ClerkView → Option Reply → Type 0
 ClerkTakes setting Chooses old new told = TakesChoice setting Chooses old.receipts new.receipts new.note told
 
--- A log has this fault for a clerk that has seen `seen` entries; `Memory` only if it has none.
+-- A log gives this fault to a clerk that has seen `seen` entries; `Memory` only if there is no other fault.
 pub record Refuses (setting : Setting) (seen : ℕ) (fault : CallFault) : Type 0 where
   pub log : Log
   pub own : IsLogIn setting log
@@ -87,7 +87,7 @@ pub record RefusesCheckpoint (setting : Setting) (seen : ℕ) (fault : CallFault
   pub own : IsLogIn setting log
   pub explained : ExplainsCallFault (checkpoint_fault seen log) fault
 
--- The same for a step that workers judge.
+-- A log gives this fault for a step that workers judge.
 pub record RefusesStep (setting : Setting) (seen workers : ℕ) (fault : StepFault) : Type 0 where
   pub log : Log
   pub own : IsLogIn setting log

@@ -7,10 +7,10 @@ use Rattle.step_log.specs.Headline.{Upholds}
 use Rattle.locked_net.specs.Receipts.{ClerkView}
 use Rattle.locked_net.specs.Settlements.{Settlement}
 
--- * upheld: the log is a run of the rule machine, quiet exactly if stable, and its moves are within their
---   bounds;
--- * told: each reply to a caller is that run's, and each entry belongs to one caller.
--- Both hold of the entries above the journal's base; below it only the receipts' numbers count.
+-- * upheld: the log is a run of the rule machine, silent exactly if stable, and the log's moves are within
+--   their bounds;
+-- * told: each reply to a caller is that of the run, and each entry belongs to one caller.
+-- Both are true of the entries above the journal's base; below it only the receipts' numbers count.
 pub record Headline (t : RuleTable) (weight : ℕ) (kept : RetainedLog) (clerks : List ClerkView) : Type 0 where
   pub upheld : Upholds t weight kept
   pub told : Settlement kept clerks

@@ -10,8 +10,8 @@ use Rattle.step_log.specs.Log.{Log}
 use Rattle.locked_net.specs.RetainedParts.{IsPartOfLog}
 use Rattle.locked_net.specs.Settings.{Setting, IsLogIn}
 
--- The log under the lock is exactly the note's, published in this history. After it the event costs this, and
--- if it is accepted the charge grows by at most this.
+-- The log under the lock is exactly the note's log, published in this history. After this log the event has
+-- this cost; if the event is accepted, the charge grows by at most this cost.
 pub record IsCostSeen (setting : Setting) (book : Book) (weighs : State → Event → ℕ) (event : Event) (cost : ℕ) (note : PublishedLog) : Type 0 where
   pub log : Log
   pub own : IsLogIn setting log
@@ -20,7 +20,7 @@ pub record IsCostSeen (setting : Setting) (book : Book) (weighs : State → Even
   pub costs : cost ≡ disturbance_cost setting.table weighs log.state event
   pub grows : BoundsGrowth setting.table log.state log.spent event cost
 
--- What is kept is the part above its base of exactly the note's log, published in this history.
+-- The note's log is published in this history. Exactly the part of this log above the base is kept.
 pub record IsPublished (setting : Setting) (book : Book) (kept : RetainedLog) (note : PublishedLog) : Type 0 where
   pub part : IsPartOfLog setting kept
   pub published : note.log ≡ part.log.entries

@@ -19,8 +19,8 @@ pub record IsNumbered (clerks : List ClerkView) (c p n : ℕ) : Type 0 where
 abbrev pub mark_of : List Bool → ℕ → Bool
 mark_of marks number = slice_index_or marks (number - 1) false
 
--- All receipts before place p of clerk c agree, the clerks before c rise, and the marks are those of these
--- receipts, one each.
+-- All receipts before place p of clerk c agree, the numbers of each clerk before c rise, and exactly these
+-- receipts are marked, each by a mark of its own.
 pub record AreReceiptMarks (kept : RetainedLog) (clerks : List ClerkView) (c p : ℕ) (marks : List Bool) : Type 0 where
   pub size : length marks ≡ last_number kept
   pub agree : (d q : ℕ) (other : Receipt) → IsEarlierReceipt d q c p → StandsAt clerks d q other → Agrees kept clerks d q other

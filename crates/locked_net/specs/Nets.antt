@@ -14,23 +14,23 @@ module _ {R : Type 0} where
   abbrev pub net_key_of : LockedNet R → NetKey
   net_key_of net = key_of net.lock
 
-  -- how many names it has
+  -- how many names the network has
   abbrev pub name_count_of : LockedNet R → ℕ
   name_count_of net = (net_key_of net).nodes
 
-  -- how many nodes it had at the start, named from 1
+  -- how many nodes the network had at the start, named from 1
   abbrev pub first_nodes_of : LockedNet R → ℕ
   first_nodes_of net = (net_key_of net).present
 
-  -- how many entries its log may hold
+  -- how many entries the network's log may have
   abbrev pub log_limit_of : LockedNet R → ℕ
   log_limit_of net = (net_key_of net).limit
 
-  -- all three, with its rules
+  -- the numbers of names, of nodes at the start, and of entries at most, together with the rules
   abbrev pub setting_of : RuleTable → LockedNet R → Setting
   setting_of t net = record { table = t; nodes = name_count_of net; present = first_nodes_of net; limit = log_limit_of net }
 
-  -- the history that its readers see
+  -- the history that the network's readers see
   abbrev pub book_of : LockedNet R → Book
   book_of net = (net_key_of net).opening.book
 
@@ -39,7 +39,7 @@ module _ {R : Type 0} where
   abbrev pub name_of : LockedNet R → BoardName
   name_of net = name_from (net_key_of net)
 
-  -- The reader has seen, and learnt, exactly the log under the net's lock at one moment: a run of the rules
-  -- from the opening state of its names and nodes, within its limit.
+  -- The reader has seen, and learnt, exactly the log that was under the net's lock at one moment. This log
+  -- is a run of the rules from the opening state of the net's names and nodes, within the net's limit.
   abbrev pub HasSeenLog : RuleTable → LockedNet R → ReaderView → Type 0
   HasSeenLog t net reader = (log : Log) × IsLogIn (setting_of t net) log × (reader.list ≡ log.entries) × (reader.learnt ≡ log.entries)

@@ -10,18 +10,19 @@ use Rattle.step_log.specs.Log.{Log, IsLog}
 use Rattle.locked_net.specs.RetainedParts.{IsLogAboveBase, log_over}
 use Rattle.locked_net.specs.declared.key.NetKey.{NetKey}
 
--- the log, with dropped entries; the base, if any; and the name of the board that has the log
+-- the whole log, dropped entries included; the base, if any; and the name of the board that publishes the
+-- log
 pub record PublishedJournalView : Type 0 where
   pub log : Log
   pub base : Option Base
   pub name : BoardName
 
--- the same, with the log's end as the base
+-- the same log and board, with the log's end as the base
 abbrev pub based : PublishedJournalView → PublishedJournalView
 based desk = record desk { base = Some (base_of (length desk.log.entries) (record { state = desk.log.state; spent = desk.log.spent })) }
 
--- The board has published exactly the log, whose part above its base the journal keeps. The board has a place
--- for each name, and the unused place 0; it began with the log's nodes.
+-- The board has published exactly the log; the journal keeps the part of the log above the base. The board
+-- has a place for each name and the unused place 0, and began with the nodes of the log's start.
 pub record IsPublishedJournal (t : RuleTable) (kept : RetainedLog) (board : BoardView) : Type 0 where
   pub is_log : IsLog t (log_over kept board.list)
   pub above : IsLogAboveBase t (log_over kept board.list) kept
@@ -31,7 +32,7 @@ pub record IsPublishedJournal (t : RuleTable) (kept : RetainedLog) (board : Boar
 -- ---- what no event changes: the numbers of names and of nodes at the start, the log's limit, and its board;
 -- and, besides the lock's key, the base
 
--- the board's history, a place for each name and the unused place 0, and the nodes of the start
+-- the board's history, a place for each name and the unused place 0, and the nodes at the start
 abbrev pub name_from : NetKey → BoardName
 name_from key = record { book = key.opening.book; extent = record { places = key.nodes + 1; present = key.present } }
 
@@ -41,7 +42,7 @@ pub record IsOfKey (key : NetKey) (desk : PublishedJournalView) : Type 0 where
   pub limit : desk.log.limit ≡ key.limit
   pub name : desk.name ≡ name_from key
 
--- all five are unchanged
+-- names, nodes at the start, limit, board and base are unchanged
 pub record KeepsKey (old new : PublishedJournalView) : Type 0 where
   pub nodes : new.log.state.network.size ≡ old.log.state.network.size
   pub present : new.log.present ≡ old.log.present

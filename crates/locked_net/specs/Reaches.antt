@@ -9,8 +9,8 @@ use Rattle.snapshots.specs.Views.{PublishedLog}
 use Rattle.step_log.specs.Log.{Log}
 use Rattle.locked_net.specs.Settings.{Setting, IsLogIn}
 
--- The log under the lock is exactly the note's, published in this history. After it the node is at rest and
--- no rule is enabled at it, or it is not at rest.
+-- The log under the lock is exactly the note's log, published in this history. `rests` says whether the node
+-- is at rest after this log. If it is at rest, no rule is enabled at it.
 pub record IsRestSeen (setting : Setting) (book : Book) (v : ℕ) (rests : Bool) (note : PublishedLog) : Type 0 where
   pub log : Log
   pub own : IsLogIn setting log
@@ -19,8 +19,8 @@ pub record IsRestSeen (setting : Setting) (book : Book) (v : ℕ) (rests : Bool)
   pub rests_is : rests ≡ is_at_rest setting.table.flags log.state v
   pub idle : IsTrue rests → rule_at setting.table log.state v ≡ None
 
--- After that log the event would reach these nodes; if it is accepted, each node at rest and not among them
--- stays at rest.
+-- After the note's log the event would reach these nodes. If the event is accepted, each node at rest that
+-- is not among these nodes stays at rest.
 pub record IsReachSeen (setting : Setting) (book : Book) (event : Event) (reach : List ℕ) (note : PublishedLog) : Type 0 where
   pub log : Log
   pub own : IsLogIn setting log

@@ -7,19 +7,19 @@ use Rattle.snapshots.specs.Row.{BoardShape}
 use Rattle.locked_net.specs.declared.read_fault.ReadFault.{ReadFault}
 use Rattle.locked_net.specs.declared.read_fault.ReadFault.TheVariants.{UnknownNode, NoView}
 
--- the entries seen are a run of the rules from the opening state of the places' names, the first of them
--- present, and P holds of the state at its end
+-- The entries seen are a run of the rules. The run starts with one name fewer than places, and with the
+-- board's first nodes present. P is true of the state at the run's end.
 abbrev pub Shows : RuleTable → BoardShape → List Entry → (State → Type 0) → Type 0
 Shows t extent seen P =
     (size : ℕ) × (end : Moment) × (extent.places ≡ size + 1) × Run t (beginning_with size extent.present) seen end × P end.state
 
--- P if there was a view: at an answer, and if no node has the name
+-- P is true if there was a view: if there is an answer, or if no node has the name
 abbrev pub OnView : {A : Type 0} → Result A ReadFault → Type 0 → Type 0
 OnView (Ok answer) P = P
 OnView (Err (UnknownNode front)) P = P
 OnView (Err NoView) P = Unit {0}
 
--- P of the view's number of entries, if no node has the name
+-- if no node has the name, P is true of the view's number of entries
 abbrev pub IfUnknown : {A : Type 0} → Result A ReadFault → (ℕ → Type 0) → Type 0
 IfUnknown (Ok answer) P = Unit {0}
 IfUnknown (Err (UnknownNode front)) P = P front

@@ -1,4 +1,4 @@
--- What a clerk keeps: a receipt for each reply, oldest first, with its entry's number in the log; a note of
+-- What a clerk keeps: a receipt for each reply, oldest first, with the number of the log's entry; a note of
 -- what was published at the last receipt or later; and the greatest number that a checkpoint returned.
 use Rattle.std.specs.Prelude.{◌≡◌, ℕ, ◌<◌, ◌-◌, max, List, [], ◌∷◌, Option, None, Some, IfSome, IsSomeAnd, slice_get}
 use Rattle.rule_machine.specs.Run.{Entry}
@@ -20,7 +20,7 @@ abbrev pub RiseAbove : ℕ → List Receipt → Type 0
 RiseAbove low [] = Unit {0}
 RiseAbove low (receipt ∷ receipts) = (low < receipt.seq) × RiseAbove receipt.seq receipts
 
--- The receipt is the log's entry with its number, from 1: the same event with the same reply.
+-- The receipt is the log's entry with the receipt's number, from 1: the same event with the same reply.
 pub record IsReceiptOf (log : List Entry) (receipt : Receipt) : Type 0 where
   pub numbered : 0 < receipt.seq
   pub same : slice_get log (receipt.seq - 1) ≡ Some (receipt.event, receipt.reply)
@@ -44,17 +44,17 @@ seen_by clerk = max (front_of clerk.receipts) (base_from clerk.base)
 abbrev pub fresh : ClerkView
 fresh = record { receipts = []; note = None; base = None }
 
--- the last receipt is the log's entry with its number
+-- the last receipt is the log's entry with the number of this receipt
 abbrev pub StandsLastFrom : List Entry → Receipt → List Receipt → Type 0
 StandsLastFrom log receipt [] = IsReceiptOf log receipt
 StandsLastFrom log receipt (next ∷ receipts) = StandsLastFrom log next receipts
 
--- the same, if there is a receipt
+-- the same, if there is any receipt
 abbrev pub StandsLast : List Entry → List Receipt → Type 0
 StandsLast log [] = Unit {0}
 StandsLast log (receipt ∷ receipts) = StandsLastFrom log receipt receipts
 
--- a clerk with a receipt has a note, and its log has the last receipt's entry
+-- a clerk with a receipt has a note, and the note's log has the entry of the last receipt
 abbrev pub NotesLast : List Receipt → Option PublishedLog → Type 0
 NotesLast receipts None = receipts ≡ []
 NotesLast receipts (Some told) = StandsLast told.log receipts
@@ -64,21 +64,21 @@ abbrev pub noted : Option PublishedLog → List Entry
 noted None = []
 noted (Some told) = told.log
 
--- the numbers rise, and the note has the last
+-- the numbers of the receipts rise, and the note's log has the entry of the last receipt
 pub record IsClerk (clerk : ClerkView) : Type 0 where
   pub rise : RiseAbove 0 clerk.receipts
   pub last : NotesLast clerk.receipts clerk.note
 
--- the greater of two numbers, if there is any
+-- the greater of two numbers; if only one is there, that number
 abbrev pub greater_base : Option ℕ → Option ℕ → Option ℕ
 greater_base None other = other
 greater_base (Some one) None = Some one
 greater_base (Some one) (Some other) = Some (max one other)
 
--- there is a note, of this history
+-- there is a note, and the note is of this history
 abbrev pub HasNoteOf : Book → ClerkView → Type 0
 HasNoteOf book clerk = IsSomeAnd clerk.note (λ told. told.book ≡ book)
 
--- a note, if there is one, is of this history
+-- if there is a note, the note is of this history
 abbrev pub IsOfBook : Book → ClerkView → Type 0
 IsOfBook book clerk = IfSome clerk.note (λ told. told.book ≡ book)

@@ -12,13 +12,13 @@ use Rattle.step_log.specs.RetainedLogs.{RetainedLog, IsRetainedRun}
 use Rattle.locked_net.specs.Receipts.{ClerkView, noted}
 use Rattle.locked_net.specs.Settings.{Setting, IsLogIn}
 
--- the base, if any, is that of the moment to which these entries lead
+-- the base, if any, is made from the moment to which these entries lead
 abbrev pub TellsEnd : RuleTable → Moment → List Entry → Option Base → Type 0
 TellsEnd t start entries None = Unit {0}
 TellsEnd t start entries (Some base) = (m : Moment) × Run t start entries m × (base ≡ base_of (length entries) m)
 
--- The log's entries that are kept are those above the base, which is the moment after those below. All else
--- is the log's.
+-- What is kept of the log is the part of its entries above the base. The base is the moment after the
+-- entries below. State, spent moves, limit and nodes at the start are the log's.
 pub record IsLogAboveBase (t : RuleTable) (log : Log) (kept : RetainedLog) : Type 0 where
   pub below : List Entry
   pub splits : log.entries ≡ below ++ kept.entries
@@ -29,25 +29,26 @@ pub record IsLogAboveBase (t : RuleTable) (log : Log) (kept : RetainedLog) : Typ
   pub limit : kept.limit ≡ log.limit
   pub present : kept.present ≡ log.present
 
--- a log with these entries, and all else as it is kept
+-- a log with these entries, and all else from what is kept
 abbrev pub log_over : RetainedLog → List Entry → Log
 log_over kept entries =
     record { state = kept.state; spent = kept.spent; entries = entries; limit = kept.limit; present = kept.present }
 
--- There is a whole log in the setting, and its part above the base is kept.
+-- There is a whole log in the setting, and the part of this log above the base is kept.
 pub record IsPartOfLog (setting : Setting) (kept : RetainedLog) : Type 0 where
   pub log : Log
   pub own : IsLogIn setting log
   pub above : IsLogAboveBase setting.table log kept
 
--- a journal that comes back keeps a run of the rules, the part above its base of a log in the setting, with
--- its sizes
+-- A journal that a fault returns keeps a run of the rules. This run is the part, above the base, of a log in
+-- the setting; the journal has the setting's sizes.
 abbrev pub IsBack : Setting → ℕ → JournalView → Type 0
 IsBack setting weight journal =
     IsRetainedRun setting.table weight (kept_of journal) × IsPartOfLog setting (kept_of journal)
     × (journal.state.network.size ≡ setting.nodes) × (journal.present ≡ setting.present) × (journal.limit ≡ setting.limit)
 
--- The log of each clerk's note is a prefix of this log.
+-- What is kept is part of a whole log in the setting. The log of each clerk's note is a prefix of this whole
+-- log.
 pub record IsPartNoted (setting : Setting) (kept : RetainedLog) (clerks : List ClerkView) : Type 0 where
   pub part : IsPartOfLog setting kept
   pub begins : All (λ clerk. IsPrefix (noted clerk.note) part.log.entries) clerks

@@ -1,8 +1,8 @@
 -- The receipts and notes of clerks that roam.
 --
 -- A clerk that roams takes its turns one after another, each under one hold of the network's lock. Between
--- two turns any caller may have recorded anything. So a turn is taken on some log, a run of the rule machine,
--- and its result is that of this log.
+-- two turns any caller may have recorded anything. So each turn is taken on some log, which is a run of the
+-- rule machine, and the result of the turn is the result on this log.
 use Rattle.std.specs.Prelude.{◌≡◌, ℕ, zero, suc, ◌<◌, ◌≤◌, ◌⊎◌, List, [], ◌∷◌, ◌++◌, length, take, drop, slice_get, Option, None, Some}
 use Rattle.std.specs.List.{All}
 use Rattle.std.specs.Option.{option_or}
@@ -21,7 +21,7 @@ use Rattle.locked_net.specs.declared.roam_fault.RoamFault.TheVariants.{ZeroWorke
 
 -- ---- promises to a caller
 
--- The receipt of an accepted step of one node, which moved to any target.
+-- The receipt of an accepted step of one node. The node may have moved to any target.
 pub record IsLoneStep (receipt : Receipt) : Type 0 where
   pub node : ℕ
   pub move : Moved
@@ -29,25 +29,25 @@ pub record IsLoneStep (receipt : Receipt) : Type 0 where
   pub moved : receipt.reply ≡ Moves (move ∷ [])
   pub own : move.node ≡ node
 
--- A clerk has its old receipts, then at most `turns` more, each of an accepted step of one node.
+-- A clerk has its old receipts, then at most `turns` new ones, each of an accepted step of one node.
 pub record Roams (turns : ℕ) (old new : List Receipt) : Type 0 where
   pub own : List Receipt
   pub added : new ≡ old ++ own
   pub few : length own ≤ turns
   pub lone : All IsLoneStep own
 
--- the same of each of these clerks
+-- the same for each of these clerks
 abbrev pub AllRoam : ℕ → List ClerkView → List ClerkView → Type 0
 AllRoam turns [] [] = Unit {0}
 AllRoam turns (old ∷ olds) (new ∷ news) = Roams turns old.receipts new.receipts × AllRoam turns olds news
 AllRoam turns olds news = ⊥
 
--- The same of each of the first 64 clerks; the others are unchanged.
+-- The same for each of the first 64 clerks; all other clerks are unchanged.
 pub record RoamResult (turns : ℕ) (old new : List ClerkView) : Type 0 where
   pub workers : AllRoam turns (take 64 old) (take 64 new)
   pub others : drop 64 new ≡ drop 64 old
 
--- One of the first 64 clerks has seen `seen` entries, and met a log of fewer.
+-- One of the first 64 clerks has seen `seen` entries, and met a log of fewer entries.
 pub record IsBehind (clerks : List ClerkView) (front seen : ℕ) : Type 0 where
   pub clerk : ℕ
   pub view : ClerkView
@@ -56,12 +56,12 @@ pub record IsBehind (clerks : List ClerkView) (front seen : ℕ) : Type 0 where
   pub own : seen ≡ front_of view.receipts
   pub fewer : front < seen
 
--- A clerk's note is unchanged, or one of this history; its base is unchanged.
+-- A clerk's note is unchanged or a note of this history; the clerk's base is unchanged.
 pub record KeepsNote (book : Book) (old new : ClerkView) : Type 0 where
   pub note : (new.note ≡ old.note) ⊎ HasNoteOf book new
   pub base : new.base ≡ old.base
 
--- the same of each of these
+-- the same for each of these clerks
 abbrev pub AllKeepNotes : Book → List ClerkView → List ClerkView → Type 0
 AllKeepNotes book [] [] = Unit {0}
 AllKeepNotes book (old ∷ olds) (new ∷ news) = KeepsNote book old new × AllKeepNotes book olds news
@@ -77,20 +77,20 @@ MayMeetRoamFault clerks Memory = Unit {0}
 
 -- ---- turn by turn
 
--- A turn was taken.
+-- A turn was taken on a log without a fault.
 pub record TakesTurn (setting : Setting) (turn : ℕ) (old new : List Receipt) : Type 0 where
   pub log : Log
   pub own : IsLogIn setting log
   pub free : fault_of_turn setting.table (front_of old) log turn ≡ None
   pub added : new ≡ old ++ receipts_of_turn setting.table log turn
 
--- A turn met a fault.
+-- A turn met a fault on a log.
 pub record MeetsFault (setting : Setting) (turn : ℕ) (receipts : List Receipt) (fault : CallFault) : Type 0 where
   pub log : Log
   pub own : IsLogIn setting log
   pub met : FaultInTurn setting.table (front_of receipts) log turn fault
 
--- this number of turns were taken, from turn 0
+-- turns 0 to n - 1 were taken, for this number n
 abbrev pub TakesTurns : Setting → ℕ → List Receipt → List Receipt → Type 0
 TakesTurns setting zero old new = new ≡ old
 TakesTurns setting (suc turn) old new = (before : List Receipt) × TakesTurns setting turn old before × TakesTurn setting turn before new
@@ -101,27 +101,27 @@ AllTakeTurns setting turns [] [] = Unit {0}
 AllTakeTurns setting turns (old ∷ olds) (new ∷ news) = TakesTurns setting turns old.receipts new.receipts × AllTakeTurns setting turns olds news
 AllTakeTurns setting turns olds news = ⊥
 
--- Fewer were taken, and the next met a fault.
+-- Fewer turns were taken, and the next turn met a fault.
 pub record BreaksOff (setting : Setting) (turns : ℕ) (old new : List Receipt) (fault : CallFault) : Type 0 where
   pub turn : ℕ
   pub below : turn < turns
   pub taken : TakesTurns setting turn old new
   pub met : MeetsFault setting turn new fault
 
--- a clerk roamed to its last turn, or up to a fault
+-- a clerk took all its turns, or took turns up to a fault
 abbrev pub MayEnd : Setting → ℕ → List Receipt → List Receipt → Option CallFault → Type 0
 MayEnd setting turns old new None = TakesTurns setting turns old new
 MayEnd setting turns old new (Some fault) = BreaksOff setting turns old new fault
 
--- Each clerk roamed; the fault is the first that a clerk met, in their order; none if each took all its
--- turns.
+-- Each clerk roamed. The fault is the first that a clerk met, in the clerks' order; none if each clerk took
+-- all its turns.
 abbrev pub AllEnd : Setting → ℕ → List ClerkView → List ClerkView → Option CallFault → Type 0
 AllEnd setting turns [] [] fault = fault ≡ None
 AllEnd setting turns (old ∷ olds) (new ∷ news) fault =
     (own : Option CallFault) × (others : Option CallFault) × (fault ≡ option_or own others) × MayEnd setting turns old.receipts new.receipts own × AllEnd setting turns olds news others
 AllEnd setting turns olds news fault = ⊥
 
--- a call's fault as that of the clerks
+-- a call's fault as a fault of roaming
 abbrev pub roam_fault : CallFault → RoamFault
 roam_fault (call_fault.Behind front seen) = Behind front seen
 roam_fault call_fault.LogFull = LogFull

@@ -10,38 +10,38 @@ use Rattle.step_log.specs.Log.{Log, recorded, receipt_of}
 use Rattle.locked_net.specs.declared.call_fault.CallFault.{CallFault}
 use Rattle.locked_net.specs.Calls.{call_fault, ExplainsCallFault}
 
--- the node whose turn it is: the (turn mod count)-th enabled one, ascending from 0, if any
+-- the node whose turn it is, if any: of the n enabled nodes, ascending, the one at index `turn mod n`, from 0
 abbrev pub mover : RuleTable → State → ℕ → Option ℕ
 mover t s turn = slice_get (enabled_names t s) (turn % length (enabled_names t s))
 
--- this node alone, with no wish
+-- a choice of this node alone, without a wish
 abbrev pub lone_items : ℕ → List Item
 lone_items v = record { node = v; wish = None } ∷ []
 
 abbrev pub lone_step : ℕ → Event
 lone_step v = Step (lone_items v)
 
--- the log after the step of a node, if there is one
+-- the log after the step of a node; unchanged if there is no node
 abbrev pub log_by : RuleTable → Log → Option ℕ → Log
 log_by t log None = log
 log_by t log (Some v) = recorded t log (lone_step v)
 
--- its receipt
+-- the receipt of that step; no receipt if there is no node
 abbrev pub receipts_by : RuleTable → Log → Option ℕ → List Receipt
 receipts_by t log None = []
 receipts_by t log (Some v) = receipt_of t log (lone_step v) ∷ []
 
--- why it is not recorded; no fault if there is no node
+-- why that step is not recorded; no fault if there is no node
 abbrev pub fault_by : ℕ → Log → Option ℕ → Option CallFault
 fault_by seen log None = None
 fault_by seen log (Some v) = call_fault seen log
 
--- the fault is that of a step, if there is one, and `Memory` only if it has none
+-- there is a node, and the fault is that of its step; `Memory` only if the step has no other fault
 abbrev pub FaultBy : ℕ → Log → Option ℕ → CallFault → Type 0
 FaultBy seen log None fault = ⊥
 FaultBy seen log (Some v) fault = ExplainsCallFault (call_fault seen log) fault
 
--- the same of the node whose turn it is
+-- log, receipts and faults as above, for the node whose turn it is
 abbrev pub log_after_turn : RuleTable → Log → ℕ → Log
 log_after_turn t log turn = log_by t log (mover t log.state turn)
 

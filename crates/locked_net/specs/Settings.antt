@@ -1,5 +1,5 @@
--- What no call of a network changes, as its logs have it: the rules, the numbers of names and of nodes at the
--- start, and the limit of entries.
+-- What no call of a network changes, as the network's logs show: the rules, the numbers of names and of
+-- nodes at the start, and the limit of entries.
 use Rattle.std.specs.Prelude.{◌≡◌, ℕ}
 use Rattle.rule_machine.specs.RuleTable.{RuleTable}
 use Rattle.step_log.specs.Log.{Log, IsLog}

@@ -1,9 +1,9 @@
 -- When the receipts of some clerks account for what is kept of a log, and why they do not.
 --
--- Each clerk has its list of receipts. That a log and clerks are settled means two things. Each reply that a
+-- Each clerk has a list of receipts. If a log and clerks are settled, two things are true. Each reply that a
 -- clerk got is the log's reply to that event, at the receipt's number. The log has nothing else: each of its
--- entries belongs to one of these clerks, and to one alone. Of dropped entries only the numbers are compared;
--- the last of them is the greatest that a checkpoint returned to one of these clerks.
+-- entries belongs to exactly one of these clerks. Of dropped entries only the numbers are compared. The last
+-- dropped number is the greatest that a checkpoint returned to one of these clerks.
 use Rattle.std.specs.Prelude.{◌≡◌, ◌≢◌, ℕ, ◌-◌, ◌<◌, ◌≤◌, ◌⊎◌, List, Option, None, Some, fold, length, slice_get}
 use Rattle.std.specs.List.{sum_by}
 use Rattle.std.specs.Option.{option_map}
@@ -19,7 +19,7 @@ use Rattle.locked_net.specs.Receipts.{ClerkView, RiseAbove, greater_base}
 abbrev pub receipt_count : List ClerkView → ℕ
 receipt_count clerks = sum_by (λ clerk. length clerk.receipts) clerks
 
--- the greatest number that a checkpoint returned to one of the clerks; none if none has one
+-- the greatest number that a checkpoint returned to one of the clerks; none if no clerk has such a number
 abbrev pub greatest_base : List ClerkView → Option ℕ
 greatest_base clerks = fold (λ greatest clerk. greater_base greatest clerk.base) None clerks
 
@@ -27,14 +27,14 @@ greatest_base clerks = fold (λ greatest clerk. greater_base greatest clerk.base
 abbrev pub base_number : Option Base → Option ℕ
 base_number base = option_map (λ b. b.number) base
 
--- The receipt has a number of the log, from 1. If its entry is kept, that is the same event with the same
--- reply.
+-- The receipt's number, from 1, is in the log. If the entry with this number is kept, that entry has the
+-- receipt's event and reply.
 pub record IsEntryAbove (kept : RetainedLog) (receipt : Receipt) : Type 0 where
   pub numbered : 0 < receipt.seq
   pub within : receipt.seq ≤ last_number kept
   pub same : dropped kept.base < receipt.seq → slice_get kept.entries (receipt.seq - dropped kept.base - 1) ≡ Some (receipt.event, receipt.reply)
 
--- clerk c has this receipt at place p; both from 0
+-- clerk c has this receipt at place p; c and p are counted from 0
 pub record StandsAt (clerks : List ClerkView) (c p : ℕ) (receipt : Receipt) : Type 0 where
   pub clerk : ClerkView
   pub of_clerk : slice_get clerks c ≡ Some clerk
@@ -48,11 +48,11 @@ pub record HasReceiptNumber (clerks : List ClerkView) (c n : ℕ) : Type 0 where
   pub numbered : receipt.seq ≡ n
 
 -- The log and the clerks are settled:
--- * told: each receipt is the log's entry with its number, or has the number of a dropped entry;
+-- * told: each receipt is the log's entry with the receipt's number, or has the number of a dropped entry;
 -- * rise: the numbers rise within each clerk;
 -- * count: there are exactly as many receipts as entries, kept or dropped;
--- * held: each entry belongs to a clerk, and
--- * once: to no other;
+-- * held: each entry belongs to a clerk;
+-- * once: no entry belongs to two clerks;
 -- * based: the entries were dropped up to the greatest number that a checkpoint returned to one of the
 --   clerks.
 pub record Settlement (kept : RetainedLog) (clerks : List ClerkView) : Type 0 where
@@ -67,21 +67,21 @@ pub record Settlement (kept : RetainedLog) (clerks : List ClerkView) : Type 0 wh
 abbrev pub IsEarlierReceipt : ℕ → ℕ → ℕ → ℕ → Type 0
 IsEarlierReceipt d q c p = (d < c) ⊎ ((d ≡ c) × (q < p))
 
--- The receipt at place p of clerk c agrees: it is the log's entry with its number, if that is kept, and no
--- receipt before it has that number.
+-- The receipt at place p of clerk c agrees: it is the log's entry with its number, if that entry is kept,
+-- and no receipt before it has the same number.
 pub record Agrees (kept : RetainedLog) (clerks : List ClerkView) (c p : ℕ) (receipt : Receipt) : Type 0 where
   pub entry : IsEntryAbove kept receipt
   pub new : (d q : ℕ) (other : Receipt) → IsEarlierReceipt d q c p → StandsAt clerks d q other → other.seq ≢ receipt.seq
 
--- The receipt at place p of clerk c does not agree, and all before it do.
+-- The receipt at place p of clerk c does not agree, and all receipts before it agree.
 pub record IsFirstStranger (kept : RetainedLog) (clerks : List ClerkView) (c p : ℕ) : Type 0 where
   pub receipt : Receipt
   pub stands : StandsAt clerks c p receipt
   pub strange : Agrees kept clerks c p receipt → ⊥
   pub first : (d q : ℕ) (other : Receipt) → IsEarlierReceipt d q c p → StandsAt clerks d q other → Agrees kept clerks d q other
 
--- Why the log and the clerks were not settled: differing numbers come before a differing base, and that
--- before a stranger. `Memory` says nothing of any.
+-- Why the log and the clerks were not settled. A difference in numbers comes first, then a differing base,
+-- then a stranger. `Memory` says nothing about these three.
 abbrev pub Unsettles : RetainedLog → List ClerkView → SettleFault → Type 0
 Unsettles kept clerks CountDiffers = receipt_count clerks ≢ last_number kept
 Unsettles kept clerks BaseDiffers = (receipt_count clerks ≡ last_number kept) × (base_number kept.base ≢ greatest_base clerks)

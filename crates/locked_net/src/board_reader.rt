@@ -20,7 +20,7 @@ use std::marker::Model;
 pub struct SeenPointer {
     /// How many entries were published then.
     pub front: u32,
-    /// The node that it pointed at, if any.
+    /// The node's target, if any.
     pub pointer: Option<Node>,
 }
 
@@ -29,14 +29,14 @@ pub struct SeenPointer {
 pub struct SeenPartner {
     /// How many entries were published then.
     pub front: u32,
-    /// The node that it pointed at, if that pointed back.
+    /// The node's target, if the target pointed back.
     pub partner: Option<Node>,
 }
 
-/// A wait-free reader of a network. It takes no memory.
-/// Contracts see its view, which is the entries that it saw last; those that each later view includes; and
-/// the network's name. A view is a prefix of the network's whole log, and grows. It does not see a
-/// checkpoint.
+/// A wait-free reader of a network. Takes no memory.
+/// Contracts see the reader's view, which is the entries that the reader saw last; the entries that each
+/// later view includes; and the network's name. A view is a prefix of the network's whole log, and grows. A
+/// reader does not see a checkpoint.
 #[derive(Drop)]
 pub struct BoardReader<R: Rules> {
     reader: Reader<Runs<R>>,
@@ -61,7 +61,7 @@ impl<R: Rules> BoardReader<R> {
         BoardReader { reader }
     }
 
-    /// Looks at a node: how many entries are published, with its pointer and its partner then.
+    /// How many entries are published, and the pointer and the partner of `v` then.
     fn look(&mut self, v: Node) -> Result<(u32, (Option<Node>, Option<Node>)), ReadFault>
         ensures view { IsPrefix self.old.list self.new.list }
         ensures kept { (self.new.learnt ≡ self.old.learnt) × (self.new.name ≡ self.old.name) }
@@ -85,11 +85,12 @@ impl<R: Rules> BoardReader<R> {
     }
 
     /// A node's pointer after the first `front` entries of the log. Costs a few steps.
-    /// These entries are a view: a run of the rules that includes all this reader has seen or learnt.
-    /// `NoView` if the network has ended, or if what is published lacks a part of what was learnt, which
-    /// never happens.
-    /// The view stays then. Otherwise `UnknownNode` exactly if no node has the name in the view, with its
-    /// number of entries.
+    /// These entries are the reader's view: a run of the rules that includes all this reader has seen or
+    /// learnt.
+    /// `NoView` if the network has ended, or if the published entries lack some that the reader learnt,
+    /// which never happens. The view does not change then.
+    /// Otherwise `UnknownNode` exactly if no node has this name in the view; the fault has the view's number
+    /// of entries.
     pub fn pointer(&mut self, v: Node) -> Result<SeenPointer, ReadFault>
         ensures view { IsPrefix self.old.list self.new.list }
         ensures kept { (self.new.learnt ≡ self.old.learnt) × (self.new.name ≡ self.old.name) }
@@ -106,7 +107,7 @@ impl<R: Rules> BoardReader<R> {
         Ok(SeenPointer { front, pointer })
     }
 
-    /// A node's partner after the first `front` entries of the log: its target, if that points back then.
+    /// A node's partner after the first `front` entries of the log: its target, if the target points back.
     /// Views, faults and cost are those of `pointer`.
     pub fn partner(&mut self, v: Node) -> Result<SeenPartner, ReadFault>
         ensures view { IsPrefix self.old.list self.new.list }
@@ -141,7 +142,7 @@ impl<R: Rules> BoardReader<R> {
     }
 
     /// What two readers of one network have seen is of one log, and so is what they have learnt.
-    /// Nothing runs.
+    /// Runs no code.
     pub fn agrees_with(&self, other: &BoardReader<R>)
         requires { other.now.name.book ≡ self.now.name.book }
         ensures views { AreOneLog self.now.list other.now.list }
@@ -151,9 +152,9 @@ impl<R: Rules> BoardReader<R> {
         self.reader.agrees_with(&other.reader);
     }
 
-    /// Takes in a clerk's note: each later view includes all that was published at the clerk's last receipt.
-    /// So it includes that receipt's entry. The note's log and the view are of one log.
-    /// The clerk must have called only the reader's network, or none. It stays unchanged.
+    /// Takes in a clerk's note: later views include all that was published at the clerk's last receipt.
+    /// So later views include the entry of that receipt. The note's log and the view are of one log.
+    /// The clerk must have called only the reader's network, or none. The clerk does not change.
     #[tactic(auto, using(crate::proofs::BoardReads::noted_last))]
     pub fn learn(&mut self, clerk: &mut Clerk)
         requires { IfSome clerk.old.note (λ told. told.book ≡ self.old.name.book) }

@@ -4,13 +4,14 @@ use std::alloc::AllocError;
 use step_log::RecordFault;
 use thiserror::Error;
 
-/// Why a network did not carry out a call: the first of these that applies. Log and clerk are unchanged.
+/// Why a network did not carry out a call: the first of these faults that applies.
+/// Log and clerk are unchanged.
 #[derive(Clone, Copy, Debug, PartialEq, Eq, Error)]
 pub enum CallFault {
-    /// The log holds fewer entries than the clerk has seen: it has called another network.
+    /// The log has fewer entries than the clerk has seen: the clerk has called another network.
     #[error("behind")]
     Behind {
-        /// How many entries the log holds.
+        /// How many entries the log has.
         front: u32,
         /// The greatest entry number that the clerk has seen.
         seen: u32,

@@ -20,9 +20,9 @@ pub(crate) use checkpoint::greater;
 
 /// A caller of a network. Contracts see three things:
 ///
-/// - its receipts, oldest first: one for each answered call, with strictly rising numbers;
-/// - its note of what was published at its last receipt, or of more that it `sees`;
-/// - the greatest number that its `checkpoint` returned.
+/// - the clerk's receipts, oldest first: one for each answered call, with strictly rising numbers;
+/// - the clerk's note of what was published at the last receipt, or of more that the clerk `sees`;
+/// - the greatest number that the clerk's `checkpoint` returned.
 #[derive(Drop)]
 pub struct Clerk {
     receipts: Vec<Receipt>,
@@ -80,7 +80,7 @@ impl Clerk {
         self.base
     }
 
-    /// Its receipts, oldest first.
+    /// The clerk's receipts, oldest first.
     pub fn receipts(&self) -> &[Receipt]
         ensures receipts { result.now ≡ self.now.receipts }
         ensures rise { RiseAbove 0 self.now.receipts }
@@ -88,7 +88,7 @@ impl Clerk {
         &self.receipts
     }
 
-    /// Its note.
+    /// The clerk's note.
     pub(crate) fn note(&self) -> Option<&Note>
         ensures note { MatchOption result (self.now.note ≡ None) (λ note. self.now.note ≡ Some note.now) }
         ensures clerk { IsClerk self.now }
@@ -96,8 +96,8 @@ impl Clerk {
         self.note.as_ref()
     }
 
-    /// A copy of its note, whose log has the entry of its last receipt. Takes no memory.
-    /// It came with that receipt, or is of more that the clerk has seen since.
+    /// A copy of the clerk's note, if any. Takes no memory. The note's log has the last receipt's entry.
+    /// The note came with the last receipt, or is of more that the clerk has seen since.
     pub fn noted(&self) -> Option<Note>
         ensures note { result ≡ self.now.note }
         ensures clerk { IsClerk self.now }
@@ -106,8 +106,8 @@ impl Clerk {
         Some(note.again())
     }
 
-    /// Of the logs of another note of its network and of its own note, one is a prefix of the other.
-    /// Nothing runs.
+    /// Of the logs of the clerk's note and of another note of its network, one is a prefix of the other.
+    /// Runs no code.
     pub fn follows(&self, before: &Option<Note>)
         requires { IfSome before.now (λ told. IsOfBook told.book self.now) }
         ensures notes { AreComparable (noted before.now) (noted self.now.note) }

@@ -24,9 +24,8 @@ use step_log::{Journal, Prepared, Receipt, RecordFault};
 /// How many readers of a network there may be at once.
 const READERS: usize = 64;
 
-/// A journal and the board that publishes all its entries. It cannot be dropped: `close` ends it.
-/// Contracts see the whole log, with dropped entries, which is what is published; the journal's base; and the
-/// board's name.
+/// A journal and the board that publishes all its entries. Cannot be dropped: `close` ends it.
+/// Contracts see the whole published log, dropped entries included; the journal's base; and the board's name.
 pub(crate) struct PublishedJournal<R: Rules> {
     journal: Journal<R>,
     board: Board<Runs<R>>,
@@ -125,7 +124,7 @@ impl<R: Rules> PublishedJournal<R> {
         self.journal.reach_of(event)
     }
 
-    /// Carries out an event, records it and publishes its entry. A fault changes nothing.
+    /// Carries out an event, records it and publishes its entry. After a fault nothing has changed.
     pub(crate) fn record<W: Wait>(
         &mut self,
         rt: &W,
@@ -143,7 +142,7 @@ impl<R: Rules> PublishedJournal<R> {
         Ok(finish(&mut self.journal, &mut self.board, rt, prepared)?)
     }
 
-    /// Does what `record` does, for a step, from the verdicts of its items.
+    /// Like `record` of a step, but takes the verdicts of the step's items.
     pub(crate) fn record_step<W: Wait>(
         &mut self,
         rt: &W,
@@ -164,8 +163,8 @@ impl<R: Rules> PublishedJournal<R> {
     }
 
     /// Makes the present state the base of the journal, and drops its entries.
-    /// Returns how many entries there were, dropped ones included. What is published stays. If memory runs
-    /// out, nothing has changed.
+    /// Returns how many entries there were, dropped ones included. Published entries stay published. If
+    /// memory runs out, nothing has changed.
     pub(crate) fn checkpoint(&mut self) -> Result<u32, Want>
         ensures number { IfOk result (λ number. number ≡ length self.old.log.entries) }
         ensures base { OnOk result (self.new ≡ based self.old) }
@@ -195,7 +194,7 @@ impl<R: Rules> PublishedJournal<R> {
     }
 }
 
-/// Records what is prepared, and publishes it. Once its entry is posted nothing fails.
+/// Records and publishes a prepared entry. After the entry is posted nothing fails.
 fn finish<R: Rules, W: Wait>(
     journal: &mut Journal<R>,
     board: &mut Board<Runs<R>>,

@@ -20,16 +20,16 @@ use std::alloc::Global;
 use std::sync::Wait;
 use step_log::Journal;
 
-/// Takes the journal out of a network that no thread shares, and settles its clerks against it.
+/// Takes the journal out of a network that no thread shares, and settles clerks against the journal.
 ///
-/// Each receipt must be the log's entry with its number, and each entry must belong to one clerk. After a
-/// checkpoint the base must be the greatest that a checkpoint returned to one of these clerks: so no clerk
-/// that made a greater one is missing. Up to the base receipts are compared by number only, and each number
-/// must occur once.
+/// Each receipt must be the log's entry with the receipt's number, and each entry must belong to one clerk.
+/// After a checkpoint the base's number must be the greatest that `checkpoint` returned to one of these
+/// clerks. So no clerk with a greater number is missing. Receipts with numbers up to the base are compared
+/// by number only, and each of these numbers must occur once.
 ///
-/// `CountDiffers` if receipts and entries, kept or dropped, differ in number; then `BaseDiffers`; then
-/// `Stranger`, the first receipt that does not agree. `Memory` may come in place of any result. The journal
-/// comes back with each fault.
+/// `CountDiffers` if there are not as many receipts as entries, kept or dropped; then `BaseDiffers` if the
+/// base's number is not that greatest number; then `Stranger` for the first receipt that does not agree.
+/// `Memory` may come in place of any result. A fault is returned with the journal.
 pub fn settle<R: Rules, W: Wait>(
     rt: &W,
     net: LockedNet<R>,
@@ -47,10 +47,10 @@ pub fn settle<R: Rules, W: Wait>(
     settle_journal(alloc, net.into_journal(rt), &clerks)
 }
 
-/// Does what `settle` does, for clerks that have called only this network or none.
-/// Each clerk's note then is of a prefix of the whole log, whose part above the base the journal keeps. This
-/// holds also of a journal that comes back, except at `Memory`.
-/// `Memory` also reports a note that is of no such prefix, which never happens.
+/// Like `settle`, for clerks that have called only this network or none.
+/// The log of each clerk's note then is a prefix of the whole log; the journal keeps the part of the whole
+/// log above the base. Both are also true of a journal that comes with a fault, except with `Memory`.
+/// `Memory` also reports a note whose log is no such prefix, which never happens.
 pub fn settle_own<R: Rules, W: Wait>(
     rt: &W,
     net: LockedNet<R>,

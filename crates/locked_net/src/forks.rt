@@ -28,7 +28,7 @@ fn roam_first<R: Rules, G: Gate, W: Wait>(
     take_turns(rt, round, worker, &mut clerks[0]).err()
 }
 
-/// Lets each clerk roam, at once if threads are available, and returns the first fault in their order.
+/// Lets each clerk roam, at once if threads are available. Returns the first fault in clerks' order.
 #[cycle(forks)]
 pub(crate) fn roam_all<R: Rules + Send, G: Gate + Sync, T: Threads + Wait + Sync>(
     rt: &T,

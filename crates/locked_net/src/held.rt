@@ -20,9 +20,9 @@ mod lone;
 mod looks;
 mod reach;
 
-/// A network whose lock the holder has until `free`. It cannot be dropped: `free` ends it.
-/// Contracts see the whole log, with dropped entries, exactly as published; the base of the kept part; and
-/// the board's name.
+/// A network whose lock the caller has until `free`. Cannot be dropped: `free` ends it.
+/// Contracts see the whole published log, dropped entries included; the base of the kept part; and the
+/// board's name.
 pub struct HeldNet<'a, R: Rules> {
     net: &'a LockedNet<R>,
     desk: PublishedJournal<R>,
@@ -47,13 +47,13 @@ impl<'a, R: Rules> Model for HeldNet<'a, R> {
 }
 
 impl<R: Rules> LockedNet<R> {
-    /// Waits for the network's lock, and holds it.
+    /// Waits for the network's lock, and keeps the lock until `free`.
     pub fn hold<W: Wait>(&self, rt: &W) -> HeldNet<'_, R>
         ensures own { IsLogIn (setting_of R.table self.now) result.log }
         ensures name { result.name ≡ name_of self.now }
     {
         let (desk, hold) = self.take(rt);
-        // Called for its contract: the log is a run.
+        // Called only for the contract: the log is a run.
         let _count = desk.len();
         HeldNet {
             net: self,

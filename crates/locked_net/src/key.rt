@@ -5,8 +5,8 @@ use keyed_lock::Invariant;
 use rule_engine::Rules;
 use snapshots::Note;
 
-/// The key of a network's lock: its names, its nodes at the start, the log's limit, and a note.
-/// The note is of the board when it was made.
+/// The key of a network's lock: how many names, how many nodes at the start, the log's limit, a note.
+/// The board gave this note when the board was made.
 #[derive(Drop)]
 pub(crate) struct NetKey {
     pub(crate) nodes: u32,
@@ -15,7 +15,7 @@ pub(crate) struct NetKey {
     pub(crate) opening: Note,
 }
 
-/// The log under the lock has the key's sizes, and the board of the key's note publishes it.
+/// The log under the lock has the key's sizes, and the board of the key's note publishes this log.
 pub(crate) struct KeyInvariant;
 
 impl<R: Rules> Invariant<PublishedJournal<R>, NetKey> for KeyInvariant {

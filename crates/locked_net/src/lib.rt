@@ -2,10 +2,11 @@
 //!
 //! A `LockedNet` is a network behind a lock. Each caller has a `Clerk`, whose `call` waits for the lock,
 //! records one event and keeps the receipt. A worker `roam`s with a clerk of its own. `hold` keeps the lock
-//! for several calls on a `HeldNet`, whose log contracts see. In the end `settle` takes the network and all
-//! clerks. `Ok` means (clause `headline`): the log is a run of the rule machine; each receipt is the log's
-//! entry with its number; each entry belongs to one clerk. A `BoardReader` asks for a node's pointer without
-//! lock, memory or waiting, and gets its answers from a run that includes all it has seen.
+//! for several calls on a `HeldNet`, and contracts see the log of a `HeldNet`. In the end `settle` takes the
+//! network and all clerks. If `settle` returns `Ok` (clause `headline`), the log is a run of the rule
+//! machine; each receipt is the log's entry with the receipt's number; each entry belongs to one clerk. A
+//! `BoardReader` reads a node's pointer without lock, memory or waiting, and its answers come from a run
+//! that includes all the reader has seen.
 //!
 //! A call costs as much as recording and a publication. The contracts do not promise that a caller gets the
 //! lock, or any order. A network cannot be dropped: `settle` or `into_journal` ends it.

@@ -11,7 +11,7 @@ use std::sync::Wait;
 /// What an event would cost at one moment, with a note of the log then.
 #[derive(Drop)]
 pub struct SeenCost {
-    /// The most that it would add to the charge, in moves.
+    /// The most that the event would add to the charge, in moves.
     pub cost: u32,
     /// What was published then: the whole log.
     pub note: Note,

@@ -17,10 +17,10 @@ use step_log::{Journal, MAX_ENTRIES};
 
 /// A network under the rules `R` with its log, behind one lock, for callers in any threads.
 ///
-/// A copy of its pointers and present nodes is published for wait-free readers. Whoever holds the lock has
-/// the journal and the board: whenever it is free, the log is a run of the rule machine and exactly this log
-/// is published. A checkpoint drops only the journal's entries, not published ones. Cannot be dropped:
-/// `into_journal` ends it.
+/// A copy of the network's pointers and present nodes is published for wait-free readers. Whoever has the
+/// lock has the journal and the board. Whenever the lock is free, the log is a run of the rule machine and
+/// exactly this log is published. A checkpoint drops only the journal's entries, not published ones. A
+/// network cannot be dropped: `into_journal` ends it.
 pub struct LockedNet<R: Rules> {
     alloc: Global,
     lock: KeyedLock<PublishedJournal<R>, NetKey, KeyInvariant>,
@@ -49,7 +49,7 @@ impl<R: Rules> LockedNet<R> {
         LockedNet::with_limit(alloc, rt, nodes, MAX_ENTRIES)
     }
 
-    /// Like `new`, with a limit of `limit` entries; a limit above 16,777,216 counts as that.
+    /// Like `new`, with a limit of `limit` entries; a limit above 16,777,216 counts as 16,777,216.
     pub fn with_limit<W: Wait>(
         alloc: Global,
         rt: &W,
@@ -105,7 +105,7 @@ impl<R: Rules> LockedNet<R> {
     }
 
     /// A reader of this network that has seen the present log. Waits for the network's lock.
-    /// At most 64 readers have a place at once, each until it is dropped.
+    /// At most 64 readers have a place at once; a reader keeps its place until the reader is dropped.
     /// `NoPlace` if no place is found; when that happens is unspecified.
     pub fn reader<W: Wait>(&self, rt: &W) -> Result<BoardReader<R>, ReaderFault>
         ensures name { IfOk result (λ reader. reader.name ≡ name_of self.now) }
@@ -125,7 +125,7 @@ impl<R: Rules> LockedNet<R> {
         self.alloc
     }
 
-    /// Waits for the lock, and takes the desk out.
+    /// Waits for the lock, and takes out the journal and the board.
     pub(crate) fn take<W: Wait>(
         &self,
         rt: &W,
@@ -136,7 +136,7 @@ impl<R: Rules> LockedNet<R> {
         self.lock.take(rt)
     }
 
-    /// Gives the desk back, and frees the lock.
+    /// Puts the journal and the board back, and frees the lock.
     pub(crate) fn give(&self, hold: Hold<PublishedJournal<R>, NetKey>, desk: PublishedJournal<R>)
         requires key { IsOfKey (net_key_of self.now) desk }
         requires hold { IsHoldOf self.now.lock hold }
@@ -144,10 +144,10 @@ impl<R: Rules> LockedNet<R> {
         self.lock.give(hold, desk);
     }
 
-    /// The journal of a network that no thread shares: a run of the rule machine.
-    /// After a checkpoint it keeps only the part of the whole, published log above its base, the moment after
-    /// the entries below.
-    /// It would wait for a call under the lock; a network that is owned has none.
+    /// The journal of a network that no thread shares; the log is a run of the rule machine.
+    /// After a checkpoint the journal keeps only the part of the whole published log above the base. The
+    /// base is the moment after the entries below.
+    /// This would wait for a call under the lock; a network that no thread shares has no such call.
     pub fn into_journal<W: Wait>(self, rt: &W) -> Journal<R>
         ensures run { IsRetainedRun R.table R.NODE_WEIGHT (kept_of result) }
         ensures whole { IsPartOfLog (setting_of R.table self) (kept_of result) }

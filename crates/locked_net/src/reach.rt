@@ -12,7 +12,7 @@ use std::sync::Wait;
 /// Whether a node is at rest at one moment, with a note of the log then.
 #[derive(Drop)]
 pub struct SeenRest {
-    /// Whether it is at rest: for any daemon, it makes no move until a disturbance reaches it.
+    /// Whether the node is at rest: for any daemon, it makes no move until a disturbance reaches it.
     pub rests: bool,
     /// What was published then: the whole log.
     pub note: Note,
@@ -21,7 +21,7 @@ pub struct SeenRest {
 /// The nodes that an event would reach at one moment, with a note of the log then.
 #[derive(Drop)]
 pub struct SeenReach {
-    /// The nodes, ascending. A node that is at rest and not among them stays at rest.
+    /// The nodes, ascending. A node at rest that is not among these nodes stays at rest.
     pub nodes: Vec<Node>,
     /// What was published then: the whole log.
     pub note: Note,

@@ -1,14 +1,14 @@
-//! Why a reader is not made, and why it gets no answer.
+//! Why a network gives no reader, and why a reader gets no answer.
 
 use thiserror::Error;
 
 /// Why a network gave no reader.
 #[derive(Clone, Copy, Debug, PartialEq, Eq, Error)]
 pub enum ReaderFault {
-    /// The board gave no place: each is taken, or memory for it ran out.
+    /// The board gave no place: all places are taken, or memory ran out.
     #[error("no place for another reader")]
     NoPlace,
-    /// Memory ran out. `reader` never returns it: the board reports `NoPlace` then.
+    /// Memory ran out. `reader` never returns `Memory`: the board reports `NoPlace` then.
     #[error("out of memory")]
     Memory,
 }
@@ -22,12 +22,12 @@ pub enum ReadFault {
         /// How many entries were published then.
         front: u32,
     },
-    /// The board did not let the reader in: its network has ended.
+    /// The board did not let the reader in: the network has ended.
     #[error("no view")]
     NoView,
 }
 
-/// The board did not let the reader in: its network has ended.
+/// The board did not let the reader in: the network has ended.
 #[derive(Clone, Copy, Debug, PartialEq, Eq, Error)]
 #[error("no view")]
 pub struct NoView;

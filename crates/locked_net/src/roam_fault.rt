@@ -9,13 +9,13 @@ pub enum RoamFault {
     /// There were no clerks.
     #[error("no workers")]
     ZeroWorkers,
-    /// A thread could not be started. `roam` never returns it: clerks roam one after another then.
+    /// A thread could not be started. `roam` never returns `Thread`: clerks roam one after another then.
     #[error("no thread")]
     Thread,
-    /// The log holds fewer entries than a clerk has seen: it has called another network.
+    /// The log has fewer entries than a clerk has seen: the clerk has called another network.
     #[error("behind")]
     Behind {
-        /// How many entries the log holds.
+        /// How many entries the log has.
         front: u32,
         /// The greatest entry number that the clerk has seen.
         seen: u32,

@@ -17,20 +17,21 @@ use steal_pool::Gate;
 pub const MAX_WORKERS: usize = 64;
 
 /// Lets the first 64 of these clerks roam, each by its own worker, at once if threads are available.
-/// In each turn, from 0, a worker passes the gate with its number, from 0, and the turn's. Then, under one
-/// hold of the network's lock, it records a step of one node to the least target: the (turn mod count)-th
-/// enabled node, ascending from 0. If none is enabled, it records nothing and meets no fault.
+/// Turns and workers are numbered from 0. In each turn a worker passes the gate, with the worker's number
+/// and the turn's. Then, under one hold of the network's lock, the worker records a step of one node to the
+/// least target. Of the n enabled nodes, ascending, this is the one at index `turn mod n`, from 0. If no
+/// node is enabled, the worker records nothing and meets no fault.
 ///
-/// A worker that meets a fault ends; the others go on. The result is the first fault in the clerks' order.
-/// What was recorded stays, with its receipts. Each clerk's note is unchanged or one of this network's; its
-/// base is unchanged.
+/// A worker that meets a fault ends; the other workers go on. The result is the first fault in the clerks'
+/// order. Recorded entries and their receipts stay. Each clerk's note is unchanged or a note of this
+/// network; each clerk's base is unchanged.
 ///
-/// `ZeroWorkers` if there is no clerk. In a turn, the faults of `Clerk::call`. `Thread` never comes: without
-/// a thread, clerks roam one after another. A gate that holds one worker until another comes then holds it
+/// `ZeroWorkers` if there is no clerk. A turn may meet the faults of `Clerk::call`. `Thread` never comes:
+/// without a thread, clerks roam one after another. Then a gate that makes one worker wait for another waits
 /// forever.
 ///
-/// Waits for the lock, for the gate, and for its threads, one fewer than clerks. A turn takes the memory of a
-/// call.
+/// Waits for the lock, for the gate, and for the threads (one fewer than clerks). A turn takes the memory of
+/// a call.
 pub fn roam<R: Rules + Send, G: Gate + Sync, T: Threads + Wait + Sync>(
     rt: &T,
     net: &LockedNet<R>,

@@ -36,8 +36,8 @@ fn take_turn<R: Rules, W: Wait>(
     answer
 }
 
-/// Takes a clerk's turns in order, up to the last or to a fault.
-/// Before each turn it passes the gate with the worker's number and the turn's.
+/// Takes a clerk's turns in order, up to the last turn or to the first fault.
+/// Passes the gate before each turn, with the worker's number and the turn's.
 pub(crate) fn take_turns<R: Rules, G: Gate, W: Wait>(
     rt: &W,
     round: &RoamConfig<R, G>,

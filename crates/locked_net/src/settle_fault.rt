@@ -11,17 +11,17 @@ pub enum SettleFault {
     /// The number of the clerks' receipts differs from that of the log's entries, dropped ones included.
     #[error("count-differs")]
     CountDiffers,
-    /// The journal's base is not the greatest that a checkpoint returned to one of the clerks.
+    /// The base's number is not the greatest that `checkpoint` returned to one of the clerks.
     #[error("base-differs")]
     BaseDiffers,
     /// The first receipt that does not agree, in the order of the clerks and then of their receipts.
-    /// It is not the log's entry with its number, or an earlier receipt has that number. Up to the journal's
-    /// base only the number is compared.
+    /// Such a receipt is not the log's entry with the receipt's number, or an earlier receipt has that
+    /// number. Up to the journal's base only the number is compared.
     #[error("stranger")]
     Stranger {
-        /// The index of its clerk, from 0.
+        /// The index of the receipt's clerk, from 0.
         clerk: u32,
-        /// Its index among that clerk's receipts, from 0.
+        /// The index of the receipt among that clerk's receipts, from 0.
         place: u32,
     },
     /// Memory ran out.
@@ -43,7 +43,7 @@ impl From<AllocError> for SettleFault {
 /// A journal that did not settle, returned with the reason.
 #[derive(Drop)]
 pub struct Unsettled<R: Rules> {
-    /// Why it did not settle.
+    /// Why the journal did not settle.
     pub why: SettleFault,
     /// The journal, unchanged.
     pub journal: Journal<R>,

@@ -18,7 +18,7 @@ use std::alloc::Global;
 use step_log::{Journal, NoEntry, Receipt};
 
 /// Whether the clerks account for the journal's log; see `settle` for the faults and their order.
-/// Takes a byte an entry, and looks at each entry, clerk and receipt.
+/// Takes one byte for each entry, and looks at each entry, clerk and receipt.
 pub(crate) fn settled_with<R: Rules>(
     alloc: Global,
     journal: &Journal<R>,
@@ -44,7 +44,7 @@ pub(crate) fn settled_with<R: Rules>(
     Ok(())
 }
 
-/// The fault of a stranger; `Memory` if its clerk's index does not fit a `u32`.
+/// The fault `Stranger` with these indices; `Memory` if the clerk's index does not fit a `u32`.
 fn stranger(clerk: usize, place: usize) -> SettleFault
     requires { place < 2 ^ 32 }
     ensures { ((clerk < 2 ^ 32) × (result ≡ Stranger clerk place)) ⊎ ((2 ^ 32 ≤ clerk) × (result ≡ Memory)) }
@@ -89,8 +89,8 @@ fn greatest(clerks: &[Clerk]) -> Option<u32>
     found
 }
 
-/// The index of the clerk's first receipt that does not agree. Marks this clerk's receipts.
-/// All receipts of the clerks before it agree and are marked.
+/// The index of the clerk's first receipt that does not agree, if any. Marks the receipts before it.
+/// All receipts of the clerks before this clerk agree and are marked already.
 fn first_stranger<R: Rules>(
     journal: &Journal<R>,
     clerks: &[Clerk],
@@ -128,15 +128,15 @@ fn is_entry<R: Rules>(journal: &Journal<R>, receipt: &Receipt) -> bool
     }
 }
 
-/// If a log and clerks are settled, only `Memory` can keep them from settling.
+/// If a log and clerks are settled, settling them can fail only with `Memory`.
 pub fn settling_is_exact()
     ensures { (kept : RetainedLog) (clerks : List ClerkView) (why : SettleFault)
         → Settlement kept clerks → Unsettles kept clerks why → why ≡ Memory }
 {}
 
-/// When a receipt agrees, given that the numbers of each clerk rise.
-/// It is the log's entry with its number, or has the number of a dropped one, and no earlier clerk has that
-/// number.
+/// When a receipt agrees, given that each clerk's numbers rise.
+/// The receipt is the log's entry with the receipt's number, or the number is that of a dropped entry. Also,
+/// no earlier clerk has a receipt with that number.
 pub fn own_numbers_never_clash()
     ensures { (kept : RetainedLog) (clerks : List ClerkView) (c p : ℕ) (receipt : Receipt)
         → ((d : ℕ) (clerk : ClerkView) → slice_get clerks d ≡ Some clerk → RiseAbove 0 clerk.receipts)

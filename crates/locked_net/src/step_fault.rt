@@ -8,10 +8,10 @@ use thiserror::Error;
 /// Why a network did not carry out a step that workers judge. Log and clerk are unchanged.
 #[derive(Clone, Copy, Debug, PartialEq, Eq, Error)]
 pub enum StepFault {
-    /// A fault of any call; also if memory runs out for the workers.
+    /// A fault of any call; `Memory` also if memory runs out for the workers.
     #[error("{0}")]
     Call(CallFault),
-    /// There were no workers. No other fault of the pool comes.
+    /// There were no workers. The pool's other faults are never returned here.
     #[error("{0}")]
     Pool(PoolFault),
 }

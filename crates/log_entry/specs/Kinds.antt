@@ -1,4 +1,4 @@
--- How many entries a log holds, and which replies are of an event's kind.
+-- How many entries a log may have, and which replies are of an event's kind.
 use Rattle.std.specs.Prelude.{ℕ, Bool, true, false, cond, ◌&&◌, List, is_some, is_none, length, nat_le}
 use Rattle.std.specs.List.{list_all}
 use Rattle.rule_machine.specs.declared.act.Moved.{Moved}
@@ -8,11 +8,11 @@ use Rattle.rule_machine.specs.declared.reply.Reply.{Reply}
 use Rattle.rule_machine.specs.declared.reply.Reply.TheVariants.{Accepted, Refused, Moves, Shown, EnabledAre, Pairs, Counts}
 pub use Rattle.rule_machine.specs.Step.{takes_target}
 
--- the most entries that a log may hold
+-- the most entries that a log may have
 abbrev pub max_entries : ℕ
 max_entries = 16777216
 
--- a move has a target if and only if its rule takes one
+-- whether the move has a target if and only if the move's rule takes a target
 abbrev pub is_move : Moved → Bool
 is_move m = cond (takes_target m.act) (is_some m.target) (is_none m.target)
 
@@ -41,5 +41,5 @@ fits (Show v) (Refused refusal) = true
 fits Enabled (EnabledAre nodes) = nat_le (length nodes) 65535
 fits Matching (Pairs pairs) = nat_le (length pairs) 65535
 fits Status (Counts counts) = true
--- no other reply is given
+-- no other reply is of the event's kind
 fits event reply = false

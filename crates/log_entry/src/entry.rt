@@ -10,7 +10,7 @@ use std::marker::Model;
 /// The most entries of a log, and so the greatest entry number.
 pub const MAX_ENTRIES: u32 = 16_777_216;
 
-/// An event with a reply of its kind. Contracts see the pair.
+/// An event with a reply of the event's kind. Contracts see the pair.
 #[derive(Debug, Drop, PartialEq, Eq)]
 pub struct Entry {
     event: Event,

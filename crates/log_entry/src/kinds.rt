@@ -6,7 +6,7 @@ ghost use Rattle.log_entry.specs.Kinds.{takes_target, is_move, are_moves, fits};
 
 use rule_machine::{Act, Event, MAX_ITEMS, Moved, Reply};
 
-/// Whether the rule sets a new target.
+/// Whether a move by this rule has a target.
 fn takes_target(act: Act) -> bool
     ensures { result ≡ takes_target act }
 {

@@ -1,7 +1,7 @@
 //! Entries of a log, and equality of events and of replies.
 //!
-//! An `Entry` is an event with a reply of its kind: `Entry::new` checks this, and lists the kinds.
-//! Whether the machine may give that reply is left to runs, judges and journals.
+//! An `Entry` is an event with a reply of the event's kind. `Entry::new` checks the kind, and its comment
+//! lists the kinds. Runs, judges and journals check whether the machine may give the reply.
 //!
 //! Journal and auditor build on this crate, so transcripts are read without the engine.
 //! Making an entry takes no memory. `same_event` and `same_reply` look at each item of a list.

@@ -75,8 +75,8 @@ move_from_none outcome.Idle e = absurd (none-some NotEnabled (sym e))
 move_from_none outcome.Wrong e = absurd (none-some BadTarget (sym e))
 move_from_none (outcome.Moves m) e = (m, refl)
 
--- an item that is not refused after the earlier ones: its node is present and was not chosen before, and it
--- makes a move
+-- an item that is not refused after the earlier items: its node is present and was not chosen before, and
+-- the item makes a move
 pub record IsTaken (t : RuleTable) (s : State) (earlier : List Item) (item : Item) : Type 0 where
   pub has : IsTrue (present s.network item.node)
   pub fresh : list_any (λ i. nat_eq i.node item.node) earlier ≡ false
@@ -109,7 +109,8 @@ taken_at t s earlier (item ∷ items) e (suc k) d below =
     let other = or_parts (same item) false apart.1 in
     (record { has = rest.0.has; fresh = apart.0; move = rest.0.move }, cond-false (same item) (Some item) (item_of items later.node) other.0 ∙ rest.1)
 
--- what a step that is not refused has: an item, and one alone under a central daemon
+-- what the choice of a step that is not refused has: at least one item, and exactly one under a central
+-- daemon
 pub record IsStepChoice (t : RuleTable) (s : State) (items : List Item) : Type 0 where
   pub some : nat_eq (length items) 0 ≡ false
   pub alone : (t.central && nat_lt 1 (length items)) ≡ false

@@ -1,4 +1,4 @@
--- The order of moves' nodes, from a look at each two moves in a row.
+-- Moves ascend by node if each two moves in a row do.
 use Rattle.std.proofs.Common.{◌≡◌, ℕ, ◌+◌, ◌<◌, Bool, true, false, List, length, map, get_or, None, IsTrue, ◌↔◌, refl, sym, arith}
 use Rattle.std.specs.Prelude.{nat_lt}
 use Rattle.std.specs.List.{IsAllAdjacentAnswer}
@@ -11,7 +11,7 @@ use Rattle.rule_machine.specs.declared.act.Moved.{Moved}
 nobody : Moved
 nobody = record { node = 0; act = Update; target = None }
 
--- the node of a move before another's
+-- whether the node of the first move is below the node of the second
 abbrev pub is_before : Moved → Moved → Bool
 is_before a b = nat_lt a.node b.node
 

@@ -1,4 +1,4 @@
--- What a network has after an edge was added or removed.
+-- Which edges and nodes a network has after an edge or a node is added or removed.
 use Rattle.std.proofs.Common.{[], ◌∷◌, List, ◌≡◌, ℕ, ◌+◌, ◌<◌, ◌≤◌, nat_le, nat_eq, leb-true, get_or, min, max, Bool, true, false, cond, not, ◌&&◌, ◌||◌, Option, None, Some, is_some, IsTrue, refl, sym, ap, ap₂, ◌∙◌, subst, ◌⊎◌, inl, inr, ⊎_elim, arith, set}
 use Rattle.std.specs.Ordering.{nat_cmp, eq_by_cmp}
 use Rattle.std.specs.Cmp.{IsTotalOrder, nat_cmp_total}
@@ -14,7 +14,7 @@ use Rattle.rule_machine.specs.Network.{Network, PairSet, IsNetwork, pair_cmp, ed
 pub pair_total : IsTotalOrder pair_cmp
 pair_total = then_total (on_total (λ (p : ℕ × ℕ). p.0) nat_cmp_total) (on_total (λ (p : ℕ × ℕ). p.1) nat_cmp_total)
 
--- pairs that compare alike are one
+-- pairs that compare as equal are equal
 pub pair_exact : CmpEqualImpliesEq pair_cmp
 pair_exact = exact_pairs nat_cmp nat_cmp exact_unsigned exact_unsigned
 
@@ -35,7 +35,7 @@ contains-remove m k q = ap is_some (map.get-remove pair_total m k q) ∙ none_an
 pub contains-empty : (q : ℕ × ℕ) → map.contains_key (map.empty {K = ℕ × ℕ} {X = Unit {0}} {R = pair_cmp}) q ≡ false
 contains-empty q = ap is_some (map.get-empty pair_cmp q)
 
--- what is in the larger set is the new pair or was there before
+-- each pair of the larger set is the new pair or was in the set before
 pub inserted_cases : (m : PairSet) (k q : ℕ × ℕ) → IsTrue (map.contains_key (map.insert m k tt) q) → (q ≡ k) ⊎ IsTrue (map.contains_key m q)
 inserted_cases m k q h =
     ⊎_elim (λ same. inl (tells_apart pair_exact q k same)) (λ old. inr old) (or_cases (eq_by_cmp pair_cmp q k) (map.contains_key m q) (sym (contains-insert m k q) ∙ h))
@@ -71,7 +71,7 @@ linked_present net a b good h =
     (λ (le : b ≤ a). subst (λ x. IsTrue (present net x)) (let e : min a b ≡ b = omega arith in e) (good.low_present _ _ h))
     (cases_lt a b)
 
--- two edges that are one join the same ends
+-- equal edges join the same two ends
 pub edge_ends : (a b c d : ℕ) → edge c d ≡ edge a b → ((c ≡ a) × (d ≡ b)) ⊎ ((c ≡ b) × (d ≡ a))
 edge_ends a b c d e =
     let low : min c d ≡ min a b = ap (λ p. p.0) e in

@@ -8,7 +8,7 @@ use Rattle.rule_machine.specs.Stable.{IsStable, IsMaximalMatching, ShareAnEnd, m
 use Rattle.machine_laws.specs.Laws.{maximal_from_stable}
 use Rattle.machine_laws.specs.Pairs.{contains_cases, contains_empty}
 
--- no two places of the list have edges that share an end
+-- no two edges at different places of the list share an end
 abbrev pub AreApart : List (ℕ × ℕ) → Type 0
 AreApart [] = Unit {0}
 AreApart (e ∷ edges) = All (λ f. ShareAnEnd e f → ⊥) edges × AreApart edges
@@ -106,14 +106,15 @@ shares_touches edges e (k, f, below, at, shared) =
     )
     shared
 
--- No matching has more than twice the edges of a maximal one: each of its edges has its own end of that one.
+-- No matching has more than twice the edges of a maximal matching: each edge of the first has an end of the
+-- second for itself.
 pub maximal_is_half : (net : Network) (maximal other : List (ℕ × ℕ)) → IsMaximalMatching net maximal → IsMatching net other → length other ≤ 2 * length maximal
 maximal_is_half net maximal other most is =
     let fits = no_more_than_names other (ends maximal) is.apart (λ k d below. shares_touches maximal _ (most.maximal _ (is.of_edges k d below))) in
     let len = ends_len maximal in
     omega (arith, fits, len)
 
--- so a stable network has at least half as many mutual pairs as any matching has edges
+-- a stable network has at least half as many mutual pairs as any matching has edges
 pub stable_is_half : (uses_flags : Bool) (s : State) → IsState s → IsStable uses_flags s → (other : List (ℕ × ℕ)) → IsMatching s.network other → length other ≤ 2 * length (mutual_pairs s)
 stable_is_half uses_flags s good stable other is =
     maximal_is_half s.network (mutual_pairs s) other (maximal_from_stable uses_flags s good stable) is

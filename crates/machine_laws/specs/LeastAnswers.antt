@@ -58,8 +58,8 @@ is_target t table s good v Marry wish target rule e = allowed_target t table s g
 is_target t table s good v Seduce wish target rule e = allowed_target t table s good v Seduce wish target rule e refl
 is_target t table s good v Abandon wish target rule e = null_target t table s v Abandon wish target e refl
 
--- An item's move is one that it asks for: by the table's laws a target that the rule takes exists and is
--- allowed, and a rule that takes none has none allowed.
+-- The item asks for the move that it makes: by the table's laws a target that the rule takes exists and is
+-- allowed, and a rule that takes no target allows none.
 pub makes_move_of : (t : RuleTable) → IsTable t → (s : State) → IsState s → (item : Item) (m : Moved) → Makes t s item m → IsMoveOf t s item m
 makes_move_of t table s good item m makes = record {
   node = makes.node;
@@ -235,6 +235,6 @@ least_answers_by : (t : RuleTable) → IsTable t → (s : State) → IsState s �
 least_answers_by t table s good n event None e = least_does t table s good n event e
 least_answers_by t table s good n event (Some refusal) e = (refl, refl)
 
--- the answer with the least targets is one that the machine may give
+-- the machine may give the answer with the least targets
 pub least_answers : (t : RuleTable) → IsTable t → (s : State) → IsState s → (n : ℕ) (event : Event) → Answers t s n event (reply_of t s n event) (state_after t s event)
 least_answers t table s good n event = least_answers_by t table s good n event (refusal_of t s event) refl

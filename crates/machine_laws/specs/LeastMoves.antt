@@ -1,4 +1,4 @@
--- The moves with the least targets, and that they lead to a state.
+-- The moves with the least targets; they lead to a state.
 use Rattle.std.proofs.Common.{◌≡◌, ℕ, Bool, true, false, cond, List, [], ◌∷◌, Option, None, Some, IsTrue, refl, sym, ap, ◌∙◌, subst, ⊎_elim, find, filter_map, option_and_then}
 use Rattle.std.specs.List.{AllByRecursion, cons_option}
 use Rattle.std.proofs.lemmas.Bool.{cases_Bool, cond-true, cond-false}
@@ -29,12 +29,13 @@ cons_option_all : {Y : Type 0} (P : Y → Type 0) (o : Option Y) (ys : List Y) �
 cons_option_all P None ys h all = all
 cons_option_all P (Some y) ys h all = (h y refl, all)
 
--- what holds of each value that h gives holds of each element
+-- a fact about each value that h gives is true of each element of the list
 pub filter_map_all : {X Y : Type 0} (h : X → Option Y) (P : Y → Type 0) → ((x : X) (y : Y) → h x ≡ Some y → P y) → (xs : List X) → AllByRecursion P (filter_map h xs)
 filter_map_all h P holds [] = tt
 filter_map_all h P holds (x ∷ xs) = cons_option_all P (h x) (filter_map h xs) (holds x) (filter_map_all h P holds xs)
 
--- the move that an item makes alone: its node is present, and its target is the rule's at the item's wish
+-- m is the move that the item makes alone: its node is present, and its target is the one that the rule
+-- takes for the item's wish
 pub record Makes (t : RuleTable) (s : State) (item : Item) (m : Moved) : Type 0 where
   pub has : IsTrue (present s.network item.node)
   pub node : m.node ≡ item.node
@@ -73,7 +74,7 @@ makes_by_present t s item m false has e = absurd (none-some m e)
 pub makes_from_outcome : (t : RuleTable) (s : State) (item : Item) (m : Moved) → move_in (outcome_of t s item) ≡ Some m → Makes t s item m
 makes_from_outcome t s item m e = makes_by_present t s item m (present s.network item.node) refl e
 
--- a target is allowed, if there is one
+-- a target, if there is one, is allowed
 pub target_allowed : (t : RuleTable) (s : State) (v : ℕ) (wish : Option ℕ) (act : Act) (target : Option ℕ) → target_by t s v wish act ≡ Some target → (x : ℕ) → target ≡ Some x → IsTrue (t.allowed s v act x)
 target_allowed t s v None act target e x at = find_passes (t.allowed s v act) (neighbours s.network v) x (same_Some (least_target t s v act) target e ∙ at)
 target_allowed t s v (Some w) act target e x at =

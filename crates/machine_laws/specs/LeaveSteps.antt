@@ -1,4 +1,5 @@
--- The last steps of a node that leaves: an edge at a time, then its flag, then its name.
+-- The steps by which a node leaves: its edges are removed one at a time, then its flag is cleared, then its
+-- name is freed.
 use Rattle.std.proofs.Common.{◌≡◌, ◌≢◌, ℕ, ◌-◌, ◌<◌, ◌≤◌, true, false, cond, [], ◌∷◌, set, length, find, IsTrue, sym, ap, ◌∙◌, subst, ⊎_elim, arith}
 use Rattle.std.specs.FinMap as map
 use Rattle.std.proofs.lemmas.Bool.{cases_lt, false_from_ne_true, true≢false}
@@ -16,7 +17,7 @@ pub no_edge : (net : Network) (v : ℕ) → IsNetwork net → neighbours net v �
 no_edge net v good none w =
     false_from_ne_true (linked net v w) (λ h. true≢false (near_none net (λ x. true) v good (ap (find (λ x. true)) none) w h))
 
--- after one of a node's edges went, its leave has the same result
+-- a node that leaves after one of its edges is removed leaves the same state
 pub leave_after_unlink : (s : State) (v w : ℕ) → IsState s → after_leave (after_unlink s v w) v ≡ after_leave s v
 leave_after_unlink s v w good =
     let u = after_unlink s v w in
@@ -24,11 +25,11 @@ leave_after_unlink s v w good =
     let rest = neighbours u.network v in
     leaves_by_unlinks u v rest kept (none_left u v kept) ∙ sym (leaves_by_unlinks s v (w ∷ rest) good (none_left u v kept))
 
--- a node without an edge leaves by its last step alone
+-- a node without an edge leaves by the last step alone
 part_leaves : (s : State) (v : ℕ) → IsState s → neighbours s.network v ≡ [] → after_leave s v ≡ after_parting s v
 part_leaves s v good none = leaves_by_unlinks s v [] good (no_edge s.network v good.is_network none)
 
--- and so it does after its flag was lowered
+-- a node without an edge leaves by clearing its flag and then freeing its name
 pub lowered_leaves : (s : State) (v : ℕ) → IsState (after_flag s v false) → neighbours s.network v ≡ [] → after_parting s v ≡ after_leave s v
 lowered_leaves s v good none =
     let net : Network = record s.network { here = set s.network.here v false } in
@@ -56,7 +57,7 @@ parted_is_state net r v good none unflagged = record {
       present_other net v false w apart ∙ good.flagged_present w h;
 }
 
--- an edge that goes is one less
+-- after an edge is removed there are fewer edges
 pub fewer_edges : (net : Network) (a b : ℕ) → IsTrue (linked net a b) → edge_count (without_edge net a b) < edge_count net
 fewer_edges net a b there =
     let less = map.len-remove pair_total net.edges (edge a b) ∙ ap (λ t. cond t (edge_count net - 1) (edge_count net)) there in

@@ -1,4 +1,4 @@
--- A node that leaves: its edges go one by one, and then its name.
+-- A node that leaves: its edges are removed one by one, and then its name is freed.
 use Rattle.std.proofs.Common.{◌≡◌, ℕ, ◌<◌, ◌≤◌, min, max, Bool, true, false, cond, not, ◌&&◌, ◌||◌, List, [], ◌∷◌, length, map, set, fold, find, nat_eq, Option, None, Some, is_some, IsTrue, refl, sym, ap, ap₂, ◌∙◌, ⊎_elim, arith, get_or}
 use Rattle.std.specs.FinMap as finmap
 use Rattle.std.proofs.lemmas.Bool.{cases_Bool, cases_eq, cases_lt, and_parts, and_from, or_cases, true≢false, eqb-true, eq-eqb, false_from_ne_true}
@@ -15,11 +15,11 @@ use Rattle.machine_laws.specs.Edges.{pair_total, pair_exact, contains-remove, re
 use Rattle.machine_laws.specs.Writes.{if_some_at, cleared, some_from_is_at, pointer-with_pointer_other, without_pointer_was, without_pointer_flags, without_pointer_len}
 use Rattle.machine_laws.specs.StatePreservation.{unlink_keeps}
 
--- the edges between a node and these go, one after another
+-- the state after the edges between v and these nodes are removed, one after another
 abbrev pub unlinked_all : State → ℕ → List ℕ → State
 unlinked_all s v others = fold (λ u w. after_unlink u v w) s others
 
--- a node without an edge goes: its flag is lowered, and its name is free
+-- the state after a node without an edge leaves: its flag is false, and its name is free
 abbrev pub after_parting : State → ℕ → State
 after_parting s v = record {
   network = record s.network { here = set s.network.here v false };
@@ -142,8 +142,9 @@ nothing_left (Some y) h = absurd (h y refl)
 unless_at_is : (v : ℕ) (o : Option ℕ) (b : Bool) → is_at o v ≡ b → unless_at v o ≡ cond b None o
 unless_at_is v o b e = ap (λ t. cond t None o) e
 
--- A node leaves if its edges go one after another, in any order, each with the pointers that cross it, and
--- then its name. By then it has no edge, so no pointer, and none is at it.
+-- A node leaves if its edges are removed one after another, in any order, each with the pointers that cross
+-- the edge, and then its name is freed. By then the node has no edge, so its pointer is null, and no
+-- pointer is at the node.
 pub leaves_by_unlinks : (s : State) (v : ℕ) (others : List ℕ) → IsState s → ((w : ℕ) → linked (unlinked_all s v others).network v w ≡ false) → after_leave s v ≡ after_parting (unlinked_all s v others) v
 leaves_by_unlinks s v others good none =
     λ i. record {

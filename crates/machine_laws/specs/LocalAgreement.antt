@@ -1,4 +1,5 @@
--- Two states with the same local view of a node agree there.
+-- Two states with the same local view of a node agree on the node's pointer, on its suitors and on whether
+-- it is married.
 use Rattle.std.proofs.Common.{◌≡◌, ℕ, Bool, ◌&&◌, is_some, find, IsTrue, refl, ap, ap₂, ◌∙◌, inl, inr}
 use Rattle.rule_machine.specs.Network.{linked, neighbours}
 use Rattle.rule_machine.specs.State.{State, pointer, is_at, suits, has_suitor, is_mutual, married}

@@ -6,12 +6,12 @@ use Rattle.std.proofs.lemmas.Bool.{cases_order, and_parts, true≢false, false_f
 use Rattle.rule_machine.specs.Network.{Network, IsNetwork, linked, neighbours, names, present}
 use Rattle.machine_laws.specs.Search.{find-filter, find-agree, range_none, range_some, range_fails}
 
--- an option is empty or holds something
+-- an option is None or Some
 pub option_cases : {X : Type 0} (o : Option X) → (o ≡ None) ⊎ ((x : X) × (o ≡ Some x))
 option_cases None = inl refl
 option_cases (Some x) = inr (x, refl)
 
--- a present name is one of the range
+-- a present name is from 1 to the size
 pub present_range : (net : Network) (v : ℕ) → IsTrue (present net v) → (1 ≤ v) × (v ≤ net.size)
 present_range net v h =
     let parts = and_parts _ _ h in
@@ -61,7 +61,7 @@ pub linked_apart : (net : Network) (v w : ℕ) → IsNetwork net → IsTrue (lin
 linked_apart net v w is_network h same =
     let low = is_network.low_first (min v w) (max v w) h in absurd (omega arith)
 
--- and both are present
+-- the ends of an edge are present
 pub linked_present : (net : Network) (v w : ℕ) → IsNetwork net → IsTrue (linked net v w) → IsTrue (present net v)
 linked_present net v w is_network h =
     ⊎_elim

@@ -64,7 +64,7 @@ pub record IsMutualPair (s : State) (e : ℕ × ℕ) : Type 0 where
   pub there : pointer s e.0 ≡ Some e.1
   pub back : pointer s e.1 ≡ Some e.0
 
--- a listed pair is one
+-- each listed pair is a mutual pair
 pub pair_from : (s : State) (e : ℕ × ℕ) → Contains (mutual_pairs s) e → IsMutualPair s e
 pair_from s e c =
     let given = filter_map_from (λ v. pair_above v (partner s v)) (names s.network) e c in
@@ -77,7 +77,7 @@ pair_from s e c =
         let parts = cond_some (nat_lt v w) (v, w) e h in
         subst (IsMutualPair s) parts.1 (record { ordered = ltb-true v w parts.0; there = both.0; back = both.1 })
 
--- and two that point at each other are listed
+-- two nodes that point at each other are a listed pair
 pub pair_listed : (s : State) (v w : ℕ) → IsState s → v < w → pointer s v ≡ Some w → pointer s w ≡ Some v → Contains (mutual_pairs s) (v, w)
 pair_listed s v w is_state below there back =
     let has = linked_present s.network v w is_state.is_network (pointer_linked s v w is_state there) in

@@ -78,7 +78,7 @@ null_unmarried s v e =
     (λ some. let at = (partner_some s v some.0 some.1).0 in absurd cc)
     (option_cases (partner s v))
 
--- nor is one whose pointer is not answered
+-- a node whose pointer is not answered is not married
 pub unanswered_unmarried : (s : State) (v w : ℕ) → pointer s v ≡ Some w → pointer s w ≢ Some v → married s v ≡ false
 unanswered_unmarried s v w there apart =
     ⊎_elim

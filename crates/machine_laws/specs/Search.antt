@@ -51,7 +51,7 @@ range_none p a (suc n) e x low high =
     let parts = cond-none (p a) a (find p (range_with_len (a + 1) n)) e in
     ⊎_elim (λ same. subst (λ y. p y ≡ false) same parts.0) (λ apart. range_none p (a + 1) n parts.1 x (omega arith) (omega arith)) (cases_eq a x)
 
--- finds one of them, and one that passes
+-- a number that a search of the range finds is in the range and passes
 pub range_some : (p : ℕ → Bool) (a n x : ℕ) → find p (range_with_len a n) ≡ Some x → (a ≤ x) × (x < a + n) × (p x ≡ true)
 range_some p a zero x e = absurd cc
 range_some p a (suc n) x e =

@@ -29,7 +29,7 @@ size_by : (t : RuleTable) (s : State) (n : ℕ) (event : Event) (r : Option Refu
 size_by t s n event None reply s' does = does_size t s n event reply s' does
 size_by t s n event (Some refusal) reply s' does = ap (λ (u : State). u.network.size) does.1
 
--- so a run ends with as many names as it began with
+-- a run ends with as many names as it began with
 pub runs_keep_size : (t : RuleTable) (start : Moment) (log : List Entry) (end : Moment) → Run t start log end → end.state.network.size ≡ start.state.network.size
 runs_keep_size t start [] end run = ap (λ (m : Moment). m.state.network.size) run
 runs_keep_size t start (entry ∷ log) end (next, answers, run) =

@@ -1,4 +1,4 @@
--- Events lead from states to states.
+-- Events lead from valid states to valid states.
 use Rattle.std.proofs.Common.{◌≡◌, ℕ, ◌+◌, ◌<◌, ◌≤◌, Bool, true, false, cond, List, map, refl, set, [], ◌∷◌, length, fold, replicate, Option, None, Some, IsTrue, sym, ap, ◌∙◌, subst, ⊎_elim, arith, get_or}
 use Rattle.std.specs.List.{AllByRecursion}
 use Rattle.std.proofs.lemmas.List.{length-set, length-map, length-replicate, get_or-replicate, get_or_past, get_or-set_same, get_or-set_other}
@@ -119,7 +119,7 @@ leave_keeps s v good = record {
   flagged_present = λ w h. let left = flag_left s.registers v w h in present_other s.network v false w left.0 ∙ good.flagged_present w left.1;
 }
 
--- registers that are a state's, over its network
+-- the registers and the network together are a valid state
 pub record AreRegistersOf (net : Network) (r : Registers) : Type 0 where
   pub pointers_len : length r.pointers ≡ net.size + 1
   pub flags_len : length r.flags ≡ net.size + 1

@@ -7,7 +7,7 @@ use Rattle.rule_machine.specs.State.{State}
 use Rattle.rule_machine.specs.Step.{after_moves}
 use Rattle.rule_machine.specs.Disturbance.{after_link, after_unlink, after_point, after_flag, after_join, after_leave}
 
--- what an accepted disturbance does; a step and a question are none
+-- the state after an accepted disturbance; the same state for a step or a question
 abbrev pub disturbed : State → Event → State
 disturbed s (Link a b) = after_link s a b
 disturbed s (Unlink a b) = after_unlink s a b
@@ -21,7 +21,7 @@ disturbed s Enabled = s
 disturbed s Matching = s
 disturbed s Status = s
 
--- the state after a reply
+-- the state after an event with this reply
 abbrev pub followed : State → Event → Reply → State
 followed s event Accepted = disturbed s event
 followed s event (Moves moves) = after_moves s moves

@@ -1,4 +1,5 @@
--- A step may be written in two passes: all flags, read from the pointers as they are, and then all pointers.
+-- A step may be written in two passes: first all flags, computed from the pointers before the step, then
+-- all pointers.
 use Rattle.std.proofs.Common.{◌≡◌, ℕ, Bool, true, false, List, [], ◌∷◌, fold, Option, None, Some, is_some, refl, sym, ap, ◌∙◌, ⊎_elim}
 use Rattle.rule_machine.specs.declared.act.Act.{Act}
 use Rattle.rule_machine.specs.declared.act.Act.TheVariants.{Update, Marry, Seduce, Abandon}
@@ -13,7 +14,7 @@ use Rattle.std.proofs.lemmas.Bool.{true≢false}
 abbrev pub is_answered_at : Registers → ℕ → Bool
 is_answered_at r v = holds_at (λ w. points r w v) (pointer_of r v)
 
--- the flag that a move writes, read from these registers
+-- the registers after a move's flag, computed from these registers, is written
 abbrev pub flag_read_by : Registers → ℕ → Act → Registers
 flag_read_by r v Update = with_flag r v (is_answered_at r v)
 flag_read_by r v Marry = r
@@ -23,7 +24,7 @@ flag_read_by r v Abandon = r
 abbrev pub flag_read : Registers → Moved → Registers
 flag_read r m = flag_read_by r m.node m.act
 
--- the pointer that it writes
+-- the registers after a move's pointer is written
 abbrev pub pointer_by : Registers → ℕ → Act → Option ℕ → Registers
 pointer_by r v Update target = r
 pointer_by r v Marry target = with_pointer r v target

@@ -28,7 +28,7 @@ use Rattle.rule_machine.specs.Disturbance.{without_pointer}
 abbrev pub IsUnflagged : Registers → Type 0
 IsUnflagged r = (v : ℕ) → flag_of r v ≡ false
 
--- the rule that writes a flag is nowhere enabled
+-- the rule that writes a flag is enabled at no node
 abbrev pub NeverUpdates : RuleTable → Type 0
 NeverUpdates t = (s : State) (v : ℕ) → t.guard s v Update ≡ false
 

@@ -1,11 +1,11 @@
--- What registers hold after a write.
+-- The values of registers after a write.
 use Rattle.std.proofs.Common.{◌≡◌, ℕ, ◌⊎◌, inl, inr, ◌<◌, ◌≤◌, Bool, true, false, cond, List, length, Option, None, Some, IfSome, refl, sym, ap, ◌∙◌, subst, ⊎_elim, arith, get_or, set}
 use Rattle.std.proofs.lemmas.List.{get_or-set_same, get_or-set_other, get_or_past, set_past, length-set}
 use Rattle.std.proofs.lemmas.Bool.{cases_lt, cases_eq, true≢false, eq-eqb, eqb-true}
 use Rattle.rule_machine.specs.State.{Registers, pointer_of, flag_of, is_at, points, with_pointer, with_flag}
 use Rattle.rule_machine.specs.Disturbance.{without_pointer}
 
--- a fact about what an option holds, from one about each value that it may be, and back
+-- a fact about an option's value follows from the fact for each value that it may have, and conversely
 pub if_some_from : {X : Type 0} (o : Option X) (P : X → Type 0) → ((x : X) → o ≡ Some x → P x) → IfSome o P
 if_some_from None P h = tt
 if_some_from (Some x) P h = h x refl

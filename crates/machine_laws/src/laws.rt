@@ -22,7 +22,8 @@ pub fn stable_is_maximal()
 
 /// A network whose mutual pairs are a maximal matching is stable if its registers are consistent.
 ///
-/// That is: every pointer is null or answered, and every flag is right if flags are used.
+/// Consistent: the target of each pointer points back and, if flags are used, each flag is true exactly if
+/// its node is married.
 pub fn maximal_is_stable()
     ensures { (uses_flags : Bool) (s : State) → IsState s
         → ((v : ℕ) → IfSome (pointer s v) (λ w. pointer s w ≡ Some v))
@@ -30,15 +31,15 @@ pub fn maximal_is_stable()
         → IsMaximalMatching s.network (mutual_pairs s) → IsStable uses_flags s }
 {}
 
-/// A base determines its moment: for the same capacity, equal bases have equal states.
+/// A base determines its moment: two moments of the same capacity are equal if their bases are.
 pub fn base_tells()
     ensures { (number : ℕ) (m o : Moment) → IsState m.state → IsState o.state
         → m.state.network.size ≡ o.state.network.size → base_of number m ≡ base_of number o → m ≡ o }
 {}
 
-/// No matching has more than twice as many edges as a maximal one.
+/// No matching has more than twice as many edges as a maximal matching.
 ///
-/// So a maximal matching is at least half of the best.
+/// So a maximal matching has at least half as many edges as a maximum matching.
 pub fn maximal_is_half()
     ensures { (net : Network) (maximal other : List (ℕ × ℕ))
         → IsMaximalMatching net maximal → IsMatching net other → length other ≤ 2 * length maximal }

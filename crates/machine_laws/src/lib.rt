@@ -1,16 +1,16 @@
-//! Laws of the rule machine: invariants of its states and steps, runs by least targets, and maximal
-//! matchings.
+//! Laws of the rule machine: invariants of its states, steps and runs, answers with the least
+//! targets, and maximal matchings.
 //!
 //! Laws only: each public function is empty and its contract is the law. `specs/` has the lemmas that other
 //! crates cite.
 //!
 //! The main laws:
 //!
-//! - The mutual pairs of any state share no end.
+//! - No two mutual pairs of a state share an end.
 //! - In a stable network the mutual pairs are a maximal matching.
-//! - A network is stable if its pairs are a maximal matching, every pointer is null or answered, and the
-//!   flags in use are right.
-//! - No matching has more than twice as many edges as a maximal one.
+//! - A network is stable if its mutual pairs are a maximal matching, the target of each pointer points
+//!   back, and each flag in use is right.
+//! - No matching has more than twice as many edges as a maximal matching.
 //! - A base determines its moment.
 //!
 //! ```rust

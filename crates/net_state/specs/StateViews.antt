@@ -21,15 +21,15 @@ held_code =
 abbrev pub state_of : Network → Registers → State
 state_of net registers = record { network = net; registers = registers }
 
--- the state with a name freed, and all else unchanged
+-- the state in which the node v is absent and all else is unchanged
 abbrev pub without_place : State → ℕ → State
 without_place s v = record s { network = record s.network { here = slice_set s.network.here v false } }
 
--- a name with its registers, if it is a node of the state
+-- the node v with its registers; none if v is absent
 abbrev pub place_in : State → ℕ → Option NodeRecord
 place_in s v = if present s.network v then Some (node_record_at s v) else None
 
--- w is another node than v, and not one that its pointer was at or is at
+-- w is not v, and the pointer of v neither was nor is at w
 pub record IsUntouchedBy (v : ℕ) (was is : Option ℕ) (w : ℕ) : Type 0 where
   pub other : w ≢ v
   pub not_was : is_at was w ≡ false

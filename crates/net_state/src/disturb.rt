@@ -1,4 +1,4 @@
-//! Disturbances and moves that take several steps, for any type that keeps a state.
+//! Disturbances and moves that are made of several writes, for any type that stores a state.
 
 ghost use Rattle.std.specs.Prelude.{◌≡◌, All, IfSome, IsTrue, List, MatchOption, None, [], false, fold};
 ghost use Rattle.graph_store.specs.declared.ends.EdgeStance.{EdgeStance};
@@ -14,9 +14,9 @@ ghost use Rattle.net_state.specs.StateViews.{without_place};
 use crate::NetState;
 use rule_machine::{Act, Moved, Node};
 
-/// A type that keeps a state; each step writes the state and updates what depends on it.
+/// A type that stores a state; each write changes the state and updates what depends on it.
 ///
-/// `unlink`, `leave` and `make_moves` are built from these steps.
+/// `unlink`, `leave` and `make_moves` are built from these writes.
 pub trait StateWriter {
     /// The state.
     ghost state: { Self → State };
@@ -106,9 +106,9 @@ fn unlink_all<D: StateWriter>(it: &mut D, v: Node)
     }
 }
 
-/// Makes a node absent: its edges go, its pointer and those at it become null, its flag false.
+/// Makes a node absent: removes its edges, resets its registers, and sets pointers at it to null.
 ///
-/// Cost: for each neighbour a look-up and a shift in its list; no memory.
+/// Cost: for each neighbour a look-up and a shift in the neighbour's list; no memory.
 pub fn leave<D: StateWriter>(it: &mut D, v: Node)
     requires { IsTrue (present (D.state it.old).network v) }
     ensures { D.state it.new ≡ after_leave (D.state it.old) v }
@@ -147,7 +147,7 @@ fn write_pointers<D: StateWriter>(it: &mut D, moves: &[Moved])
 
 /// Carries out the moves of one step.
 ///
-/// Flags come first, since they are computed from the pointers before the step.
+/// Flags are written first, because each new flag is computed from the pointers before the step.
 pub fn make_moves<D: StateWriter>(it: &mut D, moves: &[Moved])
     requires { All (IsMoveIn (D.state it.old).network) moves.now }
     ensures { D.state it.new ≡ after_moves (D.state it.old) moves.now }

@@ -1,14 +1,14 @@
-//! A network with its registers: a state of the rule machine, and the disturbances that it takes.
+//! A network with its registers: a state of the rule machine, and the writes that change it.
 //!
-//! `NetState` is a valid state before and after each call, as its type guarantees: every pointer is null or
-//! at a neighbour, and an absent name has no edge, no pointer and no flag. It does not check what its caller
-//! must ensure: the crates above it refuse events.
+//! The type guarantees that a `NetState` is a valid state before and after each call: every pointer is null
+//! or at a neighbour, and an absent name has no edge, a null pointer and a false flag. Each call has
+//! preconditions, which `NetState` does not check: its callers refuse events.
 //!
 //! `StateWriter` has four write steps: a pointer, a flag, the removal of an edge, the release of a name.
-//! `unlink`, `leave` and `make_moves` are written once, from these four. The judge, the index, the indexed
-//! state and the engine share them.
+//! `unlink`, `leave` and `make_moves` are built from these four. The judge, the index, the indexed state
+//! and the engine share the three functions.
 //!
-//! Only a new state, `reserve_link`, `link` and lists take memory.
+//! Only `with_present`, `reserve_link`, `link`, `list_edges` and `list_places` take memory.
 //!
 //! ```rust
 //! net.reserve_link(a, b)?;                          // may refuse, and changes nothing

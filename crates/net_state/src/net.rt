@@ -36,9 +36,11 @@ impl Model for NetState {
 }
 
 impl NetState {
-    /// Creates names 1 to `nodes`; 1 to `present` are nodes, without an edge, pointers null, flags false.
+    /// Creates a state with names 1 to `nodes`, of which 1 to `present` are nodes.
     ///
-    /// `TooManyNodes` above 65,535 names; `Memory` if memory runs out.
+    /// There is no edge; all pointers are null and all flags false.
+    ///
+    /// Errors: `TooManyNodes` above 65,535 names; `Memory` if memory runs out.
     pub fn with_present(alloc: Global, nodes: u32, present: u32) -> Result<NetState, GraphFault>
         requires within { present ≤ nodes }
         ensures ok { IfOk result (λ net. net.state ≡ state.opening_with nodes present) }
@@ -124,7 +126,7 @@ impl NetState {
         self.store.has(v)
     }
 
-    /// Whether the name is within the capacity, so that a node has or may have it.
+    /// Whether the name is at most the capacity; the name may be absent.
     pub fn is_name(&self, v: Node) -> bool
         ensures { result ≡ (nat_le 1 v && nat_le v self.now.state.network.size) }
     {
@@ -169,7 +171,7 @@ impl NetState {
         self.registers.flag(v)
     }
 
-    /// Whether a name points at another. One look.
+    /// Whether `v` points at `w`. One look.
     #[inline(always)]
     pub fn points(&self, v: Node, w: Node) -> bool
         ensures { result ≡ state.points self.now.state.registers v w }

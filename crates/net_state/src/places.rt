@@ -1,4 +1,4 @@
-//! The nodes of a base.
+//! The list of nodes with their registers, for a base.
 
 ghost use Rattle.std.specs.Prelude.{◌≡◌, ◌≤◌, IfOk, length};
 ghost use Rattle.rule_machine.specs.Base.{node_records};
@@ -24,7 +24,7 @@ impl NetState {
 
     /// Returns the nodes with their registers, ascending.
     ///
-    /// A look at each name; fails only if memory runs out.
+    /// Cost: a look at each name. Fails only if memory runs out.
     pub fn list_places(&self, alloc: Global) -> Result<Vec<NodeRecord>, Want>
         ensures places { IfOk result (λ v. v.items ≡ node_records self.now.state) }
         ensures few { IfOk result (λ v. length v.items ≤ 65535) }

@@ -78,7 +78,7 @@ impl NetState {
         self.registers.set_flag(v, value);
     }
 
-    /// Makes a name a node, without an edge, its pointer null and its flag false. Takes no memory.
+    /// Adds a node without an edge; its pointer is null and its flag false. Takes no memory.
     pub fn join(&mut self, v: Node)
         requires within { v ≤ self.old.state.network.size }
         requires absent { present self.old.state.network v ≡ false }
@@ -90,9 +90,9 @@ impl NetState {
         self.store.join(v).unwrap();
     }
 
-    /// Sets the stance of a name towards its edges; at first every name shuts them.
+    /// Sets the stance of a name towards its edges. At first every name shuts its edges.
     ///
-    /// Cost: one look if the stance is the same as before, else one at each neighbour; no memory.
+    /// Cost: one look if the stance does not change, else a look at each neighbour; no memory.
     pub fn set_stance(&mut self, v: Node, end: EdgeStance)
         requires { v ≤ self.old.state.network.size }
         ensures told { end_at self.new.ends v ≡ end }

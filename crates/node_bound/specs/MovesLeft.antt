@@ -1,4 +1,5 @@
--- How many moves can still come: at most the charge, and at most what the number of nodes alone allows.
+-- How many moves a run can still make: at most the charge, and at most a bound by the number of nodes
+-- alone.
 use Rattle.std.specs.Prelude.{◌≡◌, ℕ, ◌≤◌, min, List, Option, None, Some}
 use Rattle.rule_machine.specs.Network.{node_count}
 use Rattle.rule_machine.specs.State.{State, IsState}
@@ -11,12 +12,13 @@ abbrev pub moves_left : ℕ → Option ℕ → ℕ
 moves_left charge None = charge
 moves_left charge (Some most) = min charge most
 
--- no run without a disturbance has more moves from here
+-- no run from s without a disturbance has more moves than the bound
 abbrev pub BoundsMoves : RuleTable → State → ℕ → ℕ → Type 0
 BoundsMoves t s spent bound =
     (log : List Entry) (end : Moment) → Run t (record { state = s; spent = spent }) log end → IsUndisturbed log → moves_in log ≤ bound
 
--- nor one from any state among as many nodes
+-- if `most` gives a bound for a number of nodes, the bound holds for runs from any state with that many
+-- nodes
 abbrev pub BoundsByNodes : RuleTable → (ℕ → Option ℕ) → Type 0
 BoundsByNodes t most =
     (s : State) (spent : ℕ) → IsState s → (bound : ℕ) → most (node_count s.network) ≡ Some bound → BoundsMoves t s spent bound

@@ -1,21 +1,21 @@
-//! A bound on moves by nodes alone.
+//! A bound on moves that depends on the number of nodes alone.
 
 ghost use Rattle.std.specs.Prelude.{◌≡◌, ℕ, ◌≤◌, Option};
 ghost use Rattle.node_bound.specs.MovesLeft.{BoundsByNodes};
 
 use rules_api::Rules;
 
-/// How many moves the number of nodes alone allows.
+/// A rule set's bound on moves that depends on the number of nodes alone, if one is known.
 pub trait NodeBound: Rules {
     ghost most: { ℕ → Option ℕ };
 
-    /// Returns the most moves between two disturbances among this many nodes.
+    /// Returns a bound on the moves of this many nodes between two disturbances.
     ///
-    /// Holds whatever the edges, the state and the daemon. `None` if no such bound is known.
+    /// The bound holds for any edges, any state and any daemon. `None` if no such bound is known.
     fn most_moves(nodes: u32) -> Option<u32>
         requires few { nodes ≤ 65535 }
         ensures { result ≡ most nodes };
 
-    /// No run without a disturbance has more moves.
+    /// No run without a disturbance has more moves than `most` of its number of nodes.
     ghost bounds_moves: { BoundsByNodes Self.table most };
 }

@@ -7,7 +7,7 @@ use base.Stored.{coded_unit}
 use Rattle.std.specs.FinMap as finite
 use Rattle.rule_machine.specs.Network.{PairSet, pair_cmp}
 
--- all names, present or not: 1, 2 and so on, not beyond 65,535
+-- the list of all names, present or not: 1, 2 and so on, at most 65,535
 pub record AreNames (names : List ℕ) : Type 0 where
   pub from_one : names ≡ range_with_len 1 (length names)
   pub few : length names ≤ 65535
@@ -15,7 +15,7 @@ pub record AreNames (names : List ℕ) : Type 0 where
 abbrev pub pair_set_code : Coded PairSet
 pair_set_code = finite.code (coded× coded_ℕ coded_ℕ) coded_unit
 
--- whether two pairs are one
+-- whether two pairs are equal
 abbrev pub same_pair : ℕ × ℕ → ℕ × ℕ → Bool
 same_pair p q = nat_eq p.0 q.0 && nat_eq p.1 q.1
 
@@ -23,7 +23,7 @@ same_pair p q = nat_eq p.0 q.0 && nat_eq p.1 q.1
 abbrev pub is_below : ℕ × ℕ → ℕ × ℕ → Bool
 is_below p q = is_lt (pair_cmp p q)
 
--- each pair, with the nothing that a set holds at it
+-- each pair with the unit value: the entries of a set seen as a map
 abbrev pub with_units : List (ℕ × ℕ) → List ((ℕ × ℕ) × Unit {0})
 with_units pairs = map (λ pair. (pair, tt)) pairs
 

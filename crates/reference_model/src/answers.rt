@@ -1,4 +1,4 @@
-//! The interpreter: the reply to an event, and what it changes.
+//! The interpreter: replies to an event and carries it out.
 
 ghost use Rattle.std.specs.Prelude.{◌≡◌, None, IfOk, OnOk, OnErr};
 ghost use Rattle.rule_machine.specs.Least.{reply_of, state_after, accepted_reply, accepted_state};
@@ -10,13 +10,13 @@ use rule_machine::{Event, Listing, Reply, RuleSet, Want};
 use std::alloc::Global;
 
 impl PlainNet {
-    /// Answers an event; each free target is the least allowed one.
+    /// Answers an event. A move for which no target is wished takes the least allowed target.
     ///
     /// `spent` is the number of moves since the last accepted disturbance.
     ///
-    /// A refused event changes nothing. `Want` if memory runs out; that changes nothing either.
+    /// A refused event changes nothing. `Want` if memory runs out; the network is unchanged then.
     ///
-    /// Cost with n names and m edges: some n·n·m for each chosen node of a step, and n·m·m for `Status`.
+    /// Cost with n names and m edges: about n·n·m looks for each chosen node of a step, n·m·m for `Status`.
     pub fn answer(
         &mut self,
         alloc: Global,

@@ -12,7 +12,7 @@ use rule_machine::RuleSet;
 impl PlainNet {
     /// Returns the charge (the potential), which each move lowers; at most 2,293,757.
     ///
-    /// Cost: some n·m·m with n names and m edges.
+    /// Cost: about n·m·m looks with n names and m edges.
     pub fn charge(&self, rules: RuleSet) -> u64
         ensures value { result ≡ (table_of rules).charge self.now }
         ensures few { result ≤ 2293757 }

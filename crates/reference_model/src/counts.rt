@@ -15,7 +15,7 @@ use rule_machine::{Counts, Node, RuleSet};
 impl PlainNet {
     /// Returns the counts of the network, with `spent` moves since the last accepted disturbance.
     ///
-    /// Cost: some n·m·m with n names and m edges.
+    /// Cost: about n·m·m looks with n names and m edges.
     pub fn counts(&self, rules: RuleSet, spent: u32) -> Counts
         ensures { result ≡ counts_of (table_of rules) self.now spent }
     {

@@ -104,7 +104,7 @@ fn has_pair(edges: &[Edge], low: Node, high: Node) -> bool
     false
 }
 
-/// Returns the index of the first edge after this one.
+/// Returns the index of the first edge that is greater than `e`; the length if there is none.
 fn place_for(edges: &[Edge], e: Edge) -> usize
     ensures { result ≡ position_or_len (is_below e) edges.now }
 {

@@ -9,7 +9,7 @@ use rule_machine::{Act, Node, RuleSet, Want};
 use std::alloc::Global;
 
 impl PlainNet {
-    /// Returns the rule that is enabled at a node, if any; absent names have an answer too.
+    /// Returns the rule that is enabled at a node, if any. The name may be absent.
     pub fn rule_at(&self, rules: RuleSet, v: Node) -> Option<Act>
         ensures { result ≡ table.rule_at (table_of rules) self.now v }
     {

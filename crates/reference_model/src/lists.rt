@@ -1,4 +1,4 @@
-//! The lists that a network answers.
+//! The lists in replies: enabled nodes and mutual pairs.
 
 ghost use Rattle.std.specs.Prelude.{◌≡◌, IfOk};
 ghost use Rattle.rule_machine.specs.RuleTable.{enabled};
@@ -12,7 +12,7 @@ use std::alloc::Global;
 impl PlainNet {
     /// Returns the enabled nodes, ascending, each with its rule.
     ///
-    /// `Want` only if memory runs out. Cost: some n·n·m with n names and m edges.
+    /// `Want` only if memory runs out. Cost: about n·n·m looks with n names and m edges.
     pub fn enabled(&self, alloc: Global, rules: RuleSet) -> Result<Vec<(Node, Act)>, Want>
         ensures { IfOk result (λ nodes. nodes.items ≡ enabled (table_of rules) self.now) }
     {
@@ -26,7 +26,7 @@ impl PlainNet {
 
     /// Returns the mutual pairs, ascending by lower end.
     ///
-    /// `Want` only if memory runs out. Cost: some n·n·m with n names and m edges.
+    /// `Want` only if memory runs out. Cost: about n·n·m looks with n names and m edges.
     pub fn mutual_pairs(&self, alloc: Global) -> Result<Vec<Edge>, Want>
         ensures { IfOk result (λ pairs. pairs.items ≡ mutual_pairs self.now) }
     {

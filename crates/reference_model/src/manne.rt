@@ -63,7 +63,7 @@ pub(crate) fn flag_charges(net: &PlainNet) -> u64
     total
 }
 
-/// Returns what a node adds by its flag, 0 to 2.
+/// Returns what a node adds to the charge by its flag and whether it is married, 0 to 2.
 fn flag_charge(net: &PlainNet, v: Node) -> u64
     ensures value { result ≡ charge.manne_node_charge net.now v }
     ensures small { result ≤ 2 }
@@ -82,7 +82,7 @@ fn is_settled(net: &PlainNet, v: Node) -> bool
     net.flag(v) == net.married(v)
 }
 
-/// Whether a node points at one that does not point back, and that is flagged or not above it.
+/// Whether the target of `v` does not point back, and is flagged or not above `v`.
 fn is_spurned(net: &PlainNet, v: Node) -> bool
     ensures { result ≡ is_spurned net.now v }
 {
@@ -92,7 +92,7 @@ fn is_spurned(net: &PlainNet, v: Node) -> bool
     }
 }
 
-/// Whether a node may court another: one above it, with a null pointer and no flag.
+/// Whether `v` may court `w`: `w` is above `v`, has a null pointer and is not flagged.
 fn may_court(net: &PlainNet, v: Node, w: Node) -> bool
     ensures { result ≡ may_court net.now v w }
 {

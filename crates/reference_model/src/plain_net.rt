@@ -1,4 +1,4 @@
-//! A network whose every question is a scan.
+//! A network that answers every question by a scan.
 
 ghost use Rattle.std.specs.Prelude.{◌≡◌, ◌≤◌, ◌&&◌, length, nat_le, slice_set, None, IfOk, OnOk, OnErr};
 ghost use Rattle.std.specs.List.{range_with_len};
@@ -15,8 +15,8 @@ use std::marker::Model;
 
 /// A network and its registers; contracts see a state.
 ///
-/// It has no index, so every answer is a scan of all names or all edges: a node's rule costs some n·m with n
-/// names and m edges.
+/// There is no index, so every answer takes a scan of all names or all edges: to find a node's rule takes
+/// about n·m looks with n names and m edges.
 #[derive(Drop)]
 pub struct PlainNet {
     names: Vec<Node>,
@@ -44,9 +44,9 @@ impl Model for PlainNet {
 }
 
 impl PlainNet {
-    /// Creates nodes 1 to `nodes`, at most 65,535, without an edge, pointers null, flags false.
+    /// Creates nodes 1 to `nodes` without an edge; all pointers are null and all flags false.
     ///
-    /// `Want` if memory runs out.
+    /// At most 65,535 nodes. `Want` if memory runs out.
     pub fn new(alloc: Global, nodes: u32) -> Result<PlainNet, Want>
         requires { nodes ≤ 65535 }
         ensures { IfOk result (λ net. net ≡ opening nodes) }
@@ -54,7 +54,9 @@ impl PlainNet {
         PlainNet::with_present(alloc, nodes, nodes)
     }
 
-    /// Creates names 1 to `nodes`; 1 to `present` are nodes, without an edge, pointers null, flags false.
+    /// Creates a network of names 1 to `nodes`, of which 1 to `present` are nodes.
+    ///
+    /// There is no edge; all pointers are null and all flags false.
     ///
     /// At most 65,535 names. `Want` if memory runs out.
     pub fn with_present(alloc: Global, nodes: u32, present: u32) -> Result<PlainNet, Want>
@@ -131,7 +133,7 @@ impl PlainNet {
         self.registers.points(v, w)
     }
 
-    /// Adds the edge between two nodes. `Want` if memory runs out; that changes nothing.
+    /// Adds the edge between two nodes. `Want` if memory runs out; the network is unchanged then.
     pub fn link(&mut self, a: Node, b: Node) -> Result<(), Want>
         requires { link_refusal self.old.network a b ≡ None }
         ensures ok { OnOk result (self.new ≡ after_link self.old a b) }
@@ -178,7 +180,7 @@ impl PlainNet {
         self.mark(v, true);
     }
 
-    /// Makes a node absent: its edges go, its pointer and those at it become null, its flag false.
+    /// Makes a node absent: removes its edges, resets its registers, nulls pointers at the node.
     ///
     /// Cost: a pass over all names and one over all edges; no memory.
     pub fn leave(&mut self, v: Node)
@@ -218,7 +220,7 @@ fn all_names(alloc: Global, nodes: u32) -> Result<Vec<Node>, Want>
     Ok(names)
 }
 
-/// Returns entries 0 to `nodes`; those of the names 1 to `present` are true.
+/// Returns entries 0 to `nodes`, of which entries 1 to `present` are true and all others false.
 fn first_row(alloc: Global, nodes: u32, present: u32) -> Result<Vec<bool>, Want>
     requires { nodes ≤ 65535 }
     ensures { IfOk result (λ row. row.items ≡ first_names nodes present) }
@@ -230,7 +232,7 @@ fn first_row(alloc: Global, nodes: u32, present: u32) -> Result<Vec<bool>, Want>
     Ok(row)
 }
 
-/// Whether a name is one of the first `present`; 0 is no name.
+/// Whether `name` is from 1 to `present`; false for 0.
 fn is_among_first(name: u32, present: u32) -> bool
     ensures { result ≡ (nat_le 1 name && nat_le name present) }
 {

@@ -8,7 +8,7 @@ use rule_machine::{Node, Want};
 use std::alloc::Global;
 use std::marker::Model;
 
-/// Each name's pointer and flag; null and false for a name above the capacity.
+/// Each name's pointer and flag. A name above the capacity has a null pointer and a false flag.
 #[derive(Drop)]
 pub struct RegisterTable {
     pointers: Vec<Option<Node>>,
@@ -61,7 +61,7 @@ impl RegisterTable {
         self.flags.get(v.place()).copied().unwrap_or(false)
     }
 
-    /// Whether a node points at another.
+    /// Whether `v` points at `w`.
     pub fn points(&self, v: Node, w: Node) -> bool
         ensures { result ≡ points self.now v w }
     {
@@ -78,7 +78,7 @@ impl RegisterTable {
         }
     }
 
-    /// Sets a node's pointer to null, if it is at `w`.
+    /// Sets the pointer of `v` to null if the pointer is at `w`.
     pub fn drop_pointer(&mut self, v: Node, w: Node)
         ensures { self.new ≡ without_pointer self.old v w }
     {
@@ -87,7 +87,7 @@ impl RegisterTable {
         }
     }
 
-    /// Sets a node's pointer and every pointer at it to null, and its flag to false.
+    /// Sets the pointer of `v` and every pointer at `v` to null, and the flag of `v` to false.
     pub fn drop_name(&mut self, v: Node)
         ensures { self.new ≡ without_name self.old v }
     {

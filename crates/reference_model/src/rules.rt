@@ -17,7 +17,7 @@ impl PlainNet {
         }
     }
 
-    /// Whether a rule allows a node to point at another.
+    /// Whether the rule `act` allows `v` to point at `w`.
     pub fn is_allowed(&self, rules: RuleSet, v: Node, act: Act, w: Node) -> bool
         ensures { result ≡ (table_of rules).allowed self.now v act w }
     {

@@ -1,7 +1,8 @@
 //! Each node's pointer and married flag.
 //!
-//! `Registers` are two tables with an entry for each name: a pointer, null or a node, and a flag.
-//! One crate up, `net_state` adds that pointers are at neighbours and that absent names have null pointers.
+//! `Registers` are two tables with an entry for each name: its pointer (null or a node) and its flag.
+//! `net_state`, one crate up, ensures that each pointer is at a neighbour and that absent names have null
+//! pointers.
 //!
 //! Each call costs one look or one write; `married` costs two looks.
 //! Only `new` takes memory: a pointer and a flag for each name.

@@ -25,7 +25,7 @@ impl Model for Registers {
 }
 
 impl Registers {
-    /// The registers of the names 1 to `size`, at most 65,535: all null and all false.
+    /// The registers of the names 1 to `size`: all pointers null, all flags false. At most 65,535 names.
     /// Error: out of memory.
     pub fn new(alloc: Global, size: u32) -> Result<Registers, Want>
         requires { size ≤ 65535 }

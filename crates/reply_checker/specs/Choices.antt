@@ -1,4 +1,5 @@
--- A table with an entry for each name: the item of a choice that names it, with the rule enabled there.
+-- A table with an entry for each name: the item of a choice that names the node, with the node's enabled
+-- rule.
 use Rattle.std.specs.Prelude.{◌≡◌, ℕ, ◌+◌, length, Bool, false, not, List, Option, None, Some, Result, IfSome, MatchResult, IsTrue, if◌then◌else◌, nat_eq, option_map, slice_index_or}
 use Rattle.std.specs.List.{list_any}
 use Rattle.rule_machine.specs.declared.act.Act.{Act}
@@ -14,24 +15,24 @@ use Rattle.rule_machine.specs.Least.{item_of}
 use Rattle.machine_laws.specs.MoveTests.{is_move_of}
 use Rattle.reply_checker.specs.declared.choices.RuledItem.{RuledItem}
 
--- the entry of a name
+-- the entry of the name v
 abbrev pub ruled_at : List (Option RuledItem) → ℕ → Option RuledItem
 ruled_at table v = slice_index_or table v None
 
--- the item at a name
+-- the item in the entry of the name v
 abbrev pub item_at : List (Option RuledItem) → ℕ → Option Item
 item_at table v = option_map (λ r. r.item) (ruled_at table v)
 
--- the rule is the one that is enabled at the item's node, and allows what the item wishes
+-- the rule is enabled at the item's node, and allows the target that the item wishes
 pub record IsRuled (t : RuleTable) (s : State) (item : Item) (act : Act) : Type 0 where
   pub rule : rule_at t s item.node ≡ Some act
   pub wish : IfSome item.wish (λ w. IsTrue (t.allowed s item.node act w))
 
--- each item is with its rule
+-- each entry has the rule that is enabled at its item's node
 abbrev pub AreRuled : RuleTable → State → List (Option RuledItem) → Type 0
 AreRuled t s table = (v : ℕ) → IfSome (ruled_at table v) (λ r. IsRuled t s r.item r.act)
 
--- each name has the first of the items that names it, with its rule
+-- the entry of each name has the first of the items that names it, with the node's rule
 pub record HasChosenItems (t : RuleTable) (s : State) (table : List (Option RuledItem)) (items : List Item) : Type 0 where
   pub first : (v : ℕ) → item_at table v ≡ item_of items v
   pub ruled : AreRuled t s table
@@ -44,19 +45,19 @@ is_item_node items v = list_any (λ i. nat_eq i.node v) items
 abbrev pub is_mover : List Moved → ℕ → Bool
 is_mover moves v = list_any (λ m. nat_eq m.node v) moves
 
--- only names that the items name have an item
+-- only names that the items name have an entry with an item
 abbrev pub HasOnlyItemsOf : List (Option RuledItem) → List Item → Type 0
 HasOnlyItemsOf table items = (v : ℕ) → is_item_node items v ≡ false → ruled_at table v ≡ None
 
--- no name has an item
+-- no entry has an item
 abbrev pub IsClear : List (Option RuledItem) → Type 0
 IsClear table = (v : ℕ) → ruled_at table v ≡ None
 
--- why an item of a node is refused for its rule
+-- why an item of a present node that was not chosen before is refused, if it is
 abbrev pub refused_rule : RuleTable → State → Item → Option Refusal
 refused_rule t s item = rule_refusal t s item (rule_at t s item.node)
 
--- why an item is refused, if its node may have been chosen before
+-- why an item is refused, if it is; the Bool is whether its node was chosen before
 abbrev pub refused_item : RuleTable → State → Item → Bool → Option Refusal
 refused_item t s item twice =
     if not (present s.network item.node) then Some UnknownNode
@@ -67,12 +68,12 @@ abbrev pub IsItemVerdict : RuleTable → State → Item → Option Refusal → R
 IsItemVerdict t s item refusal found =
     MatchResult found (λ act. (refusal ≡ None) × IsRuled t s item act) (λ reason. refusal ≡ Some reason)
 
--- whether a move is the one that this item, if there is one, asks for
+-- whether there is an item and the move is one that the item asks for
 abbrev pub is_move_by : RuleTable → State → Option Item → Moved → Bool
 is_move_by t s None m = false
 is_move_by t s (Some item) m = is_move_of t s item m
 
--- the table of these many names is between two events
+-- the table has an entry for 0 and each name up to size, and no entry has an item
 pub record IsClearTable (size : ℕ) (table : List (Option RuledItem)) : Type 0 where
   pub len : length table ≡ size + 1
   pub clear : IsClear table

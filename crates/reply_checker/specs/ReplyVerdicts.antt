@@ -1,4 +1,4 @@
--- The parts of a judgement, apart from whether a reply is right.
+-- What a judgement of a reply means: right, wrong, or out of memory.
 use Rattle.std.specs.Prelude.{◌≡◌, ℕ, Bool, true, false, List, [], None, IsTrue}
 use Rattle.rule_machine.specs.declared.choice.Item.{Item}
 use Rattle.rule_machine.specs.declared.event.Event.{Event}
@@ -18,25 +18,26 @@ abbrev pub is_link : Event → Bool
 is_link (Link a b) = true
 is_link event = false
 
--- a link that is not refused, and a reply that accepts it
+-- the event is a link that is not refused, and the reply accepts the link
 pub record IsAcceptedLink (t : RuleTable) (s : State) (event : Event) (reply : Reply) : Type 0 where
   pub link : IsTrue (is_link event)
   pub accepted : refusal_of t s event ≡ None
   pub reply_is : reply ≡ Accepted
 
--- this reply to an event that is not refused is right, with the state after it
+-- the reply to an event that is not refused is right: it leads to the state that follows from the reply
 abbrev pub IsRightReply : RuleTable → State → ℕ → Event → Reply → Type 0
 IsRightReply t s spent event reply = Does t s spent event reply (followed s event reply)
 
--- such a reply is right in no state, and the state stays
+-- the reply to an event that is not refused is right with no state after it, and the judge's state is
+-- unchanged
 abbrev pub DoesWrong : RuleTable → State → ℕ → Event → Reply → State → Type 0
 DoesWrong t s spent event reply now = ((u : State) → Does t s spent event reply u → ⊥) × (now ≡ s)
 
--- the machine may not give this reply, whatever state it leaves, and the state stays
+-- the machine may not give this reply, whatever the state after it, and the judge's state is unchanged
 abbrev pub IsWrong : RuleTable → State → ℕ → Event → Reply → State → Type 0
 IsWrong t s spent event reply now = ((u : State) → Answers t s spent event reply u → ⊥) × (now ≡ s)
 
--- the items of a step
+-- the items of a step; none for any other event
 abbrev pub items_of : Event → List Item
 items_of (Step items) = items
 items_of event = []

@@ -1,4 +1,4 @@
-//! Bases: to begin a judge at one, and the base of its present state.
+//! Bases: begins a judge at a base, and returns the base of a judge's state.
 
 ghost use Rattle.std.specs.Prelude.{◌≡◌, ◌≤◌, ◌+◌, ◌↔◌, ℕ, IfOk, IfSome, IsTrue, None, false, length, nat_le};
 ghost use Rattle.std.specs.List.{list_any};
@@ -27,16 +27,16 @@ fn has_flag(nodes: &[NodeRecord]) -> bool
     false
 }
 
-/// Returns the most that moves spent plus charge may be.
+/// Returns the bound on moves spent plus charge.
 ///
-/// It is twice the edges plus the rules' weight for each node.
+/// The bound is twice the number of edges plus the rules' weight for each node.
 fn bound(net: &NetState, rules: RuleSet) -> u64
     ensures { result ≡ charge_bound (weight_of rules) net.now.state.network }
 {
     2 * u64::from(net.edges()) + rules.node_weight() * u64::from(net.nodes())
 }
 
-/// Whether moves spent plus the charge are within the bound of the network.
+/// Whether moves spent plus the charge are at most the bound of the network.
 fn is_within(survey: &mut CountedNet, rules: RuleSet, spent: u32) -> bool
     ensures within { result ≡ nat_le (spent + (table_of rules).charge survey.old.net.state) (charge_bound (weight_of rules) survey.old.net.state.network) }
     ensures sound { IsState survey.old.net.state }
@@ -65,8 +65,8 @@ impl Judge {
     ///
     /// - a name is above `size`, or an end of an edge is no node;
     /// - there are more than 1,048,576 edges;
-    /// - a pointer is at no neighbour;
-    /// - a flag is true and the rules use none;
+    /// - a pointer is neither null nor at a neighbour;
+    /// - a flag is true although the rules use no flags;
     /// - moves spent plus the charge are above the bound of the network.
     ///
     /// Cost: a look-up for each node, a search for each edge, and one count of the charge. Takes some forty
@@ -103,8 +103,8 @@ impl Judge {
 
     /// Returns the base of the present state.
     ///
-    /// `number` is how many entries came before, `spent` the moves since the last accepted disturbance.
-    /// `Want` if memory runs out.
+    /// `number` is the number of entries so far, `spent` the number of moves since the last accepted
+    /// disturbance. `Want` if memory runs out.
     ///
     /// Cost: a look at every name and at both ends of every edge. Takes some eight bytes a node and four an
     /// edge.

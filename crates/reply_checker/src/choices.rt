@@ -1,4 +1,4 @@
-//! The items of the step under judgement, each at its node with its rule.
+//! The items of the step that is judged, stored by node, each with its node's rule.
 
 ghost use Rattle.std.specs.Prelude.{◌≡◌, ◌+◌, ◌<◌, ◌≤◌, ℕ, IfOk, None, Some, cond, is_none, length, replicate, slice_set};
 ghost use Rattle.std.specs.List.{list_all};
@@ -65,7 +65,7 @@ impl ChosenItems {
         }
     }
 
-    /// Removes the items of the nodes that these items name.
+    /// Removes the entries of the nodes that `items` name.
     pub(crate) fn clear(&mut self, items: &[Item])
         ensures len { length self.new ≡ length self.old }
         ensures out { (v : ℕ) → ruled_at self.new v ≡ cond (is_item_node items.now v) None (ruled_at self.old v) }
@@ -75,7 +75,7 @@ impl ChosenItems {
         }
     }
 
-    /// Removes the items of the nodes that these moves move.
+    /// Removes the entries of the nodes that `moves` move.
     pub(crate) fn take_movers(&mut self, moves: &[Moved])
         ensures len { length self.new ≡ length self.old }
         ensures out { (v : ℕ) → ruled_at self.new v ≡ cond (is_mover moves.now v) None (ruled_at self.old v) }
@@ -85,7 +85,7 @@ impl ChosenItems {
         }
     }
 
-    /// Whether none of these items' nodes has an item.
+    /// Whether no node that `items` name has an entry.
     pub(crate) fn has_none(&self, items: &[Item]) -> bool
         ensures { result ≡ list_all (λ i. is_none (ruled_at self.now i.node)) items.now }
     {

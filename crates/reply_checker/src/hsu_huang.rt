@@ -45,7 +45,7 @@ pub(crate) fn is_allowed(net: &NetState, v: Node, act: Act, w: Node) -> bool
     }
 }
 
-/// Whether a node's pointer closes an edge that is open by its ends: its target's pointer is null.
+/// Whether the pointer of `v` closes an open edge: the target of `v` has a null pointer.
 #[inline(always)]
 pub(crate) fn closes(net: &NetState, v: Node) -> bool
     requires { IsTrue (present net.now.state.network v) }
@@ -59,9 +59,9 @@ pub(crate) fn closes(net: &NetState, v: Node) -> bool
     }
 }
 
-/// Returns the stance of a node towards its edges, if `rule` is the rule enabled at it.
+/// Returns the stance of node `v` towards its edges; `rule` is the rule enabled at `v`.
 ///
-/// A node with a null pointer has a suitor exactly if it may marry.
+/// A node with a null pointer has a suitor exactly if the node may marry.
 #[inline(always)]
 pub(crate) fn end_of(net: &NetState, v: Node, rule: Option<Act>) -> EdgeStance
     requires present { IsTrue (present net.now.state.network v) }
@@ -120,7 +120,7 @@ fn point_cost(net: &NetState, v: Node) -> u32
     }
 }
 
-/// Returns the degree of the node that a name points at; 0 if there is none.
+/// Returns the degree of the target of `v`; 0 if `v` has no target.
 fn edges_of_target(net: &NetState, v: Node) -> u32
     ensures value { result ≡ degrees.degree_at net.now.state.network (state.pointer net.now.state v) }
     ensures few { result ≤ 65535 }

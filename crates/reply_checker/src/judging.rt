@@ -1,4 +1,4 @@
-//! The judgement of a reply, and what the reply does.
+//! Judges a reply, and carries out the event of a right reply.
 
 ghost use Rattle.std.specs.Prelude.{◌≡◌, ◌↔◌, ℕ, None, false, IsTrue, IfOk, OnOk, OnErr, length};
 ghost use Rattle.rule_machine.specs.Answer.{Answers, Does};
@@ -21,9 +21,9 @@ use crate::{ChosenItems, CountedNet};
 use net_state::{NetState, StateWriter, leave, make_moves, unlink};
 use rule_machine::{Event, Item, Refusal, Reply, RuleSet, Want};
 
-/// Whether the machine may give this reply to the event; if so, carries the event out as replied.
+/// Whether the machine may give this reply to the event. If so, carries the event out.
 ///
-/// Afterwards `chosen` may have items of a step.
+/// Afterwards `chosen` may contain items of the event, if the event is a step.
 pub(crate) fn judge_reply(
     survey: &mut CountedNet,
     rules: RuleSet,
@@ -47,9 +47,9 @@ pub(crate) fn judge_reply(
     }
 }
 
-/// Returns why an event is refused, if it is.
+/// Returns why an event is refused; `None` if it is not refused.
 ///
-/// Afterwards `chosen` has the items of a step up to the first refused one.
+/// Afterwards `chosen` contains the items of a step before the first refused item.
 fn refusal(
     net: &NetState,
     rules: RuleSet,
@@ -148,7 +148,7 @@ fn may_move(
     }
 }
 
-/// Carries out an event as a right reply has it. `Want` if memory runs out.
+/// Carries out an event with the moves of its right reply. `Want` if memory runs out.
 fn follow(survey: &mut CountedNet, rules: RuleSet, event: &Event, reply: &Reply) -> Result<(), Want>
     requires accepted { refusal_of (table_of rules) survey.old.net.state event.now ≡ None }
     requires right { (spent : ℕ) × IsRightReply (table_of rules) survey.old.net.state spent event.now reply.now }

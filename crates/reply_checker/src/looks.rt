@@ -49,7 +49,7 @@ impl Judge {
         self.survey.net.neighbours(v)
     }
 
-    /// Whether a node points at another.
+    /// Whether `v` points at `w`.
     pub fn points(&self, v: Node, w: Node) -> bool
         ensures { result ≡ state.points self.now.registers v w }
     {
@@ -64,7 +64,7 @@ impl Judge {
         self.survey.net.married(v)
     }
 
-    /// Returns the rule that is enabled at a node, if any. Looks at its neighbours.
+    /// Returns the rule that is enabled at a node, if any. Looks at the node's neighbours.
     pub fn rule_at(&self, rules: RuleSet, v: Node) -> Option<Act>
         requires { IsTrue (network.present self.now.network v) }
         ensures { result ≡ table.rule_at (table_of rules) self.now v }

@@ -75,7 +75,7 @@ pub(crate) fn closes(net: &NetState, v: Node) -> bool
     }
 }
 
-/// Whether a node points at a higher one that is not flagged, and neither is married.
+/// Whether `w`, the target of `v`, is above `v`, not flagged and not married.
 #[inline(always)]
 fn closes_at(net: &NetState, v: Node, w: Node) -> bool
     requires at { state.pointer net.now.state v ≡ Some w }

@@ -75,7 +75,7 @@ pub(crate) fn has_suitor(net: &NetState, v: Node) -> bool
     net.has(v) && first_suitor(net, v).is_some()
 }
 
-/// Returns how many other edges `head` has, if `from` points at it, else 0.
+/// If `from` points at `head`, returns how many edges `head` has besides theirs, else 0.
 pub(crate) fn freed_edges(net: &NetState, from: Node, head: Node) -> u32
     ensures value { result ≡ cond (state.points net.now.state.registers from head) (degrees.degree net.now.state.network head - 1) 0 }
     ensures few { result ≤ 65535 }

@@ -39,7 +39,7 @@ impl Model for Judge {
 }
 
 impl Judge {
-    /// Creates a judge at nodes 1 to `nodes`, without an edge, pointers null, flags false.
+    /// Creates a judge of nodes 1 to `nodes` without an edge; pointers are null and flags false.
     ///
     /// At most 65,535 nodes. `Want` if memory runs out. Takes some forty bytes a node.
     pub fn new(alloc: Global, nodes: u32) -> Result<Judge, Want>
@@ -49,7 +49,7 @@ impl Judge {
         Judge::with_present(alloc, nodes, nodes)
     }
 
-    /// Creates a judge at names 1 to `nodes`; 1 to `present` are nodes.
+    /// Creates a judge of names 1 to `nodes`, of which 1 to `present` are nodes.
     ///
     /// There is no edge, all pointers are null and all flags false. At most 65,535 names. `Want` if memory
     /// runs out. Takes some forty bytes a name.
@@ -70,19 +70,21 @@ impl Judge {
         Ok(Judge { survey, chosen })
     }
 
-    /// Whether the machine may give this reply to the event; if so, carries the event out as replied.
+    /// Whether the machine may give this reply to the event. If so, carries the event out.
     ///
     /// `spent` is the number of moves since the last accepted disturbance. If an item wishes no target, any
-    /// allowed one is right. A wrong reply changes nothing.
+    /// allowed target is right. A wrong reply changes nothing.
     ///
-    /// `Want` if memory runs out; that changes nothing. It comes only if a link is rightly accepted.
+    /// `Want` if memory runs out, which can happen only at a rightly accepted `Link`; the judge is
+    /// unchanged then.
     ///
     /// Cost: a disturbance and a `Show` take look-ups, and a step a look at the neighbours of its nodes.
     /// `Enabled`, `Matching` and `Status` look at
     ///
-    /// - what their replies list,
-    /// - the nodes that changed since the last of these, and their neighbours,
-    /// - the neighbours of each of those that may marry or seduce, or whose edges count otherwise.
+    /// - what their replies list;
+    /// - the nodes that changed since the last such question, and their neighbours;
+    /// - the neighbours of each of those nodes that may marry or seduce, or whose stance towards its edges
+    ///   changed.
     pub fn replay(
         &mut self,
         rules: RuleSet,
@@ -109,10 +111,10 @@ impl Judge {
         right
     }
 
-    /// Returns what an event may add to the charge if it is accepted in the present state.
+    /// Returns how much an event may add to the charge if the present state accepts the event.
     ///
-    /// It is a sum of degrees of the nodes that the event touches, at most 262,144; 0 for a step and a
-    /// question.
+    /// The result is a sum of degrees of the nodes that the event touches, at most 262,144; 0 for a step
+    /// and a question.
     ///
     /// Cost: a few looks, and one at each neighbour of a node that a fault hits.
     pub fn cost_of(&self, rules: RuleSet, event: &Event) -> u32

@@ -1,4 +1,4 @@
-//! Whether a reply is the one of an event.
+//! Tests of a reply: whether it is accepted, a given refusal, or shows a given pointer.
 
 ghost use Rattle.std.specs.Prelude.{◌≡◌, ◌↔◌, IsTrue};
 

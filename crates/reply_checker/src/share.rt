@@ -17,8 +17,8 @@ use rule_machine::{Act, Node, RuleSet};
 ///
 /// - The rule enabled at the node.
 /// - Whether the node is the lower end of a mutual pair.
-/// - What it adds to the charge apart from its edges.
-/// - Whether its pointer closes an edge that is open by its ends.
+/// - What the node adds to the charge apart from its edges.
+/// - Whether the node's pointer closes an edge that is open by the stances of its ends.
 #[derive(Clone, Copy)]
 pub(crate) struct Contribution {
     pub(crate) rule: Option<Act>,
@@ -45,7 +45,7 @@ impl Contribution {
 
 /// Returns the contribution of a name.
 ///
-/// Cost: looks at the registers of the name, its target and that one's target, and at the neighbours of a
+/// Cost: looks at the registers of the name, its target and the target's target, and at the neighbours of a
 /// node whose pointer is null.
 pub(crate) fn share_of(net: &NetState, rules: RuleSet, v: Node) -> Contribution
     requires { v ≤ net.now.state.network.size }
@@ -87,7 +87,9 @@ fn is_unanswered(net: &NetState, v: Node) -> bool
     }
 }
 
-/// Returns the stance of the name's node towards its edges, if there is one; `rule` is its rule.
+/// Returns the stance of node `v` towards its edges; `None` if `v` is absent.
+///
+/// `rule` is the rule enabled at `v`.
 #[inline(always)]
 pub(crate) fn end_at(
     net: &NetState,

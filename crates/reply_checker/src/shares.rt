@@ -12,7 +12,8 @@ use std::alloc::Global;
 
 /// What each name contributed at the last look, with the sums.
 ///
-/// A touched name changed since its dependents were last marked as due. A due name needs a new look.
+/// A name that changed is touched until the names whose contributions depend on that name are marked as
+/// due. A due name needs a new look.
 #[derive(Drop)]
 pub(crate) struct Contributions {
     pub(crate) each: Vec<Contribution>,
@@ -60,7 +61,7 @@ impl Contributions {
         self.touched.mark(v);
     }
 
-    /// After a write of a pointer: touches the node, the old target and the new one.
+    /// Marks the node of a pointer write, the old target and the new target as touched.
     #[inline(always)]
     pub(crate) fn touch_pointer(&mut self, v: Node, was: Option<Node>, is: Option<Node>)
         requires node { v < length self.old.touched }

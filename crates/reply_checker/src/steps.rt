@@ -1,4 +1,4 @@
-//! Whether moves are those of a step.
+//! Whether a step is refused, and whether moves are the moves of a step.
 
 ghost use Rattle.std.specs.Prelude.{◌≡◌, ◌+◌, ◌↔◌, [], IfSome, IsTrue, None, Some, length, map, option_map};
 ghost use Rattle.std.specs.List.{list_all};
@@ -18,9 +18,9 @@ use crate::targets::is_target;
 use net_state::NetState;
 use rule_machine::{Act, Item, Moved, Refusal, RuleSet};
 
-/// Returns why a step is refused, if it is.
+/// Returns why a step is refused; `None` if it is not refused.
 ///
-/// Afterwards `chosen` has the items up to the first refused one.
+/// Afterwards `chosen` contains the items before the first refused item.
 pub(crate) fn step_refusal(
     net: &NetState,
     rules: RuleSet,
@@ -101,10 +101,10 @@ fn allows_wish(net: &NetState, rules: RuleSet, act: Act, item: Item) -> bool
     }
 }
 
-/// Whether these are the moves of one step of the items, which are in `chosen`.
+/// Whether `moves` are the moves of one step of `items`, which `chosen` contains.
 ///
-/// There is at least one, exactly one under a central daemon, ascending by node; each is what an item asks
-/// for, and each item has one. Removes the movers' items.
+/// They are if there is at least one move, exactly one under a central daemon, the moves ascend by node, an
+/// item asks for each move, and each item has a move. Removes the movers' items from `chosen`.
 pub(crate) fn is_step(
     net: &NetState,
     rules: RuleSet,
@@ -121,9 +121,9 @@ pub(crate) fn is_step(
     are_ascending(moves) && are_of_items(net, rules, items, moves, chosen)
 }
 
-/// Whether the daemon allows this many moves, each is asked for by an item, and each item has one.
+/// Whether the daemon allows this many moves, an item asks for each, and each item has a move.
 ///
-/// Removes the movers' items, so that an item that is left has no move.
+/// Removes the movers' items from `chosen`, so that an item that is left there has no move.
 fn are_of_items(
     net: &NetState,
     rules: RuleSet,

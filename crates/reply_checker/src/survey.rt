@@ -1,4 +1,4 @@
-//! A network that keeps its totals, up to what changed since the last question.
+//! A network that stores its totals, which a question updates by what changed since the last one.
 
 ghost use Rattle.std.specs.Prelude.{◌≡◌, ◌≤◌, false, IfOk, None, OnErr, OnOk};
 ghost use Rattle.rule_machine.specs.Disturbance.{after_link, after_join};
@@ -15,7 +15,8 @@ use std::alloc::Global;
 
 /// A network with its registers and the contributions of its names, by the rules of the last question.
 ///
-/// A write touches the names that it changes; the next question looks again at what depends on them.
+/// A write marks the names that it changes as touched. The next question looks again at the names that
+/// depend on touched names.
 #[derive(Drop)]
 pub(crate) struct CountedNet {
     pub(crate) net: NetState,

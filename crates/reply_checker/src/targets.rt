@@ -26,7 +26,7 @@ pub(crate) fn is_target(
     }
 }
 
-/// Whether an item lets its node point at `w`: it is allowed, and is the wish if there is one.
+/// Whether the item's node may point at `w`: its rule allows `w`, and `w` is the wish, if any.
 fn suits(net: &NetState, rules: RuleSet, act: Act, item: Item, w: Node) -> bool
     requires { IsRuled (table_of rules) net.now.state item act }
     ensures { result ≡ ((table_of rules).allowed net.now.state item.node act w && judged.suits_wish item.wish w) }

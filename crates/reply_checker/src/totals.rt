@@ -1,4 +1,4 @@
-//! The totals that questions need, updated by looks at the names that may contribute otherwise.
+//! The totals that questions need, updated by looks at the names that are touched or due.
 
 ghost use Rattle.std.specs.Prelude.{◌≡◌, ◌+◌, ◌*◌, ◌<◌, ◌≤◌, ℕ, true, false, length, slice_set, IsTrue, None, cond};
 ghost use Rattle.enabled_set.specs.Members.{is_in};
@@ -21,7 +21,7 @@ pub(crate) struct Totals {
     pub(crate) charge: u32,
 }
 
-/// Whether a node's contribution depends on this neighbour: its pointer is null or at the neighbour.
+/// Whether the contribution of `v` depends on neighbour `w`: the pointer is null or at `w`.
 #[inline(always)]
 fn asks(net: &NetState, v: Node, w: Node) -> bool
     requires present { IsTrue (present net.now.state.network v) }
@@ -36,7 +36,7 @@ fn asks(net: &NetState, v: Node, w: Node) -> bool
     }
 }
 
-/// Marks a name, and the neighbours of its node whose contribution depends on it.
+/// Marks `v` as due, and each neighbour of `v` whose contribution depends on `v`.
 fn mark_around(net: &NetState, v: Node, due: &mut Marks)
     requires within { v ≤ net.now.state.network.size }
     requires places { length due.old ≡ net.now.state.network.size + 1 }
@@ -56,7 +56,7 @@ fn mark_around(net: &NetState, v: Node, due: &mut Marks)
 }
 
 impl CountedNet {
-    /// Marks as due what depends on touched names. Looks at each of them and its neighbours.
+    /// Marks as due the names that depend on touched names. Looks at neighbours.
     fn spread(&mut self)
         ensures kept { (self.new.net.state ≡ self.old.net.state) × (self.new.rules ≡ self.old.rules) }
         ensures none { (v : ℕ) → is_in self.new.shares.touched v ≡ false }
@@ -95,8 +95,9 @@ impl CountedNet {
 
     /// Returns the totals by these rules.
     ///
-    /// Looks at the touched names, at their neighbours whose pointer is null or at them, and at the
-    /// neighbours of each such name whose pointer is null or whose edges count otherwise.
+    /// Cost: looks at the touched names and their neighbours. A name is due if it is touched, or if its
+    /// pointer is null or at a touched neighbour. Looks at the neighbours of each due name whose pointer is
+    /// null or whose stance towards its edges changed.
     pub(crate) fn totals(&mut self, rules: RuleSet) -> Totals
         ensures value { AreTotals rules self.old.net.state result }
         ensures kept { self.new.net.state ≡ self.old.net.state }
@@ -109,7 +110,7 @@ impl CountedNet {
         self.count()
     }
 
-    /// Returns the totals, if no name is touched or due.
+    /// Returns the totals; no name is touched or due.
     ///
     /// An edge that is open by the stances of its ends adds 2 to the charge, unless a pointer closes it.
     fn count(&self) -> Totals

@@ -10,25 +10,25 @@ use Rattle.auditor.specs.Verdict.{found_by}
 use Rattle.rudekpi_c.specs.declared.judged.Verdict.{Verdict}
 use Rattle.rudekpi_c.specs.AuditVerdicts.{JudgedAs, unjudged}
 
--- an audit that was fed nothing, and found nothing
+-- an audit that has been fed nothing and has found no damage
 pub record IsAuditBegun (new : Option PieceAudit) : Type 0 where
   pub audit : PieceAudit
   pub is : new ≡ Some audit
   pub fed : HasReadPieces [] audit
   pub found : audit.fault ≡ None
 
--- 0: it began; 3: memory ran out, and there is none
+-- 0: the audit began; 3: memory ran out, and there is no audit
 abbrev pub AuditBegun : ℕ → Option PieceAudit → Type 0
 AuditBegun status new = ((status ≡ 0) × IsAuditBegun new) ⊎ ((status ≡ 3) × (new ≡ None))
 
--- 0: no fault was found; 7: a damage was; 3: memory ran out
+-- 0: no fault was found; 7: a damage was found; 3: memory ran out
 abbrev pub found_status : {A : Type 0} → Result A JudgeFault → ℕ
 found_status (Ok fine) = 0
 found_status (Err (Damaged d)) = 7
 found_status (Err Memory) = 3
 
--- it was fed the piece after what it was fed before; a damage is that of every text that begins so; a fault
--- once found stays
+-- the audit was fed the piece after all pieces before. A damage found is the damage of every text that begins
+-- with these pieces. A fault that was found stays.
 pub record IsAuditFed (piece : List ℕ) (status : ℕ) (a : PieceAudit) (new : Option PieceAudit) : Type 0 where
   pub b : PieceAudit
   pub is : new ≡ Some b
@@ -42,7 +42,7 @@ abbrev pub AuditFed : List ℕ → ℕ → Option PieceAudit → Option PieceAud
 AuditFed piece status None new = (status ≡ 4) × (new ≡ None)
 AuditFed piece status (Some a) new = IsAuditFed piece status a new
 
--- 0: the verdict is that of the text it was fed; 4: there is no audit
+-- 0: the verdict is that of the text that the audit was fed; 4: there is no audit
 abbrev pub AuditEnded : ℕ → Verdict → Option PieceAudit → Type 0
 AuditEnded status verdict None = (status ≡ 4) × (verdict ≡ unjudged)
 AuditEnded status verdict (Some a) = (status ≡ 0) × ((bytes : List ℕ) → HasReadPieces bytes a → JudgedAs bytes verdict)

@@ -9,11 +9,11 @@ use Rattle.auditor.specs.AcceptedRuns.{IsAccepted}
 use Rattle.auditor.specs.Damage.{IsDamage}
 use Rattle.rudekpi_c.specs.declared.judged.Verdict.{Verdict}
 
--- accepted, with these counts
+-- the verdict of a transcript that is accepted with these counts
 abbrev pub accepted : Summary → Verdict
 accepted c = record { kind = 0; entries = c.entries; epochs = c.epochs; moves = c.moves; line = 0 }
 
--- a kind, at this line
+-- the verdict of this kind, at this line
 abbrev pub refused : ℕ → ℕ → Verdict
 refused kind line = record { kind = kind; entries = 0; epochs = 0; moves = 0; line = line }
 
@@ -25,18 +25,18 @@ damaged (OutOfOrder line) = refused 3 line
 damaged (NotTheMachines line) = refused 4 line
 damaged (BadBase line) = refused 5 line
 
--- the verdict that says nothing
+-- the verdict that memory ran out, which says nothing of the bytes
 abbrev pub unjudged : Verdict
 unjudged = refused 6 0
 
--- the verdict of a result
+-- the verdict that encodes a result
 abbrev pub audit_verdict : Result Summary JudgeFault → Verdict
 audit_verdict (Ok c) = accepted c
 audit_verdict (Err (Damaged d)) = damaged d
 audit_verdict (Err Memory) = unjudged
 
--- The verdict is that of a transcript with its counts, or of a text with its damage, or memory ran out.
--- Unless memory ran out, every transcript is accepted and every damage is named.
+-- The verdict is that the bytes are a transcript with these counts, or have this damage, or that memory ran
+-- out. Unless memory ran out, every transcript is accepted and every damage is named.
 pub record JudgedAs (bytes : List ℕ) (v : Verdict) : Type 0 where
   pub says : ((c : Summary) × IsAccepted bytes c × (v ≡ accepted c)) ⊎ ((d : Damage) × IsDamage bytes d × (v ≡ damaged d)) ⊎ (v ≡ unjudged)
   pub accepts_runs : (c : Summary) → IsAccepted bytes c → (v ≡ accepted c) ⊎ (v ≡ unjudged)

@@ -1,4 +1,4 @@
--- What a call with numbers in place of a line does to a session, status by status.
+-- What a call with a command in numbers does to a session, status by status.
 use Rattle.std.specs.Prelude.{◌≡◌, ℕ, Bool, true, false, zero, suc, ◌⊎◌, List, map, Option, None, Some, Result, Ok, Err, SomeIff}
 use Rattle.rule_machine.specs.declared.choice.Item.{Item}
 use Rattle.rule_machine.specs.declared.event.Event.{Event}
@@ -21,7 +21,7 @@ use Rattle.rudekpi_c.specs.declared.asked.StepItem.{StepItem}
 use Rattle.rudekpi_c.specs.declared.session.Session.{Session}
 use Rattle.rudekpi_c.specs.declared.told.CallResult.{CallResult}
 
--- 0 is no node
+-- the name, or none for 0
 abbrev pub optional_name : ℕ → Option ℕ
 optional_name zero = None
 optional_name (suc n) = Some (suc n)
@@ -29,11 +29,11 @@ optional_name (suc n) = Some (suc n)
 abbrev pub item_named : StepItem → Item
 item_named c = record { node = c.node; wish = optional_name c.wish }
 
--- the step of these nodes
+-- the step that chooses these items
 abbrev pub step_named : List StepItem → Event
 step_named chosen = Step (map item_named chosen)
 
--- the numbers gave the command, or are out of range; or memory ran out for numbers in range
+-- the numbers gave this command, or are out of range; or memory ran out for numbers in range
 abbrev pub IsAsked : {E : Type 0} → Result (Option Command) E → Command → Type 0
 IsAsked (Ok asked) command = SomeIff asked (IsCommand command) command
 IsAsked (Err want) command = IsCommand command
@@ -43,17 +43,17 @@ abbrev pub reply_at : RuleTable → Command → Progress → Reply
 reply_at t (Tell event) at = reply_of t at.moment.state at.moment.spent event
 reply_at t other at = Accepted
 
--- the number returned if a command was not carried out: 0 for an event, else that of the last entry
+-- the number returned if a command was not carried out: 0 for an event, else the number of the last entry
 abbrev pub number_left : Command → ℕ → ℕ
 number_left (Tell event) count = 0
 number_left other count = count
 
--- the number returned, if there are then this many entries
+-- the number returned with this result, if there are this many entries after the command
 abbrev pub number_at : {E : Type 0} → Command → ℕ → Result Bool E → ℕ
 number_at command count (Ok true) = count
 number_at command count other = number_left command count
 
--- the reply that is kept
+-- the reply that is kept with this result
 abbrev pub reply_kept : {E : Type 0} → RuleTable → Command → Progress → Result Bool E → Reply
 reply_kept t command before (Ok true) = reply_at t command before
 reply_kept t command before other = Accepted
@@ -64,15 +64,15 @@ command_status reply (Ok true) = entry_status reply
 command_status reply (Ok false) = 2
 command_status reply (Err want) = 3
 
--- 0, or 6 if the machine refuses it: it was carried out; 2: it met a full log; 3: memory ran out, and at most
--- some first turns were taken
+-- 0, or 6 if the machine refuses the event: the command was carried out; 2: the command met a full log; 3:
+-- memory ran out, and at most some first turns were taken
 abbrev pub IsCommandOutcome : RuleTable → ℕ → Command → ℕ → ℕ → Reply → Progress → Progress → Type 0
 IsCommandOutcome t limit command status number reply before after =
     ((status ≡ entry_status (reply_at t command before)) × CommandDoes t limit command before after × (number ≡ after.count) × (reply ≡ reply_at t command before))
     ⊎ ((status ≡ 2) × CommandFills t limit command before after × (number ≡ number_left command after.count) × (reply ≡ Accepted))
     ⊎ ((status ≡ 3) × CommandBegins t limit command before after × (number ≡ number_left command after.count) × (reply ≡ Accepted))
 
--- the command was given to the session, which keeps the reply and counts no line
+-- the command was given to the session, which keeps the reply; the session's line count is unchanged
 pub record IsCommandAnswer (command : Command) (status : ℕ) (told : CallResult) (old new : Option Session) : Type 0 where
   pub s : Session
   pub t : Session
@@ -86,8 +86,8 @@ pub record IsCommandAnswer (command : Command) (status : ℕ) (told : CallResult
   pub stands_is : stands t ≡ with_text_if t.keeps after
   pub told_is : told ≡ told_of t.answer.seq t.answer.reply
 
--- 5: the numbers are out of range, and nothing was done; 4: there was no session; else the session got the
--- command
+-- 5: the numbers are out of range, and nothing was done; 4: there was no session; else the command was given
+-- to the session
 abbrev pub AnswersCommand : Command → ℕ → CallResult → Option Session → Option Session → Type 0
 AnswersCommand command status told old new =
     ((IsCommand command → ⊥) × (status ≡ 5) × (told ≡ untold) × (new ≡ old))

@@ -14,16 +14,16 @@ use Rattle.script_text.specs.Command.{IsCommand}
 use Rattle.rudekpi_c.specs.Session.{stands, rules_of}
 use Rattle.rudekpi_c.specs.declared.session.Session.{Session}
 
--- the costs by the rules
+-- the costs under a rule set
 abbrev pub rule_set_cost : RuleSet → State → Event → ℕ
 rule_set_cost Hh = hsu_huang_cost
 rule_set_cost Manne = manne_cost
 
--- the event's cost in the session's state; 0 if it would be refused
+-- the event's cost in the session's state; 0 if the event would be refused
 abbrev pub cost_at : Session → Event → ℕ
 cost_at s event = disturbance_cost (table_of (rules_of s)) (rule_set_cost (rules_of s)) (stands s).moment.state event
 
--- if it is accepted, the charge grows by at most this
+-- if the event is accepted, the charge grows by at most this number
 abbrev pub GrowsBy : RuleTable → Moment → Event → ℕ → Type 0
 GrowsBy t at event cost = BoundsGrowth t at.state at.spent event cost
 
@@ -32,7 +32,7 @@ CostedIn event status cost None = (status ≡ 4) × (cost ≡ 0)
 CostedIn event status cost (Some s) =
     (status ≡ 0) × (cost ≡ cost_at s event) × GrowsBy (table_of (rules_of s)) (stands s).moment event cost
 
--- 5: the numbers are out of range; 4: there is no session; 0: this is its cost
+-- 5: the numbers are out of range; 4: there is no session; 0: this is the event's cost
 abbrev pub AnswersCost : Event → ℕ → ℕ → Option Session → Type 0
 AnswersCost event status cost session =
     ((IsCommand (Tell event) → ⊥) × (status ≡ 5) × (cost ≡ 0)) ⊎ (IsCommand (Tell event) × CostedIn event status cost session)

@@ -19,7 +19,7 @@ abbrev pub counted_in : Reply → StatusCounts
 counted_in (reply_is.Counts c) = status_counts c
 counted_in other = uncounted
 
--- those of the last answer
+-- the counts in the last answer
 abbrev pub counted_kept : Option Session → StatusCounts
 counted_kept None = uncounted
 counted_kept (Some s) = counted_in s.answer.reply
@@ -28,7 +28,7 @@ counted_kept (Some s) = counted_in s.answer.reply
 abbrev pub counts_at : Session → Counts
 counts_at s = counts_of (table_of (rules_of s)) (stands s).moment.state (stands s).moment.spent
 
--- 0: the counts of the session's state, which a query does not change; else none
+-- 0: the counts of the session's state, which a query does not change; else all counts are 0
 pub record AnswersCounts (status : ℕ) (counts : StatusCounts) (old : Option Session) : Type 0 where
   pub done : status ≡ 0 → IfSome old (λ s. counts ≡ status_counts (counts_at s))
   pub undone : status ≢ 0 → counts ≡ uncounted

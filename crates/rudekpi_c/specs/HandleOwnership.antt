@@ -16,15 +16,15 @@ abbrev pub held_at : (row : RattleType) → Global → Ptr → Option row.Denot 
 held_at row alloc at None = ftrue
 held_at row alloc at (Some value) = box_owns (ghosts.dealloc_token alloc) row at value
 
--- a session
+-- what the handle of a session owns
 abbrev pub held : Global → Ptr → Option session.the_row.Denot → Fml
 held = held_at session.the_row
 
--- how the logic records whether there is one
+-- how the logic records whether there is a session
 abbrev pub held_coded : Coded (Option session.the_row.Denot)
 held_coded = (option.the_row session.the_row).coded
 
--- an audit
+-- what the handle of an audit owns
 abbrev pub held_audit : Global → Ptr → Option audit.the_row.Denot → Fml
 held_audit = held_at audit.the_row
 

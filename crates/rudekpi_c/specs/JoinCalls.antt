@@ -20,18 +20,18 @@ said_by v =
     else (if nat_eq v.kind 4 then Err (Damaged (NotTheMachines v.line))
     else (if nat_eq v.kind 5 then Err (Damaged (BadBase v.line)) else Err Memory)))))
 
--- the new verdict is the joined one; for texts that meet it is that of the joined text, if `lines` is right
+-- the new verdict is the joined one; if two texts meet and `lines` is right, it is that of the joined text
 pub record IsJoined (lines : ℕ) (old next new : Verdict) : Type 0 where
   pub known : (old.kind ≤ 6) × (next.kind ≤ 6)
   pub judged : (former latter : List ℕ) (m : seams.Meets former latter) → ((c : Summary) (d : Damage) → old ≡ accepted c → next ≡ damaged d → lines ≡ line_feeds m.own)
       → JudgedAs former old → JudgedAs latter next → JudgedAs (m.own ++ latter) new
   pub is : (first second : seams.Verdict) → old ≡ audit_verdict first → next ≡ audit_verdict second → new ≡ audit_verdict (seams.joined_verdict first lines second)
 
--- a kind is invalid, or a number of the joined verdict does not fit its field
+-- a verdict's kind is invalid, or a number of the joined verdict does not fit its field
 pub record IsUnjoined (lines : ℕ) (old next new : Verdict) : Type 0 where
   pub kept : new ≡ old
   pub why : (7 ≤ old.kind) ⊎ (7 ≤ next.kind) ⊎ ((first second : seams.Verdict) → old ≡ audit_verdict first → next ≡ audit_verdict second → FitsFields (seams.joined_verdict first lines second) → ⊥)
 
--- 0: the verdicts are joined; 5: they are not
+-- 0: the verdicts were joined; 5: the verdicts were not joined
 abbrev pub AuditJoined : ℕ → ℕ → Verdict → Verdict → Verdict → Type 0
 AuditJoined lines status old next new = ((status ≡ 0) × IsJoined lines old next new) ⊎ ((status ≡ 5) × IsUnjoined lines old next new)

@@ -11,16 +11,16 @@ use Rattle.node_bound.specs.MovesLeft.{moves_left, BoundsMoves}
 use Rattle.rudekpi_c.specs.Session.{stands, rules_of}
 use Rattle.rudekpi_c.specs.declared.session.Session.{Session}
 
--- the bound by the number of nodes alone, by the rules
+-- the bound by the number of nodes alone, under a rule set
 abbrev pub most_of : RuleSet → ℕ → Option ℕ
 most_of Hh n = Some (dense_bound n)
 most_of Manne n = None
 
--- the smaller of this bound and the charge, in the session's state
+-- the smaller of the bound by nodes and the charge, in the session's state
 abbrev pub left_at : Session → ℕ
 left_at s = moves_left ((table_of (rules_of s)).charge (stands s).moment.state) (most_of (rules_of s) (node_count (stands s).moment.state.network))
 
--- at most this many moves come without a disturbance
+-- until the next disturbance, at most this many moves come
 abbrev pub IsMost : RuleTable → Moment → ℕ → Type 0
 IsMost t at left = BoundsMoves t at.state at.spent left
 

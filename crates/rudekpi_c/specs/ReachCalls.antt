@@ -30,28 +30,28 @@ RestsIn node status rests None = (status ≡ 4) × (rests ≡ false)
 RestsIn node status rests (Some s) =
     (status ≡ 0) × (rests ≡ rests_at s node) × (IsTrue rests → StaysAtRest (table_of (rules_of s)) (stands s).moment node)
 
--- 5: no node can have the name; 4: there is no session; 0: this says whether it is at rest
+-- 5: no node can have the name; 4: there is no session; 0: the answer says whether the node is at rest
 abbrev pub AnswersRest : ℕ → ℕ → Bool → Option Session → Type 0
 AnswersRest node status rests session =
     ((IsName node → ⊥) × (status ≡ 5) × (rests ≡ false)) ⊎ (IsName node × RestsIn node status rests session)
 
--- the nodes that the event would reach in the session's state; none if it would be refused
+-- the nodes that the event would reach in the session's state; none if the event would be refused
 abbrev pub reach_at : Session → Event → List ℕ
 reach_at s event = reach_of (table_of (rules_of s)) (stands s).moment.state event
 
--- the names come at the start, and the rest is unchanged; with too little room all is unchanged
+-- the names are at the start and the rest is unchanged; if there is too little room, all is unchanged
 abbrev pub ArePut : List ℕ → List ℕ → List ℕ → Type 0
 ArePut names old new =
     (length names ≤ length old → new ≡ names ++ drop (length names) old) × (length old < length names → new ≡ old)
 
--- 0: these nodes, and their number; 3: memory ran out, and nothing is returned
+-- 0: the nodes' names and their number; 3: memory ran out, and nothing is returned
 abbrev pub AnswersReachIn : Event → ℕ → ℕ → List ℕ → List ℕ → Option Session → Type 0
 AnswersReachIn event status count old new None = (status ≡ 4) × (count ≡ 0) × (new ≡ old)
 AnswersReachIn event status count old new (Some s) =
     ((status ≡ 3) × (count ≡ 0) × (new ≡ old))
     ⊎ ((status ≡ 0) × (count ≡ length (reach_at s event)) × ArePut (reach_at s event) old new)
 
--- 5: the numbers are out of range; 4: there is no session
+-- 5: the numbers are out of range; 4: there is no session; else as `AnswersReachIn` says
 abbrev pub AnswersReach : Event → ℕ → ℕ → List ℕ → List ℕ → Option Session → Type 0
 AnswersReach event status count old new session =
     ((IsCommand (Tell event) → ⊥) × (status ≡ 5) × (count ≡ 0) × (new ≡ old))

@@ -9,7 +9,7 @@ use Rattle.rule_machine.specs.Refuse.{refusal_number}
 use Rattle.rudekpi_c.specs.declared.row.Row.{Row}
 use Rattle.rudekpi_c.specs.declared.told.CallResult.{CallResult}
 
--- a name, or 0 for none
+-- the name, or 0 if there is none
 abbrev pub number_of : Option ℕ → ℕ
 number_of None = 0
 number_of (Some w) = w
@@ -20,15 +20,15 @@ rule_number Marry = 2
 rule_number Seduce = 3
 rule_number Abandon = 4
 
--- a move: the node, its rule, and its new pointer
+-- the row of a move: the node, its rule, and its new pointer
 abbrev pub move_row : Moved → Row
 move_row m = record { node = m.node; rule = rule_number m.act; other = number_of m.target }
 
--- an enabled node and its rule
+-- the row of an enabled node: the node and its rule
 abbrev pub enabled_row : ℕ × Act → Row
 enabled_row e = record { node = e.0; rule = rule_number e.1; other = 0 }
 
--- a pair, the lower name first
+-- the row of a pair, the lower name first
 abbrev pub pair_row : ℕ × ℕ → Row
 pair_row p = record { node = p.0; rule = 0; other = p.1 }
 
@@ -56,7 +56,7 @@ told_of number reply = record { entry = number; refusal = refusal_code reply; ta
 abbrev pub untold : CallResult
 untold = record { entry = 0; refusal = 0; target = 0; rows = 0 }
 
--- the status of an entry: 6 if it was refused, else 0
+-- the status of an entry: 6 if its event was refused, else 0
 abbrev pub entry_status : Reply → ℕ
 entry_status (Refused refusal) = 6
 entry_status other = 0

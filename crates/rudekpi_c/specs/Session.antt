@@ -15,7 +15,7 @@ abbrev pub stands_at : Machine → Progress
 stands_at (Hh run) = progress run.rules run.recorder run.text.items
 stands_at (Manne run) = progress run.rules run.recorder run.text.items
 
--- the network, how many entries led there, and their text that was not taken
+-- the session's progress: the network, how many entries there are, and the text that C has not taken
 abbrev pub stands : Session → Progress
 stands s = stands_at s.machine
 
@@ -35,18 +35,18 @@ limit_at (Manne run) = run.recorder.limit
 abbrev pub limit_of : Session → ℕ
 limit_of s = limit_at s.machine
 
--- with the text if a transcript is kept, else without
+-- the progress with its text if a transcript is kept, else without a text
 abbrev pub with_text_if : Bool → Progress → Progress
 with_text_if true at = at
 with_text_if false at = record at { text = [] }
 
--- the rules, the limit, and whether a transcript is kept are unchanged
+-- the rules, the limit, and whether a transcript is kept have not changed
 pub record GoesOn (s t : Session) : Type 0 where
   pub rules : rules_of t ≡ rules_of s
   pub limit : limit_of t ≡ limit_of s
   pub keeps : t.keeps ≡ s.keeps
 
--- by these rules
+-- how carrying out a line ends under these rules
 abbrev pub LineEnded : {E : Type 0} → RuleSet → ℕ → ℕ → List ℕ → Progress → Progress → Result (Option LineError) E → Type 0
 LineEnded r = LineEnds (table_of r)
 

@@ -12,7 +12,7 @@ abbrev pub rows_kept : Option Session → List Row
 rows_kept None = []
 rows_kept (Some s) = rows_of s.answer.reply
 
--- from here on the text is kept; or it is not, and there is none
+-- from now on the session keeps its text; or it does not, and its text is empty
 pub record KeepsTranscript (keeps : Bool) (s : Session) (new : Option Session) : Type 0 where
   pub t : Session
   pub is : new ≡ Some t
@@ -27,12 +27,12 @@ abbrev pub AnswersKeep : Bool → ℕ → Option Session → Option Session → 
 AnswersKeep keeps status None new = (status ≡ 4) × (new ≡ None)
 AnswersKeep keeps status (Some s) new = (status ≡ 0) × KeepsTranscript keeps s new
 
--- the name of the node's partner in the session's state, or 0
+-- 4: there is no session; 0: the name of the node's partner in the session's state, or 0 without a partner
 abbrev pub AnswersPartnerIn : ℕ → ℕ → ℕ → Option Session → Type 0
 AnswersPartnerIn node status found None = (status ≡ 4) × (found ≡ 0)
 AnswersPartnerIn node status found (Some s) = (status ≡ 0) × (found ≡ number_of (partner (stands s).moment.state node))
 
--- 5: no node can have the name
+-- 5: no node can have the name; else as `AnswersPartnerIn` says
 abbrev pub AnswersPartner : ℕ → ℕ → ℕ → Option Session → Type 0
 AnswersPartner node status found session =
     ((IsName node → ⊥) × (status ≡ 5) × (found ≡ 0)) ⊎ (IsName node × AnswersPartnerIn node status found session)

@@ -15,12 +15,12 @@ use Rattle.script_text.specs.Command.{IsCommand}
 use Rattle.rudekpi_c.specs.Session.{stands, rules_of}
 use Rattle.rudekpi_c.specs.declared.session.Session.{Session}
 
--- the silent costs of a rule set
+-- the silent costs under a rule set
 abbrev pub silent_costs_of : RuleSet → State → Event → ℕ
 silent_costs_of Hh = silent_cost
 silent_costs_of Manne = manne_silent_cost
 
--- what the event would cost the session's network if that is silent; 0 if it would be refused
+-- what the event would cost the session's network if it is silent; 0 if the event would be refused
 abbrev pub silent_cost_at : Session → Event → ℕ
 silent_cost_at s event = disturbance_cost (table_of (rules_of s)) (silent_costs_of (rules_of s)) (stands s).moment.state event
 
@@ -28,7 +28,7 @@ silent_cost_at s event = disturbance_cost (table_of (rules_of s)) (silent_costs_
 abbrev pub IsSilentAt : Session → Type 0
 IsSilentAt s = enabled_names (table_of (rules_of s)) (stands s).moment.state ≡ []
 
--- no run after the event has more moves before the next disturbance
+-- after the event, every run has at most this many moves before the next disturbance
 abbrev pub PaysFor : RuleTable → Moment → Event → ℕ → Type 0
 PaysFor t at event cost = BoundsMovesAfter t at.state at.spent event cost
 
@@ -39,7 +39,7 @@ SilentCostIn event status cost (Some s) =
     ((IsSilentAt s → ⊥) × (status ≡ 8) × (cost ≡ 0))
     ⊎ (IsSilentAt s × (status ≡ 0) × (cost ≡ silent_cost_at s event) × PaysFor (table_of (rules_of s)) (stands s).moment event cost)
 
--- 5: the numbers are out of range; 4: there is no session
+-- 5: the numbers are out of range; 4: there is no session; else as `SilentCostIn` says
 abbrev pub AnswersSilentCost : Event → ℕ → ℕ → Option Session → Type 0
 AnswersSilentCost event status cost session =
     ((IsCommand (Tell event) → ⊥) × (status ≡ 5) × (cost ≡ 0)) ⊎ (IsCommand (Tell event) × SilentCostIn event status cost session)

@@ -7,11 +7,11 @@ use Rattle.script_text.specs.declared.command.Command.TheVariants.{Drive}
 use Rattle.script_text.specs.declared.command.Turns.{Turns}
 use Rattle.script_text.specs.Command.{Says}
 
--- a command that drove at least as many turns as the charge leaves no node enabled
+-- a `drive` of at least as many turns as the charge leaves no node enabled
 abbrev pub Silences : RuleTable → Command → State → State → Type 0
 Silences t (Drive turns) before after = t.charge before ≤ turns.count → enabled_names t after ≡ []
 Silences t other before after = Unit {0}
 
--- and so does the line of such a command
+-- the line of a `drive` of at least as many turns as the charge leaves no node enabled
 abbrev pub LineSilences : RuleTable → List ℕ → State → State → Type 0
 LineSilences t line before after = (turns : Turns) → Says line (Drive turns) → t.charge before ≤ turns.count → enabled_names t after ≡ []

@@ -13,16 +13,16 @@ use Rattle.rudekpi_c.specs.Session.{stands, rules_of, limit_of, with_text_if, Go
 use Rattle.rudekpi_c.specs.SilentDrives.{LineSilences}
 use Rattle.rudekpi_c.specs.declared.session.Session.{Session}
 
--- 0 is the rules of Hsu and Huang, any other number those of Manne and others
+-- 0 means the rules of Hsu and Huang, any other number those of Manne and others
 abbrev pub named : ℕ → RuleSet
 named zero = Hh
 named (suc n) = Manne
 
--- there are two rule sets, at most 65,535 names, and at most as many nodes as names
+-- the number of the rules is 0 or 1; there are at most 65,535 names, and at most as many nodes as names
 abbrev pub IsWanted : ℕ → ℕ → ℕ → Type 0
 IsWanted rules nodes present = (rules ≤ 1) × (nodes ≤ 65535) × (present ≤ nodes)
 
--- C keeps the session from here on, without its text if it keeps none
+-- C keeps this session from now on; its text is dropped if the session keeps no transcript
 pub record IsPutBack (s : Session) (new : Option Session) : Type 0 where
   pub t : Session
   pub is : new ≡ Some t
@@ -42,14 +42,14 @@ pub record IsFreshSession (rules nodes present : ℕ) (new : Option Session) : T
   pub keeps_is : session.keeps ≡ true
   pub answer_is : session.answer.reply ≡ Accepted
 
--- 0: it began; 3: memory ran out; 5: an argument is out of range; after 3 and 5 there is none
+-- 0: the session began; 3: memory ran out; 5: an argument is out of range; after 3 and 5 there is no session
 abbrev pub OpensSession : ℕ → ℕ → ℕ → ℕ → Option Session → Type 0
 OpensSession rules nodes present status new =
     (IsWanted rules nodes present × (status ≡ 0) × IsFreshSession rules nodes present new)
     ⊎ (IsWanted rules nodes present × (status ≡ 3) × (new ≡ None))
     ⊎ ((IsWanted rules nodes present → ⊥) × (status ≡ 5) × (new ≡ None))
 
--- a line that was fed is the session's next, whatever it is
+-- a line that was fed has the session's next line number, whatever the line is
 pub record IsNext (number : ℕ) (s t : Session) : Type 0 where
   pub number_is : number ≡ t.lines
   pub lines_is : t.lines ≡ min (s.lines + 1) (2 ^ 64 - 1)
@@ -63,8 +63,8 @@ line_status (Ok (Some (BadLine n))) = 1
 line_status (Ok (Some LogFull)) = 2
 line_status (Err want) = 3
 
--- 0: it was carried out; 1: it is neither empty nor a command, and nothing was done; 2: it met a full log; 3:
--- memory ran out, and at most some first turns were taken
+-- 0: the line was carried out; 1: it is neither empty nor a command, and nothing was done; 2: it met a full
+-- log; 3: memory ran out, and at most some first turns were taken
 abbrev pub AnswersLine : List ℕ → ℕ → Session → Progress → Type 0
 AnswersLine line status s after =
     ((status ≡ 0) × LineDoes (table_of (rules_of s)) (limit_of s) line (stands s) after)
@@ -83,21 +83,21 @@ pub record TakesLine (line : List ℕ) (status number : ℕ) (old new : Option S
   pub silent : status ≡ 0 → LineSilences (table_of (rules_of s)) line (stands s).moment.state after.moment.state
   pub stands_is : stands t ≡ with_text_if t.keeps after
 
--- there was none
+-- there was no session
 abbrev pub IsNobody : ℕ → Option Session → Option Session → Type 0
 IsNobody status old new = (status ≡ 4) × (old ≡ None) × (new ≡ None)
 
--- a line was given to the session, and its number returned; or there was none, and the number is unchanged
+-- a line was given to the session, and the line's number returned; or there was no session and no new number
 abbrev pub AnswersFeed : List ℕ → ℕ → ℕ → ℕ → Option Session → Option Session → Type 0
 AnswersFeed line was status number old new = TakesLine line status number old new ⊎ (IsNobody status old new × (number ≡ was))
 
--- how many bytes of text there are
+-- how many bytes of text the session has
 abbrev pub text_length : Option Session → ℕ
 text_length None = 0
 text_length (Some s) = length (stands s).text
 
--- if the text fits, it is written to the start, the bytes after it stay, and the session drops it; else
--- nothing has changed
+-- if the text fits, it is written to the start, the bytes after it are unchanged, and the session drops the
+-- text; else nothing has changed
 pub record IsHanded (was out : List ℕ) (n : ℕ) (s : Session) (new : Option Session) : Type 0 where
   pub t : Session
   pub is : new ≡ Some t

@@ -1,4 +1,4 @@
-//! Commands from numbers.
+//! Commands made from C's numbers.
 
 ghost use Rattle.std.specs.Prelude.{◌≡◌, ◌↔◌, SomeIff, IfSome, IfOk, IsTrue, map, [], ◌∷◌};
 ghost use Rattle.std.specs.List.{AllByRecursion};
@@ -13,7 +13,7 @@ use rule_machine::{Choice, Event, Item, MAX_ITEMS, Node, Want};
 use script_text::{Command, MAX_TURNS, Turns};
 use std::alloc::Global;
 
-/// An item of a step: a node, and the wished target of its pointer, or 0 for any.
+/// An item of a step: a node, and the wished target of its pointer, or 0 for no wish.
 #[repr(C)]
 #[derive(Clone, Copy)]
 pub struct StepItem {
@@ -63,7 +63,7 @@ pub(crate) fn flag(v: u32, value: bool) -> Option<Command>
     Some(Command::Tell(Event::Flag(Node::new(v)?, value)))
 }
 
-/// The node with this name; 0 is null.
+/// The node with this name, or null for 0; `None` if no node can have the name.
 fn target(number: u32) -> Option<Option<Node>>
     ensures { SomeIff result (IfSome (optional_name number) IsName) (optional_name number) }
 {

@@ -1,4 +1,4 @@
-//! C's slot for an audit; C's types have no type parameters, so sessions have another.
+//! C's slot for an audit. Sessions have another slot type, since C's types have no type parameters.
 
 ghost use Rattle.std.specs.Prelude.{◌≡◌, ◌↔◌, None, Some, Option, IsTrue, IsNone, IfSome};
 ghost use Rattle.auditor.specs.declared.pieces.PieceAudit.{PieceAudit};
@@ -11,7 +11,7 @@ use std::marker::Model;
 use std::mem::replace;
 use std::ptr::null_mut;
 
-/// The address of an audit, or null. C sees the address alone.
+/// The address of an audit, or null. C sees only the address.
 #[repr(C)]
 #[derive(Drop)]
 pub struct AuditHandle {
@@ -76,7 +76,7 @@ impl AuditSlot {
         Some(old.handle.into_parts().into_box())
     }
 
-    /// Puts an audit in, in the place of the old one.
+    /// Puts an audit into the slot, in place of the old audit.
     pub(crate) fn put(&mut self, audit: Box<PieceAudit>)
         ensures { self.new.handle.value ≡ Some audit.value }
     {

@@ -1,4 +1,4 @@
-//! Audits that C feeds a transcript as it comes.
+//! Audits of a transcript that C feeds in pieces.
 
 ghost use Rattle.std.specs.Prelude.{◌≡◌, None};
 ghost use Rattle.rudekpi_c.specs.AuditCalls.{AuditBegun, AuditEnded, AuditFed, found_status};
@@ -9,7 +9,7 @@ use crate::status::{DAMAGED, DONE, MEMORY, NO_SESSION};
 use auditor::{JudgeFault, PieceAudit};
 use std::alloc::Global;
 
-/// Begins an audit that was fed nothing, in place of what the slot had.
+/// Begins an audit that has been fed nothing, in place of the slot's old audit.
 ///
 /// Returns 3 if memory runs out; the slot is then empty.
 #[unsafe(no_mangle)]
@@ -26,8 +26,8 @@ pub extern "C" fn rudekpi_audit_new(alloc: Global, slot: &mut AuditSlot) -> u32
 
 /// Feeds the next bytes, cut anywhere.
 ///
-/// Returns 7 if the bytes so far are damaged, whatever follows; 3 if memory runs out; 4 if there is no audit.
-/// After 7 or 3 every call returns the same.
+/// Returns 7 if the bytes fed so far are damaged, whatever bytes follow; 3 if memory runs out; 4 if there is
+/// no audit. After 7 or 3 every later call of this function returns the same status.
 #[unsafe(no_mangle)]
 pub extern "C" fn rudekpi_audit_feed(alloc: Global, slot: &mut AuditSlot, piece: &[u8]) -> u32
     ensures { AuditFed piece.now result slot.old.handle.value slot.new.handle.value }
@@ -40,7 +40,7 @@ pub extern "C" fn rudekpi_audit_feed(alloc: Global, slot: &mut AuditSlot, piece:
     status_of(found)
 }
 
-/// Judges all that was fed as a whole text, and ends the audit. Returns 4 if there is no audit.
+/// Judges all bytes fed as a whole text, and ends the audit. Returns 4 if there is no audit.
 #[unsafe(no_mangle)]
 pub extern "C" fn rudekpi_audit_finish(
     alloc: Global,

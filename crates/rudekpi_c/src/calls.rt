@@ -1,4 +1,4 @@
-//! Commands that C gives as numbers; each does what its script line does.
+//! Commands that C gives as numbers. Each does what its script line does.
 
 ghost use Rattle.std.specs.Prelude.{◌≡◌, SomeIff};
 ghost use Rattle.rule_machine.specs.declared.event.Event.{Event};
@@ -29,7 +29,7 @@ fn status_of(done: &Result<bool, Want>, reply: &Reply) -> u32
     }
 }
 
-// Gives the session a command; 5 if there is none because a number is out of range.
+// Gives the session a command; returns 5 if there is no command, because a number is out of range.
 fn call(alloc: Global, slot: &mut Slot, command: Option<Command>, told: &mut CallResult) -> u32
     ensures { (asked : Command) → SomeIff command (IsCommand asked) asked → AnswersCommand asked result told.new slot.old.handle.value slot.new.handle.value }
 {
@@ -47,7 +47,7 @@ fn call(alloc: Global, slot: &mut Slot, command: Option<Command>, told: &mut Cal
     status
 }
 
-// Drops the last answer and returns 3: memory ran out for an event.
+// Answers that memory ran out for an event: drops the last answer and returns 3.
 fn fail_memory(alloc: Global, slot: &mut Slot, told: &mut CallResult) -> u32
     ensures { (event : Event) → IsCommand (Tell event) → AnswersCommand (Tell event) result told.new slot.old.handle.value slot.new.handle.value }
 {
@@ -62,8 +62,8 @@ fn fail_memory(alloc: Global, slot: &mut Slot, told: &mut CallResult) -> u32
 
 /// Adds an edge.
 ///
-/// Returns 6 if the machine refuses it, 2 at a full log, 3 if memory runs out, 4 if there is no session, and
-/// 5 for a name that is 0 or above 65,535. So do the other calls.
+/// Returns 6 if the machine refuses the event, 2 if the log is full, 3 if memory runs out, 4 if there is no
+/// session, and 5 if a name is 0 or above 65,535. The other calls return the same statuses.
 #[unsafe(no_mangle)]
 pub extern "C" fn rudekpi_link(
     alloc: Global,
@@ -104,7 +104,7 @@ pub extern "C" fn rudekpi_join(
     call(alloc, slot, asked::join(node), told)
 }
 
-/// Makes a node absent, with its edges.
+/// Makes a node absent, and removes its edges.
 #[unsafe(no_mangle)]
 pub extern "C" fn rudekpi_leave(
     alloc: Global,

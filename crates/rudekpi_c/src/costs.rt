@@ -1,4 +1,4 @@
-//! The costs of edits and faults that C has not made yet, without an entry.
+//! The costs of edits and faults that C has not made yet. Asking makes no entry.
 
 ghost use Rattle.std.specs.Prelude.{◌≡◌, SomeIff};
 ghost use Rattle.rule_machine.specs.declared.event.Event.{Event};
@@ -14,7 +14,7 @@ use crate::status::{BAD_ARGUMENT, DONE, NO_SESSION};
 use script_text::Command;
 use std::alloc::Global;
 
-// Tells what an event would cost, or that there is none, since its numbers are out of their ranges.
+// Writes the cost of an event; returns 5 if there is no event, because a number is out of range.
 fn cost_of(alloc: Global, slot: &mut Slot, asked: Option<Command>, cost: &mut u32) -> u32
     ensures costed { (event : Event) → SomeIff asked (IsCommand (Tell event)) (Tell event) → AnswersCost event result cost.new slot.old.handle.value }
     ensures kept { slot.new.handle.value ≡ slot.old.handle.value }
@@ -31,10 +31,10 @@ fn cost_of(alloc: Global, slot: &mut Slot, asked: Option<Command>, cost: &mut u3
     DONE
 }
 
-/// The cost of linking two nodes, in moves: the charge would grow by at most this.
+/// Writes the cost of linking two nodes, in moves: linking them raises the charge by at most the cost.
 ///
-/// It is 0 for an edge that would be refused. Returns 4 if there is no session, and 5 for a name that is 0 or
-/// above 65,535. So do the other costs.
+/// The cost is 0 if the edge would be refused. Returns 4 if there is no session, and 5 if a name is 0 or
+/// above 65,535. The other cost calls return the same statuses.
 #[unsafe(no_mangle)]
 pub extern "C" fn rudekpi_cost_of_link(
     alloc: Global,
@@ -49,7 +49,7 @@ pub extern "C" fn rudekpi_cost_of_link(
     cost_of(alloc, slot, asked::link(a, b), cost)
 }
 
-/// The cost of unlinking two nodes.
+/// Writes the cost of unlinking two nodes.
 #[unsafe(no_mangle)]
 pub extern "C" fn rudekpi_cost_of_unlink(
     alloc: Global,
@@ -64,7 +64,7 @@ pub extern "C" fn rudekpi_cost_of_unlink(
     cost_of(alloc, slot, asked::unlink(a, b), cost)
 }
 
-/// The cost of a node that joins.
+/// Writes the cost of a node's joining.
 #[unsafe(no_mangle)]
 pub extern "C" fn rudekpi_cost_of_join(
     alloc: Global,
@@ -78,7 +78,7 @@ pub extern "C" fn rudekpi_cost_of_join(
     cost_of(alloc, slot, asked::join(node), cost)
 }
 
-/// The cost of a node that leaves.
+/// Writes the cost of a node's leaving.
 #[unsafe(no_mangle)]
 pub extern "C" fn rudekpi_cost_of_leave(
     alloc: Global,
@@ -92,7 +92,7 @@ pub extern "C" fn rudekpi_cost_of_leave(
     cost_of(alloc, slot, asked::leave(node), cost)
 }
 
-/// The cost of writing a pointer; the target 0 is null.
+/// Writes the cost of writing a node's pointer; the target 0 is null.
 #[unsafe(no_mangle)]
 pub extern "C" fn rudekpi_cost_of_point(
     alloc: Global,
@@ -107,7 +107,7 @@ pub extern "C" fn rudekpi_cost_of_point(
     cost_of(alloc, slot, asked::point(node, target), cost)
 }
 
-/// The cost of writing a flag.
+/// Writes the cost of writing a node's flag.
 #[unsafe(no_mangle)]
 pub extern "C" fn rudekpi_cost_of_flag(
     alloc: Global,

@@ -18,7 +18,7 @@ use script_text::Command;
 use std::alloc::Global;
 use step_log::Answer;
 
-/// Carries out an event, and keeps its answer, or none if it made no entry.
+/// Carries out an event and stores its answer; the answer is empty if the event made no entry.
 fn tell<R: Rules>(run: &mut Run<R>, event: &Event, answer: &mut Answer) -> Result<bool, Want>
     ensures ends { CommandEnds R.table run.old.recorder.limit (Tell event.now) (progress_of run.old) (progress_of run.new) result }
     ensures number { answer.new.seq ≡ number_at (Tell event.now) run.new.recorder.len result }
@@ -41,7 +41,7 @@ fn tell<R: Rules>(run: &mut Run<R>, event: &Event, answer: &mut Answer) -> Resul
     }
 }
 
-/// A number without a reply: that of an entry, or 0.
+/// An answer without a reply. `seq` is the number of an entry, or 0.
 pub(crate) fn unanswered(seq: u32) -> Answer
     ensures number { result.seq ≡ seq }
     ensures reply { result.reply ≡ Accepted }
@@ -59,7 +59,7 @@ fn left<R: Rules>(run: &Run<R>) -> Answer
     unanswered(run.recorder.len())
 }
 
-/// Carries out a command, and keeps its answer.
+/// Carries out a command, and stores its answer.
 pub(crate) fn follow<R: Rules>(
     run: &mut Run<R>,
     alloc: Global,

@@ -10,7 +10,7 @@ use std::alloc::Global;
 use std::marker::Model;
 use std::ptr::null_mut;
 
-/// The address of a session, or null. C sees the address alone: an allocator takes no bytes.
+/// The address of a session, or null. C sees only the address: an allocator takes no bytes.
 #[repr(C)]
 #[derive(Drop)]
 pub struct Handle {

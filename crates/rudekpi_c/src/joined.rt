@@ -41,8 +41,8 @@ fn found_in(verdict: Verdict) -> Option<Result<Summary, JudgeFault>>
 /// Joins the verdict of a text with that of the next.
 ///
 /// The first text ends with the base that begins the second. `lines` is how many lines the first text has
-/// before that base. It is used only if the first is accepted and the second is damaged. Returns 5 for an
-/// invalid kind, or for a sum that does not fit its field; the verdict is then unchanged.
+/// before that base. `lines` is used only if the first text is accepted and the second is damaged. Returns 5
+/// for an invalid kind, or for a sum that does not fit its field; the verdict is then unchanged.
 #[unsafe(no_mangle)]
 pub extern "C" fn rudekpi_audit_join(verdict: &mut Verdict, lines: u64, next: &Verdict) -> u32
     ensures { AuditJoined lines result verdict.old next.now verdict.new }

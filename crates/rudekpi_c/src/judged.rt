@@ -65,7 +65,7 @@ fn told_damaged(damage: Damage) -> Verdict
     }
 }
 
-/// The verdict that says nothing of the bytes.
+/// The verdict that memory ran out, which says nothing of the bytes.
 pub(crate) fn unsaid() -> Verdict
     ensures { result ≡ unjudged }
 {

@@ -1,4 +1,4 @@
-//! A bound on the moves that can still come in a session's state, without an entry.
+//! A bound on the moves that can still come in a session's state. Asking makes no entry.
 
 ghost use Rattle.std.specs.Prelude.{◌≡◌};
 ghost use Rattle.rule_machine.specs.Network.{node_count};
@@ -20,7 +20,7 @@ pub(crate) fn moves_left<R: NodeBound>(run: &mut Run<R>) -> u32
     run.recorder.moves_left()
 }
 
-/// Writes how many moves can still come, at most, before the next accepted edit or fault.
+/// Writes a bound on the moves that can still come before the next accepted edit or fault.
 ///
 /// Returns 4 if there is no session.
 #[unsafe(no_mangle)]

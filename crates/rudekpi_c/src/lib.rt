@@ -1,14 +1,14 @@
 //! The library for C: sessions, audits and their calls.
 //!
-//! Its functions have C's names and types; `include/rudekpi.h` lists the statuses and the cost of each. A
-//! session is a network that carries out script lines and keeps the transcript's text until C reads it. An
-//! audit judges a transcript in memory, or one fed in pieces. A slot holds at most one session, or at most
-//! one audit, by the address of a block that it owns. The status that a call returns says what it did to the
-//! slot. If memory runs out, the session lives on.
+//! Its functions have C's names and types; `include/rudekpi.h` lists the statuses and the cost of each
+//! function. A session is a network that carries out script lines and keeps the transcript's text until C
+//! reads it. An audit judges a transcript in memory, or a transcript fed in pieces. A slot is empty, or has
+//! the address of a block of memory that the slot owns, with one session or one audit in the block. The
+//! status that a call returns says what the call did to the slot. If memory runs out, the session lives on.
 //!
 //! C must keep these rules, which nothing checks: a slot is all bytes 0 at first; it is not copied while it
-//! is full; one thread at a time uses it; no pointer is null. No state is kept outside slots, and no thread
-//! is started.
+//! is full; only one thread at a time uses it; no pointer is null. No state is kept outside slots, and no
+//! thread is started.
 //!
 //! ```c
 //! struct rudekpi_slot slot = RUDEKPI_NONE;

@@ -1,4 +1,4 @@
-//! Reading answers and state from a session, without an entry.
+//! Reading answers and state from a session. Reading makes no entry.
 
 ghost use Rattle.std.specs.Prelude.{◌≡◌, ◌≤◌, ◌<◌, ◌++◌, length, drop};
 ghost use Rattle.rudekpi_c.specs.SessionQuestions.{AnswersKeep, AnswersPartner, rows_kept};
@@ -10,7 +10,7 @@ use crate::told::{count_rows, number_told, write_rows};
 use rule_machine::Node;
 use std::alloc::Global;
 
-/// Copies the rows of the last answer to the start of `out`, if all fit; returns how many there are.
+/// Copies the last answer's rows to the start of `out`, if all fit; returns how many rows there are.
 #[unsafe(no_mangle)]
 pub extern "C" fn rudekpi_rows(alloc: Global, slot: &mut Slot, out: &mut [Row]) -> usize
     ensures count { result ≡ length (rows_kept slot.old.handle.value) }
@@ -31,7 +31,7 @@ pub extern "C" fn rudekpi_rows(alloc: Global, slot: &mut Slot, out: &mut [Row]) 
     count
 }
 
-/// Sets whether the text is kept from here on; if not, the text so far is dropped too.
+/// Sets whether the session keeps its text from now on. If not, the text so far is dropped too.
 ///
 /// Returns 4 if there is no session.
 #[unsafe(no_mangle)]

@@ -1,4 +1,4 @@
-//! The nodes at rest, and those that edits and faults would reach, without an entry.
+//! The nodes at rest, and the nodes that edits and faults would reach. Asking makes no entry.
 
 ghost use Rattle.std.specs.Prelude.{◌≡◌, ◌≤◌, ◌++◌, SomeIff, IfOk, IsTrue, length, drop};
 ghost use Rattle.containment_laws.specs.Rest.{is_at_rest};
@@ -28,7 +28,7 @@ fn rests<R: Rules>(run: &Run<R>, v: Node) -> bool
     ensures state { IsState run.now.recorder.state }
 {
     let net = run.recorder.net();
-    // Called for its contract: the state is sound.
+    // Called only for its contract: the state is sound.
     let _ = net.registers();
     net.is_at_rest(v)
 }
@@ -60,7 +60,7 @@ impl Session {
     }
 }
 
-// Writes names over the start of `out`.
+// Writes names over the first places of `out`.
 fn put_names(out: &mut [u32], nodes: &[Node])
     requires { length nodes.now ≤ length out.old }
     ensures { out.new ≡ nodes.now ++ drop (length nodes.now) out.old }
@@ -70,7 +70,7 @@ fn put_names(out: &mut [u32], nodes: &[Node])
     }
 }
 
-// Writes the nodes that an event would reach; 5 if a number is out of range.
+// Writes the nodes that an event would reach; returns 5 if there is no event: a number is out of range.
 fn reach_of(
     alloc: Global,
     slot: &mut Slot,
@@ -102,8 +102,8 @@ fn reach_of(
 
 /// Writes whether a node is at rest.
 ///
-/// It then does not move until a disturbance reaches it, whatever the daemon chooses. Returns 4 if there is
-/// no session, and 5 for a name that is 0 or above 65,535.
+/// A node at rest does not move until a disturbance reaches it, whatever the daemon chooses. Returns 4 if
+/// there is no session, and 5 if the name is 0 or above 65,535.
 #[unsafe(no_mangle)]
 pub extern "C" fn rudekpi_is_at_rest(
     alloc: Global,
@@ -128,9 +128,9 @@ pub extern "C" fn rudekpi_is_at_rest(
 
 /// Copies the names of the nodes that a new edge would reach, ascending, to the start of `out`.
 ///
-/// They are copied only if all fit; `count` is how many there are, 0 for an edge that would be refused.
-/// Returns 3 if memory runs out, 4 if there is no session, and 5 for a name that is 0 or above 65,535. So do
-/// the other calls.
+/// The names are copied only if all fit. `count` becomes the number of these nodes, 0 if the edge would be
+/// refused. Returns 3 if memory runs out, 4 if there is no session, and 5 if a name is 0 or above 65,535. The
+/// other calls return the same statuses.
 #[unsafe(no_mangle)]
 pub extern "C" fn rudekpi_reach_of_link(
     alloc: Global,
@@ -146,7 +146,7 @@ pub extern "C" fn rudekpi_reach_of_link(
     reach_of(alloc, slot, asked::link(a, b), out, count)
 }
 
-/// The same for an edge that is removed.
+/// Like `rudekpi_reach_of_link`, for the removal of an edge.
 #[unsafe(no_mangle)]
 pub extern "C" fn rudekpi_reach_of_unlink(
     alloc: Global,
@@ -162,7 +162,7 @@ pub extern "C" fn rudekpi_reach_of_unlink(
     reach_of(alloc, slot, asked::unlink(a, b), out, count)
 }
 
-/// The same for a node that joins.
+/// Like `rudekpi_reach_of_link`, for a node that joins.
 #[unsafe(no_mangle)]
 pub extern "C" fn rudekpi_reach_of_join(
     alloc: Global,
@@ -177,7 +177,7 @@ pub extern "C" fn rudekpi_reach_of_join(
     reach_of(alloc, slot, asked::join(node), out, count)
 }
 
-/// The same for a node that leaves.
+/// Like `rudekpi_reach_of_link`, for a node that leaves.
 #[unsafe(no_mangle)]
 pub extern "C" fn rudekpi_reach_of_leave(
     alloc: Global,
@@ -192,7 +192,7 @@ pub extern "C" fn rudekpi_reach_of_leave(
     reach_of(alloc, slot, asked::leave(node), out, count)
 }
 
-/// The same for a pointer that is written; the target 0 is null.
+/// Like `rudekpi_reach_of_link`, for a write of a pointer; the target 0 is null.
 #[unsafe(no_mangle)]
 pub extern "C" fn rudekpi_reach_of_point(
     alloc: Global,
@@ -208,7 +208,7 @@ pub extern "C" fn rudekpi_reach_of_point(
     reach_of(alloc, slot, asked::point(node, target), out, count)
 }
 
-/// The same for a flag that is written.
+/// Like `rudekpi_reach_of_link`, for a write of a flag.
 #[unsafe(no_mangle)]
 pub extern "C" fn rudekpi_reach_of_flag(
     alloc: Global,

@@ -27,10 +27,10 @@ pub(crate) enum Machine {
     Manne(Run<Manne>),
 }
 
-/// A run that goes on call by call.
+/// A run that goes on from call to call.
 ///
-/// With it: how many lines were fed, whether a transcript is kept, and the answer to the last command that
-/// was not a line.
+/// Beside the run: how many lines were fed, whether a transcript is kept, and the answer to the last command
+/// that was not given as a line.
 #[derive(Drop)]
 pub struct Session {
     pub(crate) machine: Machine,
@@ -40,7 +40,7 @@ pub struct Session {
 }
 
 impl Session {
-    /// A session of a new network that keeps its transcript.
+    /// A session of a new network. The session keeps its transcript.
     pub(crate) fn new(
         alloc: Global,
         rules: RuleSet,

@@ -19,10 +19,10 @@ fn rules_named(rules: u32) -> RuleSet
     }
 }
 
-/// Begins a session of a new network, in place of what the slot had.
+/// Begins a session of a new network, in place of the slot's old session.
 ///
-/// The rules 0 are those of Hsu and Huang, 1 those of Manne and others. Returns 5 for other rules, more than
-/// 65,535 names, or more nodes than names; 3 if memory runs out. The slot is then empty.
+/// `rules` is 0 for Hsu and Huang, 1 for Manne and others. Returns 5 for other rules, for more than 65,535
+/// names, or for more nodes than names; 3 if memory runs out. After 5 or 3 the slot is empty.
 #[unsafe(no_mangle)]
 pub extern "C" fn rudekpi_session_new(
     alloc: Global,
@@ -47,14 +47,14 @@ pub extern "C" fn rudekpi_session_new(
     DONE
 }
 
-/// Carries out the session's next line, without its LF, and writes its number.
+/// Carries out the session's next line, given without its LF, and writes the line's number.
 ///
 /// | Status | When |
 /// |---|---|
 /// | 1 | the line is neither empty nor a command; nothing was done |
-/// | 2 | it met a full log |
+/// | 2 | the line met a full log |
 /// | 3 | memory ran out; at most some first turns of the line were taken, and the session goes on |
-/// | 4 | there is no session; the number is unchanged |
+/// | 4 | there is no session; the line number is unchanged |
 #[unsafe(no_mangle)]
 pub extern "C" fn rudekpi_session_feed(
     alloc: Global,
@@ -87,7 +87,7 @@ pub extern "C" fn rudekpi_session_length(alloc: Global, slot: &mut Slot) -> usiz
     len
 }
 
-/// Copies the text to the start of `out` and drops it, if all of it fits; returns its length.
+/// Copies the text to the start of `out` and drops the text, if all of it fits; returns its length.
 ///
 /// No other byte of `out` is written.
 #[unsafe(no_mangle)]

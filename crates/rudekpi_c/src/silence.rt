@@ -1,4 +1,4 @@
-//! The costs of edits and faults in a silent network, without an entry.
+//! The costs of edits and faults in a silent network. Asking makes no entry.
 
 ghost use Rattle.std.specs.Prelude.{◌≡◌, ◌↔◌, [], IfSome, IsSome, SomeIff};
 ghost use Rattle.rule_engine.specs.Costs.{disturbance_cost};
@@ -32,7 +32,7 @@ fn silent_cost_in<R: SilentCost>(run: &Run<R>, event: &Event) -> Option<u32>
 }
 
 impl Session {
-    /// The cost of an event, or `None` if a rule is enabled.
+    /// The cost of an event in a silent network, or `None` if a rule is enabled.
     pub(crate) fn silent_cost_of(&self, event: &Event) -> Option<u32>
         ensures silent { IsSome result ↔ IsSilentAt self.now }
         ensures cost { IfSome result (λ most. most ≡ silent_cost_at self.now event.now) }
@@ -65,10 +65,11 @@ fn silent_cost(alloc: Global, slot: &mut Slot, asked: Option<Command>, cost: &mu
     DONE
 }
 
-/// The cost of linking two nodes of a silent network, in moves: at most this many come until it is silent.
+/// Writes the cost of linking two nodes of a silent network, in moves.
 ///
-/// It is 0 for an edge that would be refused. Returns 4 if there is no session, 5 for a name that is 0 or
-/// above 65,535, and 8 if a rule is enabled. So do the other costs.
+/// At most this many moves come until the network is silent again. The cost is 0 if the edge would be
+/// refused. Returns 4 if there is no session, 5 if a name is 0 or above 65,535, and 8 if a rule is enabled.
+/// The other silent cost calls return the same statuses.
 #[unsafe(no_mangle)]
 pub extern "C" fn rudekpi_silent_cost_of_link(
     alloc: Global,
@@ -83,7 +84,7 @@ pub extern "C" fn rudekpi_silent_cost_of_link(
     silent_cost(alloc, slot, asked::link(a, b), cost)
 }
 
-/// The cost of removing an edge.
+/// Writes the cost of unlinking two nodes of a silent network.
 #[unsafe(no_mangle)]
 pub extern "C" fn rudekpi_silent_cost_of_unlink(
     alloc: Global,
@@ -98,7 +99,7 @@ pub extern "C" fn rudekpi_silent_cost_of_unlink(
     silent_cost(alloc, slot, asked::unlink(a, b), cost)
 }
 
-/// The cost of a node that joins.
+/// Writes the cost of a node's joining a silent network.
 #[unsafe(no_mangle)]
 pub extern "C" fn rudekpi_silent_cost_of_join(
     alloc: Global,
@@ -112,7 +113,7 @@ pub extern "C" fn rudekpi_silent_cost_of_join(
     silent_cost(alloc, slot, asked::join(node), cost)
 }
 
-/// The cost of a node that leaves.
+/// Writes the cost of a node's leaving a silent network.
 #[unsafe(no_mangle)]
 pub extern "C" fn rudekpi_silent_cost_of_leave(
     alloc: Global,
@@ -126,7 +127,7 @@ pub extern "C" fn rudekpi_silent_cost_of_leave(
     silent_cost(alloc, slot, asked::leave(node), cost)
 }
 
-/// The cost of writing a pointer; target 0 is null.
+/// Writes the cost of writing a node's pointer in a silent network; the target 0 is null.
 #[unsafe(no_mangle)]
 pub extern "C" fn rudekpi_silent_cost_of_point(
     alloc: Global,
@@ -141,7 +142,7 @@ pub extern "C" fn rudekpi_silent_cost_of_point(
     silent_cost(alloc, slot, asked::point(node, target), cost)
 }
 
-/// The cost of writing a flag.
+/// Writes the cost of writing a node's flag in a silent network.
 #[unsafe(no_mangle)]
 pub extern "C" fn rudekpi_silent_cost_of_flag(
     alloc: Global,

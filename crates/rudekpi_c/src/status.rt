@@ -21,7 +21,7 @@ pub(crate) const BAD_ARGUMENT: u32 = 5;
 /// The machine refuses the event.
 pub(crate) const REFUSED: u32 = 6;
 
-/// What an audit was fed is no transcript, whatever follows.
+/// The bytes that an audit was fed are no transcript, whatever bytes follow.
 pub(crate) const DAMAGED: u32 = 7;
 
 /// A rule is enabled, so the network is not silent.

@@ -7,9 +7,9 @@ use crate::row::{Row, put_rows};
 use rule_machine::{Node, Reply};
 use step_log::Answer;
 
-/// An answer: the entry's number, its refusal, the pointer shown, and how many rows it has.
+/// An answer: the entry's number, the refusal, the pointer asked for, and how many rows there are.
 ///
-/// Each is 0 if there is none.
+/// A field is 0 if the answer has nothing for it.
 #[repr(C)]
 #[derive(Clone, Copy)]
 pub struct CallResult {
@@ -84,7 +84,7 @@ pub(crate) fn count_rows(reply: &Reply) -> usize
     }
 }
 
-/// Writes the rows of a reply over the start of `out`.
+/// Writes a reply's rows over the first places of `out`.
 pub(crate) fn write_rows(out: &mut [Row], reply: &Reply)
     requires { length (rows_of reply.now) ≤ length out.old }
     ensures { out.new ≡ rows_of reply.now ++ drop (length (rows_of reply.now)) out.old }

@@ -29,7 +29,7 @@ verdicts_from t s place (item ∷ items) = verdict_of t s place item ∷ verdict
 abbrev pub verdicts_of : RuleTable → State → List Item → List Verdict
 verdicts_of t s items = verdicts_from t s 0 items
 
--- why an item with this outcome is refused; `twice`: the choice has named its node before
+-- why an item with this outcome is refused; `twice`: an earlier item of the choice names the same node
 abbrev pub refused_by : Outcome → Bool → Option Refusal
 refused_by outcome.Absent twice = Some UnknownNode
 refused_by outcome.Idle true = Some ChosenTwice
@@ -39,7 +39,7 @@ refused_by outcome.Idle false = Some NotEnabled
 refused_by outcome.Wrong false = Some BadTarget
 refused_by (outcome.Moves m) false = None
 
--- the first refusal among verdicts, after the earlier ones
+-- the first refusal among verdicts that come after the verdicts `earlier`
 abbrev pub verdicts_refusal : List Verdict → List Verdict → Option Refusal
 verdicts_refusal earlier [] = None
 verdicts_refusal earlier (verdict ∷ verdicts) =
@@ -58,7 +58,8 @@ moves_by t s items = filter_map (λ i. move_in (outcome_of t s i)) items
 abbrev pub verdict_moves : List Verdict → List Moved
 verdict_moves verdicts = filter_map (λ d. move_in d.outcome) verdicts
 
--- if `made` are the moves of the items of a choice that is not refused, `moves` are the same, ascending
+-- if `made` are the moves of the items of a choice that is not refused, `moves` are the same moves,
+-- ascending by node
 abbrev pub AreLeast : List Moved → List Moved → Type 0
 AreLeast made moves =
     (t : RuleTable) (s : State) (items : List Item) → made ≡ moves_by t s items → step_refusal t s items ≡ None → moves ≡ least_moves t s items

@@ -22,7 +22,7 @@ may_disturb event = false
 abbrev pub disturbs : RuleTable → State → Event → Bool
 disturbs t s event = may_disturb event && is_none (refusal_of t s event)
 
--- the cost by the rule set; 0 unless the event is a disturbance that is not refused
+-- what the event costs by the rule set; 0 unless the event is a disturbance that is not refused
 abbrev pub disturbance_cost : RuleTable → (State → Event → ℕ) → State → Event → ℕ
 disturbance_cost t cost s event = cond (disturbs t s event) (cost s event) 0
 

@@ -11,15 +11,15 @@ use Rattle.containment_laws.specs.Movers.{KeepsRegisters}
 use Rattle.containment_laws.specs.Reach.{is_in_reach}
 use Rattle.rule_engine.specs.Costs.{disturbs}
 
--- whether v is in the reach of a disturbance; false for a refused one, and for any other event
+-- whether the event, an edit or a fault that is not refused, would reach v; false for any other event
 abbrev pub would_reach : RuleTable → State → Event → ℕ → Bool
 would_reach t s event v = disturbs t s event && is_in_reach s event v
 
--- the nodes, ascending, that it would reach
+-- the nodes, ascending, that the event would reach
 abbrev pub reach_of : RuleTable → State → Event → List ℕ
 reach_of t s event = filter (would_reach t s event) (names s.network)
 
--- if the event is accepted, each node at rest and not among these stays at rest, with the same registers
+-- if the event is accepted, each node at rest that is not in the list stays at rest, with the same registers
 abbrev pub Spares : RuleTable → State → ℕ → Event → List ℕ → Type 0
 Spares t s spent event reach =
     (after : State) → Answers t s spent event Accepted after

@@ -7,7 +7,7 @@ use Rattle.rule_machine.specs.State.{State, IsState, pointer, flag, married}
 use Rattle.rule_machine.specs.Run.{Moment}
 use Rattle.rule_machine.specs.RuleTable.{RuleTable, rule_at}
 
--- the rule enabled at a name; none at an absent one
+-- the rule enabled at a name, if any; none at an absent name
 abbrev pub guard_at : RuleTable → State → ℕ → Option Act
 guard_at t s v = if present s.network v then rule_at t s v else None
 
@@ -15,19 +15,19 @@ guard_at t s v = if present s.network v then rule_at t s v else None
 abbrev pub is_enabled_at : RuleTable → State → ℕ → Bool
 is_enabled_at t s v = is_some (guard_at t s v)
 
--- the set has a place for each name, and its members are the enabled nodes
+-- the set has a place for each name, and the set's members are the enabled nodes
 pub record AreOn (t : RuleTable) (s : State) (bits : List Bool) : Type 0 where
   pub places : length bits ≡ s.network.size + 1
   pub each : (v : ℕ) → is_in bits v ≡ is_enabled_at t s v
 
--- the state is valid, the first set is that of its enabled nodes, and the second is empty
+-- the state is valid, `bits` is the set of the state's enabled nodes, and the set `marks` is empty
 pub record IsEngineState (t : RuleTable) (s : State) (bits marks : List Bool) : Type 0 where
   pub is_state : IsState s
   pub enabled : AreOn t s bits
   pub unmarked : marks ≡ replicate (s.network.size + 1) false
   pub few : s.network.size ≤ 65535
 
--- v with the rule enabled there
+-- v with the rule enabled at v, if any
 abbrev pub marked_at : RuleTable → State → ℕ → Option (ℕ × Act)
 marked_at t s v = option_map (λ act. (v, act)) (guard_at t s v)
 
@@ -36,6 +36,6 @@ pub record IsAnswered (uses_flags : Bool) (s : State) : Type 0 where
   pub answered : (v : ℕ) → IfSome (pointer s v) (λ w. pointer s w ≡ Some v)
   pub flagged : IsTrue uses_flags → (v : ℕ) → IsTrue (present s.network v) → flag s v ≡ married s v
 
--- a state, and the moves spent
+-- a state and the number of moves spent, as a moment
 abbrev pub moment : State → ℕ → Moment
 moment s spent = record { state = s; spent = spent }

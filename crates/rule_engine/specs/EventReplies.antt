@@ -26,31 +26,31 @@ takes_memory Enabled = true
 takes_memory Matching = true
 takes_memory Status = false
 
--- the reply that was put, or the error
+-- the reply that was written, or the error
 abbrev pub stored_reply : {E : Type 0} → Result (Unit {0}) E → Reply → Result Reply E
 stored_reply (Ok done) reply = Ok reply
 stored_reply (Err e) reply = Err e
 
--- The reply is the machine's, with `spent` moves spent, and there is room for what carrying it out adds. An
--- error comes only for an event that may take memory and is not refused. The state stays.
+-- The reply is the machine's, with `spent` moves spent, and there is room for what the event adds. An error
+-- comes only for an event that may take memory and is not refused. The state does not change.
 pub record Prepares {E : Type 0} (t : RuleTable) (n : IndexedView) (spent : ℕ) (event : Event) (result : Result Reply E) (n' : IndexedView) : Type 0 where
   pub reply : IfOk result (λ r. r ≡ reply_of t n.state spent event)
   pub room : IfOk result (λ r. HasRoomTo event r n'.room)
   pub kept : n'.state ≡ n.state
   pub want : OnErr result ((refusal_of t n.state event ≡ None) × IsTrue (takes_memory event))
 
--- the state is valid, and spent moves and charge are within the bound of its network
+-- the state is valid, and spent moves plus charge are within the bound of the state's network
 pub record IsWithinBudget (t : RuleTable) (weight : ℕ) (m : Moment) : Type 0 where
   pub is_state : IsState m.state
   pub within : IsWithinBound t weight m
 
--- the moment after events in turn, each reply with the least targets
+-- the moment after all events in turn, if each reply has the least targets
 abbrev pub moment_after_all : RuleTable → Moment → List Event → Moment
 moment_after_all t m [] = m
 moment_after_all t m (event ∷ events) = moment_after_all t (moment_after t m event) events
 
--- The first k events were carried out, then memory ran out: for the next event, which is not refused and may
--- take some, or, if k is 0, for the list of replies.
+-- The first k events were carried out, then memory ran out. The next event needed the memory: it is not
+-- refused and may take memory. If k is 0, the list of replies may have needed the memory instead.
 pub record StopsForMemory (t : RuleTable) (m : Moment) (events : List Event) (k : ℕ) (m' : Moment) : Type 0 where
   pub next : k < length events
   pub moment : m' ≡ moment_after_all t m (take k events)

@@ -27,6 +27,6 @@ Ascend items = (i j : ℕ) (d : Item) → i < j → j < length items → (slice_
 abbrev pub is_judged : List Verdict → ℕ → Bool
 is_judged verdicts v = list_any (λ d. nat_eq d.node v) verdicts
 
--- if the node moves it has one of these places
+-- if the outcome is a move, the node has one of these places
 abbrev pub HasPlace : ℕ → ℕ → Outcome → Type 0
 HasPlace places v outcome = IsSome (move_in outcome) → v < places

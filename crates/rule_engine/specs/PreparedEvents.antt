@@ -11,7 +11,7 @@ use Rattle.rule_machine.specs.RuleTable.{RuleTable}
 use Rattle.rule_machine.specs.Least.{reply_of}
 use Rattle.rule_machine.specs.Run.{Moment}
 
--- its state, the moves spent, and each name's room for more neighbours
+-- the network's state, the moves spent, and each name's room for more neighbours
 pub record NetView : Type 0 where
   pub state : State
   pub spent : ℕ
@@ -31,7 +31,7 @@ abbrev pub HasRoomTo : Event → Reply → List ℕ → Type 0
 HasRoomTo (Link a b) Accepted room = HasRoomFor room a b
 HasRoomTo event reply room = Unit {0}
 
--- The reply is the network's to the event, and carrying it out takes no memory.
+-- The reply is the network's to the event, and carrying out the event takes no memory.
 pub record IsPrepared (t : RuleTable) (net : NetView) (event : Event) (reply : Reply) : Type 0 where
   pub reply_is : reply ≡ reply_of t net.state net.spent event
   pub room : HasRoomTo event reply net.room

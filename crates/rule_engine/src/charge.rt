@@ -1,4 +1,4 @@
-//! The charge of a state, and the moves spent of it.
+//! The charge of a state, and the number of moves spent.
 
 ghost use Rattle.std.specs.Prelude.{◌≡◌, ◌≤◌, count_by, length, sum_by};
 ghost use Rattle.charge_laws.specs.ChargeWords.{charge_bound};
@@ -13,7 +13,7 @@ use indexed_state::IndexedState;
 use rule_machine::{MAX_NAME, Reply};
 use rules_api::Rules;
 
-/// What a status reports of all nodes together.
+/// The two numbers that a status reports of all nodes together: mutual pairs and the charge.
 #[derive(Clone, Copy)]
 pub(crate) struct Totals {
     pub(crate) pairs: u32,
@@ -27,14 +27,14 @@ fn charge_by<R: Rules>(state: &IndexedState<R>, open_edges: u32, added: u32, clo
     requires closing { closing ≡ count_by (R.closes state.now.state) (names state.now.state.network) }
     ensures { result ≡ R.table.charge state.now.state }
 {
-    // Called for its contract: the state is sound.
+    // Called only for the contract: the state is sound.
     let _ = state.registers();
     prove!(state.store().edges() <= MAX_EDGES);
     (2 * u64::from(open_edges) + u64::from(added) - 2 * u64::from(closing)) as u32
 }
 
 /// The number of mutual pairs and the charge.
-/// It looks at the nodes whose contribution may have changed since the last call.
+/// Looks at the nodes whose contribution may have changed since the last call.
 pub(crate) fn totals_of<R: Rules>(state: &mut IndexedState<R>) -> Totals
     ensures state { state.new.state ≡ state.old.state }
     ensures room { state.new.room ≡ state.old.room }

@@ -1,4 +1,4 @@
-//! Choices whose items ascend, as those of most daemons do: no node is named twice, so none needs a mark.
+//! Choices whose items ascend, as with most daemons: no node is named twice, so no node needs a mark.
 
 ghost use Rattle.std.specs.Prelude.{◌≡◌, [], None, IsTrue};
 ghost use Rattle.rule_machine.specs.Refuse.{items_refusal};
@@ -12,7 +12,7 @@ use indexed_state::IndexedState;
 use rule_machine::{Item, Refusal};
 use rules_api::Rules;
 
-/// Whether each item names a higher node than the item before it. Stops at the first that does not.
+/// Whether each item names a higher node than the item before. Stops at the first item that does not.
 pub(crate) fn ascend(items: &[Item]) -> bool
     ensures { IsTrue result → Ascend items.now }
 {
@@ -28,7 +28,8 @@ pub(crate) fn ascend(items: &[Item]) -> bool
 }
 
 /// Gathers the moves of items that ascend, or returns the first refusal.
-/// It looks at each item up to that one, and searches its node's neighbours if its target is free.
+/// Looks at the items up to the first refused one. If an item's target is free, searches the neighbours of
+/// the item's node.
 pub(crate) fn take_ascending<R: Rules>(
     state: &IndexedState<R>,
     gathered: &mut CollectedMoves,

@@ -19,7 +19,7 @@ impl<R: Rules> Touched for TouchedNodes<'_, R> {
 
     fn pointer(&self, v: Node) -> Option<Node> {
         let state = self.state;
-        // Called for its contract: the state is sound.
+        // Called only for the contract: the state is sound.
         let _ = state.store();
         state.registers().pointer(v)
     }
@@ -56,7 +56,7 @@ pub(crate) fn is_disturbance<R: Rules>(state: &IndexedState<R>, event: &Event) -
 pub(crate) fn cost_of<R: Rules>(state: &IndexedState<R>, event: &Event) -> u32
     ensures { result ≡ disturbance_cost R.table R.cost state.now.state event.now }
 {
-    // Called for its contract: the state is sound.
+    // Called only for the contract: the state is sound.
     let _ = state.registers();
     if is_disturbance(state, event) {
         R::cost(&TouchedNodes { state }, event)

@@ -24,7 +24,7 @@ pub(crate) fn refusal_of(fault: GraphFault) -> Option<Refusal>
     }
 }
 
-/// Puts the reply to an edit or a fault into `reply`: the refusal, or accepted if there is none.
+/// Writes the reply to an edit or a fault into `reply`: the refusal, or `Accepted` without a refusal.
 pub(crate) fn put_edit(reply: &mut Reply, refusal: Option<Refusal>) -> Result<(), Want>
     ensures { stored_reply result reply.new ≡ Ok (edit_reply refusal) }
 {
@@ -42,7 +42,7 @@ pub(crate) fn put(reply: &mut Reply, found: Result<Reply, Want>) -> Result<(), W
     Ok(())
 }
 
-/// Why an edge is not removed, if it is refused. One look-up if the edge exists.
+/// Why removing this edge would be refused, if it would be. One look-up if the edge exists.
 pub(crate) fn refused_unlink(store: &EdgeStore, a: Node, b: Node) -> Option<Refusal>
     ensures { result ≡ unlink_refusal store.now.network a b }
 {

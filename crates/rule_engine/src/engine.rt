@@ -69,7 +69,7 @@ impl<R: Rules> Model for Engine<R> {
 }
 
 impl<R: Rules> Engine<R> {
-    /// A network of the names 1 to `nodes`, as `Net::with_present` makes it, with its faults.
+    /// The engine of a new network of the names 1 to `nodes`. Faults are those of `Net::with_present`.
     pub(crate) fn with_present(
         alloc: Global,
         nodes: u32,
@@ -175,9 +175,9 @@ impl<R: Rules> Engine<R> {
         totals_of(&mut self.state).charge
     }
 
-    /// Puts the reply to an event into `reply`, and takes all the memory that carrying it out needs.
-    /// `spent` moves are spent so far. The state stays. Replies are large, so the caller keeps it and none is
-    /// moved.
+    /// Writes the reply to an event into `reply`, and takes all memory that carrying out the event needs.
+    /// `spent` is the number of moves spent so far. The state does not change.
+    /// The caller keeps the reply, because replies are large to move.
     #[inline(always)]
     pub(crate) fn prepare(
         &mut self,
@@ -237,7 +237,7 @@ impl<R: Rules> Engine<R> {
         put(reply, step_reply(refused, gathered))
     }
 
-    /// The reply to a step, from the verdicts of its items. No guard is evaluated again.
+    /// The reply to a step, from the verdicts of the step's items. No guard is evaluated again.
     pub(crate) fn prepare_step(
         &mut self,
         choice: &Choice,
@@ -264,7 +264,7 @@ impl<R: Rules> Engine<R> {
         *reply = Reply::Shown(self.state.registers().pointer(v));
     }
 
-    // A function of its own, so that the path of other events reserves no stack for its results.
+    // A separate function, so that other events reserve no stack for the results of this one.
     fn prepare_enabled(&mut self, reply: &mut Reply) -> Result<(), Want>
         ensures { (spent : ℕ) → Prepares R.table self.old spent Enabled (stored_reply result reply.new) self.new }
     {
@@ -332,7 +332,7 @@ impl<R: Rules> Engine<R> {
         }
     }
 
-    /// Carries out an edit or a fault. A step or a query does nothing.
+    /// Carries out an edit or a fault. Does nothing for a step or a query.
     fn disturb(&mut self, event: &Event)
         requires accepted { refusal_of R.table self.old.state event.now ≡ None }
         requires room { HasRoomTo event.now Accepted self.old.room }
@@ -359,8 +359,8 @@ impl<R: Rules> Engine<R> {
         look_at(&self.state, &mut self.enabled, b);
     }
 
-    /// Makes a name a node, with no edge, a null pointer and its flag false. Takes no memory.
-    /// It looks at no other node.
+    /// Makes a name a node without edges, with a null pointer and a false flag. Takes no memory.
+    /// Looks at no other node.
     pub(crate) fn join(&mut self, v: Node)
         requires within { v ≤ self.old.state.network.size }
         requires absent { present self.old.state.network v ≡ false }

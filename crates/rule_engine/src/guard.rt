@@ -54,7 +54,7 @@ pub(crate) fn outcome<R: Rules>(state: &IndexedState<R>, item: Item) -> Outcome
     }
 }
 
-/// Takes items in order up to the first that is refused, and returns its refusal.
+/// Takes items in order up to the first refused one, and returns that item's refusal.
 fn take_up_to_refusal<R: Rules>(
     state: &IndexedState<R>,
     chosen: &mut Marks,
@@ -78,8 +78,9 @@ fn take_up_to_refusal<R: Rules>(
 }
 
 /// Gathers the moves of items, or returns the first refusal.
-/// It looks at each item up to that one, and searches its node's neighbours if its target is free. Items that
-/// do not ascend are marked, to find a node named twice; the marks are clear at the end.
+/// Looks at the items up to the first refused one. If an item's target is free, searches the neighbours of
+/// the item's node.
+/// If the items do not ascend, marks their nodes, to find a node named twice. At the end no node is marked.
 pub(crate) fn take_items<R: Rules>(
     state: &IndexedState<R>,
     chosen: &mut Marks,
@@ -101,7 +102,8 @@ pub(crate) fn take_items<R: Rules>(
     refusal
 }
 
-/// Puts the reply to a step of one item into `reply`. It looks at one item, and needs no mark and no memory.
+/// Writes the reply to a step of one item into `reply`.
+/// Looks at that item alone, and needs no mark and no memory.
 pub(crate) fn put_reply_to_one<R: Rules>(reply: &mut Reply, state: &IndexedState<R>, item: Item)
     ensures { IsToldOf (items_refusal R.table state.now.state [] (item ∷ [])) (moves_by R.table state.now.state (item ∷ [])) reply.new }
 {

@@ -18,16 +18,16 @@ fn smaller(charge: u32, most: Option<u32>) -> u32
 }
 
 impl<R: NodeBound> Net<R> {
-    /// How many moves can still come before the next accepted disturbance, at most, for any daemon.
-    /// The charge, or a bound by the number of nodes alone, if the rules have one and it is smaller. Under
-    /// Hsu and Huang's rules (1992) that bound is n²/2 + n - 2 for n nodes, the half rounded down.
-    /// Costs what `charge` costs.
+    /// The most moves that can still come before the next accepted disturbance, for any daemon.
+    /// This is the charge, or a smaller bound by the number of nodes alone if the rules have one. Under Hsu
+    /// and Huang's rules (1992) the bound by nodes is n²/2 + n - 2 for n nodes, with n²/2 rounded down.
+    /// Costs as much as `charge`.
     pub fn moves_left(&mut self) -> u32
         ensures value { result ≡ moves_left (R.table.charge self.old.state) (R.most (node_count self.old.state.network)) }
         ensures promise { BoundsMoves R.table self.old.state self.old.spent result }
         ensures kept { self.new ≡ self.old }
     {
-        // Called for its contract: the state is sound.
+        // Called only for the contract: the state is sound.
         let _ = self.registers();
         let charge = self.charge();
         smaller(charge, R::most_moves(self.store().nodes()))

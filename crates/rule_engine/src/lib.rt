@@ -1,9 +1,10 @@
 //! The rule engine: a network whose replies and states are those of the rule machine, for any rule set.
 //!
-//! A `Net<R>` carries out one event at a time. Its reply is `reply_of` of the definitions, with the least
-//! free targets; its state then is `moment_after`. It counts the moves since the last disturbance; with the
-//! charge they never exceed the bound. It keeps the enabled nodes, and looks again only at nodes whose view a
-//! change alters. If an event is refused or memory runs out, nothing changes.
+//! A `Net<R>` carries out one event at a time. The reply is `reply_of` of the definitions, with the least
+//! free targets; the state afterwards is `moment_after`. The network counts the moves since the last
+//! disturbance; these moves plus the charge never exceed the bound. The network keeps the list of enabled
+//! nodes, and evaluates guards again only at nodes whose view changed. If an event is refused or memory runs
+//! out, nothing changes.
 //!
 //! `apply` is `prepare`, which takes all the memory, then `commit`, which cannot fail. A step costs a look at
 //! each chosen node and the writes of its moves, whatever the size of the network. The crate names no rule

@@ -57,7 +57,7 @@ fn pairs_of(alloc: Global, registers: &Registers, ends: &[Node]) -> Result<Vec<E
 }
 
 /// The mutual pairs, ascending by their lower ends.
-/// It looks at each pair, and at the nodes that may have become or ceased to be a lower end since the last
+/// Looks at each pair, and at the nodes that may have become or ceased to be a lower end since the last
 /// call.
 pub(crate) fn mutual_edges<R: Rules>(
     alloc: Global,

@@ -33,7 +33,7 @@ fn look_if<R: Rules>(state: &IndexedState<R>, enabled: &mut EnabledSet, v: Node,
     }
 }
 
-/// Looks again at a pointer's old or new target, if that node points nowhere.
+/// Evaluates the guard of a pointer's old or new target again, if that target points nowhere.
 pub(crate) fn look_at_target<R: Rules>(
     state: &IndexedState<R>,
     enabled: &mut EnabledSet,
@@ -48,7 +48,7 @@ pub(crate) fn look_at_target<R: Rules>(
     }
 }
 
-/// Looks again at the neighbours that point at a node. It searches for them only if there are several.
+/// Evaluates guards again at the neighbours that point at `v`. Searches only if several point at `v`.
 fn look_at_suitors<R: Rules>(state: &IndexedState<R>, enabled: &mut EnabledSet, v: Node)
     requires has { IsTrue (present state.now.state.network v) }
     requires places { length enabled.old ≡ state.now.state.network.size + 1 }
@@ -73,15 +73,15 @@ fn turns_with<R: Rules>(state: &IndexedState<R>, w: Node, v: Node, is_open: bool
     requires open { is_open ≡ RuleTable.is_open R.table.opens state.now.state v }
     ensures { result ≡ turns_with R.COURTS_HIGHER_ONLY R.table.opens state.now.state v w }
 {
-    // Counts first: successive neighbours mostly agree, so the branch is well predicted.
+    // The counts come first: they mostly agree for successive neighbours, so the branch is well predicted.
     if !state.is_only_open_neighbour(w, v, is_open) {
         return false;
     }
     state.registers().pointer(w).is_none()
 }
 
-/// Looks again at each neighbour that points nowhere and sees an open node exactly if `v` is open.
-/// If guards ask for higher names only, it ends at the first neighbour that is not below `v`.
+/// Evaluates guards again at neighbours that point nowhere and see an open node exactly if `v` is open.
+/// If guards ask for higher names only, stops at the first neighbour that is not below `v`.
 fn look_where_turned<R: Rules>(state: &IndexedState<R>, enabled: &mut EnabledSet, v: Node)
     requires has { IsTrue (present state.now.state.network v) }
     requires places { length enabled.old ≡ state.now.state.network.size + 1 }
@@ -96,10 +96,10 @@ fn look_where_turned<R: Rules>(state: &IndexedState<R>, enabled: &mut EnabledSet
     }
 }
 
-/// Looks again at the nodes whose guard a write of `v`'s registers may have changed.
-/// These are `v`, those that point at it, and, if `turned`, neighbours that point nowhere and see no other
-/// open node.
-/// A pointer's targets are left to `look_at_target`.
+/// Evaluates guards again at the nodes whose guard a write of `v`'s registers may have changed.
+/// These nodes are `v`, each node that points at `v`, and, if `turned`, each neighbour that points nowhere
+/// and sees no open node except `v`.
+/// Does not look at the old and new target of the pointer: `look_at_target` does.
 pub(crate) fn look_after_write<R: Rules>(
     state: &IndexedState<R>,
     enabled: &mut EnabledSet,

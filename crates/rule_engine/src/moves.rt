@@ -6,7 +6,7 @@ ghost use Rattle.rule_engine.specs.ChoiceMoves.{AreLeast, IsToldOf};
 use rule_machine::{Listing, Moved, Refusal, Reply, Want};
 use std::alloc::{AllocError, Global};
 
-/// The moves gathered so far from a choice of `items` items, and whether memory lasted for each.
+/// The moves gathered so far from a choice of `items` items, and whether memory sufficed for all moves.
 #[derive(Drop)]
 pub(crate) struct CollectedMoves {
     pub(crate) moves: Vec<Moved>,
@@ -34,8 +34,8 @@ impl CollectedMoves {
         self.whole = self.whole && add_one(&mut self.moves, self.items, moved);
     }
 
-    /// The moves, ascending by node; `AllocError` if memory did not last. Takes none.
-    /// Moves that ascend already cost one look each.
+    /// The moves, ascending by node; `AllocError` if memory ran out while moves were added.
+    /// Takes no memory. If the moves ascend already, the cost is one look at each move.
     pub(crate) fn into_ascending(self) -> Result<Listing<Moved>, Want>
         ensures { IfOk result (λ moves. IsTrue self.whole × AreLeast self.moves.items moves) }
     {

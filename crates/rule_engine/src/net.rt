@@ -35,8 +35,8 @@ use std::alloc::Global;
 use std::marker::Model;
 
 /// A network under the rules `R`.
-/// Contracts see its state, the moves since the last accepted disturbance or the start, and the room for
-/// neighbours.
+/// Contracts see the network's state, the number of moves since the last accepted disturbance or the start,
+/// and each name's room for more neighbours.
 #[derive(Drop)]
 pub struct Net<R: Rules> {
     alloc: Global,
@@ -112,9 +112,10 @@ impl<R: Rules> Net<R> {
 
     /// Whether the network is silent: no rule is enabled. Constant time.
     ///
-    /// It is silent exactly if it is stable. Its mutual pairs then are a maximal matching, with at least half
-    /// as many edges as any other matching. The converse holds if every pointer is null or answered and the
-    /// flags are right.
+    /// A network is silent exactly if it is stable. The mutual pairs of a silent network are a maximal
+    /// matching, with at least half as many edges as any other matching. Conversely, the network is silent
+    /// if the mutual pairs are a maximal matching, every pointer is null or answered, and the flags are
+    /// right.
     pub fn is_quiet(&self) -> bool
         ensures quiet { IsTrue result ↔ (enabled_names R.table self.now.state ≡ []) }
         ensures stable { IsTrue result ↔ IsStable R.table.flags self.now.state }
@@ -126,7 +127,7 @@ impl<R: Rules> Net<R> {
     }
 
     /// The rule enabled at a node, if any; none at an absent node.
-    /// It reads counts kept at the node, not the list of its neighbours.
+    /// Reads counts stored for the node, not the list of the node's neighbours.
     pub fn guard(&self, v: Node) -> Option<Act>
         ensures { result ≡ guard_at R.table self.now.state v }
     {
@@ -134,7 +135,7 @@ impl<R: Rules> Net<R> {
     }
 
     /// What the item at index `place` of a choice, from 0, would do alone.
-    /// It searches its node's neighbours only if a target must be found.
+    /// Searches the neighbours of the item's node only if a target must be found.
     pub fn verdict(&self, choice: &Choice, place: u32) -> Verdict
         requires { place < length choice.now }
         ensures { IfSome (slice_get choice.now place) (λ item. result ≡ verdict_of R.table self.now.state place item) }
@@ -143,9 +144,9 @@ impl<R: Rules> Net<R> {
     }
 
     /// The charge, which is the potential, at most 2,293,757.
-    /// At most this many moves can come before the next accepted disturbance. If it is 0 the network is
-    /// stable.
-    /// Takes no memory. Looks at what changed since this or a `Status` was last asked.
+    /// At most this many moves can come before the next accepted disturbance. If the charge is 0, the
+    /// network is stable.
+    /// Takes no memory. Looks at what changed since the last `charge` or `Status`.
     pub fn charge(&mut self) -> u32
         ensures charge { result ≡ R.table.charge self.old.state }
         ensures settled { result ≡ 0 → IsStable R.table.flags self.old.state }
@@ -154,24 +155,24 @@ impl<R: Rules> Net<R> {
         self.engine.charge()
     }
 
-    /// The most that an event, if it came now, would add to the charge, in moves.
-    /// So it bounds how many more moves may come before the next disturbance. Nothing changes.
+    /// The most that an event, carried out now, would add to the charge, in moves.
+    /// So the result bounds how many more moves may come before the next disturbance. Nothing changes.
     /// 0 for a step, for a query, and for an event that would be refused.
-    /// It reads pointers and counts of the nodes that the event touches, whatever the size of the network.
+    /// Reads pointers and counts of the nodes that the event touches, whatever the size of the network.
     pub fn cost_of(&self, event: &Event) -> u32
         ensures cost { result ≡ disturbance_cost R.table R.cost self.now.state event.now }
         ensures grows { BoundsGrowth R.table self.now.state self.now.spent event.now result }
     {
-        // Called for its contract: the state is sound.
+        // Called only for the contract: the state is sound.
         let _ = self.engine.registers();
         self.engine.cost_of(event)
     }
 
-    /// Whether a node is at rest: no rule is enabled at it, and for any daemon it stays so and makes no move
-    /// until a disturbance reaches it.
-    /// Its flag is right, if flags are used, and it is married; or it points nowhere and each neighbour is
-    /// married.
-    /// It goes through the neighbours only if the node points nowhere.
+    /// Whether `v` is at rest: no rule is enabled at `v`, and none will be until a disturbance reaches `v`.
+    /// This is so for any daemon; `v` makes no move until then.
+    /// This means: `v` is married, or points nowhere and all neighbours of `v` are married. If the rules use
+    /// flags, the flag of `v` is right too.
+    /// Goes through the neighbours only if `v` points nowhere.
     pub fn is_at_rest(&self, v: Node) -> bool
         ensures rests { result ≡ is_at_rest R.table.flags self.now.state v }
         ensures idle { IsTrue result → rule_at R.table self.now.state v ≡ None }
@@ -179,34 +180,34 @@ impl<R: Rules> Net<R> {
         self.engine.is_at_rest(v)
     }
 
-    /// Whether an event would reach a node if it came now. Nothing changes.
-    /// A node at rest that it would not reach stays at rest.
-    /// False for a step, for a query, and for an event that would be refused. Goes through the node's
-    /// neighbours.
+    /// Whether an event, carried out now, would reach `v`. Nothing changes.
+    /// If `v` is at rest and the event would not reach `v`, then `v` stays at rest.
+    /// False for a step, for a query, and for an event that would be refused. Goes through the neighbours of
+    /// `v`.
     pub fn would_reach(&self, event: &Event, v: Node) -> bool
         ensures { result ≡ would_reach R.table self.now.state event.now v }
     {
         self.engine.would_reach(event, v)
     }
 
-    /// The nodes, ascending, that an event would reach if it came now. Nothing changes.
-    /// A node that is at rest and not among them stays at rest.
-    /// Empty for a step, for a query, and for an event that would be refused. `AllocError` if memory runs
-    /// out.
-    /// Goes once through the neighbours of the nodes that the event names and of their partners.
+    /// The nodes, ascending, that an event, carried out now, would reach. Nothing changes.
+    /// A node at rest that is not in the list stays at rest.
+    /// The list is empty for a step, for a query, and for an event that would be refused. `AllocError` if
+    /// memory runs out.
+    /// Goes once through the neighbours of the nodes that the event names and of these nodes' partners.
     pub fn reach_of(&self, event: &Event) -> Result<Vec<Node>, Want>
         ensures reach { IfOk result (λ list. list.items ≡ reach_of R.table self.now.state event.now) }
         ensures few { IfOk result (λ list. length list.items ≤ reach_size self.now.state event.now) }
         ensures spares { IfOk result (λ list. Spares R.table self.now.state self.now.spent event.now list.items) }
     {
-        // Called for its contract: the state is sound.
+        // Called only for the contract: the state is sound.
         let _ = self.engine.registers();
         self.engine.reach_of(event)
     }
 
-    /// The base of the network after `number` entries: what is spent, each node's registers, and the edges.
-    /// `AllocError` if memory runs out. Takes about eight bytes a node and four an edge.
-    /// It looks at every name and at both ends of every edge.
+    /// The base of the network after `number` entries: spent moves, each node's registers, and the edges.
+    /// `AllocError` if memory runs out. Takes about eight bytes for each node and four for each edge.
+    /// Looks at every name and at both ends of every edge.
     pub fn base(&self, number: u32) -> Result<Base, Want>
         ensures base { IfOk result (λ base. base ≡ base_of number (net_moment self.now)) }
         ensures few { IfOk result (λ base. (length base.nodes ≤ 65535) × (length base.edges ≤ 1048576)) }
@@ -222,8 +223,8 @@ impl<R: Rules> Net<R> {
         })
     }
 
-    /// The moves since the last accepted disturbance, or since the start. Constant time.
-    /// With the charge they are at most twice the edges, plus the rules' weight for each node.
+    /// The number of moves since the last accepted disturbance, or since the start. Constant time.
+    /// These moves plus the charge are at most twice the edges plus the rules' weight for each node.
     pub fn spent(&self) -> u32
         ensures count { result ≡ self.now.spent }
         ensures bound { self.now.spent + R.table.charge self.now.state ≤ 2 * edge_count self.now.state.network + R.NODE_WEIGHT * node_count self.now.state.network }
@@ -231,9 +232,10 @@ impl<R: Rules> Net<R> {
         self.spent
     }
 
-    /// The reply that `apply` would give to an event; takes all the memory that carrying it out needs.
-    /// `commit` then carries it out and cannot fail. The state stays. Errors are those of `apply`.
-    /// Costs what `apply` does, without the writes and the looks after them.
+    /// The reply that `apply` would give to an event. Takes all memory that carrying out the event needs.
+    /// `commit` then carries out the event and cannot fail. The state does not change. Errors are those of
+    /// `apply`.
+    /// Costs what `apply` costs, without the writes and without evaluating guards after the writes.
     #[inline(always)]
     pub fn prepare(&mut self, event: &Event) -> Result<Reply, Want>
         ensures reply { IfOk result (λ reply. reply ≡ reply_of R.table self.old.state self.old.spent event.now) }
@@ -246,8 +248,8 @@ impl<R: Rules> Net<R> {
         Ok(reply)
     }
 
-    /// Does what `prepare` does, but puts the reply into `reply`, so that none is moved.
-    /// If memory runs out the value of `reply` is unspecified.
+    /// Like `prepare`, but writes the reply into `reply` instead of returning it.
+    /// If memory runs out, the value of `reply` is unspecified.
     #[inline(always)]
     pub fn prepare_into(&mut self, event: &Event, reply: &mut Reply) -> Result<(), Want>
         ensures reply { OnOk result (reply.new ≡ reply_of R.table self.old.state self.old.spent event.now) }
@@ -258,9 +260,10 @@ impl<R: Rules> Net<R> {
         self.engine.prepare(event, self.spent, reply)
     }
 
-    /// The reply that `apply` would give to a step, from the verdicts of its items. The state stays.
-    /// It takes all the memory that `commit` of the step needs, and evaluates no guard again.
-    /// `AllocError` if memory runs out, only if the step is not refused.
+    /// The reply that `apply` would give to a step, from the verdicts of the step's items.
+    /// The state does not change. Takes all memory that `commit` of the step needs, and evaluates no guard
+    /// again.
+    /// `AllocError` if memory runs out, which can happen only if the step is not refused.
     pub fn prepare_step(&mut self, choice: &Choice, verdicts: &[Verdict]) -> Result<Reply, Want>
         requires { verdicts.now ≡ verdicts_of R.table self.old.state choice.now }
         ensures reply { IfOk result (λ reply. reply ≡ reply_of R.table self.old.state self.old.spent (Step choice.now)) }
@@ -271,8 +274,9 @@ impl<R: Rules> Net<R> {
         self.engine.prepare_step(choice, verdicts)
     }
 
-    /// Carries out an event, given the reply that was prepared for it. The network must be unchanged since.
-    /// Takes no memory. `apply` lists the guards that are evaluated again.
+    /// Carries out an event, given the reply that was prepared for this event.
+    /// The network must not have changed since. Takes no memory. `apply` lists the guards that are evaluated
+    /// again.
     #[inline(always)]
     pub fn commit(&mut self, event: &Event, reply: &Reply)
         requires { IsPrepared R.table self.old event.now reply.now }
@@ -283,25 +287,25 @@ impl<R: Rules> Net<R> {
         self.spent = spent_after::<R>(self.engine.store(), self.spent, reply);
     }
 
-    /// Carries out an event: an edit, a fault, a step or a query, and returns the reply.
+    /// Carries out an event (an edit, a fault, a step or a query), and returns the reply.
     /// In a step each free target is the least allowed one.
-    /// `AllocError` if memory runs out, only if the event is not refused; nothing has changed then. Never for
-    /// `Unlink`, `Point`, `Flag`, `Join`, `Leave`, `Show` and `Status`.
+    /// `AllocError` if memory runs out; nothing has changed then. This can happen only if the event is not
+    /// refused, and never for `Unlink`, `Point`, `Flag`, `Join`, `Leave`, `Show` and `Status`.
     ///
     /// The guards that are evaluated again:
     ///
     /// | change | nodes |
     /// |---|---|
-    /// | an edge comes or goes | its two ends |
-    /// | a write of a node's register | the node, and each neighbour that points at it |
-    /// | a write of its pointer | also its old and its new target, if that one points nowhere |
-    /// | a write that opens or closes it | also each neighbour that points nowhere and sees no other open node |
+    /// | an edge is added or removed | the edge's two ends |
+    /// | a node's register is written | the node, and each neighbour that points at the node |
+    /// | a node's pointer is written | also the old and the new target, each if it points nowhere |
+    /// | a write opens or closes a node | also neighbours that point nowhere and see no other open node |
     /// | a name becomes a node | that node |
     ///
-    /// In the fourth case counts at each neighbour decide. A step also looks at each chosen node, and sorts
-    /// its moves unless they ascend. `Matching` and `Status` look at nodes whose contribution may have
-    /// changed since the last such query. They also look at the neighbours of such a node if its effect on
-    /// its edges changed or several nodes point at it.
+    /// In the fourth case counts stored at each neighbour decide. A step also looks at each chosen node, and
+    /// sorts the moves unless they ascend already. `Matching` and `Status` look at each node whose
+    /// contribution may have changed since the last such query. They also look at the node's neighbours if
+    /// the node's effect on its edges changed or several nodes point at the node.
     pub fn apply(&mut self, event: &Event) -> Result<Reply, Want>
         ensures reply { IfOk result (λ reply. reply ≡ reply_of R.table self.old.state self.old.spent event.now) }
         ensures state { OnOk result (net_moment self.new ≡ moment_after R.table (net_moment self.old) event.now) }
@@ -314,8 +318,8 @@ impl<R: Rules> Net<R> {
         Ok(reply)
     }
 
-    /// Carries out an event as `apply` does, but puts the reply into `reply`, so that none is moved.
-    /// If memory runs out the value of `reply` is unspecified.
+    /// Like `apply`, but writes the reply into `reply` instead of returning it.
+    /// If memory runs out, the value of `reply` is unspecified.
     #[inline(always)]
     pub fn apply_into(&mut self, event: &Event, reply: &mut Reply) -> Result<(), Want>
         ensures reply { OnOk result (reply.new ≡ reply_of R.table self.old.state self.old.spent event.now) }
@@ -329,9 +333,9 @@ impl<R: Rules> Net<R> {
         Ok(())
     }
 
-    /// Carries out events one after another, a run of the rule machine, and returns their replies.
-    /// `AllocError` if memory runs out. The events before the one that needed it have been carried out; none,
-    /// if the list of replies needed it.
+    /// Carries out events one after another, as a run of the rule machine, and returns the replies.
+    /// `AllocError` if memory runs out. If an event needed the memory, all events before that event have
+    /// been carried out. If the list of replies needed the memory, no event has been carried out.
     pub fn apply_all(&mut self, events: &[Event]) -> Result<Listing<Reply>, Want>
         ensures replies { IfOk result (λ replies. replies ≡ replies_of R.table self.old.state self.old.spent events.now) }
         ensures state { OnOk result (net_moment self.new ≡ moment_after_all R.table (net_moment self.old) events.now) }
@@ -348,9 +352,10 @@ impl<R: Rules> Net<R> {
         Ok(Listing::from_vec(replies))
     }
 
-    /// Carries out a step from the verdicts of its items, as `apply` of the step would.
-    /// `AllocError` if memory runs out, only if the step is not refused; nothing has changed then.
-    /// No guard is evaluated again.
+    /// Carries out a step from the verdicts of the step's items, with the result of `apply`.
+    /// `AllocError` if memory runs out, which can happen only if the step is not refused; nothing has
+    /// changed then.
+    /// Evaluates no guard again to find the reply.
     pub fn apply_step(&mut self, choice: &Choice, verdicts: &[Verdict]) -> Result<Reply, Want>
         requires { verdicts.now ≡ verdicts_of R.table self.old.state choice.now }
         ensures reply { IfOk result (λ reply. reply ≡ reply_of R.table self.old.state self.old.spent (Step choice.now)) }

@@ -25,7 +25,7 @@ pub(crate) fn reach_of<R: Rules>(
     ensures reach { IfOk result (λ list. list.items ≡ reach_of R.table state.now.state event.now) }
     ensures few { IfOk result (λ list. length list.items ≤ reach_size state.now.state event.now) }
 {
-    // Called for its contract: the state is sound.
+    // Called only for the contract: the state is sound.
     let _ = state.registers();
     if !is_disturbance(state, event) {
         return Ok(Vec::new(alloc));

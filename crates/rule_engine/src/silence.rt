@@ -12,12 +12,12 @@ use net_state::StateWriter;
 use rule_machine::Event;
 use silent_cost::SilentCost;
 
-/// What an event would cost a silent network, where it would be accepted; else 0.
+/// What an event would cost a silent network; 0 if the event would not be accepted.
 #[tactic(auto, using(crate::proofs::EventCosts::not_refused))]
 fn silent_cost_of<R: SilentCost>(state: &IndexedState<R>, event: &Event) -> u32
     ensures { result ≡ disturbance_cost R.table R.silent_cost state.now.state event.now }
 {
-    // By its contract the state is sound.
+    // Called only for the contract: the state is sound.
     let _ = state.registers();
     if is_disturbance(state, event) {
         R::silent_cost(state.net(), event)
@@ -28,19 +28,19 @@ fn silent_cost_of<R: SilentCost>(state: &IndexedState<R>, event: &Event) -> u32
 
 impl<R: SilentCost> Net<R> {
     /// The most moves that an event can cause in a silent network; `None` if a rule is enabled.
-    /// They are the moves until the network is silent again, if no other disturbance comes.
-    /// 0 for an event that would be refused, for a step and for a question.
-    /// Under Hsu and Huang's rules it is at most `cost_of`. Under those of Manne and others it may exceed
-    /// `cost_of` by 2 for a pair that is gained and by 1 for a node that goes: `cost_of` bounds the growth of
-    /// the charge, and the charge of a silent network need not be 0.
-    /// It takes a look at each neighbour of at most two nodes and no memory. Nothing changes.
+    /// Counts the moves until the network is silent again, if no other disturbance comes.
+    /// 0 for an event that would be refused, for a step and for a query.
+    /// Under Hsu and Huang's rules the result is at most `cost_of`. Under the rules of Manne and others the
+    /// result is at most `cost_of`, plus 2 if a new pair may form, plus 1 for `Leave`. The reason: `cost_of`
+    /// bounds the growth of the charge, and the charge of a silent network need not be 0.
+    /// Looks at each neighbour of at most two nodes. Takes no memory. Nothing changes.
     pub fn silent_cost_of(&self, event: &Event) -> Option<u32>
         ensures silent { IsSome result ↔ (enabled_names R.table self.now.state ≡ []) }
         ensures cost { IfSome result (λ most. most ≡ disturbance_cost R.table R.silent_cost self.now.state event.now) }
         ensures pays { IfSome result (λ most. BoundsMovesAfter R.table self.now.state self.now.spent event.now most) }
         ensures less { IfSome result (λ most. most ≤ disturbance_cost R.table R.cost self.now.state event.now + disturbance_cost R.table R.excess self.now.state event.now) }
     {
-        // By its contract the state is sound.
+        // Called only for the contract: the state is sound.
         let _ = self.registers();
         if self.is_quiet() {
             Some(silent_cost_of(&self.engine.state, event))

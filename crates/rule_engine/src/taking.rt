@@ -1,4 +1,4 @@
-//! Refusals that outcomes bring, and the moves of a choice that has none.
+//! Finds the refusal of a choice from the outcomes of its items, or the moves of an accepted choice.
 
 ghost use Rattle.std.specs.Prelude.{◌≡◌, ◌++◌, [], All, None, Some, MatchResult, IsTrue, if◌then◌else◌, is_some, length, option_to_list, slice_set, true};
 ghost use Rattle.enabled_set.specs.Members.{is_in};
@@ -23,7 +23,8 @@ pub(crate) fn refused_size(central: bool, count: usize) -> Option<Refusal>
     None
 }
 
-/// The move in an outcome, or why its item is refused. `twice`: the choice has named its node before.
+/// The move in an outcome, or why the item is refused.
+/// `twice`: whether an earlier item of the choice names the same node.
 pub(crate) fn accepted(outcome: Outcome, twice: bool) -> Result<Moved, Refusal>
     ensures { MatchResult result (λ moved. (refused_by outcome twice ≡ None) × (move_in outcome ≡ Some moved)) (λ refusal. refused_by outcome twice ≡ Some refusal) }
 {
@@ -36,8 +37,8 @@ pub(crate) fn accepted(outcome: Outcome, twice: bool) -> Result<Moved, Refusal>
     }
 }
 
-/// Takes an item with this outcome: marks its node and adds its move, or returns its refusal.
-/// The marks are the nodes of the items before it. The move is added only if memory has lasted so far.
+/// Marks the item's node and adds the item's move, or returns the item's refusal.
+/// The nodes of the earlier items are marked already. The move is added only if memory has lasted so far.
 pub(crate) fn take_outcome(
     chosen: &mut Marks,
     gathered: &mut CollectedMoves,
@@ -60,7 +61,7 @@ pub(crate) fn take_outcome(
     }
 }
 
-/// Takes the items of verdicts in order up to the first that is refused, and returns its refusal.
+/// Takes the items of verdicts in order up to the first refused one, and returns that item's refusal.
 fn take_up_to_refusal(
     chosen: &mut Marks,
     gathered: &mut CollectedMoves,
@@ -81,8 +82,8 @@ fn take_up_to_refusal(
     None
 }
 
-/// Gathers the moves of verdicts, or returns the first refusal. The marks are clear at the end.
-/// One look at each verdict up to that one.
+/// Gathers the moves of verdicts, or returns the first refusal. At the end no node is marked.
+/// Looks once at each verdict up to the first refused one.
 pub(crate) fn take_verdicts(
     chosen: &mut Marks,
     gathered: &mut CollectedMoves,

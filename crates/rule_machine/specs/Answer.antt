@@ -15,7 +15,7 @@ use Rattle.rule_machine.specs.Disturbance.{after_link, after_unlink, after_point
 use Rattle.rule_machine.specs.Stable.{mutual_pairs}
 use Rattle.rule_machine.specs.Refuse.{refusal_of}
 
--- the numbers of a state after `spent` moves
+-- the numbers that `status` reports in a state after `spent` moves
 abbrev pub counts_of : RuleTable → State → ℕ → Counts
 counts_of t s spent = record {
   nodes = node_count s.network;
@@ -26,7 +26,8 @@ counts_of t s spent = record {
   spent = spent;
 }
 
--- What an accepted event does, after `spent` moves. Without a wish, any allowed target may be taken.
+-- After `spent` moves in s, an accepted event may get this reply and lead to s'. Without a wish, a
+-- node may take any allowed target.
 abbrev pub Does : RuleTable → State → ℕ → Event → Reply → State → Type 0
 Does t s spent (Link a b) Accepted s' = s' ≡ after_link s a b
 Does t s spent (Unlink a b) Accepted s' = s' ≡ after_unlink s a b
@@ -39,10 +40,10 @@ Does t s spent (Show v) (Shown target) s' = (target ≡ pointer s v) × (s' ≡ 
 Does t s spent Enabled (EnabledAre nodes) s' = (nodes ≡ enabled t s) × (s' ≡ s)
 Does t s spent Matching (Pairs pairs) s' = (pairs ≡ mutual_pairs s) × (s' ≡ s)
 Does t s spent Status (reply_is.Counts counts) s' = (counts ≡ counts_of t s spent) × (s' ≡ s)
--- no other reply is given
+-- an accepted event gets no other reply
 Does t s spent event reply s' = ⊥
 
--- a refused event changes nothing
+-- if the event is refused, the reply names the refusal and the state stays; if not, the event is done
 abbrev pub AnswersBy : RuleTable → State → ℕ → Event → Option Refusal → Reply → State → Type 0
 AnswersBy t s spent event (Some refusal) reply s' = (reply ≡ Refused refusal) × (s' ≡ s)
 AnswersBy t s spent event None reply s' = Does t s spent event reply s'
@@ -51,7 +52,8 @@ AnswersBy t s spent event None reply s' = Does t s spent event reply s'
 abbrev pub Answers : RuleTable → State → ℕ → Event → Reply → State → Type 0
 Answers t s spent event reply s' = AnswersBy t s spent event (refusal_of t s event) reply s'
 
--- the moves spent after a reply: only disturbances are answered by Accepted, and they reset the count
+-- the moves since the last accepted disturbance, after this reply: `Accepted` answers only
+-- disturbances and resets the count
 abbrev pub spent_after : ℕ → Reply → ℕ
 spent_after spent Accepted = 0
 spent_after spent (Moves moves) = spent + length moves

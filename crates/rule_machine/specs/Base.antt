@@ -1,4 +1,5 @@
--- Bases: what is left of a run when its older entries are dropped. Logs in which bases come among entries.
+-- Bases: what remains of a run after its older entries are dropped. Also logs that have bases among
+-- their entries.
 use Rattle.std.specs.Prelude.{◌≡◌, ℕ, ◌+◌, ◌≤◌, false, List, [], ◌∷◌, map, Option, None, Some}
 use Rattle.rule_machine.specs.declared.base.EpochStart.{EpochStart}
 use Rattle.rule_machine.specs.declared.base.EpochStart.TheVariants.{At, Forgotten}
@@ -22,8 +23,8 @@ node_records s = map (node_record_at s) (names s.network)
 abbrev pub base_of : ℕ → Moment → Base
 base_of number m = record { number = number; spent = m.spent; nodes = node_records m.state; edges = edge_list m.state.network }
 
--- A run may begin at the base, for names up to size: the start is a state, its lines are the base's, and its
--- spent moves and charge are within the bound of its network.
+-- A run with names up to `size` may begin at this base: `start` is a state with the base's moves,
+-- nodes and edges, and its spent moves plus its charge are within the bound of its network.
 pub record IsBaseMoment (t : RuleTable) (bound : Network → ℕ) (size : ℕ) (base : Base) (start : Moment) : Type 0 where
   pub is_state : IsState start.state
   pub size_is : start.state.network.size ≡ size
@@ -31,18 +32,18 @@ pub record IsBaseMoment (t : RuleTable) (bound : Network → ℕ) (size : ℕ) (
   pub unflagged : t.flags ≡ false → (v : ℕ) → flag start.state v ≡ false
   pub within : start.spent + t.charge start.state ≤ bound start.state.network
 
--- where the kept entries begin, for names up to size: at the opening state with the first of them present, or
--- at a base
+-- The moment before the retained entries. Without a base: the beginning of a run with `size` names,
+-- the first `first` of them present. With a base: the moment of that base.
 abbrev pub BeginsAt : RuleTable → (Network → ℕ) → ℕ → ℕ → Option Base → Moment → Type 0
 BeginsAt t bound size first None start = start ≡ beginning_with size first
 BeginsAt t bound size first (Some base) start = IsBaseMoment t bound size base start
 
--- the number of the last entry before the kept ones
+-- the number of the last dropped entry; 0 if no entry was dropped
 abbrev pub dropped : Option Base → ℕ
 dropped None = 0
 dropped (Some base) = base.number
 
--- where the first epoch of the kept entries began
+-- where the first epoch of the retained entries began
 abbrev pub begun_at : Option Base → EpochStart
 begun_at None = At 0
 begun_at (Some base) = Forgotten
@@ -57,8 +58,8 @@ pub record NumberedMoment : Type 0 where
   pub moment : Moment
   pub count : ℕ
 
--- From one numbered moment to another: the replies are answers of the machine, and a base is that of its
--- moment.
+-- The log leads from one numbered moment to the other: each reply is an answer of the machine, and
+-- each base is the base of the moment reached there.
 abbrev pub Passes : RuleTable → NumberedMoment → List LogPart → NumberedMoment → Type 0
 Passes t at [] end = end ≡ at
 Passes t at (EntryPart entry ∷ log) end =

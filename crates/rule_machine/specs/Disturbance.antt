@@ -6,11 +6,11 @@ use Rattle.rule_machine.specs.State.{State, Registers, is_at, points, with_point
 abbrev pub after_link : State → ℕ → ℕ → State
 after_link s a b = record s { network = with_edge s.network a b }
 
--- v's pointer becomes null if it is at w
+-- v's pointer becomes null if v points at w
 abbrev pub without_pointer : Registers → ℕ → ℕ → Registers
 without_pointer r v w = if points r v w then with_pointer r v None else r
 
--- the edge goes, and an end's pointer at the other end becomes null; flags stay
+-- the edge is removed; if an end points at the other end, that pointer becomes null; flags stay
 abbrev pub after_unlink : State → ℕ → ℕ → State
 after_unlink s a b =
     record { network = without_edge s.network a b; registers = without_pointer (without_pointer s.registers a b) b a }
@@ -21,18 +21,18 @@ after_point s v target = record s { registers = with_pointer s.registers v targe
 abbrev pub after_flag : State → ℕ → Bool → State
 after_flag s v value = record s { registers = with_flag s.registers v value }
 
--- a name becomes present; its registers are null and false already, like those of every absent name
+-- a name becomes present; like every absent name, it has a null pointer and a false flag already
 abbrev pub after_join : State → ℕ → State
 after_join s v = record s { network = with_node s.network v }
 
--- a pointer at v becomes null
+-- the pointer, or null if it is at v
 abbrev pub unless_at : ℕ → Option ℕ → Option ℕ
 unless_at v target = if is_at target v then None else target
 
--- v's pointer and every pointer at v become null, and v's flag false; other flags stay
+-- v's pointer and every pointer at v become null, and v's flag becomes false; other flags stay
 abbrev pub without_name : Registers → ℕ → Registers
 without_name r v = with_flag (with_pointer (record r { pointers = map (unless_at v) r.pointers }) v None) v false
 
--- the node goes, with its edges
+-- the node and its edges are removed
 abbrev pub after_leave : State → ℕ → State
 after_leave s v = record { network = without_node s.network v; registers = without_name s.registers v }

@@ -13,20 +13,20 @@ hsu_huang_opens target flag = is_none target
 
 abbrev pub hsu_huang_guard : State → ℕ → Act → Bool
 hsu_huang_guard s v Update = false
--- v is null, and a neighbour points at it
+-- v's pointer is null, and a neighbour points at v
 hsu_huang_guard s v Marry = is_none (pointer s v) && has_suitor s v
--- v is null, no neighbour points at it, and one is null
+-- v's pointer is null, no neighbour points at v, and a neighbour's pointer is null
 hsu_huang_guard s v Seduce =
     is_none (pointer s v) && not (has_suitor s v) && is_some (find (is_open hsu_huang_opens s) (neighbours s.network v))
--- v points at a node that points at a third
+-- v points at a node that points at a third node
 hsu_huang_guard s v Abandon =
     holds_at (λ w. is_some (pointer s w) && not (points s.registers w v)) (pointer s v)
 
 abbrev pub hsu_huang_allowed : State → ℕ → Act → ℕ → Bool
 hsu_huang_allowed s v Update w = false
--- any suitor
+-- any neighbour that points at v
 hsu_huang_allowed s v Marry w = linked s.network v w && suits s v w
--- any neighbour that is null
+-- any neighbour whose pointer is null
 hsu_huang_allowed s v Seduce w = linked s.network v w && is_open hsu_huang_opens s w
 hsu_huang_allowed s v Abandon w = false
 

@@ -1,4 +1,4 @@
--- The one answer of the machine in which each free target is the least allowed one.
+-- The answer of the machine in which each node without a wish takes the least allowed target.
 use Rattle.std.specs.Prelude.{ℕ, List, [], ◌∷◌, Option, None, Some, if◌then◌else◌, nat_eq, find}
 use Rattle.std.specs.List.{filter_map}
 use Rattle.std.specs.Option.{option_and_then}
@@ -22,7 +22,8 @@ use Rattle.rule_machine.specs.Stable.{mutual_pairs}
 use Rattle.rule_machine.specs.Refuse.{refusal_of}
 use Rattle.rule_machine.specs.Answer.{counts_of, spent_after}
 
--- a move of v by the rule: to the wished target if it is allowed; without a wish to the least one
+-- v's move by the rule. With a wish: to the wished target, or `Wrong` if the rule does not allow that
+-- target. Without a wish: to the least allowed target.
 abbrev pub outcome_by : RuleTable → State → ℕ → Act → Option ℕ → Outcome
 outcome_by t s v act None = outcome.Moves (record { node = v; act = act; target = least_target t s v act })
 outcome_by t s v act (Some w) =
@@ -36,7 +37,7 @@ outcome_at t s item (Some act) = outcome_by t s item.node act item.wish
 abbrev pub outcome_of : RuleTable → State → Item → Outcome
 outcome_of t s item = if present s.network item.node then outcome_at t s item (rule_at t s item.node) else outcome.Absent
 
--- the move, if it is one
+-- the move, if the outcome is a move
 abbrev pub move_in : Outcome → Option Moved
 move_in (outcome.Moves m) = Some m
 move_in other = None
@@ -84,18 +85,18 @@ abbrev pub state_by : RuleTable → State → Event → Option Refusal → State
 state_by t s event (Some refusal) = s
 state_by t s event None = accepted_state t s event
 
--- the reply after `spent` moves, and the state afterwards
+-- the reply to an event after `spent` moves, and the state afterwards
 abbrev pub reply_of : RuleTable → State → ℕ → Event → Reply
 reply_of t s spent event = reply_by t s spent event (refusal_of t s event)
 
 abbrev pub state_after : RuleTable → State → Event → State
 state_after t s event = state_by t s event (refusal_of t s event)
 
--- the moves spent after it
+-- the moves since the last accepted disturbance, after the event
 abbrev pub spent_by : RuleTable → State → ℕ → Event → ℕ
 spent_by t s spent event = spent_after spent (reply_of t s spent event)
 
--- the replies to events in turn, and the state at their end
+-- the replies to the events, one after another, and the state after the last event
 abbrev pub replies_of : RuleTable → State → ℕ → List Event → List Reply
 replies_of t s spent [] = []
 replies_of t s spent (event ∷ events) =

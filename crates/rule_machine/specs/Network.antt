@@ -1,5 +1,5 @@
 -- A network: nodes named from 1 up, and undirected edges between different nodes.
--- All else refers to the nodes only by `names`, `present` and `node_count`.
+-- All other definitions refer to the nodes only by `names`, `present` and `node_count`.
 use Rattle.std.specs.Prelude.{◌≡◌, ℕ, ◌+◌, ◌<◌, min, max, Bool, true, false, not, ◌&&◌, ◌||◌, List, [], ◌∷◌, length, map as list_map, filter, nat_le, nat_eq, slice_index_or, slice_set, IsTrue, refl}
 use Rattle.std.specs.List.{range_with_len}
 use Rattle.std.specs.declared.cmp.Ordering.{Ordering}
@@ -8,7 +8,7 @@ use Rattle.std.specs.Coded.{Coded, code_by, coded×, coded_ℕ, coded_bool, code
 use base.Stored.{coded_unit}
 use Rattle.std.specs.FinMap as map
 
--- pairs in the order of their first, then of their second number
+-- the order of pairs: by first number, then by second number
 abbrev pub pair_cmp : ℕ × ℕ → ℕ × ℕ → Ordering
 pair_cmp a b = ordering_then (nat_cmp a.0 b.0) (nat_cmp a.1 b.1)
 
@@ -21,8 +21,8 @@ abbrev pub pair_set : List (ℕ × ℕ) → PairSet
 pair_set [] = map.empty
 pair_set (pair ∷ pairs) = map.insert (pair_set pairs) pair tt
 
--- Names are 1 to size. The row says at each name's index whether it is present; index 0 belongs to no node.
--- An edge is the pair of its ends, the lower name first.
+-- Names are 1 to size. `here` says at each name's index whether the name is present; index 0 belongs
+-- to no node. An edge is the pair of its ends, the lower name first.
 pub record Network : Type 0 where
   pub size : ℕ
   pub here : List Bool
@@ -64,7 +64,7 @@ edge_list net = map.keys net.edges
 abbrev pub edge_count : Network → ℕ
 edge_count net = map.len net.edges
 
--- the row has an entry for each name, and each edge joins two different nodes of the network
+-- `here` has an entry for each name, and each edge joins two different nodes of the network
 pub record IsNetwork (net : Network) : Type 0 where
   pub here_len : length net.here ≡ net.size + 1
   pub nobody : slice_index_or net.here 0 false ≡ false
@@ -72,7 +72,7 @@ pub record IsNetwork (net : Network) : Type 0 where
   pub low_present : (a b : ℕ) → IsTrue (map.contains_key net.edges (a, b)) → IsTrue (present net a)
   pub high_present : (a b : ℕ) → IsTrue (map.contains_key net.edges (a, b)) → IsTrue (present net b)
 
--- the row of the names up to size with the first `count` present
+-- `here` for `size` names, the first `count` present
 abbrev pub first_names : ℕ → ℕ → List Bool
 first_names size count = list_map (λ v. nat_le 1 v && nat_le v count) (range_with_len 0 (size + 1))
 
@@ -80,7 +80,7 @@ first_names size count = list_map (λ v. nat_le 1 v && nat_le v count) (range_wi
 abbrev pub edgeless_with : ℕ → ℕ → Network
 edgeless_with size count = record { size = size; here = first_names size count; edges = map.empty }
 
--- the one with all present
+-- the network of `size` names, all present, without edges
 abbrev pub edgeless : ℕ → Network
 edgeless size = edgeless_with size size
 

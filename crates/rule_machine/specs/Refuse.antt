@@ -1,4 +1,4 @@
--- Why an event is refused: the first reason in a fixed order. A step is judged before any of its moves.
+-- Why an event is refused: the first reason in a fixed order. A step is judged before any node moves.
 use Rattle.std.specs.Prelude.{ℕ, Bool, not, ◌&&◌, List, [], ◌∷◌, ◌++◌, Option, None, Some, if◌then◌else◌, nat_eq, nat_le, nat_lt, length, codes}
 use Rattle.std.specs.List.{list_any}
 use Rattle.std.specs.Option.{option_or}
@@ -44,7 +44,7 @@ flag_refusal t net v = if not t.flags then Some NoFlag else (if present net v th
 abbrev pub show_refusal : Network → ℕ → Option Refusal
 show_refusal net v = if present net v then None else Some UnknownNode
 
--- 0 and names above the size belong to no node
+-- no node can have the name 0 or a name above the size
 abbrev pub join_refusal : Network → ℕ → Option Refusal
 join_refusal net v =
     if not (nat_le 1 v && nat_le v net.size) then Some UnknownNode else (if present net v then Some AlreadyPresent else None)
@@ -52,7 +52,7 @@ join_refusal net v =
 abbrev pub leave_refusal : Network → ℕ → Option Refusal
 leave_refusal net v = if present net v then None else Some UnknownNode
 
--- the rule must allow the wished target
+-- a wish is refused if the rule does not allow the wished target
 abbrev pub wish_refusal : (ℕ → Bool) → Option ℕ → Option Refusal
 wish_refusal allowed None = None
 wish_refusal allowed (Some w) = if allowed w then None else Some BadTarget
@@ -61,14 +61,14 @@ abbrev pub rule_refusal : RuleTable → State → Item → Option Act → Option
 rule_refusal t s item None = Some NotEnabled
 rule_refusal t s item (Some act) = wish_refusal (t.allowed s item.node act) item.wish
 
--- an item, after the earlier ones of its choice
+-- why an item is refused, given the earlier items of its choice
 abbrev pub item_refusal : RuleTable → State → List Item → Item → Option Refusal
 item_refusal t s earlier item =
     if not (present s.network item.node) then Some UnknownNode
     else (if list_any (λ i. nat_eq i.node item.node) earlier then Some ChosenTwice
     else rule_refusal t s item (rule_at t s item.node))
 
--- the first refusal of an item
+-- the refusal of the first item that is refused, given the earlier items
 abbrev pub items_refusal : RuleTable → State → List Item → List Item → Option Refusal
 items_refusal t s earlier [] = None
 items_refusal t s earlier (item ∷ items) =
@@ -110,7 +110,7 @@ refusal_number NotEnabled = 11
 refusal_number BadTarget = 12
 refusal_number AlreadyPresent = 13
 
--- its text
+-- the text of a refusal in a transcript
 abbrev pub refusal_text : Refusal → List ℕ
 refusal_text UnknownNode = codes "unknown-node"
 refusal_text SelfLoop = codes "self-loop"

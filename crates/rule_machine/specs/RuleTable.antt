@@ -1,4 +1,4 @@
--- A rule set: guards and targets as functions of a state. They alone decide every move.
+-- A rule set: guards and targets as functions of a state. Guards and targets alone decide every move.
 use Rattle.std.specs.Prelude.{ℕ, Bool, ◌&&◌, List, [], ◌∷◌, Option, is_some, find, filter, reverse, nat_lt}
 use Rattle.std.specs.List.{filter_map}
 use Rattle.std.specs.Option.{option_map}
@@ -18,7 +18,7 @@ pub record RuleTable : Type 0 where
   pub charge : State → ℕ
   -- whether only one node moves at a time
   pub central : Bool
-  -- whether flags are used
+  -- whether the rules use flags
   pub flags : Bool
 
 abbrev pub acts : List Act
@@ -40,7 +40,7 @@ enabled t s = filter_map (λ v. option_map (λ act. (v, act)) (rule_at t s v)) (
 abbrev pub allowed_targets : RuleTable → State → ℕ → Act → List ℕ
 allowed_targets t s v act = filter (t.allowed s v act) (neighbours s.network v)
 
--- the least of them
+-- the least target that the rule allows at v
 abbrev pub least_target : RuleTable → State → ℕ → Act → Option ℕ
 least_target t s v act = find (t.allowed s v act) (neighbours s.network v)
 
@@ -52,6 +52,6 @@ is_open opens s w = opens (pointer s w) (flag s w)
 abbrev pub first_open : (Option ℕ → Bool → Bool) → State → ℕ → Option ℕ
 first_open opens s v = find (is_open opens s) (neighbours s.network v)
 
--- v's greatest open neighbour, if its name is above v's
+-- v's greatest open neighbour, if that neighbour's name is above v's
 abbrev pub last_open_above : (Option ℕ → Bool → Bool) → State → ℕ → Option ℕ
 last_open_above opens s v = find (λ w. is_open opens s w && nat_lt v w) (reverse (neighbours s.network v))

@@ -5,8 +5,8 @@ use Rattle.std.specs.FinMap as map
 use Rattle.rule_machine.specs.Network.{Network, names, present, linked}
 use Rattle.rule_machine.specs.State.{State, pointer, flag, married, partner}
 
--- Every pointer is null or answered, no edge has two null ends, and, if flags are used, each says whether its
--- node is married.
+-- Every pointer is null or answered, and no edge has two ends with null pointers. If flags are used,
+-- each node's flag says whether the node is married.
 pub record IsStable (uses_flags : Bool) (s : State) : Type 0 where
   pub answered : (v : ℕ) → IfSome (pointer s v) (λ w. pointer s w ≡ Some v)
   pub covered : (v w : ℕ) → IsTrue (linked s.network v w) → pointer s v ≡ None → pointer s w ≡ None → ⊥
@@ -16,13 +16,14 @@ pub record IsStable (uses_flags : Bool) (s : State) : Type 0 where
 abbrev pub ShareAnEnd : ℕ × ℕ → ℕ × ℕ → Type 0
 ShareAnEnd e f = (e.0 ≡ f.0) ⊎ (e.0 ≡ f.1) ⊎ (e.1 ≡ f.0) ⊎ (e.1 ≡ f.1)
 
--- Edges of the network: no two share an end, and each edge of the network shares an end with one of them.
+-- The matching has only edges of the network, and no two of them share an end. Each edge of the
+-- network shares an end with an edge of the matching.
 pub record IsMaximalMatching (net : Network) (matching : List (ℕ × ℕ)) : Type 0 where
   pub of_edges : All (λ e. IsTrue (map.contains_key net.edges e)) matching
   pub apart : (e f : ℕ × ℕ) → Contains matching e → Contains matching f → ShareAnEnd e f → e ≡ f
   pub maximal : (e : ℕ × ℕ) → IsTrue (map.contains_key net.edges e) → Any (ShareAnEnd e) matching
 
--- v's mutual pair, listed at its lower end
+-- the pair of v and its partner if v is the lower end; otherwise None
 abbrev pub pair_above : ℕ → Option ℕ → Option (ℕ × ℕ)
 pair_above v None = None
 pair_above v (Some w) = if nat_lt v w then Some (v, w) else None

@@ -34,7 +34,7 @@ abbrev pub is_at : Option ℕ → ℕ → Bool
 is_at None w = false
 is_at (Some x) w = nat_eq x w
 
--- a pointer is at a name that passes the test
+-- whether a pointer is at a name and that name passes the test
 abbrev pub holds_at : (ℕ → Bool) → Option ℕ → Bool
 holds_at test None = false
 holds_at test (Some w) = test w
@@ -61,11 +61,11 @@ flag s v = flag_of s.registers v
 abbrev pub opening_with : ℕ → ℕ → State
 opening_with size count = record { network = edgeless_with size count; registers = blank size }
 
--- with all names present
+-- the beginning of a run with all names present
 abbrev pub opening : ℕ → State
 opening size = opening_with size size
 
--- w points at v: to v, w is a suitor
+-- whether w points at v: then w is a suitor of v
 abbrev pub suits : State → ℕ → ℕ → Bool
 suits s v w = points s.registers w v
 
@@ -80,7 +80,7 @@ has_suitor s v = is_some (first_suitor s v)
 abbrev pub is_mutual : State → ℕ → ℕ → Bool
 is_mutual s v w = points s.registers v w && points s.registers w v
 
--- the neighbour with which v is a mutual pair, if any
+-- the neighbour w such that v and w point at each other, if any
 abbrev pub partner : State → ℕ → Option ℕ
 partner s v = find (is_mutual s v) (neighbours s.network v)
 
@@ -95,7 +95,8 @@ is_settled s v = cond (married s v) (flag s v) (not (flag s v))
 abbrev pub is_unanswered : State → ℕ → Bool
 is_unanswered s v = holds_at (λ w. not (points s.registers w v)) (pointer s v)
 
--- the registers are those of the network's nodes, and each pointer is null or a neighbour
+-- Each name has a pointer and a flag. Each pointer is null or at a neighbour, and only a present
+-- node's flag can be true.
 pub record IsState (s : State) : Type 0 where
   pub is_network : IsNetwork s.network
   pub pointers_len : length s.registers.pointers ≡ s.network.size + 1

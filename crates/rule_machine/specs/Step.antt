@@ -15,24 +15,24 @@ takes_target Marry = true
 takes_target Seduce = true
 takes_target Abandon = false
 
--- an allowed target, and the wished one if there is a wish
+-- the rule allows the target, and if there is a wish, the target is the wished one
 abbrev pub IsAllowedTarget : RuleTable → State → ℕ → Act → Option ℕ → Option ℕ → Type 0
 IsAllowedTarget t s v act wish target = IsSomeAnd target (λ w. IsTrue (t.allowed s v act w)) × (IsSome wish → target ≡ wish)
 
--- the targets that a move of v may have: only marry and seduce take one
+-- the targets that a move of v may have: only marry and seduce take a target
 abbrev pub IsTarget : RuleTable → State → ℕ → Act → Option ℕ → Option ℕ → Type 0
 IsTarget t s v Update wish target = target ≡ None
 IsTarget t s v Marry wish target = IsAllowedTarget t s v Marry wish target
 IsTarget t s v Seduce wish target = IsAllowedTarget t s v Seduce wish target
 IsTarget t s v Abandon wish target = target ≡ None
 
--- the move that an item asks for: its node's rule, with a target that it may have
+-- the item asks for this move: by the rule of the item's node, to a target that rule and wish allow
 pub record IsMoveOf (t : RuleTable) (s : State) (item : Item) (m : Moved) : Type 0 where
   pub node : m.node ≡ item.node
   pub rule : rule_at t s item.node ≡ Some m.act
   pub target : IsTarget t s item.node m.act item.wish m.target
 
--- what a move writes; married is read in the state before the step
+-- the registers after one move; whether v is married is read in the state before the step
 abbrev pub written : State → Registers → ℕ → Act → Option ℕ → Registers
 written before r v Update target = with_flag r v (married before v)
 written before r v Marry target = with_pointer r v target
@@ -49,7 +49,8 @@ registers_after before moves = fold (after_move before) before.registers moves
 abbrev pub after_moves : State → List Moved → State
 after_moves before moves = record before { registers = registers_after before moves }
 
--- From s, the items of a choice move in one step to s': each chosen node once, by a rule and a target of s.
+-- By these moves the step of this choice leads from s to s': each chosen node moves once, by its rule
+-- and a target in s.
 pub record IsStep (t : RuleTable) (s : State) (choice : List Item) (moves : List Moved) (s' : State) : Type 0 where
   pub some : moves ≢ []
   pub alone : IsTrue t.central → length moves ≡ 1

@@ -10,7 +10,7 @@ abbrev pub table_of : RuleSet → RuleTable
 table_of Hh = hsu_huang
 table_of Manne = manne
 
--- what a node adds to the bound of a rule set
+-- how much each node adds to a rule set's bound on moves
 abbrev pub weight_of : RuleSet → ℕ
 weight_of Hh = 1
 weight_of Manne = 3

@@ -7,9 +7,9 @@ use crate::Node;
 pub enum Act {
     /// Sets the node's flag to whether the node is married.
     Update,
-    /// Points back at a suitor.
+    /// Points the node at a neighbour that points at the node.
     Marry,
-    /// Points at a neighbour that is open to it.
+    /// Points the node at an open neighbour. The rule set says which neighbours are open.
     Seduce,
     /// Sets the node's pointer to null.
     Abandon,
@@ -20,7 +20,7 @@ pub enum Act {
 pub struct Moved {
     /// The node that moved.
     pub node: Node,
-    /// Its rule.
+    /// The node's rule.
     pub act: Act,
     /// The node's new target for `Marry` and `Seduce`; `None` for the other rules.
     pub target: Option<Node>,

@@ -7,13 +7,13 @@ use crate::{Edge, Listing, Node};
 pub struct NodeRecord {
     /// The node.
     pub node: Node,
-    /// Its pointer; `None` for null.
+    /// The node's pointer; `None` for null.
     pub target: Option<Node>,
-    /// Its married flag.
+    /// The node's married flag.
     pub flagged: bool,
 }
 
-/// A base: all that is needed to continue a run, and how many entries led there.
+/// A base: all that a run needs to continue without the entries before the base, and their number.
 #[derive(Debug, Drop, PartialEq, Eq)]
 pub struct Base {
     /// The number of the last entry before the base; 0 if there was none.
@@ -26,11 +26,11 @@ pub struct Base {
     pub edges: Listing<Edge>,
 }
 
-/// The beginning of an epoch: of the entries between two accepted disturbances.
+/// The beginning of an epoch. An epoch is the entries between two accepted disturbances.
 #[derive(Clone, Copy, Debug, PartialEq, Eq)]
 pub enum EpochStart {
-    /// After the entry with this number, an accepted disturbance; 0 for the beginning of the run.
+    /// After the accepted disturbance with this entry number; 0 for the beginning of the run.
     At(u32),
-    /// Before the base that the kept entries start from.
+    /// Before the base that precedes the retained entries.
     Forgotten,
 }

@@ -14,7 +14,7 @@ pub const MAX_ITEMS: usize = 65_535;
 pub struct Item {
     /// The node to move.
     pub node: Node,
-    /// The wished target, or `None` for any.
+    /// The target that the daemon wishes for; `None` for any allowed target.
     pub wish: Option<Node>,
 }
 
@@ -48,7 +48,7 @@ impl Clone for Choice {
 }
 
 impl Choice {
-    /// The choice of these items; `None` above 65,535 items.
+    /// The choice with these items; `None` if there are more than 65,535.
     pub fn new(items: Vec<Item>) -> Option<Choice>
         ensures { SomeIff result (length items.items ≤ 65535) items.items }
     {
@@ -60,7 +60,7 @@ impl Choice {
         })
     }
 
-    /// The choice of one item. Takes no memory.
+    /// The choice with one item. Takes no memory.
     pub fn one(item: Item) -> Choice
         ensures { result ≡ item ∷ [] }
     {

@@ -10,16 +10,16 @@ use std::alloc::AllocError;
 pub enum Event {
     /// Adds the edge between two nodes.
     Link(Node, Node),
-    /// Removes the edge between two nodes. An end's pointer at the other end becomes null.
+    /// Removes the edge between two nodes. If an end points at the other end, that pointer becomes null.
     Unlink(Node, Node),
     /// Writes a node's pointer: null, or a neighbour.
     Point(Node, Option<Node>),
     /// Writes a node's married flag.
     Flag(Node, bool),
-    /// Makes a name present.
+    /// Makes a name present: adds a node without edges.
     Join(Node),
     /// Removes a node and its edges.
-    /// Its pointer and each pointer at it become null; its flag becomes false.
+    /// The node's pointer and each pointer at the node become null. The node's flag becomes false.
     Leave(Node),
     /// Moves the chosen nodes, all at once.
     Step(Choice),

@@ -6,14 +6,14 @@ ghost use Rattle.std.specs.Cmp.Lexicographic.{pointwise, lists_per, lists_equiv}
 use std::alloc::AllocError;
 use std::marker::Model;
 
-/// The items of a listing. One item takes no memory.
+/// The items of a listing. A listing of one item takes no memory.
 #[derive(Debug, Drop)]
 enum ListingItems<T> {
     One([T; 1]),
     Many(Vec<T>),
 }
 
-/// A list that contracts see as its items, whatever its representation.
+/// A list. Contracts see only the items, not how the list stores them.
 #[derive(Debug, Drop)]
 pub struct Listing<T> {
     held: ListingItems<T>,

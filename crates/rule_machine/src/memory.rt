@@ -2,5 +2,6 @@
 
 use std::alloc::AllocError;
 
-/// The error of a failed allocation. Whatever returns it has changed nothing, unless it says otherwise.
+/// The error of a failed allocation.
+/// A function that returns this error has changed nothing, unless the function's comment says otherwise.
 pub type Want = AllocError;

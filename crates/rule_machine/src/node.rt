@@ -4,7 +4,7 @@ ghost use Rattle.std.specs.Prelude.{◌≡◌, ℕ, ◌≤◌, SomeIff};
 
 use std::marker::Model;
 
-/// The greatest name: names fit 16 bits.
+/// The greatest name. Every name fits 16 bits.
 pub const MAX_NAME: u32 = 65_535;
 
 /// A node of a network. Contracts see its name, 1 to 65,535. Nodes are ordered by name.
@@ -26,7 +26,7 @@ impl Model for Node {
 }
 
 impl Node {
-    /// The node with this name; `None` for 0 and above 65,535.
+    /// The node with this name; `None` if the name is 0 or above 65,535.
     pub fn new(name: u32) -> Option<Node>
         ensures { SomeIff result ((1 ≤ name) × (name ≤ 65535)) name }
     {
@@ -45,7 +45,7 @@ impl Node {
         u32::from(self.name)
     }
 
-    /// The name as an index into a table with one entry a name. Index 0 belongs to no node.
+    /// The name as an index into a table with one entry for each name. Index 0 belongs to no node.
     pub fn place(self) -> usize
         ensures same { result ≡ self }
         ensures named { (1 ≤ result) × (result ≤ 65535) }

@@ -5,13 +5,13 @@
 pub enum Refusal {
     /// A node that the event acts on or asks about is not present.
     UnknownNode,
-    /// Both ends are the same node.
+    /// Both ends of the edge are the same node.
     SelfLoop,
-    /// The edge is there already.
+    /// The network has this edge already.
     AlreadyLinked,
-    /// The edge is not there.
+    /// The network does not have this edge.
     NotLinked,
-    /// The network has the most edges that it may have.
+    /// The network has 1,048,576 edges already, the most allowed.
     TooManyEdges,
     /// The pointer's target is present, but is not a neighbour.
     NotNeighbour,
@@ -27,7 +27,7 @@ pub enum Refusal {
     NotEnabled,
     /// The node's rule does not allow the wished target.
     BadTarget,
-    /// A node has the name already.
+    /// The name to join belongs to a node already.
     AlreadyPresent,
 }
 
@@ -36,7 +36,7 @@ impl Refusal {
     ghost use Rattle.rule_machine.specs.declared.refusal.Refusal.{Refusal};
     ghost use Rattle.rule_machine.specs.Refuse.{refusal_number, refusal_text};
 
-    /// Returns its number in transcripts, 1 to 13.
+    /// The refusal's number in transcripts, 1 to 13.
     pub fn number(self) -> u32
         ensures { result ≡ refusal_number self }
     {
@@ -57,7 +57,7 @@ impl Refusal {
         }
     }
 
-    /// The refusal with this number; `None` for 0 and above 13.
+    /// The refusal with this number; `None` if the number is 0 or above 13.
     pub fn from_number(number: u32) -> Option<Refusal>
         ensures { MatchOption result
             ((refusal : Refusal) → refusal_number refusal ≡ number → ⊥)
@@ -81,7 +81,7 @@ impl Refusal {
         })
     }
 
-    /// Returns its text in transcripts: lower case, with hyphens.
+    /// The refusal's text in transcripts: lower case, with hyphens.
     pub fn text(self) -> &'static str
         ensures { result.now ≡ refusal_text self }
     {

@@ -5,7 +5,7 @@ ghost use Rattle.std.specs.Prelude.{◌≡◌};
 use crate::{Act, Counts, Edge, Listing, Moved, Node, Refusal};
 use std::alloc::AllocError;
 
-/// The reply to an event. Lists ascend by node, pairs by lower end.
+/// The reply to an event. Lists of moves or nodes ascend by node, lists of pairs by lower end.
 #[derive(Debug, Drop, PartialEq, Eq)]
 pub enum Reply {
     /// The change was made.
@@ -20,7 +20,7 @@ pub enum Reply {
     EnabledAre(Listing<(Node, Act)>),
     /// The mutual pairs.
     Pairs(Listing<Edge>),
-    /// The network's numbers.
+    /// The numbers that `status` reports.
     Counts(Counts),
 }
 

@@ -14,7 +14,7 @@ impl RuleSet {
     ghost use Rattle.std.specs.Prelude.{◌≡◌, ◌≤◌};
     ghost use Rattle.rule_machine.specs.Tables.{rules_word, weight_of};
 
-    /// Returns its word on a command line and in a transcript's header.
+    /// The rule set's word on a command line and in a transcript's header.
     pub fn word(self) -> &'static str
         ensures { result.now ≡ rules_word self }
     {
@@ -24,7 +24,7 @@ impl RuleSet {
         }
     }
 
-    /// What each node adds to the bound on moves after a disturbance: at most 3.
+    /// How much each node adds to the bound on moves after a disturbance: 1 for `Hh`, 3 for `Manne`.
     /// Each edge adds 2.
     pub fn node_weight(self) -> u64
         ensures weight { result ≡ weight_of self }

@@ -1,4 +1,4 @@
-//! Outcomes of single items.
+//! What each item of a choice would do alone.
 
 use crate::{Moved, Node};
 

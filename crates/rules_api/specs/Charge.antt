@@ -12,14 +12,14 @@ use Rattle.rule_machine.specs.State.{State, IsState, pointer, is_unanswered}
 use Rattle.rule_machine.specs.Step.{IsStep}
 use Rattle.rules_api.specs.ChargeInputs.{ends_open, IsSameChargeInput}
 
--- The charge plus twice the pointers that close an edge is twice the edges open by their ends, plus the
--- unanswered pointers, plus what the nodes add.
+-- The charge, plus twice the number of pointers that close an edge, equals a sum: twice the number of
+-- edges open by their ends, plus the number of unanswered pointers, plus what the nodes add.
 abbrev pub CountsCharge : Bool → (State → ℕ → Bool) → (State → ℕ → ℕ) → RuleTable → Type 0
 CountsCharge courted_close closes adds t =
     (s : State) → IsState s → t.charge s + 2 * count_by (closes s) (names s.network) ≡ 2 * count_by (ends_open courted_close s) (edge_list s.network) + count_by (is_unanswered s) (names s.network) + sum_by (adds s) (names s.network)
 
--- Whether a pointer closes an edge depends only on its target and the target's standing. What a node adds
--- depends only on its own standing.
+-- Whether a pointer closes an edge depends only on the pointer's target and that target's standing.
+-- What a node adds depends only on the node's own standing.
 pub record AreNear (closes : State → ℕ → Bool) (adds : State → ℕ → ℕ) : Type 0 where
   pub closes_by_target : (s u : State) (v w : ℕ) → IsState s → IsState u → pointer s v ≡ Some w → pointer u v ≡ Some w → IsSameChargeInput s u w → closes s v ≡ closes u v
   pub adds_by_standing : (s u : State) (v : ℕ) → IsSameChargeInput s u v → adds s v ≡ adds u v
@@ -28,8 +28,8 @@ pub record AreNear (closes : State → ℕ → Bool) (adds : State → ℕ → �
 abbrev pub charge_bound : ℕ → Network → ℕ
 charge_bound weight net = 2 * edge_count net + weight * node_count net
 
--- The charge falls by the moves of each step, edges and nodes bound it, and if it is zero the network is
--- stable.
+-- Each step lowers the charge by at least its number of moves. Edges and nodes bound the charge. If
+-- the charge is zero, the network is stable.
 pub record IsCharged (t : RuleTable) (weight : ℕ) : Type 0 where
   pub falls : (s : State) (items : List Item) (moves : List Moved) (s' : State) → IsState s → IsStep t s items moves s' → t.charge s' + length moves ≤ t.charge s
   pub bounded : (s : State) → IsState s → t.charge s ≤ charge_bound weight s.network

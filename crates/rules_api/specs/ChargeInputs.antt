@@ -4,7 +4,7 @@ use Rattle.rule_machine.specs.State.{State, pointer, flag, married, has_suitor}
 use Rattle.rules_api.specs.declared.standing.ChargeInput.{ChargeInput}
 use Rattle.rule_machine.specs.Charge.{is_courted}
 
--- it is the node's standing in a state
+-- `it` is the standing of its node in state s
 pub record IsChargeInput (s : State) (it : ChargeInput) : Type 0 where
   pub points : it.pointer ≡ pointer s it.node
   pub flagged : it.flag ≡ flag s it.node
@@ -18,8 +18,8 @@ pub record IsSameChargeInput (s u : State) (v : ℕ) : Type 0 where
   pub paired : married s v ≡ married u v
   pub courted : has_suitor s v ≡ has_suitor u v
 
--- an edge is open by its ends: neither is married and, if courted nodes close the edges between them, they
--- are not both courted
+-- An edge is open by its ends if neither end is married and, in rule sets in which courted nodes close
+-- the edges between them, not both ends are courted.
 abbrev pub ends_open : Bool → State → ℕ × ℕ → Bool
 ends_open courted_close s e =
     not (married s e.0) && not (married s e.1) && not (courted_close && (is_courted s e.0 && is_courted s e.1))

@@ -11,14 +11,15 @@ use Rattle.rule_machine.specs.Network.{linked, neighbours}
 abbrev pub IsNear : State → ℕ → ℕ → Type 0
 IsNear s v w = (w ≡ v) ⊎ IsTrue (linked s.network v w)
 
--- two states show the same at v
+-- the two states agree on the neighbours of v, and on the registers of v and of its neighbours
 pub record SameAt (s u : State) (v : ℕ) : Type 0 where
   pub neighbours : neighbours s.network v ≡ neighbours u.network v
   pub linked : (w : ℕ) → linked s.network v w ≡ linked u.network v w
   pub pointers : (w : ℕ) → IsNear s v w → pointer s w ≡ pointer u w
   pub flags : (w : ℕ) → IsNear s v w → flag s w ≡ flag u w
 
--- the wish if the rule allows it, else none; without a wish the least allowed target, if the rule takes one
+-- With a wish: the wished target, or None if the rule does not allow that target. Without a wish: the
+-- least allowed target, if there is one.
 abbrev pub target_by : RuleTable → State → ℕ → Option ℕ → Act → Option (Option ℕ)
 target_by t s v None act = Some (least_target t s v act)
 target_by t s v (Some w) act = if t.allowed s v act w then Some (Some w) else None

@@ -1,12 +1,15 @@
 //! What a guard may read, what a rule set is, and the laws that hold for every rule set.
 //!
 //! `Rules` is an algorithm: guard, target, cost, constants and laws. Engine, journal, lock and readers are
-//! proved once, for any rule set. A guard reads only `Local` (the registers of a node and its neighbours), a
-//! cost only `Touched` (the nodes that a disturbance touches). So neither can cost more.
+//! proved once, for any rule set. A guard reads only `Local` (the registers of a node and its neighbours). A
+//! cost reads only `Touched` (the nodes that a disturbance touches). So neither can look at more.
 //!
-//! The laws: the table defines what is allowed; a guard depends only on a glance at its node; silence is
-//! stability; every move lowers the charge (the potential), which edges and nodes bound; a disturbance adds
-//! at most its cost.
+//! The laws of every rule set (`specs/RulesLaws.antt`):
+//! - The table defines which moves are allowed.
+//! - A guard depends only on a few values at its node (`AgreesLocally`).
+//! - A network is silent if and only if the network is stable.
+//! - Every move lowers the charge (the potential). The numbers of edges and nodes bound the charge.
+//! - A disturbance adds at most its cost to the charge.
 //!
 //! ```rust
 //! fn enabled_by<R: Rules, L: Local>(local: &L, v: Node) -> Option<Act> {

@@ -10,10 +10,10 @@ use rule_machine::Node;
 
 /// What a guard may read at a node: the registers of the node and of its neighbours.
 pub trait Local {
-    /// The state that it shows.
+    /// The state that the view shows.
     ghost state: { Self → State };
 
-    /// The node.
+    /// The node whose guard reads the view.
     ghost at: { Self → ℕ };
 
     /// Which pointers and flags make a neighbour open to a seduction.

@@ -45,22 +45,22 @@ pub trait Rules {
     /// What `cost` returns, on a state.
     ghost cost: { State → Event → ℕ };
 
-    /// Its laws, which each rule set proves.
+    /// The laws of the rule set, which each implementation proves.
     ghost laws: { RulesLaws table CENTRAL FLAGS COURTS_HIGHER_ONLY NODE_WEIGHT COURTED_PAIR_CLOSES_EDGE closes adds cost };
 
-    /// Whether its daemon is central: one node moves at a time.
+    /// Whether the daemon is central: one node moves at a time.
     const CENTRAL: bool;
 
-    /// Whether it uses the married flags.
+    /// Whether the rules use the married flags.
     const FLAGS: bool;
 
-    /// Whether its guards ask only for open neighbours with higher names.
+    /// Whether guards look only for open neighbours with names above the node's.
     const COURTS_HIGHER_ONLY: bool;
 
-    /// What each node adds to the bound on the charge, at most 3.
+    /// How much each node adds to the bound on the charge, at most 3.
     const NODE_WEIGHT: u64;
 
-    /// Whether an edge is closed if both its ends are null and have suitors.
+    /// Whether an edge is closed if both its ends have null pointers and suitors.
     const COURTED_PAIR_CLOSES_EDGE: bool;
 
     /// Whether a neighbour with this pointer and flag is open to a seduction.
@@ -75,7 +75,8 @@ pub trait Rules {
         ensures { result ≡ rule_at table (L.state local.now) v };
 
     /// The target of the node's enabled rule; `None` if the rule takes no target.
-    /// Without a wish it is the least allowed target. Error: `BadTarget` if the rule does not allow the wish.
+    /// Without a wish, the target is the least one that the rule allows.
+    /// Error: `BadTarget` if the rule does not allow the wish.
     fn target<L: Local>(local: &L, v: Node, wish: Option<Node>) -> Result<Option<Node>, BadTarget>
         requires at { L.at local.now ≡ v }
         requires opens { L.opens ≡ table.opens }
@@ -83,24 +84,23 @@ pub trait Rules {
         requires enabled { IsSome (rule_at table (L.state local.now) v) }
         ensures { result_ok result ≡ target_at table (L.state local.now) v wish };
 
-    /// Whether a node's pointer closes the edge to its target if the ends leave it open.
+    /// Whether a node's pointer closes the edge to its target, if the ends leave that edge open.
     fn closes(node: Node, target: &ChargeInput) -> bool
         ensures { (s : State) → IsState s → IsChargeInput s target.now → pointer s node ≡ Some target.now.node → result ≡ closes s node };
 
-    /// What a node adds to the charge, apart from 1 if its pointer is not answered.
+    /// How much a node adds to the charge, without the 1 that an unanswered pointer adds.
     fn node_charge(node: &ChargeInput) -> u8
         ensures { (s : State) → IsChargeInput s node.now → result ≡ adds s node.now.node };
 
-    /// The most that an accepted event may add to the charge.
-    /// In both rule sets: a constant up to 4 plus twice some degrees of the touched nodes; 0 for steps and
-    /// questions.
+    /// The most that an accepted event may add to the charge; 0 for steps and questions.
+    /// In both rule sets the cost is a constant up to 4, plus twice some degrees of the touched nodes.
     fn cost<T: Touched>(touched: &T, event: &Event) -> u32
         requires state { IsState (T.state touched.now) }
         requires accepted { refusal_of table (T.state touched.now) event.now ≡ None }
         ensures { result ≡ cost (T.state touched.now) event.now };
 }
 
-/// Whether the guard of `v` asks for open neighbours such as `w`: any, or only those above `v`.
+/// Whether the guard of `v` asks if `w` is open: it asks this of all neighbours, or of those above `v`.
 #[inline(always)]
 pub fn asks_for<R: Rules>(v: Node, w: Node) -> bool
     ensures { result ≡ asks_for R.COURTS_HIGHER_ONLY v w }

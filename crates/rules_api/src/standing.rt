@@ -1,18 +1,18 @@
-//! Standings of nodes.
+//! What the charge reads at a node.
 
 use rule_machine::Node;
 
-/// A node's standing: all that the charge of the node and of its edges depends on.
+/// A node's standing: all that the charge depends on at the node.
 #[derive(Clone, Copy, Debug, PartialEq, Eq)]
 pub struct ChargeInput {
     /// The node.
     pub node: Node,
-    /// Its pointer.
+    /// The node's pointer.
     pub pointer: Option<Node>,
-    /// Its married flag.
+    /// The node's married flag.
     pub flag: bool,
-    /// Whether it and a neighbour point at each other.
+    /// Whether the node and a neighbour point at each other.
     pub is_married: bool,
-    /// Whether a neighbour points at it.
+    /// Whether a neighbour points at the node.
     pub has_suitor: bool,
 }

@@ -6,9 +6,10 @@ ghost use Rattle.rule_machine.specs.State.{State, points, pointer, has_suitor};
 
 use rule_machine::Node;
 
-/// What a disturbance finds at the nodes that it touches. Its cost depends on this alone.
+/// What a cost may read at the nodes that a disturbance touches.
+/// The cost of the disturbance depends on nothing else.
 pub trait Touched {
-    /// The state that it shows.
+    /// The state that the view shows.
     ghost state: { Self → State };
 
     /// A node's pointer.

@@ -1,4 +1,4 @@
--- How the charge is counted. By these rules a node adds nothing to it apart from its pointer.
+-- How the charge is counted. By these rules a node adds to the charge only by its pointer.
 use Rattle.std.proofs.Common.{◌≡◌, ℕ, ◌+◌, ◌*◌, ◌≤◌, true, false, List, [], ◌∷◌, None, Some, is_none, count_by, sum_by, refl, sym, ap, ◌∙◌, arith}
 use Rattle.std.proofs.lemmas.List.Sums.{sum_by-cons}
 use Rattle.rule_machine.specs.Network.{names, edge_list}

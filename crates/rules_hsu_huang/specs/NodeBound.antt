@@ -1,4 +1,4 @@
--- At most as many moves come as the number of nodes alone allows.
+-- A run without a disturbance has at most as many moves as the number of nodes alone allows.
 use Rattle.std.proofs.Common.{◌≡◌, ℕ, Some, subst}
 use Rattle.std.proofs.lemmas.Option.{same_Some}
 use Rattle.rule_machine.specs.HsuHuang.{hsu_huang}

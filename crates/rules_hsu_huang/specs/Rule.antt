@@ -10,15 +10,15 @@ use Rattle.rules_api.specs.LocalViews.{AgreesLocally}
 use Rattle.machine_laws.specs.LocalAgreement.{same_find, same_pointer, same_suitor}
 use Rattle.machine_laws.specs.Pointers.{pointer_linked}
 
--- the rule of a node with this pointer, a suitor or not, an open neighbour or not, and this test for leaving
--- a node
+-- the rule of a node, from its pointer, whether it has a suitor, whether it has an open neighbour, and the
+-- test of its target for abandoning
 abbrev pub hsu_huang_rule_by : Option ℕ → Bool → Bool → (ℕ → Bool) → Option Act
 hsu_huang_rule_by None true reach leaves = Some Marry
 hsu_huang_rule_by None false true leaves = Some Seduce
 hsu_huang_rule_by None false false leaves = None
 hsu_huang_rule_by (Some w) suitor reach leaves = cond (leaves w) (Some Abandon) None
 
--- v leaves w, which points at a third
+-- whether v abandons w if w is its target: w points at another node than v
 abbrev pub is_taken : State → ℕ → ℕ → Bool
 is_taken s v w = is_some (pointer s w) && not (points s.registers w v)
 
@@ -101,7 +101,7 @@ glance_seduces : (s u : State) (v : ℕ) (o : Option ℕ) → AgreesLocally fals
 glance_seduces s u v None same e = ap₂ (λ b c. not b && c) (same.suitor e) (same.reach e)
 glance_seduces s u v (Some w) same e = refl
 
--- and no guard asks more than a glance
+-- each guard depends on the local view of the node alone
 pub hsu_huang_guard_is_view : (s u : State) (v : ℕ) (act : Act) → IsState s → IsState u → AgreesLocally false hsu_huang_opens s u v → hsu_huang.guard s v act ≡ hsu_huang.guard u v act
 hsu_huang_guard_is_view s u v Update is_state other same = refl
 hsu_huang_guard_is_view s u v Marry is_state other same =

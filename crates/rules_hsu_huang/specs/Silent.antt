@@ -1,4 +1,4 @@
--- What one disturbance of a silent network costs is no more than it costs in any network.
+-- The silent cost of a disturbance is at most its cost.
 use Rattle.std.proofs.Common.{ℕ, arith}
 use Rattle.rule_machine.specs.declared.event.Event.{Event}
 use Rattle.rule_machine.specs.State.{State}

@@ -44,7 +44,7 @@ hsu_huang_free_target s v null enabled =
     cases None (Some w) p q h = ap Some q
     cases None None p q h = absurd cc
 
--- and allows as a wish a suitor, or, if there is none, an open neighbour
+-- a node with a null pointer may wish a suitor as target or, if there is none, an open neighbour
 pub hsu_huang_free_wish : (s : State) (v w : ℕ) → IsState s → pointer s v ≡ None → IsSome (rule_at hsu_huang s v) → target_at hsu_huang s v (Some w) ≡ cond ((linked s.network v w && suits s v w) || (is_none (first_suitor s v) && (linked s.network v w && is_open hsu_huang_opens s w))) (Some (Some w)) None
 hsu_huang_free_wish s v w is_state null enabled =
     let by = hsu_huang_rule_cases s v ∙ ap (λ o. hsu_huang_rule_by o (has_suitor s v) (has_open s v) (is_taken s v)) null in

@@ -1,4 +1,4 @@
-//! How many moves the number of nodes alone allows.
+//! The bound on moves that depends on the number of nodes alone.
 
 use crate::HsuHuang;
 use node_bound::NodeBound;

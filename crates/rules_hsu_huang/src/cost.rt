@@ -1,4 +1,4 @@
-//! What a disturbance may add to the charge, from the degrees of the nodes that it touches.
+//! How much an event may add to the charge, from the degrees of the nodes that the event touches.
 
 ghost use Rattle.std.specs.Prelude.{◌≡◌, ◌-◌, ◌≤◌, cond, IsTrue};
 ghost use Rattle.rule_machine.specs.declared.event.Event.TheVariants.{Unlink, Leave};
@@ -10,7 +10,7 @@ ghost use Rattle.charge_laws.specs.Costs.{hsu_huang_cost, hsu_huang_point_cost};
 use rule_machine::Node;
 use rules_api::{Touched, points_at};
 
-/// Returns how many other edges the second node has, if the first points at it, else 0.
+/// If `v` points at `w`, returns how many edges `w` has besides the edge to `v`, else 0.
 fn other_edges<T: Touched>(touched: &T, v: Node, w: Node) -> u32
     requires from { IsTrue (present (T.state touched.now).network v) }
     requires to { IsTrue (present (T.state touched.now).network w) }

@@ -2,12 +2,13 @@
 //!
 //! - A node with a null pointer marries a neighbour that points at it. If there is none, it seduces a
 //!   neighbour whose pointer is null.
-//! - A node abandons a neighbour that points at another.
+//! - A node resets its pointer (abandons its target) if its target points at another node.
 //!
-//! It uses no flags. Each node weighs 1: with m edges and n nodes a run settles within 2m + n moves.
+//! The algorithm uses no flags. Each node adds 1 to the bound: with m edges and n nodes a run settles
+//! within 2m + n moves.
 //!
-//! `HsuHuang` is that algorithm as `Rules`. Its guards, targets and costs are those of the table `hsu_huang`
-//! of `rule_machine`, and all laws of a rule set are proved here. It has no values, and is named as a
+//! `HsuHuang` implements the algorithm as `Rules`. The guards, targets and costs are those of the table
+//! `hsu_huang` of `rule_machine`, and all laws of a rule set are proved here. `HsuHuang` is used as a type
 //! parameter:
 //!
 //! ```rust

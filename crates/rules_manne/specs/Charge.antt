@@ -49,14 +49,14 @@ manne_closes_alike s u v w good also at still same =
     ∙ (λ i. nat_lt v w && not (same.flagged i) && not (same.paired i))
     ∙ sym (closes_at u v w also still)
 
--- and a node's part on its own
+-- a node's own part of the charge depends on the node's charge input alone
 pub adds_alike : (s u : State) (v : ℕ) → IsSameChargeInput s u v → manne_node_charge s v ≡ manne_node_charge u v
 adds_alike s u v same = λ i. cond (same.paired i) (cond (same.flagged i) 0 1) (cond (same.flagged i) 2 1)
 
 pub manne_weight_is_small : 3 ≤ 3
 manne_weight_is_small = omega arith
 
--- so it is computed from the target
+-- whether a pointer closes its edge is computed from the target's charge input
 pub closes_standing : (s : State) (v : ℕ) (target : ChargeInput) → IsState s → IsChargeInput s target → pointer s v ≡ Some target.node → manne_closes s v ≡ (nat_lt v target.node && not target.flag && not target.is_married)
 closes_standing s v target good stands at =
     closes_at s v target.node good at ∙ (λ i. nat_lt v target.node && not (sym stands.flagged i) && not (sym stands.paired i))

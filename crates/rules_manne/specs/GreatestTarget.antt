@@ -68,7 +68,7 @@ last_some p a (suc n) x e =
     )
     (or-some (last p (range_with_len (a + 1) n)) (p a) a x e)
 
--- the greatest of the neighbours that v may court
+-- the greatest neighbour that v may court, if any
 abbrev pub greatest : State → ℕ → Option ℕ
 greatest s v = last_open_above manne_opens s v
 

@@ -13,8 +13,8 @@ use Rattle.machine_laws.specs.LocalAgreement.{same_find, same_pointer, same_suit
 use Rattle.machine_laws.specs.Pointers.{pointer_linked}
 use Rattle.rules_manne.specs.GreatestTarget.{greatest, greatest_reaches}
 
--- the rule of a node that is settled or not, with this pointer, a suitor or not, one to court or not, and
--- this test for leaving a node
+-- the rule of a node, from whether its flag is right, its pointer, whether it has a suitor, whether it may
+-- court a neighbour, and the test of its target for abandoning
 abbrev pub manne_rule_by : Bool → Option ℕ → Bool → Bool → (ℕ → Bool) → Option Act
 manne_rule_by false target suitor court leaves = Some Update
 manne_rule_by true None true court leaves = Some Marry
@@ -22,7 +22,8 @@ manne_rule_by true None false true leaves = Some Seduce
 manne_rule_by true None false false leaves = None
 manne_rule_by true (Some w) suitor court leaves = cond (leaves w) (Some Abandon) None
 
--- v leaves w, which does not point back and never will: it is flagged, or not above v
+-- whether v abandons w if w is its target: w does not point back and never will, since w is flagged or not
+-- above v
 abbrev pub is_lost : State → ℕ → ℕ → Bool
 is_lost s v w = not (points s.registers w v) && (flag s w || nat_le w v)
 
@@ -148,7 +149,7 @@ glance_seduces None settled suitor suitor' court court' same reach =
 glance_seduces (Some w) true suitor suitor' court court' same reach = refl
 glance_seduces (Some w) false suitor suitor' court court' same reach = refl
 
--- and no guard asks more than a glance
+-- each guard depends on the local view of the node alone
 pub manne_guard_is_view : (s u : State) (v : ℕ) (act : Act) → IsState s → IsState u → AgreesLocally true manne_opens s u v → manne.guard s v act ≡ manne.guard u v act
 manne_guard_is_view s u v Update is_state other same = ap not (glance_settled s u v same)
 manne_guard_is_view s u v Marry is_state other same =

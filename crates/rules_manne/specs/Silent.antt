@@ -1,5 +1,4 @@
--- What one disturbance of a silent network costs exceeds what it costs in any network by 2 for a pair that may
--- come, and by 1 for a node that goes.
+-- The silent cost of a disturbance is at most its cost, plus 2 if a new pair may form, plus 1 for `leave`.
 use Rattle.std.proofs.Common.{ℕ, ◌+◌, ◌*◌, arith}
 use Rattle.rule_machine.specs.declared.event.Event.{Event}
 use Rattle.rule_machine.specs.State.{State}

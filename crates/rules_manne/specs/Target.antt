@@ -87,7 +87,7 @@ least_greatest s v is_state =
     )
     (option_cases (greatest s v))
 
--- whether v points nowhere and is not flagged
+-- whether the pointer of v is null and v is not flagged
 abbrev pub is_free_node : State → ℕ → Bool
 is_free_node s v = is_none (pointer s v) && not (flag s v)
 
@@ -141,7 +141,8 @@ manne_free_target s v is_state h enabled =
     cases None (Some w) p q k = ap Some q
     cases None None p q k = absurd cc
 
--- and allows as a wish a suitor, or, if there is none, that greatest neighbour
+-- whether w is a target that a wish of v may name: a suitor or, if v has none, the greatest neighbour that
+-- v may court
 abbrev pub may_point : State → ℕ → ℕ → Bool
 may_point s v w = (linked s.network v w && suits s v w) || (is_none (first_suitor s v) && is_at (greatest s v) w)
 

@@ -1,4 +1,4 @@
-//! How many moves the number of nodes alone allows.
+//! No bound on moves that depends on the number of nodes alone is known.
 
 use crate::Manne;
 use node_bound::NodeBound;

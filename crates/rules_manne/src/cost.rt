@@ -1,4 +1,4 @@
-//! What a disturbance may add to the charge, from the degrees of the nodes that it touches.
+//! How much an event may add to the charge, from the degrees of the nodes that the event touches.
 
 ghost use Rattle.std.specs.Prelude.{◌≡◌, IsTrue};
 ghost use Rattle.rule_machine.specs.declared.event.Event.TheVariants.{Unlink, Flag, Leave};

@@ -1,4 +1,4 @@
--- How one line ends, and its parts.
+-- How carrying out one line, or a part of one line, ends.
 use Rattle.std.specs.Prelude.{◌≡◌, ◌≤◌, ◌⊎◌, ℕ, Bool, true, false, List, Option, None, Some, Result, Ok, Err}
 use Rattle.rand_core.specs.Stream.{Stream}
 use Rattle.rule_machine.specs.declared.event.Event.{Event}
@@ -19,7 +19,7 @@ use Rattle.run_session.specs.declared.stop.LineError.TheVariants.{BadLine, LogFu
 abbrev pub recording_moment : Recording → Moment
 recording_moment r = record { state = r.state; spent = r.spent }
 
--- the progress of a run: its rule set, how far its recording has come, and a text
+-- the progress of a run: its rule set, how far its recording has come, and this text
 abbrev pub progress : RuleSet → Recording → List ℕ → Progress
 progress rules r text = record { rules = rules; moment = recording_moment r; count = r.len; text = text }
 
@@ -43,19 +43,20 @@ CommandBegins t limit Checkpoint before after = after ≡ before
 abbrev pub LineBegins : RuleTable → ℕ → List ℕ → Progress → Progress → Type 0
 LineBegins t limit line before after = (after ≡ before) ⊎ ((command : Command) × Says line command × CommandBegins t limit command before after)
 
--- the event is an entry; or the log was full or memory ran out, and nothing was done
+-- the event has its entry; or nothing was done, because the log was full or memory ran out
 abbrev pub EventEnds : {E : Type 0} → RuleTable → ℕ → Event → Progress → Progress → Result Bool E → Type 0
 EventEnds t limit event before after (Ok true) = EventDoes t limit event before after
 EventEnds t limit event before after (Ok false) = (before.count ≡ limit) × (after ≡ before)
 EventEnds t limit event before after (Err want) = after ≡ before
 
--- the turns were taken, or one met a full log; if memory ran out, some first turns were taken
+-- the turns were taken, or a turn met a full log; if memory ran out, some first turns were taken
 abbrev pub TurnsEnd : {E : Type 0} → Draws → RuleTable → ℕ → ℕ → Stream → Progress → Progress → Result Bool E → Type 0
 TurnsEnd draws t limit turns stream before after (Ok true) = TurnsDo draws t limit turns stream before after
 TurnsEnd draws t limit turns stream before after (Ok false) = TurnsFill draws t limit turns stream before after
 TurnsEnd draws t limit turns stream before after (Err want) = TurnsBegin draws t limit turns stream before after
 
--- the command was carried out, or met a full log; if memory ran out, at most some first turns were taken
+-- the command was carried out, or met a full log; if memory ran out, at most some of its first turns were
+-- taken
 abbrev pub CommandEnds : {E : Type 0} → RuleTable → ℕ → Command → Progress → Progress → Result Bool E → Type 0
 CommandEnds t limit command before after (Ok true) = CommandDoes t limit command before after
 CommandEnds t limit command before after (Ok false) = CommandFills t limit command before after

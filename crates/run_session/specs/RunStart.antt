@@ -5,7 +5,7 @@ use Rattle.rule_machine.specs.Run as run
 use Rattle.line_text.specs.EntryText.{header_line}
 use Rattle.script_text.specs.Script.{Progress}
 
--- the opening state with these names, the first of them present, nothing spent, no entry, and the header
+-- the opening state of these names, of which the first are present; no move, no entry, and the header as text
 abbrev pub first_progress : RuleSet → ℕ → ℕ → Progress
 first_progress rules nodes present =
     record { rules = rules; moment = run.beginning_with nodes present; count = 0; text = header_line rules nodes present }

@@ -21,7 +21,7 @@ use seeded_turns::{DaemonTurns, EventSource, FaultTurns};
 use std::alloc::{AllocError, Global};
 use step_log::{RecordFault, Recorder};
 
-/// The rule set's name, a recorded network, and the text of its entries that the caller has not taken.
+/// The rule set's name, a recorded network, and the text of entries that the caller has not taken yet.
 #[derive(Drop)]
 pub struct Run<R: Rules> {
     pub rules: RuleSet,
@@ -30,10 +30,10 @@ pub struct Run<R: Rules> {
 }
 
 impl<R: Rules> Run<R> {
-    /// A run of a new network on the names 1 to `nodes`, with its header as text.
+    /// A run of a new network on the names 1 to `nodes`. The run's text is the header.
     ///
-    /// The names 1 to `present` are present. `limit` is the most entries; above 16,777,216 it counts as that.
-    /// `Want` if memory runs out. Takes some fifty bytes a name.
+    /// The names 1 to `present` are present. `limit` is the most entries; a limit above 16,777,216 counts as
+    /// 16,777,216. `Want` if memory runs out. Takes some fifty bytes a name.
     pub fn new(
         alloc: Global,
         rules: RuleSet,
@@ -58,12 +58,12 @@ impl<R: Rules> Run<R> {
         })
     }
 
-    /// Carries out an event and adds its entry's text; `false` if the log is full.
+    /// Carries out an event and adds its entry's text; returns `false` if the log is full.
     ///
-    /// The reply is put into `reply`. If the caller has the event's text, `line`, it is copied. The entry's
-    /// number is the recorder's `len` afterwards. `Want` if memory runs out. Then, and at a full log, at most
-    /// `reply` has changed.
-    // Inlined into the reading of a line, as is everything between the two.
+    /// Writes the machine's reply into `reply`. If the caller passes the event's text as `line`, that text is
+    /// copied into the entry. The entry's number is the recorder's `len` after the call. `Want` if memory
+    /// runs out. After `Want` or `false`, nothing but `reply` may have changed.
+    // Inlined into the reading of a line, as is every function between that one and this one.
     #[inline(always)]
     pub fn log(
         &mut self,
@@ -83,8 +83,9 @@ impl<R: Rules> Run<R> {
         }
     }
 
-    // Carries out up to `count` drawn events, and stops at a turn that has none; `false` at a full log,
-    // before the turn is drawn. `Want` after some whole first turns.
+    // Carries out up to `count` events that `source` draws, and stops at a turn that draws none. Returns
+    // `false` if the log is full, before the next turn is drawn. `Want` comes after some first turns, each
+    // taken whole.
     fn take_turns<S: EventSource>(&mut self, source: &mut S, count: u32) -> Result<bool, Want>
         ensures ends { TurnsEnd S.draws R.table self.old.recorder.limit count (S.stream source.old) (progress_of self.old) (progress_of self.new) result }
         ensures unasked { self.old.recorder.len ≡ self.old.recorder.limit → S.stream source.new ≡ S.stream source.old }
@@ -106,8 +107,8 @@ impl<R: Rules> Run<R> {
 
     /// Takes up to `turns.count` steps of a daemon seeded with `turns.seed`; stops when no node is enabled.
     ///
-    /// `false` if a turn meets a full log, before the daemon is asked. `Want` if memory runs out, after some
-    /// whole first turns.
+    /// Returns `false` if the log is full at a turn; that turn does not ask the daemon. `Want` if memory runs
+    /// out, after some first turns, each taken whole.
     pub fn drive(&mut self, alloc: Global, turns: Turns) -> Result<bool, Want>
         ensures ends { TurnsEnd drawn_step R.table self.old.recorder.limit turns.count (seeded_stream turns.seed) (progress_of self.old) (progress_of self.new) result }
         ensures silent { IfOk result (λ done. IsTrue done → R.table.charge self.old.recorder.state ≤ turns.count → enabled_names R.table self.new.recorder.state ≡ []) }
@@ -121,7 +122,8 @@ impl<R: Rules> Run<R> {
 
     /// Makes up to `turns.count` register faults drawn with `turns.seed`; none if the network has no node.
     ///
-    /// `false` if a turn meets a full log. `Want` if memory runs out, after some whole first turns.
+    /// Returns `false` if the log is full at a turn. `Want` if memory runs out, after some first turns, each
+    /// taken whole.
     pub fn scramble(&mut self, turns: Turns) -> Result<bool, Want>
         ensures ends { TurnsEnd drawn_fault R.table self.old.recorder.limit turns.count (seeded_stream turns.seed) (progress_of self.old) (progress_of self.new) result }
         ensures limit { self.new.recorder.limit ≡ self.old.recorder.limit }
@@ -144,10 +146,10 @@ impl<R: Rules> Run<R> {
         put_base(&mut self.text, self.rules, net.store().capacity(), &base)
     }
 
-    /// Carries out the command of `line`; `false` if it, or one of its turns, meets a full log.
+    /// Carries out the command of `line`; `false` if the command or one of its turns meets a full log.
     ///
-    /// `Want` if memory runs out; then nothing has changed, or some first turns were taken whole and their
-    /// text is there.
+    /// `Want` if memory runs out. Then either nothing has changed, or some first turns were taken whole and
+    /// their text was added.
     #[inline(always)]
     pub fn follow(&mut self, alloc: Global, command: &Command, line: &[u8]) -> Result<bool, Want>
         requires { Says line.now command.now }
@@ -165,11 +167,11 @@ impl<R: Rules> Run<R> {
         }
     }
 
-    /// Carries out line `number`, given without its LF; returns what in it stops the run, if anything does.
+    /// Carries out line `number`, given without its LF. Returns the error that stops the run, or `None`.
     ///
-    /// `BadLine` changes nothing. At `LogFull` the turns taken before stay. `Want` if memory runs out:
-    /// nothing has changed, or some first turns were taken whole and their text is there. The run can go on
-    /// after each of these.
+    /// After `BadLine` nothing has changed. After `LogFull` the turns taken before it remain. `Want` if
+    /// memory runs out: either nothing has changed, or some first turns were taken whole and their text was
+    /// added. After each of these errors the run can go on.
     #[inline(always)]
     pub fn carry_out(
         &mut self,

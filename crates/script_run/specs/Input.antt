@@ -1,4 +1,4 @@
--- The fault of a run that an input fault is.
+-- The fault of a run that each fault of its input becomes.
 use Rattle.byte_streams.specs.declared.input_fault.InputFault.{InputFault}
 use Rattle.byte_streams.specs.declared.input_fault.InputFault.TheVariants as input
 use Rattle.script_run.specs.declared.fault.RunFault.{RunFault}

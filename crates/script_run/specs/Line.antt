@@ -1,4 +1,4 @@
--- How one line ends in a run whose text is written as it grows.
+-- How carrying out one line ends, in a run whose text is written as it grows.
 use Rattle.std.specs.Prelude.{◌≡◌, ℕ, Bool, true, false, List, ◌++◌, Option, None, Some, Result, Ok, Err}
 use Rattle.rule_machine.specs.declared.event.Event.{Event}
 use Rattle.rule_machine.specs.RuleTable.{RuleTable}
@@ -9,11 +9,11 @@ use Rattle.run_session.specs.declared.run.Run.{Run}
 use Rattle.run_session.specs.declared.stop.LineError.{LineError}
 use Rattle.run_session.specs.declared.stop.LineError.TheVariants.{BadLine, LogFull}
 
--- a text has grown
+-- the second text is the first with bytes appended
 abbrev pub Grows : List ℕ → List ℕ → Type 0
 Grows old new = (more : List ℕ) × (new ≡ old ++ more)
 
--- the step is an entry; or the log was full, and nothing was done; if memory ran out, no text was added
+-- the step has its entry; or the log was full, and nothing was done; if memory ran out, no text was added
 abbrev pub StepEnds : {E : Type 0} → RuleTable → ℕ → Event → Progress → Progress → Result Bool E → Type 0
 StepEnds t limit event before after (Ok true) = EventDoes t limit event before after
 StepEnds t limit event before after (Ok false) = (before.count ≡ limit) × (after ≡ before)
@@ -32,7 +32,7 @@ LineGrows t limit number line before after (Ok (Some (BadLine n))) = (n ≡ numb
 LineGrows t limit number line before after (Ok (Some LogFull)) = MeetsFullLog t limit line before after
 LineGrows t limit number line before after (Err want) = Grows before.text after.text
 
--- the same, but if memory ran out, no text was added
+-- the line was carried out, is bad, or met a full log; if memory ran out, no text was added
 abbrev pub LineEndsWhole : {E : Type 0} → RuleTable → ℕ → ℕ → List ℕ → Progress → Progress → Result (Option LineError) E → Type 0
 LineEndsWhole t limit number line before after (Ok None) = LineDoes t limit line before after
 LineEndsWhole t limit number line before after (Ok (Some (BadLine n))) = (n ≡ number) × IsBadLine line × (after ≡ before)

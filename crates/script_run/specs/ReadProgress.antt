@@ -1,4 +1,4 @@
--- How far a script was read and carried out.
+-- How far a script has been read and carried out.
 use Rattle.std.specs.Prelude.{◌≡◌, ℕ, ◌+◌, List, [], ◌++◌, length, Option, None, Some, Result, Ok, Err}
 use Rattle.std.specs.List.{All}
 use Rattle.rule_machine.specs.RuleTable.{RuleTable}
@@ -11,9 +11,9 @@ use Rattle.script_run.specs.RunEnds.{SplitsOutput, EndsReading}
 use Rattle.script_run.specs.Outcome.{LinesLeadTo}
 use Rattle.script_run.specs.WholeLines.{ended_text}
 
--- The first n lines of the bytes read were carried out, each up to its LF, and lead to the run's state. A
--- line was begun after them whose end is not found yet; the rest was not looked at. The writer has all of the
--- lines' text but what the run holds.
+-- The first n lines of the bytes read, each up to its LF, were carried out and lead to the run's state. After
+-- them the bytes read have a begun line, whose LF is not read yet, and a rest that was not looked at. The
+-- writer has all of the lines' text but the part that the run still has.
 pub record IsReadUpTo (t : RuleTable) (limit : ℕ) (start : Progress) (old : Option (List ℕ)) (read begun rest : List ℕ) (n : ℕ) (now : Progress) (known : Option (List ℕ)) : Type 0 where
   pub before : List (List ℕ)
   pub text : List ℕ
@@ -25,8 +25,8 @@ pub record IsReadUpTo (t : RuleTable) (limit : ℕ) (start : Progress) (old : Op
   pub does : LinesDo t limit before start (record { rules = now.rules; moment = now.moment; count = now.count; text = text })
   pub handed : SplitsOutput old known text now.text
 
--- a piece was carried out up to the line that it begins; or the run ends in it or the writer failed, whatever
--- follows
+-- a piece was carried out up to the line that it begins; or the run ends in the piece or the writer failed,
+-- whatever bytes follow
 abbrev pub PieceEnds : {E : Type 0} → RuleTable → ℕ → Progress → Option (List ℕ) → List ℕ → List ℕ → ℕ → Progress → Option (List ℕ) → Result (Option RunEnd) E → Type 0
 PieceEnds t limit start old read begun n now known (Ok None) = IsReadUpTo t limit start old read begun [] n now known
 PieceEnds t limit start old read begun n now known (Ok (Some end)) =
@@ -34,7 +34,7 @@ PieceEnds t limit start old read begun n now known (Ok (Some end)) =
 PieceEnds t limit start old read begun n now known (Err failed) =
     (more : List ℕ) → (end : Progress) × LinesLeadTo t limit (lines_of (read ++ more)) start end × AppendsLess old known end.text
 
--- the piece was carried out, wherever the run began and whatever was read before
+-- the piece was carried out, wherever the run had begun and whatever had been read before
 abbrev pub CarriesPiece : {E : Type 0} → RuleTable → ℕ → List ℕ → ReadProgress → ReadProgress → Progress → Progress → Option (List ℕ) → Option (List ℕ) → Result (Option RunEnd) E → Type 0
 CarriesPiece t limit piece old_reading new_reading before after had has result = (start : Progress) (old : Option (List ℕ)) (read : List ℕ)
     → IsReadUpTo t limit start old read old_reading.begun.items piece old_reading.lines before had

@@ -1,4 +1,4 @@
--- How far a script was carried out, before its result is returned.
+-- How far a script was carried out, before the run's result is returned.
 use Rattle.std.specs.Prelude.{◌≡◌, ℕ, List, ◌++◌, Option, Result, Ok, Err}
 use Rattle.std.specs.Io.KnownBytes.{Appends}
 use Rattle.rule_machine.specs.RuleTable.{RuleTable}
@@ -10,14 +10,14 @@ use Rattle.script_run.specs.declared.halt.RunEnd.{RunEnd}
 use Rattle.script_run.specs.declared.halt.RunEnd.TheVariants.{Whole, Stopped, Unread, Memory}
 use Rattle.script_run.specs.Outcome.{StopsAtBadLine, StopsAtFullLog, LinesLeadTo}
 
--- all of the text but the rest was written
+-- all of the text was written but the rest
 pub record SplitsOutput (old new : Option (List ℕ)) (text rest : List ℕ) : Type 0 where
   pub sent : List ℕ
   pub wrote : Appends old new sent
   pub splits : text ≡ sent ++ rest
 
--- all lines were carried out, or those before a bad line, a full log, a failed read or the end of memory; P
--- holds of their text
+-- all lines were carried out, or only those before a bad line, a full log, a failed read or a lack of memory;
+-- P holds of the text of the lines carried out
 abbrev pub EndsReading : RuleTable → ℕ → List (List ℕ) → Progress → RunEnd → (List ℕ → Type 0) → Type 0
 EndsReading t limit lines start Whole P = (end : Progress) × LinesDo t limit lines start end × P end.text
 EndsReading t limit lines start (Stopped (BadLine number)) P = (end : Progress) × StopsAtBadLine t limit lines start number end × P end.text
@@ -33,7 +33,7 @@ run_result (Stopped LogFull) = Err fault.LogFull
 run_result Unread = Err fault.Read
 run_result Memory = Err fault.Memory
 
--- the same, if the writer may have failed
+-- the result of a run that came this far, or of a run whose writer failed
 abbrev pub answered : {E : Type 0} → Result RunEnd E → Result Unit RunFault
 answered (Ok end) = run_result end
 answered (Err failed) = Err fault.Write

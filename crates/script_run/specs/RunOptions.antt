@@ -3,8 +3,8 @@ use Rattle.std.specs.Prelude.{ℕ}
 use Rattle.rule_machine.specs.declared.rules.RuleSet.{RuleSet}
 use Rattle.script_run.specs.declared.options.Options.{Options}
 
--- the rule set, the names, the nodes at the start, the limit of entries, the workers for a step, and the
--- roaming workers with their turns
+-- the rule set, how many names there are, how many nodes are present at the start, the limit of entries, the
+-- workers for a step, and the roaming workers with their turns
 pub record OptionsView : Type 0 where
   pub rules : RuleSet
   pub nodes : ℕ

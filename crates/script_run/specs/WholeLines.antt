@@ -1,4 +1,4 @@
--- What a run has made of the lines that were read whole.
+-- What a run has done with the lines that were read whole.
 use Rattle.std.specs.Prelude.{◌≡◌, ℕ, List, [], ◌∷◌, ◌++◌, Option}
 use Rattle.std.specs.Io.KnownBytes.{Consumes}
 use Rattle.std.specs.List.{All}
@@ -6,7 +6,7 @@ use Rattle.rule_machine.specs.RuleTable.{RuleTable}
 use Rattle.script_text.specs.Script.{Progress, LinesDo}
 use Rattle.byte_streams.specs.Lines.{IsLine}
 
--- these lines, each with an LF after it
+-- the bytes of these lines, each with an LF after it
 abbrev pub ended_text : List (List ℕ) → List ℕ
 ended_text [] = []
 ended_text (line ∷ lines) = line ++ 10 ∷ ended_text lines
@@ -17,7 +17,7 @@ pub record AreWholeLines (lines : List (List ℕ)) (begun bytes : List ℕ) : Ty
   pub each : All IsLine lines
   pub unended : IsLine begun
 
--- Exactly the lines whose LF the reader gave lead to the end, and P holds of the text there.
+-- Exactly the lines whose LF the reader has given lead to the end, and P holds of the text at this end.
 pub record DoesWholeLines (t : RuleTable) (limit : ℕ) (start : Progress) (had left : Option (List ℕ)) (P : List ℕ → Type 0) : Type 0 where
   pub bytes : List ℕ
   pub gave : Consumes had left bytes

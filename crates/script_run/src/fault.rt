@@ -13,7 +13,7 @@ pub enum RunFault {
     /// A command needs an entry, and the log is full.
     #[error("log full")]
     LogFull,
-    /// A read of the script failed, or 4,294,967,295 were made.
+    /// A read of the script failed, or 4,294,967,295 reads were made.
     #[error("read failed")]
     Read,
     /// A write of the transcript failed.
@@ -24,8 +24,8 @@ pub enum RunFault {
     Memory,
     /// The workers that judge a step failed.
     ///
-    /// `run` never returns it: it has at least one worker, and does the work itself if no thread can be
-    /// started.
+    /// `run` never returns this error: `run` has at least one worker, and does the work itself if no thread
+    /// can be started.
     #[error("{0}")]
     Pool(PoolFault),
 }

@@ -1,16 +1,19 @@
 //! The run of a script: bytes in, transcript out.
 //!
-//! `run` reads a script piece by piece and carries out each line as `run_session` does. Before each read it has
-//! written and flushed the text of all whole lines, so a program can talk to it. At `Ok` the writer has
-//! exactly the header, the machine's entries for the lines (each with the least free targets), and the bases
-//! of the checkpoints. The clause `outcome` says what it has after each fault. The transcript is the same
-//! for any number of workers, which evaluate steps of many nodes.
+//! `run` reads a script piece by piece and carries out each line as `run_session` does. Before each read,
+//! `run` writes and flushes the text of all whole lines read so far, so a program can send a line and wait
+//! for the reply. If `run` returns `Ok`, the writer has exactly the header, the machine's entries for the
+//! lines (each with the least free targets), and the bases of the checkpoints. The clause `outcome` says what
+//! the writer has after each error. Workers evaluate steps of many nodes; the transcript is the same for any
+//! number of workers.
 //!
-//! It keeps no entry: it holds 65,536 bytes and one line of the script, as much of the text, and the network.
+//! `run` keeps no entry. Memory is taken for the network, for 65,536 bytes and one line of the script, and
+//! for as much of the transcript.
 //!
 //! ```rust
 //! let Some(options) = Options::new(RuleSet::Hh, 2) else { return Err(..) };
-//! run(rt, alloc, &mut Reads::new(stdin), &mut Writes::new(stdout), &options.with_workers(4))?;      // `RunFault`
+//! let (mut reader, mut writer) = (CountingReader::new(stdin), FailStopWriter::new(stdout));
+//! run(rt, alloc, &mut reader, &mut writer, &options.with_workers(4))?;      // `RunFault`
 //! ```
 #![tactic(auto)]
 

@@ -32,9 +32,9 @@ pub struct Options {
 impl Options {
     ghost use Rattle.script_run.specs.RunOptions.{asked_of, usual};
 
-    /// A run on the nodes 1 to `nodes`, all present; `None` above 65,535.
+    /// The options of a run on the nodes 1 to `nodes`, all present; `None` if `nodes` is above 65,535.
     ///
-    /// At most `MAX_ENTRIES` entries, one worker, and no roaming worker.
+    /// The run has at most `MAX_ENTRIES` entries, one worker, and no roaming worker.
     pub fn new(rules: RuleSet, nodes: u32) -> Option<Options>
         ensures none { IsNone result ↔ 65535 < nodes }
         ensures options { IfSome result (λ options. asked_of options ≡ usual rules nodes) }
@@ -70,7 +70,7 @@ impl Options {
         }
     }
 
-    /// These options, with at most `limit` entries; above `MAX_ENTRIES` it counts as that.
+    /// These options, with at most `limit` entries; a `limit` above `MAX_ENTRIES` counts as `MAX_ENTRIES`.
     pub fn with_limit(self, limit: u32) -> Options
         ensures { asked_of result ≡ record (asked_of self) { limit = min limit 16777216 } }
     {
@@ -102,7 +102,7 @@ impl Options {
 
     /// These options, with `workers` workers that roam a storm's network for `turns` turns each.
     ///
-    /// More than 64 workers count as 64, and more than 1,000,000 turns as that.
+    /// More than 64 workers count as 64, and more than 1,000,000 turns as 1,000,000.
     pub fn with_roam(self, workers: u32, turns: u32) -> Options
         ensures { asked_of result ≡ record (asked_of self) { roamers = min workers 64; turns = min turns 1000000 } }
     {
@@ -140,7 +140,7 @@ impl Options {
         self.present
     }
 
-    /// The most entries, at most `MAX_ENTRIES`.
+    /// The greatest number of entries, at most `MAX_ENTRIES`.
     pub fn limit(&self) -> u32
         ensures count { result ≡ self.now.limit }
         ensures few { result ≤ 16777216 }

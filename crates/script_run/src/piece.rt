@@ -23,7 +23,7 @@ use std::sync::Wait;
 use std::thread::Threads;
 
 impl<R: Rules + Sync> Run<R> {
-    // Carries out the begun line, which ends with `end`.
+    // Carries out the line that an earlier piece began, and that `end` completes.
     fn carry_out_ended<T: Threads + Wait + Sync>(
         &mut self,
         rt: &T,
@@ -52,8 +52,9 @@ impl<R: Rules + Sync> Run<R> {
         Ok(stop)
     }
 
-    // Carries out the lines that end in a piece, hands over the text as it grows, and keeps the begun line. A
-    // line too long for a command is bad before its end is read.
+    // Carries out the lines that end in a piece, and writes the text whenever it has reached 65,536 bytes.
+    // Keeps the line that the piece begins but does not end. A line too long to be a command is bad before
+    // its end is read.
     pub fn carry_out_piece<Out: Write, T: Threads + Wait + Sync>(
         &mut self,
         rt: &T,
@@ -91,7 +92,7 @@ impl<R: Rules + Sync> Run<R> {
         }
     }
 
-    // Carries out the begun line, if any, which ends with the script.
+    // At the end of the script: carries out the begun line, if there is one.
     pub fn carry_out_last<T: Threads + Wait + Sync>(
         &mut self,
         rt: &T,

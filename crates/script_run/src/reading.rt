@@ -1,4 +1,4 @@
-//! Reading a script, and how far it was read.
+//! Reading a script, and how far it has been read.
 
 ghost use Rattle.std.specs.Prelude.{◌≡◌, ◌<◌, ◌≤◌, ◌+◌, [], length, take, IfOk, OnErr, OnOk};
 ghost use Rattle.std.specs.Io.KnownBytes.{Consumes, IsAtEnd, Keeps};
@@ -8,7 +8,7 @@ use byte_streams::{CountingReader, InputFault};
 use std::alloc::Global;
 use std::io::Read;
 
-/// How many whole lines were found, and what was read of the line after them.
+/// How many whole lines were read, and the bytes read of the line after them.
 #[derive(Drop)]
 pub struct ReadProgress {
     pub lines: u64,
@@ -28,9 +28,9 @@ impl ReadProgress {
     }
 }
 
-/// Reads once into the chunk, when all text is written; returns how many bytes came.
+/// Reads once into the chunk; returns how many bytes were read. All text was written before.
 ///
-/// 0 bytes come only at the reader's end. `Read` if the read fails; it is not retried.
+/// The result is 0 only at the reader's end. `Read` if the read fails; a failed read is not retried.
 pub fn read_on<In: Read>(
     reader: &mut CountingReader<In>,
     chunk: &mut [u8],

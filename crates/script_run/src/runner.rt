@@ -28,10 +28,10 @@ use std::io::{Read, Write};
 use std::sync::Wait;
 use std::thread::Threads;
 
-/// A shorter line has no step that is worth two workers.
+/// A line of fewer bytes has no step that is worth two workers.
 const WIDE: usize = 65_536;
 
-/// A run whose text is what is not written yet, and how many workers judge a step.
+/// A run whose text is the unwritten part of the transcript, and how many workers judge a step.
 #[derive(Drop)]
 pub struct Run<R: Rules> {
     pub line: LineRun<R>,
@@ -52,8 +52,8 @@ impl<R: Rules> Run<R> {
 }
 
 impl<R: Rules + Sync> Run<R> {
-    // Carries out the command of `line`; `false` at a full log. Workers judge a step that is worth more than
-    // one.
+    // Carries out the command of `line`; returns `false` if the log is full. Workers judge the items of a
+    // step that is worth more than one worker.
     #[inline(always)]
     fn follow<T: Threads + Wait + Sync>(
         &mut self,
@@ -74,8 +74,8 @@ impl<R: Rules + Sync> Run<R> {
         }
     }
 
-    // Carries out line `number`, which may be a step worth several workers. If memory runs out, some text may
-    // have been added.
+    // Carries out line `number`, which may be a step worth several workers. If memory runs out, text may have
+    // been added.
     fn carry_out_wide<T: Threads + Wait + Sync>(
         &mut self,
         rt: &T,
@@ -100,8 +100,8 @@ impl<R: Rules + Sync> Run<R> {
         }
     }
 
-    // Carries out line `number`, with workers if several may pay. If memory runs out, some text may have been
-    // added.
+    // Carries out line `number`, with several workers if the line may be worth them. If memory runs out, text
+    // may have been added.
     #[inline(always)]
     fn carry_out_line<T: Threads + Wait + Sync>(
         &mut self,
@@ -119,8 +119,8 @@ impl<R: Rules + Sync> Run<R> {
         self.line.carry_out(alloc, number, line)
     }
 
-    // Carries out line `number`; returns what in it stops the run, if anything does. If memory runs out, no
-    // text is added, not even that of turns that were taken.
+    // Carries out line `number`; returns the error that stops the run, or `None`. If memory runs out, no text
+    // is added, not even the text of turns that were taken.
     #[inline(always)]
     pub fn carry_out<T: Threads + Wait + Sync>(
         &mut self,

@@ -22,23 +22,24 @@ use std::thread::Threads;
 
 /// Carries out the lines of a script in turn, and writes the transcript.
 ///
-/// The transcript is a header, an entry for each command, and at a checkpoint, which has no entry, the lines
-/// of the network's base. Before each read, the text of all whole lines is written and flushed, so the
-/// script's writer can wait for a reply. `Ok` after the whole script was read.
+/// The transcript is a header and the text of each line: the entries of the line's command, or, at a
+/// checkpoint, the lines of the network's base. Before each read, the text of all whole lines is written and
+/// flushed, so the program that writes the script can wait for a reply. Returns `Ok` after the whole script
+/// was read.
 ///
 /// | Error | When | Written before it |
 /// |---|---|---|
 /// | `BadLine` | at the first line that is neither empty nor a command, such as one above 1,048,576 bytes whose end was not read | the text of all lines before |
 /// | `LogFull` | at a command whose entry is beyond the limit | all text before |
-/// | `Read` | only if a read failed, which is not retried, or 4,294,967,295 were made | the text of all lines before |
+/// | `Read` | only if a read failed (no retry), or after 4,294,967,295 reads | the text of all lines before |
 /// | `Write` | only if a write or a flush failed; no further text is written | a beginning of the transcript |
 /// | `Memory` | if memory runs out | a beginning of the transcript |
 ///
-/// No entry is kept. Besides the network it holds 65,536 bytes of the script and the begun line, and the text
-/// not written yet: 65,536 bytes and that of one line, and during a checkpoint its base.
+/// No entry is kept. Memory is taken for the network, for 65,536 bytes of the script and the begun line, and
+/// for the unwritten text: 65,536 bytes, the text of one line, and during a checkpoint its base.
 ///
-/// A step is evaluated by as many of the options' workers as pay for it, one for each 16,384 items. Their
-/// number does not change the transcript.
+/// A step is evaluated by one worker for each 16,384 items, at least one and at most the options' number. The
+/// number of workers does not change the transcript.
 pub fn run<In: Read, Out: Write, T: Threads + Wait + Sync>(
     rt: &T,
     alloc: Global,

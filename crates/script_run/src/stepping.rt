@@ -1,4 +1,4 @@
-//! A step whose items workers judge.
+//! Steps whose items several workers judge.
 
 ghost use Rattle.std.specs.Prelude.{◌≡◌, ◌<◌, ◌/◌, ◌↔◌, IsOk, IsTrue, length, max, min};
 ghost use Rattle.rule_machine.specs.declared.event.Event.TheVariants.{Step};
@@ -28,8 +28,8 @@ impl<R: Rules> Run<R> {
 }
 
 impl<R: Rules + Sync> Run<R> {
-    // Carries out the step of `line`, with as many workers as pay for it, and adds its entry's text. `false`
-    // at a full log, before anything is judged.
+    // Carries out the step of `line`, with as many workers as the step is worth, and adds the entry's text.
+    // Returns `false` if the log is full, before any item is judged.
     pub fn log_step<T: Threads + Wait + Sync>(
         &mut self,
         rt: &T,

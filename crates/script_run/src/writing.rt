@@ -7,7 +7,7 @@ ghost use Rattle.script_run.specs.RunEnds.{SplitsOutput};
 use byte_streams::{FailStopWriter, OutputFault};
 use std::io::Write;
 
-/// The length of a text that is handed over.
+/// A text of at least this many bytes is written.
 const CHUNK: usize = 65_536;
 
 /// Writes and empties the text, if it has reached 65,536 bytes.

@@ -1,4 +1,4 @@
--- The commands of script lines, each with its one text.
+-- The commands of script lines. Each command has one text.
 use Rattle.std.specs.Prelude.{◌≡◌, ℕ, ◌≤◌, List, ◌++◌, codes}
 use Rattle.line_text.specs.Words.{number_text}
 use Rattle.line_text.specs.EventText.{IsEvent, event_text}
@@ -10,7 +10,7 @@ use Rattle.script_text.specs.declared.command.Turns.{Turns}
 abbrev pub IsTurns : Turns → Type 0
 IsTurns turns = (turns.seed ≤ 18446744073709551615) × (turns.count ≤ 1000000)
 
--- the seed, and the number of turns
+-- the text of a seed and a number of turns
 abbrev pub turns_text : Turns → List ℕ
 turns_text turns = number_text turns.seed ++ codes " " ++ number_text turns.count
 
@@ -20,7 +20,7 @@ command_text (Drive turns) = codes "drive " ++ turns_text turns
 command_text (Scramble turns) = codes "scramble " ++ turns_text turns
 command_text Checkpoint = codes "checkpoint"
 
--- what every value of the program's type of commands satisfies
+-- what every value of the program's type `Command` satisfies
 abbrev pub IsCommand : Command → Type 0
 IsCommand (Tell event) = IsEvent event
 IsCommand (Drive turns) = IsTurns turns
@@ -31,10 +31,10 @@ IsCommand Checkpoint = Unit {0}
 abbrev pub Says : List ℕ → Command → Type 0
 Says line command = IsCommand command × (line ≡ command_text command)
 
--- the line asks for no turns
+-- the line is no `drive` or `scramble`
 abbrev pub SaysNoTurns : List ℕ → Type 0
 SaysNoTurns line = (turns : Turns) → IsTurns turns → (line ≡ codes "drive " ++ turns_text turns → ⊥) × (line ≡ codes "scramble " ++ turns_text turns → ⊥)
 
--- the line is no command
+-- the line is the text of no command
 abbrev pub SaysNothing : List ℕ → Type 0
 SaysNothing line = (command : Command) → Says line command → ⊥

@@ -6,7 +6,7 @@ use Rattle.script_text.specs.declared.fault.TextsFault.{TextsFault}
 use Rattle.script_text.specs.declared.fault.TextsFault.TheVariants.{TooManyScripts, BadLine, Read, Memory}
 use Rattle.script_text.specs.Texts.{TextHolds, FirstBad}
 
--- there are as many scripts as texts, and each is the script of the text at its index
+-- there are as many scripts as texts, and the script at each index is that of the text at the same index
 abbrev pub AllHold : List (Option (List ℕ)) → List (List ScriptLine) → Type 0
 AllHold [] [] = Unit {0}
 AllHold (known ∷ texts) (script ∷ scripts) = IfSome known (λ text. TextHolds text script) × AllHold texts scripts
@@ -16,8 +16,8 @@ AllHold texts scripts = ⊥
 abbrev pub IsScript : List ℕ → Type 0
 IsScript text = (script : List ScriptLine) × TextHolds text script
 
--- among texts numbered from this number, that line of that script is bad; all lines and texts before it are
--- good
+-- among texts numbered from this number, this line of this script is bad; all earlier texts, and all earlier
+-- lines of the script, are good
 abbrev pub FirstBadScript : ℕ → List (Option (List ℕ)) → ℕ → ℕ → Type 0
 FirstBadScript number [] script line = ⊥
 FirstBadScript number (known ∷ texts) script line =

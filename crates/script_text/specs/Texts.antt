@@ -7,17 +7,17 @@ use Rattle.script_text.specs.declared.script.ScriptLine.{ScriptLine}
 use Rattle.script_text.specs.declared.fault.TextFault.{TextFault}
 use Rattle.script_text.specs.declared.fault.TextFault.TheVariants.{BadLine, Memory}
 
--- the greatest line number that a script stores; it also represents every greater one
+-- the greatest line number that a script stores; all greater numbers are stored as this number
 abbrev pub greatest_number : ℕ
 greatest_number = 4294967295
 
--- what the line with this number adds to the script: its command, or nothing if it is empty
+-- what the line with this number adds to the script: the line's command, or nothing if the line is empty
 abbrev pub LineHolds : ℕ → List ℕ → List ScriptLine → Type 0
 LineHolds number [] own = own ≡ []
 LineHolds number (b ∷ line) own =
     (command : Command) × Says (b ∷ line) command × (own ≡ record { line = min number greatest_number; command = command } ∷ [])
 
--- what the lines add in turn, numbered from this number
+-- what the lines add, one after another; the first line has this number
 abbrev pub LinesHold : ℕ → List (List ℕ) → List ScriptLine → Type 0
 LinesHold number [] script = script ≡ []
 LinesHold number (line ∷ lines) script =
@@ -27,12 +27,13 @@ LinesHold number (line ∷ lines) script =
 abbrev pub TextHolds : List ℕ → List ScriptLine → Type 0
 TextHolds text script = LinesHold 1 (lines_of text) script
 
--- an empty line, or a command
+-- the line is empty, or a command
 abbrev pub IsGoodLine : List ℕ → Type 0
 IsGoodLine [] = Unit {0}
 IsGoodLine (b ∷ line) = (command : Command) × Says (b ∷ line) command
 
--- among lines numbered from this number, the one with that number is bad, and all before it are good
+-- among lines numbered from the first number, the line with the second number is bad, and all before it are
+-- good
 abbrev pub FirstBad : ℕ → List (List ℕ) → ℕ → Type 0
 FirstBad number [] bad = ⊥
 FirstBad number (line ∷ lines) bad =

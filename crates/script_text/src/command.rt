@@ -19,10 +19,10 @@ pub struct Turns {
 pub enum Command {
     /// Carry out one event.
     Tell(Event),
-    /// Take steps of a seeded daemon.
+    /// Take steps that a seeded daemon chooses.
     Drive(Turns),
-    /// Make faults of a seeded injector.
+    /// Make register faults that a seeded injector draws.
     Scramble(Turns),
-    /// Make this state the base of all later entries. It is no event and has no entry.
+    /// Make the state reached the base of all later entries. A checkpoint is no event and makes no entry.
     Checkpoint,
 }

@@ -11,21 +11,21 @@ ghost use Rattle.script_text.specs.declared.command.Command.TheVariants.{Drive};
 ghost use Rattle.script_text.specs.declared.command.Turns.{Turns};
 ghost use Rattle.script_text.specs.Script.{Progress, LineDoes, LinesDo};
 
-/// A line is at most one command, and a script's lines lead from one beginning to one end.
+/// A line is the text of at most one command. From one start, lines lead to at most one end.
 pub fn one_end()
     ensures command { (line : List ℕ) (c d : Command) → Says line c → Says line d → c ≡ d }
     ensures run { (t : RuleTable) (limit : ℕ) (lines : List (List ℕ)) (before after other : Progress)
         → LinesDo t limit lines before after → LinesDo t limit lines before other → after ≡ other }
 {}
 
-/// A line of more than 1,048,576 bytes is no command, so a run can stop before it has read all of it.
+/// A line of more than 1,048,576 bytes is no command, so a run need not read the rest of the line.
 pub fn long_line()
     ensures { (line : List ℕ) → 1048576 < length line → SaysNothing line }
 {}
 
 /// After a `drive` of at least as many turns as the charge, no node is enabled, whatever the seed.
 ///
-/// The charge is that of the state before the line.
+/// The charge is that of the state before the `drive`.
 pub fn long_drives_end_silent()
     ensures hsu_huang { (limit : ℕ) (lines : List (List ℕ)) (line : List ℕ) (turns : Turns) (start before after : Progress) → IsState start.moment.state
         → LinesDo hsu_huang limit lines start before → Says line (Drive turns) → LineDoes hsu_huang limit line before after

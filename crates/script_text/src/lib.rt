@@ -1,12 +1,13 @@
-//! Scripts: the commands of their lines, and what these do to the rule machine.
+//! Scripts: the commands of their lines, and what the commands do to the rule machine.
 //!
 //! A `Command` is one event, drawn turns (`drive`, `scramble`) or a `checkpoint`. A line reads as a command
-//! exactly if it is that command's text. `specs/Script` defines what lines do: a relation between the run
-//! before and after them (state, moves spent, entries, text). A script has one end (the law `one_end`).
+//! exactly if the line is that command's text. `specs/Script` defines what lines do, as a relation between
+//! the run before the lines and the run after them: state, moves spent, entries and text. From one start a
+//! script leads to one end (the law `one_end`).
 //!
-//! `read_line_into` reads one line for a caller that carries it out at once; only the items of a step take
-//! memory. `read_scripts` reads one script per reader, 64 at most, and names the first bad line before any
-//! script is played.
+//! `read_line_into` reads one line, for a caller that carries out the line at once. Only the items of a
+//! `step` take memory. `read_scripts` reads one script from each of at most 64 readers. If a script has a bad
+//! line, `read_scripts` returns the first such line as an error, before any script is played.
 //!
 //! ```rust
 //! let mut command = Command::Checkpoint;

@@ -5,10 +5,10 @@ ghost use Rattle.script_text.specs.Script.{lines_of};
 
 use byte_streams::split_line;
 
-/// The most bytes of a line, without its LF. No command is longer.
+/// The most bytes of a command's line, without its LF. A longer line is no command.
 pub const MAX_LINE: usize = 1_048_576;
 
-/// The first line, without its LF, and what follows; `None` at the end.
+/// The first line without its LF, and the bytes after the line; `None` if there are no bytes.
 pub fn next_line(bytes: &[u8]) -> Option<(&[u8], &[u8])>
     ensures lines { MatchOption result
         (lines_of bytes.now ≡ [])

@@ -41,10 +41,10 @@ fn read_turning(line: &[u8]) -> Option<Command>
     None
 }
 
-/// Reads a line as a command into `command`; `false` if it is none.
+/// Reads a line and writes its command into `command`; returns `false` if the line is no command.
 ///
-/// `Want` if memory runs out; only the items of a step take memory. The command is written in place, so that
-/// none is moved.
+/// `Want` if memory runs out; only the items of a `step` take memory. The command is written in place, so
+/// that no command is moved.
 #[inline(always)]
 pub fn read_line_into(alloc: Global, line: &[u8], command: &mut Command) -> Result<bool, Want>
     ensures { IfOk result (λ is_one. MatchOption (kept_if is_one command.new) (SaysNothing line.now) (λ found. Says line.now found)) }
@@ -65,9 +65,9 @@ pub fn read_line_into(alloc: Global, line: &[u8], command: &mut Command) -> Resu
     Ok(true)
 }
 
-/// Reads a line as a command; `None` if it is none.
+/// Reads a line as a command; returns `None` if the line is no command.
 ///
-/// `Want` if memory runs out; only the items of a step take memory.
+/// `Want` if memory runs out; only the items of a `step` take memory.
 pub fn read_line(alloc: Global, line: &[u8]) -> Result<Option<Command>, Want>
     ensures { IfOk result (λ found. MatchOption found (SaysNothing line.now) (λ command. Says line.now command)) }
 {

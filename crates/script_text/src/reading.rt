@@ -50,15 +50,15 @@ fn read_each<In: Read + Drop>(alloc: Global, readers: Vec<In>) -> Result<Vec<Scr
     Ok(scripts)
 }
 
-/// Reads one script from each reader, each to its end and checked before the next is read.
+/// Reads one script from each reader, in order. Checks each script before reading the next.
 ///
-/// - `TooManyScripts` above 64 readers, before any read.
+/// - `TooManyScripts` if there are more than 64 readers; then nothing was read.
 /// - `Read` at a reader's first error, which is not retried, or after 4,294,967,295 reads.
 /// - `BadLine` at the first line that is neither empty nor a command.
 /// - `Memory` if memory runs out.
 ///
-/// The scripts are taken in order; a script's `Read` comes before its `BadLine`. Holds one script's text at a
-/// time.
+/// The first script with an error decides. If a read of that script fails, the error is `Read`, even after
+/// a bad line. At any time the text of only one script is in memory.
 pub fn read_scripts<In: Read + Drop>(
     alloc: Global,
     readers: Vec<In>,

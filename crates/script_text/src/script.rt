@@ -10,7 +10,7 @@ use std::marker::Model;
 pub struct ScriptLine {
     /// The line's number, from 1; empty lines count.
     pub line: u32,
-    /// Its command.
+    /// The line's command.
     pub command: Command,
 }
 

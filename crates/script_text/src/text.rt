@@ -37,7 +37,8 @@ fn add_line(
 /// Each line ends with an LF; the last one may lack it. Numbers count from 1, empty lines included;
 /// 4,294,967,295 also represents every greater number.
 ///
-/// `BadLine` at the first line that is neither empty nor a command; `Memory` if memory runs out before it.
+/// `BadLine` at the first line that is neither empty nor a command; `Memory` if memory runs out before that
+/// line.
 pub fn read_text(alloc: Global, text: &[u8]) -> Result<Script, TextFault>
     ensures script { IfOk result (TextHolds text.now) }
     ensures fault { IfErr result (IsTextFault text.now) }

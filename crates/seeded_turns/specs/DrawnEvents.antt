@@ -1,5 +1,5 @@
--- The events of a line's turns: each is found in the present state, by the words of a generator that the line
--- seeds.
+-- The events of a line's turns: each event is found from the present state and the words of a generator that
+-- the line seeds.
 use Rattle.std.specs.Prelude.{ℕ, Option}
 use Rattle.std.specs.Option.{option_map}
 use Rattle.rand_core.specs.Stream.{Stream}
@@ -27,7 +27,7 @@ pcg32_stream generator = stream_of (steps_u32 pcg32) generator
 abbrev pub seeded_stream : ℕ → Stream
 seeded_stream seed = pcg32_stream (pcg32_of_seed (pcg32_seed 16 seed))
 
--- a daemon's turn: a step of the nodes that it chooses among the enabled ones
+-- a daemon's turn: a step of the nodes that the daemon chooses among the enabled nodes
 abbrev pub drawn_step : Draws
 drawn_step t s stream =
     let choice = daemon.choice_drawn t.central (enabled_names t s) stream in (option_map (λ items. Step items) choice.0, choice.1)

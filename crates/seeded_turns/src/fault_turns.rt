@@ -40,7 +40,7 @@ impl EventSource for FaultTurns {
 
     ghost stream = { λ f. pcg32_stream f };
 
-    /// A fault that the network accepts; `None` exactly if it has no node. Takes no memory.
+    /// A fault that the network accepts; `None` exactly if the network has no node. Takes no memory.
     fn next_event<R: Rules>(&mut self, net: &Net<R>) -> Result<Option<Event>, Want> {
         Ok(self.injector.draw(net))
     }

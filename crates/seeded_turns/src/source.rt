@@ -6,9 +6,9 @@ ghost use Rattle.seeded_turns.specs.DrawnEvents.{Draws};
 
 use rule_engine::{Event, Net, Rules, Want};
 
-/// A source of the events of turns, found in the network's present state by the words of a generator.
+/// A source of events for turns, found from the network's present state and a generator's words.
 pub trait EventSource {
-    /// The event that a state and the words to come give, and the words that are left.
+    /// What a state and the words to come give: the event, if any, and the words that are left.
     ghost draws: { Draws };
 
     /// The words to come.

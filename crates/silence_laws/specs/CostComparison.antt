@@ -1,4 +1,4 @@
--- That cost is at most the table's cost, and rewriting a pointer changes nothing.
+-- The silent cost is compared with the table's cost, and rewriting a pointer changes nothing.
 use Rattle.std.proofs.Common.{◌≡◌, ℕ, zero, suc, ◌+◌, ◌-◌, ◌*◌, ◌≤◌, Bool, true, false, cond, not, ◌&&◌, List, [], ◌∷◌, Option, None, Some, nat_eq, get_or, set, IsTrue, IfSome, refl, ap, ◌∙◌, subst, ⊎_elim, arith}
 use Rattle.std.proofs.lemmas.Bool.{and_from, cond-true, cond-false, cases_Bool}
 use Rattle.std.proofs.lemmas.List.Sums.{length-filter}

@@ -29,7 +29,8 @@ use Rattle.containment_laws.specs.Reach.{is_hit, is_parted, parts_a_pair}
 use Rattle.silence_laws.specs.Changes.{most_gained}
 use Rattle.silence_laws.specs.Laws.{FewAreGained}
 
--- the first node of a new edge between unmarried ones, and each node that is parted from its partner
+-- whether the event marks the node: the first node of a new edge between unmarried nodes, and each parted
+-- node
 abbrev pub is_marked : State → Event → ℕ → Bool
 is_marked s (Link a b) v = nat_eq v a && is_hit s (Link a b) v
 is_marked s event v = is_parted s event v

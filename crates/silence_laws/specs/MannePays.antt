@@ -48,7 +48,7 @@ use Rattle.silence_laws.specs.CostComparison.{partner_less, rewriting_changes_no
 use Rattle.silence_laws.specs.TurnedPointers.{marked_few, waits}
 use Rattle.silence_laws.specs.UnreachedNodes.{answer_at, none_courted, none_waits, unreached_from}
 
--- both ends are parted
+-- whether both ends of an edge are parted
 abbrev pub is_inner : State → Event → ℕ × ℕ → Bool
 is_inner s event e = is_parted s event e.0 && is_parted s event e.1
 

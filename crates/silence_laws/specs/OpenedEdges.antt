@@ -29,15 +29,15 @@ use Rattle.containment_laws.specs.Partings.{none_parted}
 use Rattle.containment_laws.specs.Reach.{is_parted}
 use Rattle.silence_laws.specs.Costs.{silent_cost, single_neighbours, single_neighbours_at}
 
--- an edge of a node whose other end passes a test
+-- whether an edge has one end at the node and its other end passes a test
 abbrev pub is_edge_to : (ℕ → Bool) → ℕ → ℕ × ℕ → Bool
 is_edge_to p v e = (nat_eq e.0 v && p e.1) || (nat_eq e.1 v && p e.0)
 
--- an edge of a node whose other end is unmarried
+-- whether an edge has one end at the node and its other end is unmarried
 abbrev pub is_single_edge : State → ℕ → ℕ × ℕ → Bool
 is_single_edge s v e = is_edge_to (λ w. not (married s w)) v e
 
--- an end is parted, and the other is unmarried
+-- whether one end of an edge is parted and its other end is unmarried
 abbrev pub is_edge_touched : State → Event → ℕ × ℕ → Bool
 is_edge_touched s event e = (is_parted s event e.0 && not (married s e.1)) || (is_parted s event e.1 && not (married s e.0))
 

@@ -4,10 +4,10 @@ ghost use Rattle.rule_machine.specs.HsuHuang.{hsu_huang};
 ghost use Rattle.rule_machine.specs.Manne.{manne};
 ghost use Rattle.silence_laws.specs.Laws.{FewAreGained, FewAreLost, ManneMovesArePaid, ManneSilentCostIsLess, ManneSilentCostPays, NobodyWaits, RewritingChangesNothing, SilentCostIsLess, SilentCostPays, TurnedCostsLess};
 
-/// After one disturbance of a stable network there is at most one pair more.
+/// After one disturbance of a stable network there is at most one pair more than before.
 ///
-/// That is possible only if it links two unmarried nodes, removes the edge of a pair, or changes the pointer
-/// of a paired node.
+/// A pair is gained only if the disturbance links two unmarried nodes, removes the edge of a pair, or
+/// changes the pointer of a paired node.
 pub fn few_are_gained()
     ensures hsu_huang { FewAreGained hsu_huang }
     ensures manne { FewAreGained manne }
@@ -15,23 +15,23 @@ pub fn few_are_gained()
 
 /// After one disturbance, once the network is stable again, there is at most one pair fewer.
 ///
-/// That is possible only if the edge of a pair goes, or one of its nodes.
+/// A pair is lost only if the disturbance removes the edge of a pair, or one of the two nodes of a pair.
 pub fn few_are_lost()
     ensures hsu_huang { FewAreLost hsu_huang }
     ensures manne { FewAreLost manne }
 {}
 
-/// By Manne's rules the cost of one disturbance of a stable network, plus two terms, bounds its moves.
+/// By Manne's rules one disturbance of a stable network causes at most 2 moves more than its cost.
 ///
-/// The terms: two if a pair may come, and one for a node that goes.
+/// The moves are at most the cost, plus 2 if a new pair may form, plus 1 for `leave`.
 pub fn manne_moves_are_paid()
     ensures { ManneMovesArePaid }
 {}
 
 /// By Manne's rules the silent cost of one disturbance of a stable network bounds its moves.
 ///
-/// The silent cost counts unmarried neighbours alone. It is at most the cost, plus two if a pair may come,
-/// plus one for a node that goes.
+/// The silent cost counts unmarried neighbours alone. The silent cost is at most the cost, plus 2 if a new
+/// pair may form, plus 1 for `leave`.
 pub fn manne_silent_cost_pays()
     ensures pays { ManneSilentCostPays }
     ensures less { ManneSilentCostIsLess }
@@ -39,7 +39,7 @@ pub fn manne_silent_cost_pays()
 
 /// By Hsu and Huang's rules the silent cost of one disturbance of a stable network bounds its moves.
 ///
-/// The silent cost counts unmarried neighbours alone. It is at most the cost.
+/// The silent cost counts unmarried neighbours alone. The silent cost is at most the cost.
 pub fn silent_cost_pays()
     ensures pays { SilentCostPays }
     ensures less { SilentCostIsLess }
@@ -50,16 +50,17 @@ pub fn rewriting_changes_nothing()
     ensures { RewritingChangesNothing }
 {}
 
-/// By Hsu and Huang's rules changing the pointer of a paired node costs 2 or 3 less than its cost.
+/// By Hsu and Huang's rules changing a paired node's pointer causes fewer moves than its cost.
 ///
-/// 2 less if the new target is another neighbour, 3 less if it is null. The network is stable before.
+/// The moves are at least 2 fewer than the cost if the new target is another neighbour, and at least 3
+/// fewer if the new pointer is null. The network is stable before the change.
 pub fn turned_costs_less()
     ensures { TurnedCostsLess }
 {}
 
-/// In a stable network no pointer is unanswered and no null node is courted.
+/// In a stable network each target points back, and no node with a null pointer has a suitor.
 ///
-/// So no silent network reaches the rows of the table of costs for such nodes.
+/// So the rows of the table of costs for unanswered and courted nodes never apply to a silent network.
 pub fn nobody_waits()
     ensures { NobodyWaits }
 {}

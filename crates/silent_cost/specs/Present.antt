@@ -1,4 +1,4 @@
--- Which nodes are there if a new edge is not refused.
+-- Both ends of a new edge are present if the edge is not refused.
 use Rattle.std.proofs.Common.{◌≡◌, ℕ, None, IsTrue}
 use Rattle.rule_machine.specs.declared.event.Event.TheVariants.{Link}
 use Rattle.rule_machine.specs.Network.{present}

@@ -1,4 +1,4 @@
--- The unmarried neighbours of a node are those that are unmarried and no exception.
+-- Without an exception, `single_neighbours_but` counts all unmarried neighbours of a node.
 use Rattle.std.proofs.Common.{◌≡◌, ℕ, Bool, true, false, not, ◌&&◌, count_by, None, refl}
 use Rattle.rule_machine.specs.Network.{linked, names}
 use Rattle.rule_machine.specs.State.{State, married}

@@ -12,22 +12,22 @@ use rules_api::Rules;
 
 /// Rules that bound the moves after one disturbance of a silent network.
 pub trait SilentCost: Rules {
-    /// What an event costs a silent network, in moves.
+    /// What `silent_cost` returns, on a state.
     ghost silent_cost: { State → Event → ℕ };
 
-    /// By how much that may exceed `cost`.
+    /// By how much the silent cost may exceed `cost`, on a state.
     ghost excess: { State → Event → ℕ };
 
-    /// The most moves that can come after an event that is not refused; 0 if it is no disturbance.
-    /// It takes a look at each neighbour of at most two nodes.
+    /// The most moves that can come after an accepted event of a silent network; 0 if it is no disturbance.
+    /// Looks at each neighbour of at most two nodes.
     fn silent_cost<V: SilentView>(view: &V, event: &Event) -> u32
         requires state { IsState (V.state view.now) }
         requires accepted { refusal_of Self.table (V.state view.now) event.now ≡ None }
         ensures { result ≡ silent_cost (V.state view.now) event.now };
 
-    /// In a silent network no more moves come after the event, until the next disturbance.
+    /// In a silent network, at most `silent_cost` moves come between the event and the next disturbance.
     ghost silent_cost_pays: { PaysFromSilence Self.table silent_cost };
 
-    /// It exceeds `cost` by no more than `excess`.
+    /// In a silent network, `silent_cost` exceeds `cost` by at most `excess`.
     ghost silent_cost_is_less: { ExceedsAtMost Self.table silent_cost Self.cost excess };
 }

@@ -21,13 +21,13 @@ fn is_unmarried_but(net: &NetState, but: &Option<Node>, w: Node) -> bool
     }
 }
 
-/// How many neighbours of a node are unmarried and not `but`. A look at each.
+/// How many neighbours of a node are unmarried and not `but`. Looks at each neighbour.
 pub(crate) fn count_unmarried(net: &NetState, v: Node, but: &Option<Node>) -> u32
     requires { IsTrue (present net.now.state.network v) }
     ensures count { result ≡ single_neighbours_but net.now.state v but.now }
     ensures few { result ≤ 65535 }
 {
-    // By its contract there are at most 65,535 names.
+    // For the prover: the contract of `capacity` says that there are at most 65,535 names.
     let _ = net.capacity();
     let mut count: u32 = 0;
     for &w in net.neighbours(v) {

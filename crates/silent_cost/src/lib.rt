@@ -1,13 +1,13 @@
 //! What one disturbance of a silent network costs, as a trait of rule sets.
 //!
-//! A network is silent when no rule is enabled. Few moves come after one disturbance of a silent network:
-//! the laws of `silence_laws` bound them by the unmarried neighbours of two nodes. `SilentCost` computes
-//! that bound and has the proof that it is one. The engine reports it (`Net::silent_cost_of`). The trait
-//! stands beside `Rules`, whose `cost` holds in every network, silent or not.
+//! A network is silent if no rule is enabled. Few moves come after one disturbance of a silent network:
+//! the laws of `silence_laws` bound these moves by the unmarried neighbours of two nodes. `SilentCost`
+//! computes the bound and requires its proof. The engine reports the bound (`Net::silent_cost_of`). The trait
+//! `Rules` has another bound, `cost`, which is valid in every network, silent or not.
 //!
-//! A cost sees a network through `SilentView`: pointers, and how many neighbours of a node are unmarried.
-//! So it takes a look at each neighbour of two nodes, whatever the size of the network. `NetState` is such
-//! a view.
+//! A silent cost sees a network only through `SilentView`: pointers, and how many neighbours of a node are
+//! unmarried. So `silent_cost` looks at each neighbour of two nodes, whatever the size of the network. A
+//! `NetState` is a `SilentView`.
 //!
 //! ```rust
 //! let most = R::silent_cost(net, &Event::Unlink(a, b));

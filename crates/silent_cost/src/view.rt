@@ -9,18 +9,18 @@ use crate::count::count_unmarried;
 use net_state::NetState;
 use rule_machine::Node;
 
-/// The pointers of nodes, and how many of their neighbours are unmarried: all that a silent cost depends on.
+/// All that a silent cost depends on: pointers, and how many neighbours of a node are unmarried.
 pub trait SilentView {
-    /// The state that it shows.
+    /// The state that the view shows.
     ghost state: { Self → State };
 
-    /// Where a node points.
+    /// A node's pointer; `None` for null.
     fn pointer(&self, v: Node) -> Option<Node>
         requires present { IsTrue (present (state self.now).network v) }
         requires state { IsState (state self.now) }
         ensures { result ≡ pointer (state self.now) v };
 
-    /// Whether a node points at another.
+    /// Whether `v` points at `w`.
     fn points_at(&self, v: Node, w: Node) -> bool
         ensures { result ≡ points (state self.now).registers v w };
 

@@ -13,19 +13,19 @@ use Rattle.snapshots.specs.Rule.{ExtendsView, IsSound}
 abbrev pub entries_of : List Posted → List Entry
 entries_of pending = map (λ p. p.entry) pending
 
--- a copy that took in an entry
+-- a copy after taking in an entry
 abbrev pub absorbed : CopyView → Posted → CopyView
 absorbed x p = after x p.entry p.front p.past.seen.log p.past.seen.book
 
--- the pending entries with this one, if it was appended; else unchanged
+-- the pending entries with this one added, if it was appended; otherwise unchanged
 abbrev pub Appends : Bool → Posted → List Posted → List Posted → Type 0
 Appends appended p old new = MatchBool appended (new ≡ old ++ p ∷ []) (new ≡ old)
 
--- the copy that has all pending entries may be shown after x
+-- the copy x with all pending entries taken in may be shown after x
 abbrev pub IsPublishable : (BoardShape → List Entry → Type 0) → CopyView → List Posted → Type 0
 IsPublishable law x pending = (IsSound law x → IsSound law (fold absorbed x pending)) × ExtendsView (Some x) (fold absorbed x pending)
 
--- it is the history's last posted entry, with its number; one more mark can be counted
+-- p is the history's last posted entry, with its number; one more mark can be counted
 pub record IsPostedLast (x : CopyView) (marks : List Mark) (book : Book) (p : Posted) : Type 0 where
   pub past : p.past.seen.log ≡ marks
   pub same : p.past.seen.book ≡ book
@@ -42,11 +42,11 @@ pub record IsBoard (law : BoardShape → List Entry → Type 0) (x : CopyView) (
   pub ready : (pending ≡ []) ⊎ ((p : Posted) × (pending ≡ p ∷ []) × IsPostedLast x marks book p)
   pub is_announced : published announced ≡ shown x.marks
 
--- the same for the history seen last and its announced prefix
+-- the same for the history seen last and the announced prefix
 abbrev pub IsBoardOf : (BoardShape → List Entry → Type 0) → CopyView → Option CopyView → List Posted → HistoryPrefix → HistoryPrefix → Type 0
 IsBoardOf law x known pending last announced = IsBoard law x known pending last.seen.log last.seen.book announced.seen.log
 
--- a reader knows a copy that continues what it saw
+-- a reader knows a copy that continues what the reader saw
 pub record IsReader (known : Option CopyView) (seen : List Mark) (seen_in : Book) (learnt_in : Book) : Type 0 where
   pub copy : CopyView
   pub knows : known ≡ Some copy

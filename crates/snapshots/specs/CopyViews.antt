@@ -15,21 +15,21 @@ pub record CopyView : Type 0 where
   pub marks : List Mark
   pub book : Book
 
--- before any entry
+-- a copy before any entry
 abbrev pub blank_copy : BoardShape → List Mark → Book → CopyView
 blank_copy extent marks book =
     record { row = replicate extent.places None; here = here_at_start extent; present = extent.present; front = 0; marks = marks; book = book }
 
--- how many places it has, and how many nodes before any entry
+-- how many places a copy has, and how many nodes there were before any entry
 abbrev pub extent_of : CopyView → BoardShape
 extent_of x = record { places = length x.row; present = x.present }
 
--- one entry later
+-- a copy after one more entry
 abbrev pub after : CopyView → Entry → ℕ → List Mark → Book → CopyView
 after x entry front marks book =
     record { row = row_effect x.row entry; here = here_by x.here entry; present = x.present; front = front; marks = marks; book = book }
 
--- a pointer, and its target if that points back; none if there is no such place
+-- the pointer at a place, and the target if the target points back; none if there is no such place
 abbrev pub held_in : Row → ℕ → Option (Option ℕ × Option ℕ)
 held_in row place = if nat_lt place (length row) then Some (pointer_in row place, partner_in row place) else None
 

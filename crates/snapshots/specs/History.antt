@@ -5,7 +5,8 @@ use mathlib.Core.List.{IsPrefix}
 use Rattle.logbook.specs.Pages.{Cell, Step, View, Book, Named}
 use Rattle.rule_machine.specs.Run.{Entry}
 
--- an entry that is posted, replacing one not yet published; or none: the last posted entry is published
+-- an entry that is posted, replacing any entry posted but not published; or none: the last posted entry is
+-- published
 abbrev pub Mark : Type 0
 Mark = Option Entry
 
@@ -23,7 +24,7 @@ published marks = (published_and_posted marks).0
 abbrev pub posted : List Mark → List Entry
 posted marks = (published_and_posted marks).1
 
--- what is published once the posted entry is
+-- what is published after the posted entry, if any, is published
 abbrev pub shown : List Mark → List Entry
 shown marks = published marks ++ posted marks
 
@@ -32,16 +33,17 @@ shown marks = published marks ++ posted marks
 abbrev pub but_last : List Entry → List Entry
 but_last log = take (length log - 1) log
 
--- Of a note's log and a view, one is a prefix of the other. A copy carries the history as it was before its
--- last entry was published: if the note has more than the view, the view's last entry is not compared.
+-- Of a note's log and a view, one is a prefix of the other. A copy has the history as it was before the
+-- copy's last entry was published: so if the note has more than the view, the view's last entry is not
+-- compared.
 abbrev pub IsOneLog : List Entry → List Entry → Type 0
 IsOneLog told view = IsPrefix told view ⊎ IsPrefix (but_last view) told
 
--- the same of two views
+-- the same for two views
 abbrev pub AreOneLog : List Entry → List Entry → Type 0
 AreOneLog one other = IsPrefix (but_last one) other ⊎ IsPrefix (but_last other) one
 
--- of what two readers learnt, one is a prefix of the other
+-- of the lists of entries that two readers learnt, one is a prefix of the other
 abbrev pub AreComparable : List Entry → List Entry → Type 0
 AreComparable one other = IsPrefix one other ⊎ IsPrefix other one
 

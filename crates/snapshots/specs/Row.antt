@@ -25,11 +25,11 @@ abbrev pub returned : Row → ℕ → Option ℕ → Option ℕ
 returned row v None = None
 returned row v (Some w) = if is_at (pointer_in row w) v then Some w else None
 
--- the target of v, if that points at v
+-- the target of v, if the target points at v
 abbrev pub partner_in : Row → ℕ → Option ℕ
 partner_in row v = returned row v (pointer_in row v)
 
--- v's pointer becomes null if it is at w
+-- v's pointer becomes null if it points at w
 abbrev pub without_pointer_at : Row → ℕ → ℕ → Row
 without_pointer_at row v w = if is_at (pointer_in row v) w then slice_set row v None else row
 
@@ -56,7 +56,7 @@ disturbed_row row Enabled = row
 disturbed_row row Matching = row
 disturbed_row row Status = row
 
--- only accepted events and the moves of a step change a pointer
+-- the pointers after an event with this reply: only accepted events and the moves of a step change a pointer
 abbrev pub effect_of : Row → Event → Reply → Row
 effect_of row event Accepted = disturbed_row row event
 effect_of row event (Moves moves) = fold moved row moves
@@ -69,7 +69,7 @@ effect_of row event (Counts counts) = row
 abbrev pub row_effect : Row → Entry → Row
 row_effect row entry = effect_of row entry.0 entry.1
 
--- the pointers after a log, from null everywhere
+-- the pointers after a log, if all pointers are null before it
 abbrev pub pointers_after : ℕ → List Entry → Row
 pointers_after places log = fold row_effect (replicate places None) log
 
@@ -96,7 +96,7 @@ presence_after here Enabled = here
 presence_after here Matching = here
 presence_after here Status = here
 
--- only an accepted join or leave changes them
+-- the present nodes after an event with this reply: only an accepted join or leave changes them
 abbrev pub here_of : List Bool → Event → Reply → List Bool
 here_of here event Accepted = presence_after here event
 here_of here event (Moves moves) = here

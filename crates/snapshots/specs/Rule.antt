@@ -8,7 +8,7 @@ use Rattle.snapshots.specs.History.{shown}
 use Rattle.snapshots.specs.Row.{BoardShape, pointers_after, here_after}
 use Rattle.snapshots.specs.CopyViews.{CopyView, extent_of}
 
--- what was known, if anything, is of the same history and board, and is a prefix of what is shown
+-- what was known, if anything, is of the same history and board as what is shown, and is a prefix of it
 abbrev pub ExtendsView : Option CopyView → CopyView → Type 0
 ExtendsView None x = Unit {0}
 ExtendsView (Some s) x = (x.book ≡ s.book) × (extent_of x ≡ extent_of s) × IsPrefix (shown s.marks) (shown x.marks)
@@ -21,10 +21,10 @@ pub record IsSound (law : BoardShape → List Entry → Type 0) (x : CopyView) :
   pub lawful : law (extent_of x) (shown x.marks)
 
 module _ (law : BoardShape → List Entry → Type 0) where
-  -- between any two steps, of the readers' copy and of what each reader and the writer know
+  -- between any two steps: the readers' copy is sound, and continues what each reader and the writer know
   abbrev pub Publishes : CopyView → List (Option CopyView) → Type 0
   Publishes x views = IsSound law x × ((seat : ℕ) (v : Option CopyView) → get_elem? views seat ≡ some v → ExtendsView v x)
 
-  -- after a read or a publication of a copy the copy is known, and continues what was known
+  -- after a read or a publication of a copy, the copy is known and continues what was known
   abbrev pub Sees : Option CopyView → CopyView → CopyView → Option CopyView → Type 0
   Sees v x y w = (w ≡ Some y) × ExtendsView v y × IsSound law y

@@ -16,7 +16,7 @@ pub record BoardView : Type 0 where
   pub posted : List Entry
   pub name : BoardName
 
--- the entries that were seen last, and those that later looks show at least
+-- the entries that the reader saw last, and those that later looks include at least
 pub record ReaderView : Type 0 where
   pub list : List Entry
   pub learnt : List Entry

@@ -20,7 +20,7 @@ use std::marker::Model;
 use std::sync::Wait;
 use thiserror::Error;
 
-/// The board has no place for another reader: each is taken, or memory for it ran out.
+/// The board has no place for another reader: all places are taken, or memory ran out.
 #[derive(Clone, Copy, Debug, PartialEq, Eq, Error)]
 #[error("the board has no place for another reader")]
 pub struct NoPlace;
@@ -30,9 +30,9 @@ pub(crate) type Copies<L> = Writer<RegisterCopy, Posted, Option<RegisterCopy>, P
 
 /// Publishes a network's pointers and present nodes, entry by entry, for wait-free readers.
 ///
-/// Contracts see the published entries, the entry that is posted but not published, if any, and a name: the
-/// entries' history, the number of places, and the number of nodes before any entry. Every log that it
-/// publishes keeps the law `L`. A board cannot be dropped: `end` ends it.
+/// Contracts see the published entries; the entry that is posted but not published, if any; and the board's
+/// name. The name is the entries' history, the number of places, and the number of nodes before any entry.
+/// Every log that the board publishes keeps the law `L`. A board cannot be dropped: `end` ends it.
 pub struct Board<L: Law> {
     writer: Copies<L>,
     history: History,
@@ -85,7 +85,7 @@ fn append<L: Law>(writer: &mut Copies<L>, posted: Posted) -> bool
     }
 }
 
-/// Shows readers a copy with all pending entries. It waits for those that still read the other copy.
+/// Shows readers a copy with all pending entries. Waits for readers that still read the other copy.
 fn show<L: Law, R: Wait>(writer: Copies<L>, rt: &R) -> (Copies<L>, ())
     requires { IsPublishable L.holds writer.desk.shown.value (drop writer.behind writer.log.items) }
     ensures copy { result.0.desk.shown.value ≡ fold absorbed writer.desk.shown.value (drop writer.behind writer.log.items) }
@@ -116,7 +116,7 @@ fn opened<L: Law, R: Wait>(rt: &R, writer: Copies<L>, history: History) -> Board
 impl<L: Law> Board<L> {
     /// A board without entries, for at most `readers` readers at once.
     /// All pointers are null, and the names 1 to `present` are nodes.
-    /// `AllocError` if memory runs out. Takes 9 bytes a place and copy, and 256 a reader.
+    /// `AllocError` if memory runs out. Takes 9 bytes for each place of each copy, and 256 for each reader.
     pub fn new<R: Wait>(
         alloc: Global,
         rt: &R,
@@ -135,8 +135,8 @@ impl<L: Law> Board<L> {
         Ok(opened(rt, writer, history))
     }
 
-    /// Takes all the memory that the entry needs. `publish` then publishes it and cannot fail.
-    /// `AllocError` if memory runs out; it posts nothing then.
+    /// Posts an entry: takes all memory that the entry needs. `publish` then publishes it and cannot fail.
+    /// `AllocError` if memory runs out; no entry is posted then.
     pub fn post(&mut self, entry: &Entry) -> Result<(), AllocError>
         requires one { self.old.posted ≡ [] }
         requires room { length self.old.list < 2 ^ 24 }
@@ -162,7 +162,7 @@ impl<L: Law> Board<L> {
     }
 
     /// Publishes the posted entry, if any, whole and at once, and returns a note of what is published.
-    /// Takes no memory. It waits for readers that still look at the previous copy.
+    /// Takes no memory. Waits for readers that still look at the previous copy.
     pub fn publish<R: Wait>(&mut self, rt: &R) -> Note
         requires { L.holds self.old.name.extent (self.old.list ++ self.old.posted) }
         ensures published { self.new ≡ record self.old { list = self.old.list ++ self.old.posted; posted = [] } }
@@ -170,9 +170,9 @@ impl<L: Law> Board<L> {
     {
         if self.writer.has_pending_operations() {
             replace_with(&mut self.writer, rt, show::<L, R>);
-            // `post` left room for the mark. It would be refused only if another had been added. No one else
-            // has the word, but it is stepped through `&`, so no contract of `logbook` fixes its value
-            // between steps.
+            // `post` left room for the mark, so `add` fails only if someone else has added a mark. No one
+            // else has the word. But `add` changes the word through `&`, so no contract of `logbook` fixes
+            // the word's value between two steps.
             if !self.history.add::<(), Publishes>(&()) {
                 for _ in rt.forever() {}
                 unreachable!()
@@ -191,7 +191,7 @@ impl<L: Law> Board<L> {
         }
     }
 
-    /// A reader that sees at least what is published now. It keeps its place until it is dropped.
+    /// A reader that sees at least what is published now. The reader keeps its place until it is dropped.
     /// `NoPlace` if no place is found; when that happens is unspecified.
     pub fn reader(&mut self) -> Result<Reader<L>, NoPlace>
         ensures kept { self.new ≡ self.old }
@@ -205,7 +205,7 @@ impl<L: Law> Board<L> {
         Ok(Reader::over(seat, seen, self.announced.again()))
     }
 
-    /// Ends the board. It waits for readers that are looking; afterwards each reader sees nothing.
+    /// Ends the board. Waits for readers that are looking; afterwards each reader sees nothing.
     pub fn end<R: Wait>(self, rt: &R) {
         let Self {
             writer,

@@ -34,14 +34,14 @@ fn clear(row: &mut [Option<Node>], v: Node, w: Node)
     }
 }
 
-/// A pointer, or null if it is at `v`.
+/// The given pointer, or null if that pointer is at `v`.
 fn unless_at(pointer: Option<Node>, v: Node) -> Option<Node>
     ensures { result ≡ unless_at v pointer }
 {
     if pointer == Some(v) { None } else { pointer }
 }
 
-/// Makes every pointer at a node null, in one pass.
+/// Makes every pointer at `v` null, in one pass.
 fn drop_at(row: &mut [Option<Node>], v: Node)
     ensures { row.new ≡ map (unless_at v) row.old }
 {
@@ -50,7 +50,7 @@ fn drop_at(row: &mut [Option<Node>], v: Node)
     }
 }
 
-/// Makes a node's pointer null, and every pointer at it.
+/// Makes the pointer of `v` null, and every pointer at `v`.
 fn drop_name(row: &mut [Option<Node>], v: Node)
     ensures { row.new ≡ slice_set (map (unless_at v) row.old) v None }
 {
@@ -90,7 +90,7 @@ fn disturb(row: &mut [Option<Node>], event: &Event)
     }
 }
 
-/// Changes the pointers by an entry.
+/// Changes the pointers as an entry does.
 pub(crate) fn take_in(row: &mut [Option<Node>], entry: &Entry)
     ensures { row.new ≡ row_effect row.old entry.now }
 {
@@ -120,7 +120,7 @@ fn turn(here: &mut [bool], event: &Event)
     }
 }
 
-/// Changes the present nodes by an entry.
+/// Changes the present nodes as an entry does.
 pub(crate) fn take_presence(here: &mut [bool], entry: &Entry)
     ensures { here.new ≡ here_by here.old entry.now }
 {

@@ -1,4 +1,4 @@
-//! The history of a board, which exists in contracts only, and the seen prefixes of it.
+//! The history of a board, which exists in contracts only, and seen prefixes of the history.
 
 ghost use Rattle.std.specs.Prelude.{◌≡◌, ◌+◌, ◌<◌, ◌∷◌, ◌++◌, [], false, None, length, IsTrue, MatchBool};
 ghost use mathlib.Core.List.{IsPrefix};
@@ -68,7 +68,7 @@ impl Plain<(), Option<Entry>, u64> for Publishes {
     ghost state = { λ nothing. None };
 }
 
-/// A prefix of a history that was seen, with its number of marks.
+/// A prefix of a history that someone has seen, with the number of marks in the prefix.
 #[derive(Drop)]
 pub struct HistoryPrefix {
     count: u64,
@@ -86,7 +86,7 @@ impl HistoryPrefix {
         }
     }
 
-    /// The longer of two fronts of one history.
+    /// The longer of two prefixes of one history.
     pub(crate) fn longer(&self, other: &HistoryPrefix) -> HistoryPrefix
         requires { other.now.seen.book ≡ self.now.seen.book }
         ensures book { result.seen.book ≡ self.now.seen.book }
@@ -102,7 +102,7 @@ impl HistoryPrefix {
         }
     }
 
-    /// Whether all that is published here is known to be shown at `other`.
+    /// Whether all entries published in this prefix are known to be shown in `other`.
     pub(crate) fn is_shown_at(&self, other: &HistoryPrefix) -> bool
         requires { other.now.seen.book ≡ self.now.seen.book }
         ensures { IsTrue result → IsPrefix (published self.now.seen.log) (shown other.now.seen.log) }
@@ -112,8 +112,8 @@ impl HistoryPrefix {
         self.count.saturating_sub(1) <= other.count
     }
 
-    /// Whether what this front published is known to be a prefix of what the other published.
-    /// If not, the reverse holds. It compares the numbers of marks.
+    /// Whether the entries published in this prefix are known to be a prefix of those in `other`.
+    /// If not, the reverse holds. Compares the numbers of marks.
     pub(crate) fn begins(&self, other: &HistoryPrefix) -> bool
         requires { other.now.seen.book ≡ self.now.seen.book }
         ensures yes { IsTrue result → IsPrefix (published self.now.seen.log) (published other.now.seen.log) }
@@ -124,7 +124,7 @@ impl HistoryPrefix {
         self.count <= other.count
     }
 
-    /// What two fronts of one history published and show is of one log. Nothing runs.
+    /// The entries that two prefixes of one history publish and show are of one log. Runs no code.
     pub(crate) fn meets(&self, other: &HistoryPrefix)
         requires { other.now.seen.book ≡ self.now.seen.book }
         ensures published { AreComparable (published self.now.seen.log) (published other.now.seen.log) }
@@ -162,7 +162,7 @@ impl History {
         self.front.count < u64::MAX - 1
     }
 
-    /// Adds a mark; false if another had added one, which never happens.
+    /// Adds a mark; false if someone else has added a mark meanwhile, which never happens.
     pub(crate) fn add<X, M: Plain<X, Option<Entry>, u64>>(&mut self, about: &X) -> bool
         requires state { M.state about.now ≡ None }
         requires room { length self.old.front.seen.log < max_marks }

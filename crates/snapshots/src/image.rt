@@ -1,4 +1,4 @@
-//! One copy of the pointers and of the present nodes, and what is done to it.
+//! One copy of the pointers and of the present nodes, and the operations on a copy.
 
 ghost use Rattle.std.specs.Prelude.{◌≡◌, ◌<◌, ◌&&◌, false, IfOk, nat_le, slice_index_or};
 ghost use Rattle.rule_machine.specs.State.{is_at};
@@ -14,7 +14,7 @@ use std::alloc::{AllocError, Global};
 use std::marker::Model;
 
 /// The pointers and present nodes after `front` entries, with a place for each name.
-/// It has the prefix of the history that shows them, and the number of nodes before any entry.
+/// Also has the prefix of the history that shows these entries, and the number of nodes before any entry.
 #[derive(Drop)]
 pub struct RegisterCopy {
     row: Vec<Option<Node>>,
@@ -36,7 +36,7 @@ impl Model for RegisterCopy {
     ghost view = { λ i. record { row = i.row.items; here = i.here.items; present = i.present; front = i.front; marks = i.past.seen.log; book = i.past.seen.book } };
 }
 
-/// One entry for a copy to take in: the entry, its number, and its history up to its posting.
+/// One entry for a copy to take in: the entry, the entry's number, and the history up to its posting.
 #[derive(Drop)]
 pub struct Posted {
     pub(crate) entry: Entry,
@@ -45,7 +45,7 @@ pub struct Posted {
 }
 
 impl RegisterCopy {
-    /// All pointers null, and the names 1 to `present` present.
+    /// A copy before any entry: all pointers are null, and the names 1 to `present` are nodes.
     pub(crate) fn blank(
         alloc: Global,
         places: usize,
@@ -77,7 +77,7 @@ impl RegisterCopy {
         self.past.again()
     }
 
-    /// The pointer at a place, and its target if that points back; `None` if no node has the place.
+    /// The pointer at a place, and the target if the target points back; `None` if no node has the place.
     pub(crate) fn find(&self, place: usize) -> Option<(Option<Node>, Option<Node>)>
         ensures { result ≡ found_in self.now.row self.now.here place }
     {
@@ -88,7 +88,7 @@ impl RegisterCopy {
         }
     }
 
-    /// As `find`, whether or not a node is present; `None` if there is no such place.
+    /// Like `find`, but whether or not a node is present; `None` only if there is no such place.
     fn held(&self, place: usize) -> Option<(Option<Node>, Option<Node>)>
         ensures { result ≡ held_in self.now.row place }
     {

@@ -19,13 +19,13 @@ impl<R: Rules> Law for Runs<R> {
     ghost holds = { IsRun R.table };
 }
 
-/// The pointers after a run's log are those of the run's last state, for any targets it took.
+/// The pointers after a run's log are those of the run's last state, whatever targets the moves took.
 pub fn pointers_are_those_of_the_run()
     ensures { (t : RuleTable) (size count : ℕ) (log : List Entry) (end : Moment) → Run t (beginning_with size count) log end
         → end.state.registers.pointers ≡ pointers_after (size + 1) log }
 {}
 
-/// The same for the names and for the present nodes.
+/// The present nodes and the number of names after a run's log are those of the run's last state.
 pub fn presence_is_that_of_the_run()
     ensures here { (t : RuleTable) (size count : ℕ) (log : List Entry) (end : Moment) → Run t (beginning_with size count) log end
         → end.state.network.here ≡ here_after (record { places = size + 1; present = count }) log }

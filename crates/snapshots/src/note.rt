@@ -7,8 +7,8 @@ ghost use Rattle.snapshots.specs.History.{AreComparable};
 use crate::history::HistoryPrefix;
 use std::marker::Model;
 
-/// A note of the entries that a board had published when it gave the note. It may go to any thread.
-/// Contracts see the entries and their history; the note holds none.
+/// A note, for any thread, of the entries that a board had published when it gave the note.
+/// Contracts see the entries and their history; the note itself contains no entry.
 #[derive(Drop)]
 pub struct Note {
     pub(crate) front: HistoryPrefix,
@@ -28,7 +28,7 @@ impl Model for Note {
 }
 
 impl Note {
-    /// A copy. Takes no memory.
+    /// A copy of this note. Takes no memory.
     pub fn again(&self) -> Note
         ensures { result ≡ self.now }
     {
@@ -37,7 +37,7 @@ impl Note {
         }
     }
 
-    /// Whether this note's entries are known to be a prefix of those of another note of its board.
+    /// Whether this note's entries are known to be a prefix of those of `other`, a note of the same board.
     /// If not, the reverse holds.
     pub fn begins(&self, other: &Note) -> bool
         requires { other.now.book ≡ self.now.book }
@@ -47,7 +47,7 @@ impl Note {
         self.front.begins(&other.front)
     }
 
-    /// Of the entries of two notes of one board, one list is a prefix of the other. Nothing runs.
+    /// Of the entries of two notes of one board, one list is a prefix of the other. Runs no code.
     pub fn meets(&self, other: &Note)
         requires { other.now.book ≡ self.now.book }
         ensures { AreComparable self.now.log other.now.log }

@@ -18,7 +18,7 @@ use left_right::reader::Reader as Seat;
 use rule_machine::Node;
 use std::marker::Model;
 
-/// A reader's seat at the copies.
+/// A reader's handle on the two register copies (left-right).
 pub(crate) type SeatAt<L> = Seat<RegisterCopy, Option<RegisterCopy>, Published<L>>;
 
 /// What a reader saw at one moment.
@@ -26,19 +26,19 @@ pub(crate) type SeatAt<L> = Seat<RegisterCopy, Option<RegisterCopy>, Published<L
 pub struct Snapshot {
     /// How many entries were published.
     pub front: u32,
-    /// The pointer of the place, and its target if that points back; `None` if no node has the place.
+    /// The place's pointer, and the target if the target points back; `None` if no node has the place.
     pub found: Option<(Option<Node>, Option<Node>)>,
 }
 
-/// What a look found, with the prefix of the history that it shows.
+/// What a look found, with the prefix of the history that this look shows.
 struct VersionedSnapshot {
     look: Snapshot,
     past: HistoryPrefix,
 }
 
-/// A wait-free reader of a board. It takes no memory.
-/// Contracts see the entries that it saw last, those that its later looks show at least, and the board's
-/// name.
+/// A wait-free reader of a board. Takes no memory.
+/// Contracts see the entries that the reader saw last, the entries that every later look includes, and the
+/// board's name.
 #[derive(Drop)]
 pub struct Reader<L: Law> {
     seat: SeatAt<L>,
@@ -96,10 +96,10 @@ impl<L: Law> Reader<L> {
         Reader { seat, seen, learnt }
     }
 
-    /// Looks at a place: its pointer and its partner at one moment, with the number of entries then.
+    /// The pointer and the partner at a place at one moment, with the number of entries then.
     /// The view, which is these entries, includes all that this reader saw or learnt before.
-    /// `None` if the board has ended, or if what is published lacks a part of what was learnt, which never
-    /// happens.
+    /// `None` if the board has ended, or if the published entries lack some that the reader learnt, which
+    /// never happens.
     /// Costs a few steps, whatever the size of the board.
     pub fn look(&mut self, place: usize) -> Option<Snapshot>
         ensures view { IsPrefix self.old.list self.new.list }
@@ -118,7 +118,7 @@ impl<L: Law> Reader<L> {
         Some(look)
     }
 
-    /// How many entries are published, with a view as in `look`; `None` as there.
+    /// How many entries are published. The view and the result `None` are as in `look`.
     pub fn front(&mut self) -> Option<u32>
         ensures view { IsPrefix self.old.list self.new.list }
         ensures kept { (self.new.learnt ≡ self.old.learnt) × (self.new.name ≡ self.old.name) }
@@ -131,7 +131,7 @@ impl<L: Law> Reader<L> {
         Some(look.front)
     }
 
-    /// What two readers of one board saw is of one log, and so is what they learnt. Nothing runs.
+    /// What two readers of one board saw is of one log, and so is what they learnt. Runs no code.
     pub fn agrees_with(&self, other: &Reader<L>)
         requires { other.now.name.book ≡ self.now.name.book }
         ensures views { AreOneLog self.now.list other.now.list }

@@ -10,7 +10,7 @@ use atomic_table::{Join, Split};
 use crossbeam_utils::rule::{Outcome, Protocol};
 use std::marker::PhantomData;
 
-/// What holds of every log that a board publishes; a fact for contracts only.
+/// A law that every log published by a board keeps; for contracts only.
 pub trait Law {
     ghost holds: { BoardShape → List Entry → Type 0 };
 }
@@ -35,7 +35,7 @@ impl<L: Law> Outcome<RegisterCopy, Option<RegisterCopy>> for ReadStep<L> {
     ghost then = { Sees L.holds };
 }
 
-/// A new seat knows what the writer knows.
+/// A new reader's handle knows what the writer knows.
 pub(crate) struct Tell;
 
 impl Split<Option<RegisterCopy>> for Tell {
@@ -44,7 +44,7 @@ impl Split<Option<RegisterCopy>> for Tell {
     ghost right = { λ v. v };
 }
 
-/// A seat that knew nothing knows what it was given.
+/// A handle that knew nothing then knows what it was given.
 pub(crate) struct Learn;
 
 impl Join<Option<RegisterCopy>> for Learn {

@@ -20,7 +20,7 @@ hand_number hand = hand.worker
 abbrev pub judged_hold : Share → EndView
 judged_hold share = end_hold share.end
 
--- the places that the worker took, in that order
+-- the places that the worker took, in the order taken
 abbrev pub judged_places : Share → List ℕ
 judged_places share = end_taken share.end
 
@@ -32,15 +32,15 @@ all_taken (share ∷ shares) = judged_places share ++ all_taken shares
 abbrev pub judged_verdicts : Share → List Verdict
 judged_verdicts share = share.verdicts.items
 
--- these verdicts are those of `all` at these places
+-- the verdicts are those of `all` at these places
 abbrev pub AreOf : List Verdict → List ℕ → List Verdict → Type 0
 AreOf all places verdicts = map Some verdicts ≡ map (slice_get all) places
 
--- if `old` are the verdicts of any taken places, `new` are those with these places added
+-- if `old` are the verdicts of any taken places, `new` are `old` with the verdicts of these places added
 abbrev pub GoOnWith : List Verdict → List ℕ → List Verdict → List Verdict → Type 0
 GoOnWith all places old new = (taken : List ℕ) → AreOf all taken old → AreOf all (taken ++ places) new
 
--- the share has the verdict of each place that was taken, and no other
+-- the share has the verdict of each place that was taken, and no other verdict
 abbrev pub AreJudged : RuleTable → State → List Item → Share → Type 0
 AreJudged t s items share = AreOf (verdicts_of t s items) (judged_places share) (judged_verdicts share)
 

@@ -3,7 +3,7 @@ use Rattle.std.specs.Prelude.{◌≡◌, ◌≤◌, ℕ, List, map, if◌then◌
 use Rattle.std.specs.List.{count_by}
 use Rattle.rule_machine.specs.declared.verdict.Verdict.{Verdict}
 
--- how often a place occurs among these
+-- how often a place occurs in the list
 abbrev pub times : ℕ → List ℕ → ℕ
 times place places = count_by (nat_eq place) places
 

@@ -19,7 +19,7 @@ HavePlacesBelow size verdicts = All (λ verdict. verdict.place < size) verdicts
 abbrev pub at_place : ℕ → ℕ → ℕ
 at_place k y = 1 - ((y - k) + (k - y))
 
--- how often a place was taken, by these ends or by those that a ledger has joined
+-- how often a place was taken, by these ends or by the ends that a ledger has joined
 abbrev pub taken_by : List DequeEnd → ℕ → ℕ
 taken_by ends k = sum_by (λ e. sum_by (at_place k) (end_taken e)) ends
 
@@ -31,6 +31,6 @@ pub record IsVerdictTable (all table : List Verdict) (times : ℕ → ℕ) : Typ
   pub size : length table ≡ length all
   pub right : (k : ℕ) → k < length all → 0 < times k → slice_get table k ≡ slice_get all k
 
--- if `old` is right, so is `new` with these places added
+-- if `old` is right, `new` is right with these places added
 abbrev pub IsRightWith : List Verdict → List ℕ → List Verdict → List Verdict → Type 0
 IsRightWith all places old new = (times : ℕ → ℕ) → IsVerdictTable all old times → IsVerdictTable all new (λ k. times k + sum_by (at_place k) places)

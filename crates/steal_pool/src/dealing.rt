@@ -15,9 +15,10 @@ use std::alloc::Global;
 pub const MAX_WORKERS: u32 = 64;
 
 /// Puts each place of the choice once on a new deque, and returns a hand for each worker.
-/// Hands are numbered from 0. More than 64 workers count as 64. An empty choice gives hands too.
+/// Hands are numbered from 0. More than 64 workers count as 64. An empty choice also gives a hand to each
+/// worker.
 /// `ZeroWorkers` if `workers` is 0, checked first; `Memory` if memory runs out.
-/// Takes about fifty bytes a place, up to what 2,048 places take.
+/// Takes about fifty bytes for each place, but no more than 2,048 places take.
 pub fn hands(alloc: Global, choice: &Choice, workers: u32) -> Result<Vec<Hand>, PoolFault>
     ensures number { IfOk result (λ hands. (0 < workers) × (length hands.items ≡ min workers 64)) }
     ensures all { IfOk result (λ hands. AreAllEnds (length choice.now) (map hand_hold hands.items)) }

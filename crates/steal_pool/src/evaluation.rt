@@ -13,11 +13,11 @@ use std::alloc::Global;
 use std::sync::Wait;
 use std::thread::{Threads, join};
 
-/// What each item of a choice would do alone, in order of place.
-/// Workers, at most 64, take places from each other, each in its own thread if threads are available. Before
-/// each place a worker, numbered from 0, passes the gate. One worker takes the places in order.
+/// The verdict of each item of a choice (what the item would do alone), in order of place.
+/// At most 64 workers, numbered from 0, take places from each other, each in its own thread if threads are
+/// available. Before each place a worker passes the gate. A single worker takes the places in order.
 /// `ZeroWorkers` if `workers` is 0, checked first; `Memory` if memory runs out.
-/// Waits for the gate and for its workers.
+/// Waits for the gate and for the workers.
 pub fn evaluate<R: Rules + Sync, G: Gate + Sync, T: Threads + Wait + Sync>(
     rt: &T,
     alloc: Global,

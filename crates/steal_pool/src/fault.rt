@@ -9,7 +9,7 @@ pub enum PoolFault {
     /// There were no workers.
     #[error("no workers")]
     ZeroWorkers,
-    /// A thread could not be started. `evaluate` never returns it: it does the work itself then.
+    /// A thread could not be started. `evaluate` never returns `Thread`: the calling thread works then.
     #[error("no thread")]
     Thread,
     /// Memory ran out.

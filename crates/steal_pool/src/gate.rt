@@ -1,15 +1,15 @@
-//! Gates, which can hold workers.
+//! Gates: points where workers can be made to wait.
 
 use std::sync::Wait;
 
-/// What each worker passes before each task: a point to watch or hold workers. It changes no result.
-/// The caller numbers workers and tasks.
+/// A point that each worker passes before each task. A gate can watch workers or make them wait.
+/// A gate changes no result. The caller of `pass` numbers workers and tasks.
 pub trait Gate {
-    /// A worker, from 0, comes to the task at this place. It may be made to wait.
+    /// Called when a worker, numbered from 0, comes to the task at this place. May make the worker wait.
     fn pass<W: Wait>(&self, rt: &W, worker: u32, place: u32);
 }
 
-/// A gate that holds no worker.
+/// A gate that makes no worker wait.
 #[derive(Clone, Copy, Debug, PartialEq, Eq)]
 pub struct NoGate;
 

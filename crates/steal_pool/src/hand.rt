@@ -1,4 +1,4 @@
-//! One worker's end of the work, before and after.
+//! What one worker gets before the work, and what comes out of the work.
 
 ghost use Rattle.std.specs.Prelude.{◌≡◌, []};
 ghost use Rattle.index_deque.specs.Ends.{end_hold, end_taken};
@@ -8,7 +8,7 @@ use index_deque::DequeEnd;
 use rule_engine::Verdict;
 use std::alloc::Global;
 
-/// One worker's end of the deque of a choice's places. It has taken none yet.
+/// One worker's end of the deque of a choice's places; the worker has taken no place yet.
 #[derive(Drop)]
 pub struct Hand {
     pub(crate) alloc: Global,
@@ -17,7 +17,7 @@ pub struct Hand {
     ghost fresh: { end_taken end ≡ [] },
 }
 
-/// The verdicts of the places that one worker took, each judged once, with its end of the deque.
+/// The verdicts of the places that one worker took, each judged once, and the worker's end.
 #[derive(Drop)]
 pub struct Share {
     pub(crate) end: DequeEnd,

@@ -2,12 +2,13 @@
 //!
 //! `evaluate` returns the verdict of each item of a choice, in order. The result is the same for 1 to 64
 //! workers in any schedule; the network must not change meanwhile. `Recorder::log_step` and
-//! `Journal::record_step` take the verdicts and evaluate no guard again. Before each place a worker passes a
-//! `Gate`; `NoGate` holds no worker. Callers with their own threads use its parts, `hands`, `Hand::work` and
-//! `merge`.
+//! `Journal::record_step` take the verdicts and evaluate no guard again to find the reply. Before each place
+//! a worker passes a `Gate`; `NoGate` makes no worker wait. Callers with their own threads use the parts of
+//! `evaluate`: `hands`, `Hand::work` and `merge`.
 //!
-//! It takes the list of verdicts, 28 bytes each, and a deque. Threads come from `rt`; without any, one thread
-//! does all. `script_run::paying_workers` says for how many items several workers pay.
+//! `evaluate` takes memory for the list of verdicts, 28 bytes each, and for a deque. Threads come from `rt`;
+//! without threads, one thread does all. `script_run::paying_workers` returns how many workers are worth
+//! starting for a number of items.
 //!
 //! ```rust
 //! let verdicts = evaluate(rt, alloc, &net, &choice, 4, &NoGate)?;

@@ -14,10 +14,10 @@ use index_deque::{Block, DequeEnd, Owner, gather};
 use rule_engine::{Choice, Net, Outcome, Rules, Verdict, Want};
 use std::alloc::Global;
 
-/// Joins all shares of one call of `hands`, and returns the verdicts in order of place.
-/// The shares must have worked with that choice on this net. Places left on the deque are judged here,
-/// without a gate.
-/// Each place is taken once, so none is missing or doubled.
+/// Joins the shares of all hands of one call of `hands`, and returns the verdicts in order of place.
+/// The shares must come from work with this choice on this net. `merge` itself judges the places left on the
+/// deque, without a gate.
+/// Each place is taken once, so no verdict is missing or doubled.
 /// `AllocError` if memory runs out; the shares are used up then.
 pub fn merge<R: Rules>(
     alloc: Global,

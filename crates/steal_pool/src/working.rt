@@ -19,12 +19,12 @@ struct Worker<'a, G: Gate> {
 }
 
 impl Hand {
-    /// Takes blocks of places until none is left, and judges each place.
-    /// Before each it passes the gate with its number and the place. It may wait there, and tries again if
-    /// another worker takes a place first.
-    /// The choice must be the one given to `hands`; the contract checks only that the number of places is the
-    /// same.
-    /// `AllocError` if memory runs out: then it has taken none, and the hand is used up.
+    /// Takes blocks of places until no block is left, and judges each place.
+    /// Before each place the worker passes the gate with the worker's number and the place, and may have to
+    /// wait there. The worker tries again if another worker takes a block first.
+    /// The choice must be the one given to `hands`; the contract checks only that the number of places is
+    /// the same.
+    /// `AllocError` if memory runs out: then the worker has taken no place, and the hand is used up.
     pub fn work<R: Rules, G: Gate, W: Wait>(
         self,
         rt: &W,
@@ -53,7 +53,7 @@ impl Hand {
     }
 }
 
-// Judges each place of a block, after passing the gate, into verdicts with room for them.
+// Judges each place of a block, after passing the gate, and adds the verdicts to a list with room for them.
 fn judge_block<R: Rules, G: Gate, W: Wait>(
     rt: &W,
     worker: &Worker<G>,

@@ -13,7 +13,7 @@ use Rattle.charge_laws.specs.Epochs.{IsPath}
 use Rattle.step_log.specs.declared.epoch.Epoch.{Epoch}
 use Rattle.step_log.specs.RetainedLogs.{RetainedLog, Begins}
 
--- as the definitions of runs have it
+-- an epoch as the definitions of runs have it
 abbrev pub of_run : Epoch → EpochOf
 of_run e = record { start = e.start; moves = e.moves; edges = e.edges; nodes = e.nodes }
 
@@ -27,7 +27,7 @@ abbrev pub begun_by : Reply → ℕ → EpochStart → EpochStart
 begun_by Accepted number begun = At number
 begun_by other number begun = begun
 
--- along a path, the epochs that are over, and the current one at its end
+-- the epochs that are over along a path, and the epoch that is current at the path's end
 abbrev pub over_in : ℕ → EpochOf → List (Entry × State) → List EpochOf
 over_in number e [] = []
 over_in number e (step ∷ path) =
@@ -43,7 +43,7 @@ path_end start [] = start
 path_end start (step ∷ path) = path_end (record { state = step.1; spent = spent_after start.spent step.0.1 }) path
 
 -- The entries, numbered from `number`, lead from `start` to `end` by a path. If the first epoch began at
--- `began`, `over` are the epochs that are over along it, and the current one began at `begun`.
+-- `began`, then `over` are the epochs that are over along the path, and the current epoch began at `begun`.
 pub record IsEpochPath (t : RuleTable) (number : ℕ) (began : EpochStart) (start : Moment) (log : List Entry) (end : Moment) (over : List EpochOf) (begun : EpochStart) : Type 0 where
   pub path : List (Entry × State)
   pub entries : map (λ step. step.0) path ≡ log
@@ -52,17 +52,17 @@ pub record IsEpochPath (t : RuleTable) (number : ℕ) (began : EpochStart) (star
   pub ended : over ≡ over_in number (open_at began start) path
   pub goes_on : open_in number (open_at began start) path ≡ open_at begun end
 
--- at most twice the edges, plus a weight for each node, as moves
+-- the epoch's moves are at most twice its edges plus a weight for each of its nodes
 abbrev pub IsEpochWithinBound : ℕ → Epoch → Type 0
 IsEpochWithinBound weight e = e.moves ≤ 2 * e.edges + weight * e.nodes
 
--- the epochs along a path of what is kept, from its start
+-- the epochs along a path of what is kept, from the path's start
 abbrev pub epochs_along : RetainedLog → Moment → List (Entry × State) → List EpochOf
 epochs_along kept start path = epochs_from (dropped kept.base + 1) (open_at (begun_at kept.base) start) path
 
--- The epochs of what is kept of a log are those of the definitions, for any states that the machine may have
--- had after its entries; and such states exist. With a base, the first epoch began before it and includes the
--- moves spent there.
+-- The epochs of the kept part of a log are those of the definitions, for any states that the machine may
+-- have had after the entries; and such states exist. With a base, the first epoch began before the base and
+-- includes the moves spent there.
 pub record AreEpochs (t : RuleTable) (weight : ℕ) (kept : RetainedLog) (epochs : List Epoch) : Type 0 where
   pub exact : (start : Moment) (path : List (Entry × State)) → Begins t weight kept start → map (λ step. step.0) path ≡ kept.entries → IsPath t start path → map of_run epochs ≡ epochs_along kept start path
   pub start : Moment

@@ -11,8 +11,9 @@ use Rattle.rule_engine.specs.EngineStates.{IsAnswered}
 use Rattle.step_log.specs.Epochs.{epochs_along}
 use Rattle.step_log.specs.RetainedLogs.{RetainedLog, Begins, moment_in}
 
--- No rule is enabled exactly if the network is stable; its mutual pairs then are a maximal matching. If every
--- pointer is null or answered and the flags are right, they are one only if it is stable.
+-- No rule is enabled exactly if the network is stable; the mutual pairs of a stable network are a maximal
+-- matching. If every pointer is null or answered and the flags are right, the mutual pairs are a maximal
+-- matching only if the network is stable.
 pub record IsQuietWhereStable (t : RuleTable) (s : State) : Type 0 where
   pub exact : (enabled_names t s ≡ []) ↔ IsStable t.flags s
   pub matching : IsStable t.flags s → IsMaximalMatching s.network (mutual_pairs s)
@@ -25,9 +26,9 @@ LeadsTo t weight kept entries m = (start : Moment) × Begins t weight kept start
 
 -- * run: what is kept of the log is a run of the rule machine to the network's state; moves of one step read
 --   the old registers;
--- * quiet: after each prefix of it, no rule is enabled exactly if the network is stable;
--- * budget: the moves up to the next disturbance, with the remaining charge, are at most the charge at the
---   prefix's end, and that is at most twice the edges plus the weight for each node;
+-- * quiet: after each prefix of the run, no rule is enabled exactly if the network is stable;
+-- * budget: the moves up to the next disturbance plus the remaining charge are at most the charge at the
+--   prefix's end, and this charge is at most twice the edges plus the weight for each node;
 -- * epochs: so no epoch has more moves, for any states that the entries may lead through; moves before a base
 --   count.
 pub record Upholds (t : RuleTable) (weight : ℕ) (kept : RetainedLog) : Type 0 where

@@ -14,7 +14,7 @@ use Rattle.step_log.specs.Log.{Log}
 use Rattle.step_log.specs.RetainedLogs.{RetainedLog, IsRetainedRun, last_number, moment_in, next_receipt}
 use Rattle.step_log.specs.Epochs.{IsEpochPath, of_run}
 
--- what it keeps, each name's room for more neighbours, and the room for more entries and epochs
+-- what the journal keeps, each name's room for more neighbours, and the room for more entries and epochs
 pub record JournalView : Type 0 where
   pub state : State
   pub spent : ℕ
@@ -26,7 +26,7 @@ pub record JournalView : Type 0 where
   pub spare : ℕ
   pub spare_epochs : ℕ
 
--- what it keeps, without the rooms
+-- what the journal keeps, without the rooms
 abbrev pub kept_of : JournalView → RetainedLog
 kept_of held =
     record { state = held.state; spent = held.spent; base = held.base; entries = held.entries; limit = held.limit; present = held.present }
@@ -35,22 +35,23 @@ kept_of held =
 abbrev pub undropped_log : JournalView → Log
 undropped_log held = record { state = held.state; spent = held.spent; entries = held.entries; limit = held.limit; present = held.present }
 
--- its network
+-- the journal's network
 abbrev pub net_of : JournalView → NetView
 net_of held = record { state = held.state; spent = held.spent; room = held.room }
 
--- what is kept with this network, base, entries after it, limit, and nodes at the start
+-- what is kept with this network, base, list of entries after the base, limit, and number of nodes at the
+-- start
 abbrev pub kept_at : NetView → Option Base → List Entry → ℕ → ℕ → RetainedLog
 kept_at net base entries limit present =
     record { state = net.state; spent = net.spent; base = base; entries = entries; limit = limit; present = present }
 
--- What a journal keeps is a run from its beginning; `over` are the epochs that are over, and the current one
+-- What a journal keeps is a run from its beginning; `over` are the epochs that are over; the current epoch
 -- began at `begun`.
 pub record IsJournal (t : RuleTable) (weight : ℕ) (kept : RetainedLog) (over : List Epoch) (begun : EpochStart) : Type 0 where
   pub is_kept : IsRetainedRun t weight kept
   pub told : IsEpochPath t (dropped kept.base + 1) (begun_at kept.base) is_kept.start kept.entries (moment_in kept) (map of_run over) begun
 
--- The receipt is that of the next entry, and recording it takes no memory.
+-- The receipt is that of the next entry, and recording this entry takes no memory.
 pub record IsNextReceipt (t : RuleTable) (held : JournalView) (receipt : Receipt) : Type 0 where
   pub next : receipt ≡ next_receipt t (kept_of held) receipt.event
   pub net : IsPrepared t (net_of held) receipt.event receipt.reply

@@ -1,4 +1,4 @@
--- What a journal holds, and recording an event.
+-- What a journal contains, and recording an event.
 use Rattle.std.specs.Prelude.{ℕ, ◌+◌, ◌≤◌, List, [], ◌∷◌, ◌++◌, length}
 use Rattle.rule_machine.specs.declared.event.Event.{Event}
 use Rattle.rule_machine.specs.State.{State, opening_with}
@@ -8,8 +8,8 @@ use Rattle.rule_machine.specs.Run.{Entry, Run, beginning_with}
 use Rattle.step_log.specs.declared.receipt.Receipt.{Receipt}
 pub use Rattle.step_log.specs.Recording.{max_entries}
 
--- a network's state, the moves since its last disturbance, the entries that led to it, their limit, and the
--- number of nodes at the start, named from 1
+-- a network's state, the moves since the last disturbance, the entries that led to the state, the limit of
+-- entries, and the number of nodes at the start, named from 1
 pub record Log : Type 0 where
   pub state : State
   pub spent : ℕ
@@ -17,8 +17,8 @@ pub record Log : Type 0 where
   pub limit : ℕ
   pub present : ℕ
 
--- the entries are a run of the machine from the opening state to the state and what is spent, within the
--- limit
+-- the entries are a run of the machine from the opening state to the log's state and spent moves, and are
+-- within the limit
 pub record IsLog (t : RuleTable) (log : Log) : Type 0 where
   pub run : Run t (beginning_with log.state.network.size log.present) log.entries (record { state = log.state; spent = log.spent })
   pub size : log.state.network.size ≤ 65535
@@ -30,7 +30,7 @@ abbrev pub empty_log_with : ℕ → ℕ → ℕ → Log
 empty_log_with size present limit =
     record { state = opening_with size present; spent = 0; entries = []; limit = limit; present = present }
 
--- the same, with all names present
+-- the log before any event, with all names present
 abbrev pub empty_log : ℕ → ℕ → Log
 empty_log nodes limit = empty_log_with nodes nodes limit
 
@@ -38,7 +38,7 @@ empty_log nodes limit = empty_log_with nodes nodes limit
 abbrev pub entry_of : RuleTable → Log → Event → Entry
 entry_of t log event = (event, reply_of t log.state log.spent event)
 
--- the log with the event's entry at its end, and the state and what is spent after it
+-- the log with the event's entry at the end, and with the state and the spent moves after that entry
 abbrev pub recorded : RuleTable → Log → Event → Log
 recorded t log event =
     record log {
@@ -47,7 +47,7 @@ recorded t log event =
       entries = log.entries ++ entry_of t log event ∷ [];
     }
 
--- the caller's receipt of it
+-- the caller's receipt of the event
 abbrev pub receipt_of : RuleTable → Log → Event → Receipt
 receipt_of t log event =
     record { seq = length log.entries + 1; event = event; reply = reply_of t log.state log.spent event }

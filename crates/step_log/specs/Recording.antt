@@ -7,8 +7,8 @@ use Rattle.rule_machine.specs.Least.{reply_of, state_after, spent_by}
 use Rattle.line_text.specs.EntryText.{entry_line}
 pub use Rattle.log_entry.specs.Kinds.{max_entries}
 
--- a network's state, the moves since its last disturbance, how many entries led to it, their limit, and the
--- number of nodes at the start, named from 1
+-- a network's state, the moves since the last disturbance, how many entries led to the state, the limit of
+-- entries, and the number of nodes at the start, named from 1
 pub record Recording : Type 0 where
   pub state : State
   pub spent : ℕ
@@ -27,7 +27,7 @@ abbrev pub opening_recording_with : ℕ → ℕ → ℕ → Recording
 opening_recording_with size present limit =
     record { state = opening_with size present; spent = 0; len = 0; limit = limit; present = present }
 
--- the same, with all names present
+-- the recording before any event, with all names present
 abbrev pub opening_recording : ℕ → ℕ → Recording
 opening_recording nodes limit = opening_recording_with nodes nodes limit
 
@@ -36,6 +36,6 @@ abbrev pub entered : RuleTable → Recording → Event → Recording
 entered t r event =
     record { state = state_after t r.state event; spent = spent_by t r.state r.spent event; len = r.len + 1; limit = r.limit; present = r.present }
 
--- the line of that entry, with its LF
+-- the line of the event's entry, with an LF
 abbrev pub entered_line : RuleTable → Recording → Event → List ℕ
 entered_line t r event = entry_line (r.len + 1) event (reply_of t r.state r.spent event)

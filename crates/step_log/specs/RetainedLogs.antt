@@ -11,8 +11,8 @@ use Rattle.charge_laws.specs.ChargeWords.{charge_bound}
 use Rattle.step_log.specs.declared.receipt.Receipt.{Receipt}
 use Rattle.step_log.specs.Log.{Log, max_entries}
 
--- a network's state, the moves since its last disturbance, the base if any, the entries after it, the limit
--- of entry numbers, and the number of nodes at the start, named from 1
+-- a network's state, the moves since the last disturbance, the base if any, the entries after the base, the
+-- limit of entry numbers, and the number of nodes at the start, named from 1
 pub record RetainedLog : Type 0 where
   pub state : State
   pub spent : ℕ
@@ -21,15 +21,15 @@ pub record RetainedLog : Type 0 where
   pub limit : ℕ
   pub present : ℕ
 
--- the moment of its network
+-- the moment of the kept network
 abbrev pub moment_in : RetainedLog → Moment
 moment_in kept = record { state = kept.state; spent = kept.spent }
 
--- the number of its last entry, kept or dropped
+-- the number of the last entry, kept or dropped
 abbrev pub last_number : RetainedLog → ℕ
 last_number kept = dropped kept.base + length kept.entries
 
--- the moment before its entries
+-- the moment before the kept entries
 abbrev pub Begins : RuleTable → ℕ → RetainedLog → Moment → Type 0
 Begins t weight kept start = BeginsAt t (charge_bound weight) kept.state.network.size kept.present kept.base start
 
@@ -38,7 +38,7 @@ abbrev pub IsBaseOfGraph : Option Base → Type 0
 IsBaseOfGraph None = Unit {0}
 IsBaseOfGraph (Some base) = (length base.nodes ≤ 65535) × (length base.edges ≤ 1048576)
 
--- the entries are a run of the machine from their beginning to the state and what is spent; numbers are
+-- the entries are a run of the machine from their beginning to the state and the spent moves; numbers are
 -- within the limit
 pub record IsRetainedRun (t : RuleTable) (weight : ℕ) (kept : RetainedLog) : Type 0 where
   pub start : Moment
@@ -63,7 +63,7 @@ log_in kept =
 abbrev pub next_entry : RuleTable → RetainedLog → Event → Entry
 next_entry t kept event = (event, reply_of t kept.state kept.spent event)
 
--- with the event's entry at the end, and the state and what is spent after it
+-- what is kept, with the event's entry at the end, and with the state and the spent moves after that entry
 abbrev pub kept_with : RuleTable → RetainedLog → Event → RetainedLog
 kept_with t kept event =
     record kept {
@@ -72,11 +72,11 @@ kept_with t kept event =
       entries = kept.entries ++ next_entry t kept event ∷ [];
     }
 
--- the caller's receipt of it
+-- the caller's receipt of the event
 abbrev pub next_receipt : RuleTable → RetainedLog → Event → Receipt
 next_receipt t kept event =
     record { seq = last_number kept + 1; event = event; reply = reply_of t kept.state kept.spent event }
 
--- with its network's moment as the base, and without entries
+-- what is kept after a checkpoint: the network's moment is the base, and there are no entries
 abbrev pub checkpointed : RetainedLog → RetainedLog
 checkpointed kept = record kept { base = Some (base_of (last_number kept) (moment_in kept)); entries = [] }

@@ -15,11 +15,12 @@ use rule_machine::{EpochStart, RuleSet};
 
 impl<R: Rules> Journal<R> {
     /// Makes the present state the base of the log, drops all entries, and returns the base's number.
-    /// This is the number of the last entry, dropped now or before; 0 if there was none. Numbers continue
-    /// after it. The network, `spent` and `len` stay. An entry prepared before cannot be committed after it.
+    /// This number is that of the last entry, dropped now or earlier; 0 if there was no entry. Later entries
+    /// continue the numbers. The network, `spent` and `len` do not change. An entry prepared before the
+    /// checkpoint cannot be committed after it.
     /// `AllocError` if memory runs out; nothing has changed then.
-    /// Takes about eight bytes a node and four an edge, and frees the entries. Looks at every name and both
-    /// ends of every edge.
+    /// Takes about eight bytes for each node and four for each edge, and frees the entries. Looks at every
+    /// name and at both ends of every edge.
     pub fn checkpoint(&mut self) -> Result<u32, Want>
         ensures number { IfOk result (λ number. number ≡ last_number (kept_of self.old)) }
         ensures log { OnOk result (kept_of self.new ≡ checkpointed (kept_of self.old)) }
@@ -36,14 +37,15 @@ impl<R: Rules> Journal<R> {
         Ok(number)
     }
 
-    /// The number of the last entry that a checkpoint dropped; `None` without a checkpoint. Takes no memory.
+    /// The number of the last entry that a checkpoint dropped; `None` without a checkpoint.
+    /// Takes no memory.
     pub fn base(&self) -> Option<u32>
         ensures { MatchOption result (self.now.base ≡ None) (λ number. (base : Base) × (self.now.base ≡ Some base) × (base.number ≡ number)) }
     {
         self.base.as_ref().map(|base| base.number)
     }
 
-    /// How many entries were dropped.
+    /// How many entries checkpoints have dropped.
     pub(crate) fn dropped(&self) -> u32
         ensures count { result ≡ dropped self.now.base }
         ensures few { result ≤ 16777216 }
@@ -54,8 +56,8 @@ impl<R: Rules> Journal<R> {
         }
     }
 
-    /// The lines of the base, each with its LF; empty without a base.
-    /// A transcript of the entries after the base begins with them. At most about 18 megabytes.
+    /// The lines of the base, each ending with an LF; empty without a base.
+    /// A transcript of the entries after the base begins with these lines. At most about 18 megabytes.
     /// `AllocError` if memory runs out.
     pub fn base_text(&self, rules: RuleSet) -> Result<Vec<u8>, Want>
         ensures { IfOk result (λ text. MatchOption self.now.base (text.items ≡ []) (λ base. text.items ≡ base_text rules self.now.state.network.size base)) }

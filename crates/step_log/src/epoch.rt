@@ -10,13 +10,15 @@ use rule_engine::{Net, Reply, Rules, Want};
 use rule_machine::EpochStart;
 use std::alloc::Global;
 
-/// The moves between two accepted disturbances, the start or the end, and the network's size.
-/// The moves are at most twice the edges, plus the rules' weight for each node.
+/// How many moves came in one epoch, and the network's size then.
+/// An epoch lasts from an accepted disturbance, or the start, up to the next accepted disturbance, or the
+/// end.
+/// The moves are at most twice the edges plus the rules' weight for each node.
 #[derive(Clone, Copy, Debug, PartialEq, Eq)]
 pub struct Epoch {
-    /// Where it began: at an accepted disturbance, at the start, or before the base, in dropped entries.
+    /// Where the epoch began: an accepted disturbance, the start, or dropped entries before the base.
     pub start: EpochStart,
-    /// How many moves there were, with those spent before a base.
+    /// How many moves there were, including those before a base.
     pub moves: u32,
     /// How many edges there were after the disturbance.
     pub edges: u32,
@@ -39,8 +41,8 @@ impl Epoch {
     }
 }
 
-/// The epochs of a log: those that are over, and the start of the current one.
-/// The network knows the rest of the current one.
+/// The epochs of a log: those that are over, and the start of the current epoch.
+/// The moves and the size of the current epoch come from the network.
 #[derive(Drop)]
 pub(crate) struct Epochs {
     pub over: Vec<Epoch>,
@@ -59,7 +61,7 @@ impl Epochs {
         }
     }
 
-    /// Makes room for one more epoch that is over, if an entry with this reply ends one.
+    /// Makes room for one more epoch that is over, if an entry with this reply ends an epoch.
     pub fn make_room(&mut self, reply: &Reply) -> Result<(), Want>
         ensures room { OnOk result (reply.now ≡ Accepted → length self.new.over.items < vec_capacity self.new.over) }
         ensures over { self.new.over.items ≡ self.old.over.items }
@@ -72,7 +74,7 @@ impl Epochs {
     }
 
     /// Ends the current epoch and begins the next, if the entry is an accepted disturbance.
-    /// The network is still as before the entry. Takes no memory.
+    /// `net` is the network before the entry. Takes no memory.
     pub fn turn<R: Rules>(&mut self, number: u32, reply: &Reply, net: &Net<R>)
         requires { reply.now ≡ Accepted → length self.old.over.items < vec_capacity self.old.over }
         ensures over { map of_run self.new.over.items ≡ map of_run self.old.over.items ++ ended_by reply.now (open_at self.old.begun (net_moment net.now)) }
@@ -84,7 +86,7 @@ impl Epochs {
         }
     }
 
-    /// All epochs in order, the last up to now.
+    /// All epochs in order; the last is the current one, up to now.
     pub fn list<R: Rules>(&self, alloc: Global, net: &Net<R>) -> Result<Vec<Epoch>, Want>
         ensures { IfOk result (λ epochs. map of_run epochs.items ≡ map of_run self.now.over.items ++ open_at self.now.begun (net_moment net.now) ∷ []) }
     {

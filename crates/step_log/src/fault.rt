@@ -25,13 +25,13 @@ impl From<AllocError> for RecordFault {
     }
 }
 
-/// Why a journal has no entry with a number.
+/// Why a journal has no entry with a given number.
 #[derive(Clone, Copy, Debug, PartialEq, Eq, Error)]
 pub enum NoEntry {
-    /// A checkpoint dropped it.
+    /// A checkpoint dropped the entry.
     #[error("forgotten")]
     Forgotten,
-    /// It never existed: the number is 0, or above the last.
+    /// There never was such an entry: the number is 0, or above the number of the last entry.
     #[error("no such entry")]
     Beyond,
 }

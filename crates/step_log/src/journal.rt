@@ -83,7 +83,7 @@ impl<R: Rules> Journal<R> {
         Journal::with_limit(alloc, nodes, MAX_ENTRIES)
     }
 
-    /// Like `new`, with a limit of `limit` entries; a limit above 16,777,216 counts as that.
+    /// Like `new`, with a limit of `limit` entries; a limit above 16,777,216 counts as 16,777,216.
     pub fn with_limit(alloc: Global, nodes: u32, limit: u32) -> Result<Journal<R>, GraphFault>
         ensures ok { IfOk result (λ journal. kept_of journal ≡ whole (empty_log nodes (min limit max_entries))) }
         ensures small { OnOk result (nodes ≤ 65535) }
@@ -126,7 +126,7 @@ impl<R: Rules> Journal<R> {
     }
 
     /// The entry with this number.
-    /// `Forgotten` from 1 to the base; `Beyond` for 0 and above `len`.
+    /// `Forgotten` if the number is from 1 to the base's; `Beyond` if the number is 0 or above `len`.
     pub fn entry(&self, number: u32) -> Result<&Entry, NoEntry>
         ensures found { IfOk result (λ entry. (dropped self.now.base < number) × (slice_get self.now.entries (number - dropped self.now.base - 1) ≡ Some entry.now)) }
         ensures forgotten { IsErrOf result Forgotten ↔ ((0 < number) × (number ≤ dropped self.now.base)) }
@@ -200,9 +200,11 @@ impl<R: Rules> Journal<R> {
         self.net().reach_of(event)
     }
 
-    /// The epochs of the log, in order. The first is from the start or contains the base; the last ends now.
-    /// Each has at most twice its edges, plus the rules' weight for each node, as its moves.
-    /// `AllocError` if memory runs out. They are copied from a list kept as the log grows.
+    /// The epochs of the log, in order. The last epoch ends now.
+    /// The first epoch begins at the start or contains the base. The moves of an epoch are at most twice its
+    /// edges plus the rules' weight for each of its nodes.
+    /// `AllocError` if memory runs out. The result is copied from a list that the journal keeps as the log
+    /// grows.
     pub fn epochs(&self) -> Result<Vec<Epoch>, Want>
         ensures epochs { IfOk result (λ epochs. AreEpochs R.table R.NODE_WEIGHT (kept_of self.now) epochs.items) }
         ensures bound { IfOk result (λ epochs. All (IsEpochWithinBound R.NODE_WEIGHT) epochs.items) }
@@ -217,9 +219,9 @@ impl<R: Rules> Journal<R> {
         self.len() >= self.limit
     }
 
-    /// The entry that `record` would add for an event, with its receipt and all the memory that it needs.
-    /// `commit` then records it and cannot fail. The log and the network stay, also if the prepared entry is
-    /// dropped.
+    /// The entry that `record` would add for an event, with its receipt. Takes all memory for `commit`.
+    /// `commit` then records the entry and cannot fail. The log and the network do not change, also if the
+    /// prepared entry is dropped.
     /// Faults are those of `record`.
     pub fn prepare(&mut self, event: Event) -> Result<Prepared, RecordFault>
         ensures receipt { IfOk result (λ prepared. prepared ≡ next_receipt R.table (kept_of self.old) event) }
@@ -233,8 +235,9 @@ impl<R: Rules> Journal<R> {
         Ok(Prepared::new(seq, event, reply)?)
     }
 
-    /// The entry that `record_step` would add, with its receipt and all the memory that it needs.
-    /// `commit` then records it and cannot fail. The log and the network stay. No guard is evaluated again.
+    /// The entry that `record_step` would add, with its receipt. Takes all memory for `commit`.
+    /// `commit` then records the entry and cannot fail. The log and the network do not change. No guard is
+    /// evaluated again.
     /// Faults are those of `record`.
     pub fn prepare_step(
         &mut self,
@@ -253,8 +256,9 @@ impl<R: Rules> Journal<R> {
         Ok(Prepared::new(seq, Event::Step(choice), reply)?)
     }
 
-    /// Carries out and records what this journal has prepared, and returns the receipt. Takes no memory.
-    /// The journal must have recorded nothing and made no checkpoint since.
+    /// Carries out and records an entry that this journal prepared, and returns the receipt.
+    /// Since the entry was prepared, the journal must have recorded nothing and made no checkpoint. Takes no
+    /// memory.
     pub fn commit(&mut self, prepared: Prepared) -> Receipt
         requires { IsNextReceipt R.table self.old prepared }
         ensures receipt { result ≡ prepared }
@@ -267,10 +271,10 @@ impl<R: Rules> Journal<R> {
         receipt
     }
 
-    /// Carries out an event, adds it with its reply to the log, and returns the entry's receipt.
-    /// The receipt holds copies of the event and the reply.
+    /// Carries out an event, logs it with the reply as a new entry, and returns the entry's receipt.
+    /// The receipt contains copies of the event and the reply.
     /// `LogFull` exactly if `len` is the limit, before any other fault; `Memory` if memory runs out.
-    /// A fault changes nothing.
+    /// After a fault nothing has changed.
     pub fn record(&mut self, event: Event) -> Result<Receipt, RecordFault>
         ensures receipt { IfOk result (λ receipt. receipt ≡ next_receipt R.table (kept_of self.old) event) }
         ensures log { OnOk result (kept_of self.new ≡ kept_with R.table (kept_of self.old) event) }
@@ -281,8 +285,8 @@ impl<R: Rules> Journal<R> {
         Ok(self.commit(prepared))
     }
 
-    /// Carries out a step from the verdicts of its items and logs it, as `record` of the step would.
-    /// No guard is evaluated again. Faults are those of `record`.
+    /// Carries out and logs a step from the verdicts of the step's items, with the result of `record`.
+    /// Evaluates no guard again to find the reply. Faults are those of `record`.
     pub fn record_step(
         &mut self,
         choice: Choice,
@@ -298,7 +302,7 @@ impl<R: Rules> Journal<R> {
         Ok(self.commit(prepared))
     }
 
-    /// Makes room for one more entry, and returns its number.
+    /// Makes room for one more entry, and returns the number of that entry.
     fn make_room(&mut self) -> Result<u32, RecordFault>
         ensures number { IfOk result (λ number. number ≡ last_number (kept_of self.old) + 1) }
         ensures below { OnOk result (last_number (kept_of self.old) < self.old.limit) }

@@ -1,4 +1,4 @@
-//! Consequences of the headline, `Upholds`: the bound of each rule set, and that its moments exist.
+//! Consequences of the headline `Upholds`: each rule set's bound, and the moments of prefixes.
 
 ghost use Rattle.std.specs.Prelude.{◌≡◌, ◌≤◌, ◌+◌, ◌*◌, ◌++◌, ℕ, List, All, map};
 ghost use Rattle.rule_machine.specs.HsuHuang.{hsu_huang};
@@ -14,7 +14,7 @@ ghost use Rattle.step_log.specs.Headline.{Upholds, LeadsTo};
 ghost use Rattle.step_log.specs.RetainedLogs.{RetainedLog, Begins};
 
 /// Between two disturbances a log has at most 2m + n moves under `hh` and 2m + 3n under `manne`.
-/// Here m edges and n nodes are those at the time; the remaining charge counts too.
+/// Here m and n are the numbers of edges and nodes in that time; the remaining charge counts as moves too.
 /// Rules: Hsu and Huang (1992); Manne, Mjelde, Pilard and Tixeuil (2009).
 pub fn budgets_by_name()
     ensures hsu_huang { (kept : RetainedLog) → Upholds hsu_huang 1 kept
@@ -27,7 +27,7 @@ pub fn budgets_by_name()
         → moves_in calm + manne.charge n.state ≤ 2 * edge_count m.state.network + 3 * node_count m.state.network }
 {}
 
-/// Each epoch of a log, with m edges and n nodes, has at most as many moves.
+/// An epoch with m edges and n nodes has at most 2m + n moves under `hh` and 2m + 3n under `manne`.
 pub fn epochs_by_name()
     ensures hsu_huang { (kept : RetainedLog) → Upholds hsu_huang 1 kept
         → (start : Moment) (path : List (Entry × State)) → Begins hsu_huang 1 kept start → map (λ step. step.0) path ≡ kept.entries → IsPath hsu_huang start path

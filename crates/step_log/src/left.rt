@@ -8,7 +8,7 @@ use crate::{Journal, Recorder};
 use rule_engine::NodeBound;
 
 impl<R: NodeBound> Recorder<R> {
-    /// How many moves can still come before the next accepted disturbance, at most.
+    /// The most moves that can still come before the next accepted disturbance.
     /// See `Net::moves_left`, also for the cost.
     pub fn moves_left(&mut self) -> u32
         ensures value { result ≡ moves_left (R.table.charge self.old.state) (R.most (node_count self.old.state.network)) }
@@ -20,7 +20,7 @@ impl<R: NodeBound> Recorder<R> {
 }
 
 impl<R: NodeBound> Journal<R> {
-    /// How many moves can still come before the next accepted disturbance, at most.
+    /// The most moves that can still come before the next accepted disturbance.
     /// See `Net::moves_left`, also for the cost.
     pub fn moves_left(&mut self) -> u32
         ensures value { result ≡ moves_left (R.table.charge self.old.state) (R.most (node_count self.old.state.network)) }

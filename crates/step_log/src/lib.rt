@@ -1,10 +1,10 @@
-//! Networks that number their entries: the recorder, which keeps none, and the journal, which keeps a log.
+//! Networks that number their entries: the recorder keeps no entry, and the journal keeps a log.
 //!
-//! A `Recorder` hands out each entry's number, reply and text. A `Journal` keeps its log from the start or
-//! from its last checkpoint, whose base replaces the dropped entries; numbers continue. Its type states three
-//! facts (`Upholds`): it keeps a run of the rule machine to the network's state; each reply is the machine's;
-//! each epoch's moves are within the bound. A fault changes nothing. `LogFull` comes exactly if the log's
-//! limit is reached.
+//! A `Recorder` hands out each entry's number, reply and text. A `Journal` keeps the log from the start or
+//! from the last checkpoint, whose base replaces the dropped entries; numbers continue. The type of a
+//! journal states three facts (`Upholds`): the kept log is a run of the rule machine to the network's state;
+//! each reply is the machine's; each epoch's moves are within the bound. After a fault nothing has changed.
+//! `LogFull` is returned exactly if the log has reached its limit.
 //!
 //! `record` is `prepare`, which takes all the memory, then `commit`, which cannot fail. An entry takes at
 //! most 80 bytes, plus its lists.

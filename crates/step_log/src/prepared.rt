@@ -8,7 +8,7 @@ use log_entry::Entry;
 use rule_machine::{Event, Reply, Want};
 use std::marker::Model;
 
-/// An entry that a journal has prepared, with its receipt. `Journal::commit` records it.
+/// An entry that a journal has prepared, with the receipt. `Journal::commit` records the entry.
 /// Contracts see the receipt.
 #[derive(Drop)]
 pub struct Prepared {
@@ -28,7 +28,7 @@ impl Model for Prepared {
 }
 
 impl Prepared {
-    /// The entry with this number. Its receipt holds copies of the event and the reply.
+    /// The prepared entry with this number. The receipt contains copies of the event and the reply.
     pub(crate) fn new(seq: u32, event: Event, reply: Reply) -> Result<Prepared, Want>
         requires { IsTrue (fits event reply) }
         ensures { IfOk result (λ prepared. prepared ≡ record { seq = seq; event = event; reply = reply }) }

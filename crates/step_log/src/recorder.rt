@@ -53,7 +53,7 @@ impl<R: Rules> Recorder<R> {
         Recorder::with_limit(alloc, nodes, MAX_ENTRIES)
     }
 
-    /// Like `new`, with a limit of `limit` entries; a limit above 16,777,216 counts as that.
+    /// Like `new`, with a limit of `limit` entries; a limit above 16,777,216 counts as 16,777,216.
     pub fn with_limit(alloc: Global, nodes: u32, limit: u32) -> Result<Recorder<R>, GraphFault>
         ensures ok { IfOk result (λ recorder. recorder ≡ opening_recording nodes (min limit max_entries)) }
         ensures small { OnOk result (nodes ≤ 65535) }
@@ -83,7 +83,7 @@ impl<R: Rules> Recorder<R> {
         })
     }
 
-    /// How many entries there were.
+    /// How many entries have been recorded.
     pub fn len(&self) -> u32
         ensures count { result ≡ self.now.len }
         ensures room { result ≤ self.now.limit }
@@ -124,11 +124,11 @@ impl<R: Rules> Recorder<R> {
         self.net.spent()
     }
 
-    /// Carries out an event, puts the reply into `reply`, and appends the text of the entry, with its LF.
-    /// The entry's number then is `len`. If the caller has the event's own text, it passes `line`, which is
-    /// copied.
-    /// `LogFull` exactly if the limit is reached, before any other fault; `Memory` if memory runs out. Then
-    /// the network, its entries and the text are unchanged, and the value of `reply` is unspecified.
+    /// Carries out an event, writes the reply into `reply`, and appends the entry's text with an LF.
+    /// Afterwards `len` is the entry's number. A caller that has the event's text may pass it as `line`, and
+    /// that text is copied.
+    /// `LogFull` exactly if the limit is reached, before any other fault; `Memory` if memory runs out. After
+    /// a fault the network, `len` and the text are unchanged, and the value of `reply` is unspecified.
     /// Takes memory only for the reply and the text.
     #[inline(always)]
     pub fn log_entry(
@@ -160,8 +160,8 @@ impl<R: Rules> Recorder<R> {
     }
 
     /// Carries out a step from the verdicts of its items; returns the entry's number and the reply.
-    /// It appends no text and evaluates no guard again.
-    /// `LogFull` and `Memory` as in `log_entry`. A fault changes nothing.
+    /// Appends no text. Evaluates no guard again to find the reply.
+    /// `LogFull` and `Memory` come as in `log_entry`. After a fault nothing has changed.
     pub fn log_step(&mut self, choice: &Choice, verdicts: &[Verdict]) -> Result<Answer, RecordFault>
         requires { verdicts.now ≡ verdicts_of R.table self.old.state choice.now }
         ensures number { IfOk result (λ answer. answer.seq ≡ self.old.len + 1) }
@@ -184,7 +184,7 @@ impl<R: Rules> Recorder<R> {
     }
 }
 
-/// Appends the text of an entry, with its LF; copies the event's text from `line` if it is given.
+/// Appends the text of an entry with an LF; copies the event's text from `line` if `line` is given.
 /// If memory runs out the text is unchanged.
 #[inline(always)]
 fn put_text(

@@ -6,11 +6,11 @@ use Rattle.locked_net.specs.declared.settle_fault.SettleFault.TheVariants as set
 use Rattle.storm_runner.specs.declared.fault.StormFault.{StormFault}
 use Rattle.storm_runner.specs.declared.fault.StormFault.TheVariants.{TooManyScripts, BadLine, LogFull, Read, Write, Memory, Behind, Thread, Unsettled}
 
--- a line of a script that is no command, with both numbers and the LF
+-- the text that reports a bad line: the numbers of its script and of the line, and an LF
 abbrev pub storm_bad_line : ℕ → ℕ → List ℕ
 storm_bad_line script line = (codes "! script " ++ number_text script) ++ ((codes " line " ++ number_text line) ++ codes ": not a command\n")
 
--- why receipts do not account for a log
+-- the line that reports receipts that do not account for a log
 abbrev pub unsettled_line : SettleFault → List ℕ
 unsettled_line settle.CountDiffers = codes "! settle refused: count-differs\n"
 unsettled_line settle.BaseDiffers = codes "! settle refused: base-differs\n"

@@ -1,10 +1,11 @@
 -- How a storm of scripts ends, and what it has written.
 --
--- The scripts leave the log that a journal keeps: all of it, or the part after the last checkpoint. It is a
--- run of the rule machine from the opening state or from the base. The clerks, one for each script and one
--- for each roaming worker, account for all of it. Each receipt is an entry of the log, and each entry has one
--- clerk's receipt. The receipts of a script's clerk are what the script asks for, line after line, as far as
--- it came. Those of a worker's clerk are steps of one node, at most as many as it has turns.
+-- The scripts leave the log that a journal keeps: all of it, or the part after the last checkpoint. This log
+-- is a run of the rule machine from the opening state or from the base. There is a clerk for each script and
+-- for each roaming worker, and the clerks account for the whole log: each receipt is an entry, and each entry
+-- has one clerk's receipt. The receipts of a script's clerk are what the script asks for, line after line, as
+-- far as the script was played. The receipts of a worker's clerk are steps of one node, at most as many as
+-- the worker has turns.
 use Rattle.std.specs.Prelude.{◌≡◌, ◌≢◌, ℕ, ◌<◌, ◌⊎◌, List, [], length, map, Option, None, Some, Result, Ok, Err}
 use Rattle.std.specs.Io.KnownBytes.{Appends, Keeps}
 use Rattle.rule_machine.specs.RuleTable.{RuleTable}
@@ -24,12 +25,12 @@ use Rattle.script_text.specs.Readers.{AllHold, FirstBadScript}
 use Rattle.storm_runner.specs.declared.fault.StormFault.{StormFault}
 use Rattle.storm_runner.specs.declared.fault.StormFault.TheVariants.{TooManyScripts, BadLine, LogFull, Read, Write, Memory, Behind, Thread, Unsettled}
 
--- the setting of every log of such a network
+-- the setting of every log of a network with these options
 abbrev pub asked_setting : RuleTable → OptionsView → Setting
 asked_setting t asked = record { table = t; nodes = asked.nodes; present = asked.present; limit = asked.limit }
 
 -- These scripts leave this kept log, with the names, nodes, limit and workers that were asked for. The fault
--- is the first that a script met, or else one that a worker met.
+-- is the first that a script met, or, if no script met one, a fault that a worker met.
 pub record Leaves (t : RuleTable) (weight : ℕ) (asked : OptionsView) (scripts : List (List ScriptLine)) (fault : Option CallFault) (kept : RetainedLog) : Type 0 where
   pub run : IsRetainedRun t weight kept
   pub nodes_are : kept.state.network.size ≡ asked.nodes
@@ -38,19 +39,20 @@ pub record Leaves (t : RuleTable) (weight : ℕ) (asked : OptionsView) (scripts 
   pub storm : IsStormResult (asked_setting t asked) kept scripts asked.roamers asked.turns fault
   pub headline : Headline t weight kept storm.clerks
 
--- the text of what is kept: the header, or the lines of the base, and the entries, numbered on
+-- the text of a kept log: the header or the lines of the base, and then the entries, numbered on
 abbrev pub text_of : OptionsView → RetainedLog → List ℕ
 text_of asked kept = kept_text asked.rules asked.nodes asked.present kept.state.network.size kept.base kept.entries
 
--- the scripts are those of the texts, they leave what is kept with this fault, and P holds of its text
+-- the scripts are those of the texts, they leave a kept log with this fault, and P holds of the log's text
 abbrev pub LeavesText : RuleTable → ℕ → OptionsView → List (Option (List ℕ)) → Option CallFault → (List ℕ → Type 0) → Type 0
 LeavesText t weight asked texts fault P =
     (scripts : List (List ScriptLine)) × (kept : RetainedLog) × AllHold texts scripts × Leaves t weight asked scripts fault kept × P (text_of asked kept)
 
--- The whole text was written if all scripts were played to their ends and no worker met a fault, or if the
--- first fault is returned. If the writer failed, a beginning was written; if the receipts do not account for
--- the log or the scripts could not be read, nothing was. After `Memory` a script or worker met it and all was
--- written, or nothing was.
+-- If the result is `Ok`, each script was played to its end, no worker met a fault, and the whole text was
+-- written. If the first fault is returned, the whole text was written too. If the writer failed, a beginning
+-- was written. If the receipts do not account for the log, or the scripts could not be read, nothing was
+-- written. After `Memory`, either a script or a worker met it and the whole text was written, or nothing was
+-- written.
 abbrev pub EndsAllScripts : RuleTable → ℕ → OptionsView → List (Option (List ℕ)) → Option (List ℕ) → Option (List ℕ) → Result Unit StormFault → Type 0
 EndsAllScripts t weight asked texts old new (Ok done) = LeavesText t weight asked texts None (Appends old new)
 EndsAllScripts t weight asked texts old new (Err LogFull) = LeavesText t weight asked texts (Some call.LogFull) (Appends old new)
@@ -66,7 +68,7 @@ EndsAllScripts t weight asked texts old new (Err (BadLine script line)) = FirstB
 EndsAllScripts t weight asked texts old new (Err Read) = (texts ≢ []) × Keeps old new
 EndsAllScripts t weight asked texts old new (Err Thread) = ⊥
 
--- the storm of some texts, under the rule set that is asked for
+-- the storm of some texts, under the rule set of the options
 abbrev pub IsStormOutcome : OptionsView → List (Option (List ℕ)) → Option (List ℕ) → Option (List ℕ) → Result Unit StormFault → Type 0
 IsStormOutcome asked texts old new result = EndsAllScripts (table_of asked.rules) (weight_of asked.rules) asked texts old new result
 

@@ -6,13 +6,13 @@ use Rattle.locked_net.specs.declared.settle_fault.SettleFault.TheVariants as set
 use Rattle.storm_runner.specs.declared.fault.StormFault.{StormFault}
 use Rattle.storm_runner.specs.declared.fault.StormFault.TheVariants.{Write, Memory, Unsettled}
 
--- scripts were played, and left no log
+-- scripts were played, but left no log
 abbrev pub FailsToPlay : StormFault → Type 0
 FailsToPlay Memory = Unit {0}
 FailsToPlay (Unsettled why) = why ≢ settle.Memory
 FailsToPlay _ = ⊥
 
--- a text was not written whole
+-- a text was not written to its end
 abbrev pub FailsToWrite : Option (List ℕ) → Option (List ℕ) → List ℕ → StormFault → Type 0
 FailsToWrite old new text Write = AppendsBeginning old new text
 FailsToWrite old new text Memory = Keeps old new

@@ -27,14 +27,14 @@ pub record AddsReceipts (P : List Receipt → Type 0) (old new : List Receipt) :
   pub added : new ≡ old ++ own
   pub fits : P own
 
--- the command was carried out, or a fault broke it off, on the log that the clerk's note then shows, after
--- the clerk's old base
+-- the command was carried out, or a fault ended it early, on the log that the clerk's note shows afterwards.
+-- The new receipts come after the clerk's old base.
 abbrev pub Plays : {A E : Type 0} → Setting → Command → ClerkView → ClerkView → Result A E → Type 0
 Plays setting command old new (Ok done) = AddsReceipts (λ own. IsFor (scene_of setting new) (front_of old.receipts) command own × AreAbove old.base own) old.receipts new.receipts
 Plays setting command old new (Err fault) = AddsReceipts (λ own. IsPartOf (scene_of setting new) command own × AreAbove old.base own) old.receipts new.receipts
 
--- This many turns were taken, by these words, above the clerk's old base. There are fewer only if there was
--- nothing to do after the last of them, or if a fault broke them off.
+-- This many turns were taken, by these words, after the clerk's old base. Fewer turns were taken only if
+-- there was nothing to do after the last of them, or if a fault ended them early.
 abbrev pub TakesTurnsUpTo : {A E : Type 0} → Setting → Draws → (Receipt → Type 0) → (Scene → ℕ → List Receipt → Type 0) → Stream → ℕ → ClerkView → ClerkView → Result A E → Type 0
 TakesTurnsUpTo setting draws Fits Rests words count old new (Ok done) = AddsReceipts
     (λ own. ((length own ≤ count) × DrawnFrom (scene_of setting new) draws words Fits own × (length own < count → Rests (scene_of setting new) (front_of old.receipts) own)) × AreAbove old.base own)
@@ -42,8 +42,8 @@ TakesTurnsUpTo setting draws Fits Rests words count old new (Ok done) = AddsRece
 TakesTurnsUpTo setting draws Fits Rests words count old new (Err fault) =
     AddsReceipts (λ own. ((length own < count) × DrawnFrom (scene_of setting new) draws words Fits own) × AreAbove old.base own) old.receipts new.receipts
 
--- The clerk's base after a command: a checkpoint joins to it the length of a log that holds all that the
--- clerk has seen; any other command leaves it unchanged.
+-- The clerk's base after a command. After a checkpoint it is the greater of the old base and the length of a
+-- log that has all that the clerk has seen. Any other command leaves the base unchanged.
 abbrev pub IsBased : Setting → Command → ClerkView → ClerkView → Type 0
 IsBased setting (Tell event) old new = new.base ≡ old.base
 IsBased setting (Drive turns) old new = new.base ≡ old.base
@@ -58,11 +58,11 @@ AllStop setting (script ∷ scripts) (clerk ∷ clerks) fault =
     (own : Option CallFault) × (others : Option CallFault) × (fault ≡ option_or own others) × MayEndScript (scene_of setting clerk) script clerk own × AllStop setting scripts clerks others
 AllStop setting scripts clerks fault = ⊥
 
--- The receipts of these clerks are of one log, any that begins with what their notes show; each script was
--- played by the clerk at its index.
+-- The receipts of these clerks are of one log, which can be any log that begins with what their notes show.
+-- Each script was played by the clerk at its index.
 pub record PlayedOn (setting : Setting) (scripts : List (List ScriptLine)) (clerks : List ClerkView) (fault : Option CallFault) : Type 0 where
   pub each : (log : List Entry) → All (λ clerk. IsPrefix (noted clerk.note) log) clerks → AllPlayed (record { setting = setting; log = log }) scripts clerks fault
 
--- The same for these clerks, some of which roamed.
+-- The same for all clerks of a storm: after the scripts' clerks come those that roamed.
 pub record ToldOn (setting : Setting) (scripts : List (List ScriptLine)) (roamers turns : ℕ) (clerks : List ClerkView) (fault : Option CallFault) : Type 0 where
   pub each : (log : List Entry) → All (λ clerk. IsPrefix (noted clerk.note) log) clerks → AllTold (record { setting = setting; log = log }) scripts roamers turns clerks fault

@@ -7,11 +7,11 @@ use Rattle.rule_machine.specs.Base.{dropped}
 use Rattle.line_text.specs.EntryText.{header_line, entry_lines}
 use Rattle.line_text.specs.BaseText.{base_text}
 
--- the header, with the names and the nodes at the start; or the base, for this many names
+-- the header, with the numbers of names and of nodes at the start; or the base, for this many names
 abbrev pub retained_opening : RuleSet → ℕ → ℕ → ℕ → Option Base → List ℕ
 retained_opening rules names count size None = header_line rules names count
 retained_opening rules names count size (Some base) = base_text rules size base
 
--- and the entries, numbered on
+-- the opening and the entries after it, numbered on
 abbrev pub kept_text : RuleSet → ℕ → ℕ → ℕ → Option Base → List Entry → List ℕ
 kept_text rules names count size base entries = retained_opening rules names count size base ++ entry_lines (dropped base + 1) entries

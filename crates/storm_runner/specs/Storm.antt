@@ -1,11 +1,12 @@
--- What scripts that were played at once leave.
+-- What scripts leave after they were played at once.
 --
 -- Each script has its own clerk, and so has each roaming worker. A clerk is its list of receipts, oldest
--- first; a script is its lines. A storm is over if log and clerks are settled: each entry has one clerk's
+-- first; a script is its lines. A storm is over when log and clerks are settled: each entry has one clerk's
 -- receipt, and each receipt is an entry. The receipts of a script's clerk are what the script asks for, line
--- after line: all of it, or a beginning if the script met a fault. Those of a worker's clerk are steps of one
--- node, at most one a turn. A script's clerk has made a base exactly if a checkpoint of the script was
--- carried out, between its receipts before it and after it; a worker's clerk never has.
+-- after line: all of this, or a beginning if the script met a fault. The receipts of a worker's clerk are
+-- steps of one node, at most one for each turn. A script's clerk has made a base exactly if a checkpoint of
+-- the script was carried out; the base comes after the receipts before the checkpoint and before the later
+-- ones. A worker's clerk has no base.
 use Rattle.std.specs.Prelude.{◌≡◌, ℕ, ◌<◌, ◌≤◌, List, [], ◌∷◌, ◌++◌, Bool, true, false, IsTrue, length, map, Option, None, Some, IfSome}
 use Rattle.std.specs.List.{All, list_any}
 use Rattle.std.specs.Option.{is_some, option_or}
@@ -35,15 +36,15 @@ pub record IsOfStep (receipt : Receipt) : Type 0 where
   pub stepped : receipt.event ≡ Step items
   pub moved : receipt.reply ≡ Moves moves
 
--- the receipt of a pointer or a flag that was written
+-- the receipt of a write to a pointer or a flag
 pub record IsOfFault (receipt : Receipt) : Type 0 where
   pub register : IsTrue (is_register_fault receipt.event)
   pub accepted : receipt.reply ≡ Accepted
 
--- The receipts of a command that was carried out, after its clerk's receipts up to this number: one for an
--- event, none for a checkpoint, and one for each turn, by the words of the seeded generator. There are fewer
--- turns than asked for only if, after the last of them, the daemon found no enabled node, or the injector no
--- node.
+-- The receipts of a command that was carried out: one for an event, none for a checkpoint, and one for each
+-- turn, by the words of the seeded generator. The clerk's earlier receipts have numbers up to this number.
+-- There are fewer turns than asked for only if, after the last of them, the daemon found no enabled node, or
+-- the injector found no node.
 abbrev pub IsFor : Scene → ℕ → Command → List Receipt → Type 0
 IsFor scene front (Tell event) own = map (λ r. r.event) own ≡ event ∷ []
 IsFor scene front (Drive turns) own =
@@ -52,8 +53,8 @@ IsFor scene front (Scramble turns) own =
     (length own ≤ turns.count) × DrawnFrom scene drawn_fault (seeded_stream turns.seed) IsOfFault own × (length own < turns.count → IsEmptyBehind scene front own)
 IsFor scene front Checkpoint own = own ≡ []
 
--- the receipts of a command that a fault broke off: none of an event or a checkpoint, or fewer turns than
--- asked for
+-- the receipts of a command that a fault ended early: none for an event or a checkpoint, and for turns fewer
+-- than asked for
 abbrev pub IsPartOf : Scene → Command → List Receipt → Type 0
 IsPartOf scene (Tell event) own = own ≡ []
 IsPartOf scene (Drive turns) own =
@@ -78,13 +79,13 @@ is_checkpoint Checkpoint = true
 abbrev pub has_checkpoint : List ScriptLine → Bool
 has_checkpoint lines = list_any (λ line. is_checkpoint line.command) lines
 
--- These receipts have numbers above that of a clerk's base, if it has one.
+-- These receipts have numbers above the clerk's base, if the clerk has a base.
 abbrev pub AreAbove : Option ℕ → List Receipt → Type 0
 AreAbove base own = All (λ receipt. base_from base < receipt.seq) own
 
--- The last checkpoint among the lines returned this number, between the receipts of the lines before and
--- after it. The log then had this many entries: at least those that the clerk had seen, and fewer than each
--- later receipt's number.
+-- The last checkpoint among the lines returned this number, after the receipts of the lines before it and
+-- before the receipts of the lines after it. The log then had this many entries: at least those that the
+-- clerk had seen, and fewer than the number of each later receipt.
 pub record IsLastCheckpoint (scene : Scene) (lines : List ScriptLine) (receipts : List Receipt) (number : ℕ) : Type 0 where
   pub before : List ScriptLine
   pub line : ScriptLine
@@ -100,8 +101,8 @@ pub record IsLastCheckpoint (scene : Scene) (lines : List ScriptLine) (receipts 
   pub above : front_of done ≤ number
   pub below : AreAbove (Some number) rest
 
--- the receipts are those of the lines before one that was broken off, and of a part of it; the clerk has a
--- base exactly if a checkpoint is among the lines before, from the last of them
+-- the receipts are those of the lines before a line that ended early, and of a part of that line. The clerk
+-- has a base exactly if a checkpoint is among the lines before; then the base is that of the last checkpoint.
 pub record StandsInPart (scene : Scene) (lines : List ScriptLine) (clerk : ClerkView) : Type 0 where
   pub before : List ScriptLine
   pub line : ScriptLine
@@ -116,28 +117,28 @@ pub record StandsInPart (scene : Scene) (lines : List ScriptLine) (clerk : Clerk
   pub placed : IfSome clerk.base (IsLastCheckpoint scene before done)
   pub behind_base : AreAbove clerk.base part
 
--- A script was played to its end, and its clerk has a base exactly if it has a checkpoint, from the last one;
--- or it was played up to a fault.
+-- A script was played to its end, and its clerk has a base exactly if the script has a checkpoint, then that
+-- of the last one; or the script was played up to a fault.
 abbrev pub MayEndScript : Scene → List ScriptLine → ClerkView → Option CallFault → Type 0
 MayEndScript scene lines clerk None =
     AreScriptReceipts scene 0 lines clerk.receipts × (is_some clerk.base ≡ has_checkpoint lines) × IfSome clerk.base (IsLastCheckpoint scene lines clerk.receipts)
 MayEndScript scene lines clerk (Some fault) = StandsInPart scene lines clerk
 
--- Each script was played by the clerk at its index. The fault is the first that a script met, in the scripts'
--- order; there is none if all were played to their ends.
+-- Each script was played by the clerk at its index. The fault is the first that a script met, in the order of
+-- the scripts; there is no fault if each script was played to its end.
 abbrev pub AllPlayed : Scene → List (List ScriptLine) → List ClerkView → Option CallFault → Type 0
 AllPlayed scene [] [] fault = fault ≡ None
 AllPlayed scene (script ∷ scripts) (clerk ∷ clerks) fault =
     (own : Option CallFault) × (others : Option CallFault) × (fault ≡ option_or own others) × MayEndScript scene script clerk own × AllPlayed scene scripts clerks others
 AllPlayed scene scripts clerks fault = ⊥
 
--- the receipts of a worker that roams for this many turns: steps of one node, at most one a turn
+-- the receipts of a worker that roams for this many turns: steps of one node, at most one for each turn
 abbrev pub IsRoaming : ℕ → List Receipt → Type 0
 IsRoaming turns own = (length own ≤ turns) × All IsLoneStep own
 
--- The clerks of a storm are one for each script, which played it, and then one for each worker, which roamed.
--- The fault is the first that a script met, in the scripts' order, or else one that a worker met. If no
--- worker met one, each took all its turns, each on a run of the rules.
+-- The clerks of a storm are one for each script, which played the script, and then one for each worker, which
+-- roamed. The fault is the first that a script met, in the order of the scripts, or else a fault that a
+-- worker met. If no worker met a fault, each worker took all its turns, each on a run of the rules.
 pub record AllTold (scene : Scene) (scripts : List (List ScriptLine)) (roamers turns : ℕ) (clerks : List ClerkView) (fault : Option CallFault) : Type 0 where
   pub own : List ClerkView
   pub roaming : List ClerkView
@@ -152,8 +153,9 @@ pub record AllTold (scene : Scene) (scripts : List (List ScriptLine)) (roamers t
   pub nobody : roamers ≡ 0 → other ≡ None
   pub whole : other ≡ None → All (λ clerk. TakesTurns scene.setting turns [] clerk.receipts) roaming
 
--- What these scripts leave with these workers, and the first fault. The clerks account for what is kept, the
--- part of a whole log after the last checkpoint; each turn of a script was taken on a beginning of that log.
+-- What these scripts leave with these workers, and the first fault. The clerks account for the kept log,
+-- which is the part of a whole log after the last checkpoint. Each turn of a script was taken on a beginning
+-- of the whole log.
 pub record IsStormResult (setting : Setting) (kept : RetainedLog) (scripts : List (List ScriptLine)) (roamers turns : ℕ) (fault : Option CallFault) : Type 0 where
   pub clerks : List ClerkView
   pub settled : Settlement kept clerks

@@ -10,8 +10,8 @@ use Rattle.locked_net.specs.declared.roam_fault.RoamFault.{RoamFault}
 use Rattle.locked_net.specs.declared.roam_fault.RoamFault.TheVariants as roam
 use Rattle.storm_runner.specs.Storm.{IsRoaming}
 
--- Fresh clerks have roamed for this many turns. If it ended well, each took all its turns. None made a base,
--- `ZeroWorkers` comes exactly if there are no clerks, and `Thread` never comes.
+-- Fresh clerks have roamed for this many turns. If the result is `Ok`, each clerk took all its turns. No
+-- clerk made a base, `ZeroWorkers` comes exactly if there are no clerks, and `Thread` never comes.
 pub record RoamResultOfNew (setting : Setting) (turns : ℕ) (old new : List ClerkView) (ended : Result Unit RoamFault) : Type 0 where
   pub as_many : length new ≡ length old
   pub steps : All (λ clerk. IsRoaming turns clerk.receipts) new
@@ -20,7 +20,7 @@ pub record RoamResultOfNew (setting : Setting) (turns : ℕ) (old new : List Cle
   pub nobody : IsErrOf ended roam.ZeroWorkers ↔ (old ≡ [])
   pub thread : IfErr ended (λ fault. fault ≢ roam.Thread)
 
--- the fault as that of a call; none if there were no workers
+-- the workers' fault as that of a call; no fault if there were no workers
 abbrev pub roam_call_fault : Result Unit RoamFault → Option CallFault
 roam_call_fault (Ok done) = None
 roam_call_fault (Err roam.ZeroWorkers) = None

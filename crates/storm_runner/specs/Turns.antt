@@ -1,8 +1,9 @@
 -- The turns of one line.
 --
--- A line seeds a generator, and each turn takes words from it. The event that these draw in the state of the
--- locked log is recorded. Between two turns other threads may record anything; the words go on from the turn
--- before. All turns are of one log: each was taken on a beginning of it, even if there was nothing to do.
+-- A line seeds a generator, and each turn takes words from the generator. The words draw an event in the
+-- state of the locked log, and the event is recorded. Between two turns other threads may record anything;
+-- the words go on where the turn before left off. All turns are of one log: each was taken on a beginning of
+-- it, even if there was nothing to do.
 use Rattle.std.specs.Prelude.{◌≡◌, ◌≤◌, ℕ, List, [], ◌∷◌, ◌++◌, length, Option, Some}
 use Rattle.std.specs.List.{All}
 use mathlib.Core.List.{IsPrefix}
@@ -20,13 +21,13 @@ use Rattle.locked_net.specs.ChosenEvents.{TakesChoice}
 use Rattle.locked_net.specs.Receipts.{ClerkView, front_from, noted}
 use Rattle.locked_net.specs.Settings.{Setting, IsLogIn}
 
--- the place of turns: a network's setting, and the entries of its log
+-- what turns are taken on: a network's setting, and the entries of its log
 pub record Scene : Type 0 where
   pub setting : Setting
   pub log : List Entry
 
--- A turn was taken on a beginning of the log. The words draw its event in the state there, the receipt is
--- that of the next entry, and these words are left.
+-- A turn was taken on a beginning of the log. The words draw the turn's event in the state there, the receipt
+-- is that of the next entry, and `left` are the words after those drawn.
 pub record IsTurn (scene : Scene) (draws : Draws) (words : Stream) (receipt : Receipt) (left : Stream) : Type 0 where
   pub log : Log
   pub own : IsLogIn scene.setting log
@@ -34,13 +35,13 @@ pub record IsTurn (scene : Scene) (draws : Draws) (words : Stream) (receipt : Re
   pub drawn : (Some receipt.event, left) ≡ draws scene.setting.table log.state words
   pub told : receipt ≡ receipt_of scene.setting.table log receipt.event
 
--- On a beginning of what the clerk's new note shows, which has all the clerk's receipts, an event or none was
--- chosen, and recorded.
+-- An event, or none, was chosen on a beginning of the log that the clerk's new note shows. A chosen event was
+-- recorded there. This beginning includes all that the clerk had seen.
 pub record TakesChosenEvent (setting : Setting) (Chooses : State → Option Event → Type 0) (old : List Receipt) (new : ClerkView) (told : Option Reply) : Type 0 where
   pub took : TakesChoice setting Chooses old new.receipts new.note told
   pub begins : IsPrefix took.log.entries (noted new.note)
 
--- by what these words draw in the state there, and those are left
+-- what was chosen is what these words draw in the state there, and the second words are left
 abbrev pub Draw : Setting → Draws → Stream → Stream → List Receipt → ClerkView → Option Reply → Type 0
 Draw setting draws words left old new told = TakesChosenEvent setting (λ s event. (event, left) ≡ draws setting.table s words) old new told
 
@@ -50,30 +51,30 @@ pub record Gains (P : Receipt → Type 0) (old new : List Receipt) : Type 0 wher
   pub added : new ≡ old ++ receipt ∷ []
   pub is : P receipt
 
--- turns were taken one after another, each with the words that the one before it left
+-- turns were taken one after another; each begins with the words that the turn before left
 abbrev pub AreTurns : Scene → Draws → Stream → List Receipt → Stream → Type 0
 AreTurns scene draws words [] left = left ≡ words
 AreTurns scene draws words (receipt ∷ receipts) left =
     (next : Stream) × IsTurn scene draws words receipt next × AreTurns scene draws next receipts left
 
--- the receipts are those of turns with these words, and P holds of each
+-- the receipts are those of turns with these words, and P holds of each receipt
 abbrev pub DrawnFrom : Scene → Draws → Stream → (Receipt → Type 0) → List Receipt → Type 0
 DrawnFrom scene draws words P own = All P own × ((left : Stream) × AreTurns scene draws words own left)
 
--- A beginning of the log has all that its clerk has seen: the entry with this number, and those of the
--- receipts after it.
+-- A beginning of the log with all that its clerk has seen: the entry with this number, and the entries of the
+-- receipts after that entry.
 pub record IsLogBehind (scene : Scene) (front : ℕ) (own : List Receipt) : Type 0 where
   pub log : Log
   pub is_own : IsLogIn scene.setting log
   pub begins : IsPrefix log.entries scene.log
   pub behind : front_from front own ≤ length log.entries
 
--- No node was enabled at the end of such a beginning.
+-- A beginning of the log with all that its clerk has seen, at whose end no node was enabled.
 pub record IsQuietBehind (scene : Scene) (front : ℕ) (own : List Receipt) : Type 0 where
   pub at : IsLogBehind scene front own
   pub quiet : enabled_names scene.setting.table at.log.state ≡ []
 
--- There was no node at the end of such a beginning.
+-- A beginning of the log with all that its clerk has seen, at whose end there was no node.
 pub record IsEmptyBehind (scene : Scene) (front : ℕ) (own : List Receipt) : Type 0 where
   pub at : IsLogBehind scene front own
   pub empty : node_count at.log.state.network ≡ 0

@@ -21,7 +21,7 @@ use steal_pool::{Gate, NoGate};
 
 /// Plays each script by the clerk at its index, and lets the remaining clerks roam.
 ///
-/// Both go on at once if a thread can be started.
+/// Scripts and workers go on at once if a thread can be started.
 pub(crate) fn play_beside<R: Rules + Send + Sync, G: Gate + Sync, T: Threads + Wait + Sync>(
     rt: &T,
     stage: &StormContext<R, G>,
@@ -95,7 +95,7 @@ fn roam_new<R: Rules + Send, G: Gate, T: Threads + Wait + Sync>(
     roam(rt, stage.net, clerks, turns, &NoGate)
 }
 
-/// The storm's fault: that of the scripts, or else that of the workers.
+/// The storm's fault: the scripts' fault, or, if they met none, the workers' fault.
 fn first_fault(met: Option<CallFault>, roamed: Result<(), RoamFault>) -> Option<CallFault>
     requires { IfErr roamed (λ fault. fault ≢ Thread) }
     ensures { result ≡ option_or met (roam_call_fault roamed) }

@@ -33,9 +33,9 @@ pub fn status(fault: StormFault) -> u8
     }
 }
 
-/// Writes a storm's fault, if any, as one line, and returns the exit status: 0, or the fault's.
+/// Writes a storm's fault, if any, as one line; returns the fault's exit status, or 0 without a fault.
 ///
-/// If a write fails, only a beginning of the line is written; the status is the same.
+/// If a write fails, only a beginning of the line is written; the exit status is the same.
 pub fn storm_end<Faults: Write>(
     ended: Result<(), StormFault>,
     faults: &mut FailStopWriter<Faults>,

@@ -6,10 +6,10 @@ use script_text::TextsFault;
 use std::alloc::AllocError;
 use thiserror::Error;
 
-/// Why played scripts left no log.
+/// Why scripts were played but left no log.
 #[derive(Clone, Copy, Debug, PartialEq, Eq, Error)]
 pub enum PlayFault {
-    /// The clerks and the log do not settle. Never `SettleFault::Memory`, which is `Memory`.
+    /// The clerks and the log do not settle. If memory runs out for settling, the fault is `Memory`.
     #[error("unsettled: {0}")]
     Unsettled(SettleFault),
     /// Memory ran out, before the first command or after the last.
@@ -31,7 +31,7 @@ impl From<SettleFault> for PlayFault {
     }
 }
 
-/// Why scripts were not all read, played to their ends and written.
+/// Why a storm did not read all scripts, play each to its end, and write the log.
 #[derive(Clone, Copy, Debug, PartialEq, Eq, Error)]
 pub enum StormFault {
     /// There are more than 64 scripts.
@@ -52,10 +52,10 @@ pub enum StormFault {
     /// Memory ran out.
     #[error("out of memory")]
     Memory,
-    /// The clerk of a script or worker has seen more entries than there are.
+    /// The clerk of a script or a worker has seen more entries than the log has.
     #[error("behind")]
     Behind,
-    /// A thread could not be started. `storm` never returns it: it does that thread's work itself.
+    /// A thread could not be started. `storm` never returns this fault: it does that thread's work itself.
     #[error("no thread")]
     Thread,
     /// The clerks' receipts do not account for the log.

@@ -1,4 +1,4 @@
-//! Playing many scripts at once, by forks in two.
+//! Playing many scripts at once: each fork plays two halves of them.
 
 ghost use Rattle.std.specs.Prelude.{◌≡◌, ◌+◌, ◌<◌, ◌^◌, length};
 ghost use Rattle.std.specs.List.{All};
@@ -15,7 +15,7 @@ use std::sync::Wait;
 use std::thread::{Threads, join_mut};
 use steal_pool::Gate;
 
-/// Two rows of scripts, `right` after `left`, and the number of the first script.
+/// Two rows of scripts, `right` after `left`, and the number of the first script of `left`.
 #[derive(Drop)]
 struct SplitWork<'a> {
     first: u32,
@@ -23,9 +23,9 @@ struct SplitWork<'a> {
     right: &'a [Script],
 }
 
-/// Plays each script by the clerk at its index, at once as far as threads can be started.
+/// Plays each script by the clerk at its index; scripts run at once as far as threads can be started.
 ///
-/// Returns the first fault in the scripts' order. The first script has the number `first`.
+/// Returns the first fault, in the order of the scripts. The first script has the number `first`.
 #[cycle(forks)]
 #[tactic(auto, using(crate::proofs::SplitScripts::on_one_log))]
 pub(crate) fn play_all<R: Rules + Send + Sync, G: Gate + Sync, T: Threads + Wait + Sync>(
@@ -52,7 +52,7 @@ pub(crate) fn play_all<R: Rules + Send + Sync, G: Gate + Sync, T: Threads + Wait
     fault.or(other)
 }
 
-/// Plays two rows of scripts, at once if a thread can be started.
+/// Plays two rows of scripts, both at once if a thread can be started.
 #[cycle(forks)]
 fn play_halves<R: Rules + Send + Sync, G: Gate + Sync, T: Threads + Wait + Sync>(
     rt: &T,

@@ -1,16 +1,17 @@
-//! Storms: scripts that are played at once on one locked network, each by its own clerk, while workers roam.
+//! Storms: scripts played at once on one locked network, each by its own clerk, while workers roam.
 //!
-//! `storm` reads and checks every script, and plays them on a `LockedNet`, whose lock alone decides the order
-//! of their lines. Then it settles all clerks and writes the one log. The text is that of a run of the
-//! machine: each script's entries are the events of its lines in order, and all other entries are steps of
-//! one node by the workers. If the receipts do not account for the log, it reports that and writes nothing.
-//! Two storms of the same scripts may write different logs; `audit` accepts each.
+//! `storm` reads and checks every script, and plays the scripts on a `LockedNet`, whose lock alone decides
+//! the order of the scripts' lines. Then `storm` settles all clerks and writes the one log. The text is that
+//! of a run of the machine: each script's entries are the events of its lines in order, and all other entries
+//! are steps of one node by the workers. If the receipts do not account for the log, `storm` returns that
+//! error and writes nothing. Two storms of the same scripts may write different logs; `audit` accepts each.
 //!
-//! It holds the scripts, the receipts and the log since its last base. Forks in two start the threads; if
-//! none can be started, scripts are played one after another.
+//! In memory are the scripts, the receipts, and the log since its last base. Threads are started by forks in
+//! two; if no thread can be started, scripts are played one after another.
 //!
 //! ```rust
-//! storm(rt, alloc, &options.with_roam(2, 1_000), files, &mut Writes::new(stdout), &NoGate)?;    // `StormFault`
+//! let mut writer = FailStopWriter::new(stdout);
+//! storm(rt, alloc, &options.with_roam(2, 1_000), files, &mut writer, &NoGate)?;    // `StormFault`
 //! ```
 #![tactic(auto)]
 

@@ -22,7 +22,7 @@ fn append_entries<R: Rules>(out: &mut Vec<u8>, journal: &Journal<R>) -> Result<(
     Ok(())
 }
 
-// Writes a header, or the lines of the base if there is one.
+// Writes a header, or the base's lines if the log has a base.
 fn put_opening<R: Rules>(
     out: &mut Vec<u8>,
     rules: RuleSet,
@@ -42,9 +42,9 @@ fn put_opening<R: Rules>(
 
 /// Writes the text of the log that a journal keeps.
 ///
-/// It is a header (rule set, names, nodes at the start), or the lines of the base if entries were dropped;
-/// then a numbered line for each entry. `Want` if memory runs out; then nothing was written. Looks at each
-/// entry; takes the memory of the text, and that of a base twice.
+/// The text is a header (rule set, names, nodes at the start), or the lines of the base if entries were
+/// dropped; then a numbered line for each entry. `Want` if memory runs out; then nothing was written. Looks
+/// at each entry; takes the memory of the text, and twice the memory of the base's text.
 pub fn put_log<R: Rules>(
     out: &mut Vec<u8>,
     rules: RuleSet,

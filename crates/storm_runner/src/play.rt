@@ -19,7 +19,7 @@ use std::sync::Wait;
 use std::thread::Threads;
 use steal_pool::{Gate, NoGate};
 
-/// Calls the network for a step, evaluated by as many of the crew's workers as pay for it.
+/// Calls the network for a step, evaluated by as many of the crew's workers as the step is worth.
 fn step<R: Rules + Sync, G: Gate, T: Threads + Wait + Sync>(
     rt: &T,
     stage: &StormContext<R, G>,
@@ -67,7 +67,7 @@ fn tell<R: Rules + Sync, G: Gate, T: Threads + Wait + Sync>(
     }
 }
 
-/// Makes the network's state the base of its log. A checkpoint has no receipt.
+/// Makes the network's state the base of its log. A checkpoint adds no receipt.
 fn checkpoint<R: Rules, W: Wait>(
     rt: &W,
     net: &LockedNet<R>,
@@ -84,7 +84,7 @@ fn checkpoint<R: Rules, W: Wait>(
     Ok(())
 }
 
-/// Calls the network for a command: once, or for each turn up to the first that finds nothing to do.
+/// Calls the network for a command: once, or for each turn until a turn has nothing to do.
 pub(crate) fn play<R: Rules + Sync, G: Gate, T: Threads + Wait + Sync>(
     rt: &T,
     stage: &StormContext<R, G>,

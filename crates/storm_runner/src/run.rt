@@ -37,23 +37,23 @@ fn clerks_of<R: Rules>(alloc: Global, net: &LockedNet<R>, count: usize) -> Resul
 /// Plays scripts on a network, each by its own clerk, while workers roam in it, and settles all clerks.
 ///
 /// The scripts are played at once as far as threads can be started. The crew says how many workers roam and
-/// for how many turns; each has its own clerk. As many of the crew's step workers as pay for its items
-/// evaluate a `step`.
+/// for how many turns; each worker has its own clerk. A `step` is evaluated by as many of the crew's step
+/// workers as its items are worth.
 ///
 /// Returns the log that the journal keeps, and the first fault: `Behind`, `LogFull`, or `Memory` in a call.
-/// Scripts come before workers, and both in their order. A script or worker that meets a fault ends there;
-/// the others go on.
+/// The scripts' faults come before the workers', each in their order. A script or worker that meets a fault
+/// ends there; the others go on.
 ///
-/// Before each command the script passes the gate with its number, from 0, and the line's; workers pass none.
-/// If no thread can be started, the scripts are played one after another, and then the workers roam. A gate
-/// that holds one script until another has come then holds it for ever.
+/// Before each command, the script passes the gate with two numbers: the script's, from 0, and the line's.
+/// Workers pass no gate. If no thread can be started, the scripts are played one after another, and then the
+/// workers roam. A gate that makes one script wait until another has come then waits for ever.
 ///
 /// - `Unsettled` if clerks and log do not settle.
 /// - `Memory` if memory runs out for the clerks, before the first command, or for settling.
 ///
-/// It waits for the network's lock, for the gate, and for its threads: one for each script and worker, less
-/// one. Besides what the calls take, it takes a clerk for each script and worker, and a byte for each entry
-/// of the log.
+/// The call waits for the network's lock, for the gate, and for its threads: one for each script and worker,
+/// less one. Besides the memory of its calls, it takes a clerk for each script and worker, and a byte for
+/// each entry of the log.
 pub fn play_scripts<R: Rules + Send + Sync, G: Gate + Sync, T: Threads + Wait + Sync>(
     rt: &T,
     alloc: Global,

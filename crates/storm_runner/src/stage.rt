@@ -1,4 +1,4 @@
-//! The place where scripts are played.
+//! What scripts are played on: a network, a gate and a crew.
 
 ghost use Rattle.std.specs.Prelude.{◌≡◌, ◌<◌, ◌≤◌, length};
 ghost use Rattle.std.specs.List.{All};
@@ -30,7 +30,7 @@ pub struct WorkerConfig {
     ghost few_roamers: { roamers ≤ 64 },
 }
 
-/// The network that scripts are played on, their gate, and the crew.
+/// The network that scripts are played on, the scripts' gate, and the crew.
 #[derive(Drop)]
 pub(crate) struct StormContext<'a, R: Rules, G: Gate> {
     pub alloc: Global,
@@ -39,9 +39,9 @@ pub(crate) struct StormContext<'a, R: Rules, G: Gate> {
     pub crew: WorkerConfig,
 }
 
-/// Plays a script line by line, up to its end or a fault.
+/// Plays a script line by line, up to its end or its first fault.
 ///
-/// Before each line the gate is passed with the script's number, from 0, and the line's.
+/// Before each line, the script passes the gate with two numbers: the script's, from 0, and the line's.
 fn play_script<R: Rules + Sync, G: Gate, T: Threads + Wait + Sync>(
     rt: &T,
     stage: &StormContext<R, G>,
@@ -60,7 +60,7 @@ fn play_script<R: Rules + Sync, G: Gate, T: Threads + Wait + Sync>(
     Ok(())
 }
 
-/// Plays the script, if there is one.
+/// Plays the first script, if there is one.
 pub(crate) fn play_first<R: Rules + Sync, G: Gate, T: Threads + Wait + Sync>(
     rt: &T,
     stage: &StormContext<R, G>,

@@ -24,7 +24,7 @@ use std::thread::Threads;
 use steal_pool::Gate;
 use step_log::Journal;
 
-// Plays scripts on a new network while workers roam; returns the log that they leave, and the first fault.
+// Plays scripts on a new network while workers roam; returns the log that remains, and the first fault.
 fn play<R: Rules + Send + Sync, G: Gate + Sync, T: Threads + Wait + Sync>(
     rt: &T,
     alloc: Global,
@@ -82,10 +82,10 @@ fn storm_on<
 
 /// Plays a script from each reader at once on one new network, and writes the settled log.
 ///
-/// Each script has its own clerk. The options say how many workers roam meanwhile, and how many evaluate a
-/// `step`. The text is a header, an entry for each answered command of a script, and an entry for each node
-/// that a worker moved. After a checkpoint it is the lines of the last one's base and the entries after it.
-/// Without readers it is the header alone.
+/// Each script has its own clerk. The options say how many workers roam meanwhile, and how many workers
+/// evaluate a `step`. The text is a header, an entry for each answered command of a script, and an entry for
+/// each node that a worker moved. If scripts made checkpoints, the text is the lines of the last checkpoint's
+/// base and the entries after it. Without readers the text is only the header.
 ///
 /// The first of these errors is returned:
 ///
@@ -97,13 +97,13 @@ fn storm_on<
 /// | `Write` | only if a write or a flush failed | a beginning of the text |
 /// | `LogFull`, `Behind`, `Memory` | the fault of the first script that met one, or else of the first worker | all of the text |
 ///
-/// `LogFull` is a command or turn beyond the limit; `Memory` here comes in a call. The script or worker that
-/// meets a fault ends there, and the others go on. `Memory` also comes if memory runs out elsewhere, before
-/// anything is written. `Thread` never comes.
+/// `LogFull` comes from a command or turn beyond the limit, and `Memory` in this row from a call. The script
+/// or worker that meets a fault ends there, and the others go on. `Memory` also comes if memory runs out
+/// elsewhere; then nothing was written. `Thread` never comes.
 ///
-/// Before each command the script passes the gate with its number, from 0, and the line's; workers pass none.
-/// It waits for the gate, for the network's lock, and for its threads. If no thread can be started, the
-/// scripts are played one after another, and then the workers roam.
+/// Before each command, the script passes the gate with two numbers: the script's, from 0, and the line's.
+/// Workers pass no gate. The storm waits for the gate, for the network's lock, and for its threads. If no
+/// thread can be started, the scripts are played one after another, and then the workers roam.
 pub fn storm<In: Read + Drop, Out: Write, G: Gate + Sync, T: Threads + Wait + Sync>(
     rt: &T,
     alloc: Global,

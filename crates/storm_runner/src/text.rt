@@ -16,7 +16,7 @@ use std::alloc::Global;
 use std::io::Write;
 use step_log::Journal;
 
-/// Writes the text of the log that a journal keeps. `Memory` comes before anything is written.
+/// Writes the text of the log that a journal keeps. If it fails with `Memory`, nothing was written.
 pub fn write_log<R: Rules, Out: Write>(
     alloc: Global,
     options: &Options,

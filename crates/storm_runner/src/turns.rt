@@ -24,23 +24,23 @@ use snapshots::Note;
 use std::alloc::Global;
 use std::sync::Wait;
 
-/// A source of a clerk's turns: it finds each event under the network's lock, from a generator's words.
+/// A source of a clerk's turns: finds each event, under the network's lock, from a generator's words.
 pub(crate) trait TurnTaker {
-    /// The event that a state and the next words give, and the words left.
+    /// The event that is drawn from a state and the next words, and the words left.
     ghost draws: { Draws };
 
     /// The words to come.
     ghost stream: { Self → Stream };
 
-    /// What the receipts of its turns are.
+    /// What holds of the receipt of each turn.
     ghost fits: { Receipt → Type 0 };
 
-    /// That nothing was left to do after these receipts, and the number before them.
+    /// That nothing was left to do after these receipts. The receipt before them has this number.
     ghost rests: { Scene → ℕ → List Receipt → Type 0 };
 
-    /// Has the clerk take a turn; `None`, without an entry, if there is nothing to do.
+    /// Has the clerk take a turn; returns `None`, and makes no entry, if there is nothing to do.
     ///
-    /// The clerk's note then shows what was published when the turn ended.
+    /// Afterwards the clerk's note shows what was published when the turn ended.
     fn turn<R: Rules, W: Wait>(
         &mut self,
         rt: &W,
@@ -110,7 +110,7 @@ impl TurnTaker for Injector<Pcg32> {
     }
 }
 
-/// Has the clerk's note show what was published when its turn ended, and what it showed before.
+/// Makes the clerk's note show what was published when its turn ended, and what the note showed before.
 fn take_in(clerk: &mut Clerk, before: Option<Note>, seen: Note)
     requires own { IsOfBook seen.book clerk.old }
     requires before { IfSome before (λ told. told.book ≡ seen.book) }
@@ -125,7 +125,7 @@ fn take_in(clerk: &mut Clerk, before: Option<Note>, seen: Note)
     recall(clerk, before);
 }
 
-/// Has the clerk's note show what it showed before a call, if there was one.
+/// Makes the clerk's note show what it showed before a call, if there was a note.
 pub(crate) fn recall(clerk: &mut Clerk, before: Option<Note>)
     requires { IfSome before (λ told. IsOfBook told.book clerk.old) }
     ensures before { IsPrefix (noted before) (noted clerk.new.note) }
@@ -139,7 +139,7 @@ pub(crate) fn recall(clerk: &mut Clerk, before: Option<Note>)
     }
 }
 
-/// Has the clerk take up to `count` turns, and stops at one that finds nothing to do.
+/// Has the clerk take up to `count` turns, and stops at a turn that has nothing to do.
 fn take_turns<R: Rules, S: TurnTaker, W: Wait>(
     rt: &W,
     net: &LockedNet<R>,

@@ -1,4 +1,4 @@
--- The counts of a node, and a table of them with an entry for each name; entry 0 is unused.
+-- The tally (the counts) of a node, and a table of tallies with an entry for each name; entry 0 is unused.
 use Rattle.std.specs.Prelude.{◌≡◌, ℕ, ◌+◌, ◌≤◌, Bool, true, false, cond, ◌&&◌, List, length, Option, IsTrue, nat_eq, nat_lt, slice_index_or}
 use Rattle.std.specs.List.{count_by, sum_by}
 use Rattle.rule_machine.specs.Network.{linked, present, neighbours}
@@ -13,12 +13,12 @@ empty_tally = record { suitors = 0; reached = 0; sum = 0 }
 abbrev pub tally_of : List Tally → ℕ → Tally
 tally_of tallies v = slice_index_or tallies v empty_tally
 
--- a name that counts if it passes the test
+-- the name w if w passes the test, else 0
 abbrev pub name_if : (ℕ → Bool) → ℕ → ℕ
 name_if test w = cond (test w) w 0
 
--- what a scan of v's neighbours counts: its suitors, the open ones that its guard asks for, and the suitors'
--- names
+-- what a scan of v's neighbours counts: v's suitors, the open neighbours that v's guard asks for, and the
+-- sum of the suitors' names
 abbrev pub tally_at : Bool → (Option ℕ → Bool → Bool) → State → ℕ → Tally
 tally_at above opens s v = record {
   suitors = count_by (suits s v) (neighbours s.network v);
@@ -30,17 +30,17 @@ tally_at above opens s v = record {
 abbrev pub suitor_count : State → ℕ → ℕ
 suitor_count s v = count_by (suits s v) (neighbours s.network v)
 
--- of v's neighbours w points at it, and no other
+-- w is the only neighbour of v that points at v
 pub record IsLoneSuitor (s : State) (v w : ℕ) : Type 0 where
   pub here : IsTrue (present s.network w)
   pub alone : (x : ℕ) → (linked s.network v x && suits s v x) ≡ nat_eq x w
 
--- each node's place holds what a scan of its neighbours counts
+-- the entry of each node has what a scan of the node's neighbours counts
 pub record IsIndexOf (above : Bool) (opens : Option ℕ → Bool → Bool) (s : State) (tallies : List Tally) : Type 0 where
   pub places : length tallies ≡ s.network.size + 1
   pub counted : (v : ℕ) → IsTrue (present s.network v) → tally_of tallies v ≡ tally_at above opens s v
 
--- the state is one, its names fit, and the tallies are its index
+-- the state is valid, its names are at most 65,535, and the tallies are its index
 pub record IsIndexed (above : Bool) (opens : Option ℕ → Bool → Bool) (s : State) (tallies : List Tally) : Type 0 where
   pub is_state : IsState s
   pub index : IsIndexOf above opens s tallies

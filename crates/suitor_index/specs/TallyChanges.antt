@@ -1,4 +1,5 @@
--- How two tables of tallies differ by one node: by its target, and by the entries that count it as open.
+-- How two tables of tallies differ by one node: by the node's target, and by the entries that count the
+-- node as open.
 use Rattle.std.specs.Prelude.{◌≡◌, ℕ, ◌+◌, ◌<◌, ◌≤◌, Bool, true, false, cond, List, length, Option}
 use Rattle.rule_machine.specs.State.{is_at}
 use Rattle.suitor_index.specs.declared.tally.Tally.{Tally}
@@ -15,14 +16,14 @@ pub record AddsSuitor (pointer : Option ℕ) (v : ℕ) (without has : List Tally
   pub sum : (k : ℕ) → (tally_of has k).sum ≡ (tally_of without k).sum + cond (is_at pointer k) v 0
   pub reached : (k : ℕ) → (tally_of has k).reached ≡ (tally_of without k).reached
 
--- the second table counts one more open node than the first at the places that pass the test
+-- at each place that passes the test, the second table counts one open node more than the first
 pub record IsOpenTo (near : ℕ → Bool) (without has : List Tally) : Type 0 where
   pub places : length has ≡ length without
   pub suitors : (k : ℕ) → (tally_of has k).suitors ≡ (tally_of without k).suitors
   pub sum : (k : ℕ) → (tally_of has k).sum ≡ (tally_of without k).sum
   pub reached : (k : ℕ) → (tally_of has k).reached ≡ (tally_of without k).reached + one_if (near k)
 
--- v can be one of the suitors, or the counts have room for it
+-- the counts may include v as a suitor
 pub record HasSuitor (v : ℕ) (t : Tally) : Type 0 where
   pub suitors : 1 ≤ t.suitors
   pub sum : v ≤ t.sum
@@ -31,21 +32,22 @@ pub record HasTallyRoom (v : ℕ) (t : Tally) : Type 0 where
   pub suitors : t.suitors < 65535
   pub sum : t.sum + v < 4294967296
 
--- an open node is counted that can turn to one that is not, or one more can be counted
+-- the count can follow a node's change: at least 1 if an open node closes, below 65,535 if a node opens
 abbrev pub CanTurn : Bool → Bool → Tally → Type 0
 CanTurn true false t = 1 ≤ t.reached
 CanTurn false true t = t.reached < 65535
 CanTurn true true t = Unit {0}
 CanTurn false false t = Unit {0}
 
--- at the places that pass the test the first table counts a node as it was, and the second as it is
+-- at each place that passes the test, the first table counts a node as it was, and the second as the node
+-- is now
 pub record IsTurned (near : ℕ → Bool) (was is : Bool) (before after : List Tally) : Type 0 where
   pub places : length after ≡ length before
   pub suitors : (k : ℕ) → (tally_of after k).suitors ≡ (tally_of before k).suitors
   pub sum : (k : ℕ) → (tally_of after k).sum ≡ (tally_of before k).sum
   pub reached : (k : ℕ) → (tally_of after k).reached + cond was (one_if (near k)) 0 ≡ (tally_of before k).reached + cond is (one_if (near k)) 0
 
--- the first table counts v as a suitor of its old target, and the second of its new one
+-- the first table counts v as a suitor of v's old target, the second as a suitor of v's new target
 pub record IsRepointed (was is : Option ℕ) (v : ℕ) (before after : List Tally) : Type 0 where
   pub places : length after ≡ length before
   pub suitors : (k : ℕ) → (tally_of after k).suitors + one_if (is_at was k) ≡ (tally_of before k).suitors + one_if (is_at is k)

@@ -1,4 +1,4 @@
-//! How a network changes, with the counts of its nodes.
+//! Changes of the network, which also update the counts of its nodes.
 
 ghost use Rattle.std.specs.Prelude.{◌≡◌, ◌<◌, ◌≤◌, ◌&&◌, IfErr, IfSome, IsTrue, None, OnOk, false, true, length, nat_eq, not, slice_set};
 ghost use Rattle.std.specs.Bool.{beq};
@@ -27,7 +27,7 @@ use rules_api::Rules;
 pub struct Change {
     /// The node's pointer before the write.
     pub left: Option<Node>,
-    /// Whether the node became open to a seduction, or ceased to be.
+    /// Whether the node became open to a seduction, or ceased to be open.
     pub turned: bool,
 }
 
@@ -46,7 +46,8 @@ impl<R: Rules> SuitorIndex<R> {
 
     /// Adds the edge between two nodes that have room for it.
     ///
-    /// Cost: a binary search, a shift in two neighbour lists, and at most one count at each end; no memory.
+    /// Cost: a binary search, a shift in two neighbour lists, and at most one changed count at each end; no
+    /// memory.
     pub fn link_reserved(&mut self, a: Node, b: Node)
         requires free { link_fault self.old.state.network a b ≡ None }
         requires room { HasRoomFor self.old.room a b }
@@ -62,9 +63,9 @@ impl<R: Rules> SuitorIndex<R> {
 
     /// Writes a node's pointer, to null or to a neighbour, and returns what that changed.
     ///
-    /// Cost: a write at the old target and at the new one. If the node became open or ceased to be, one more
-    /// at each neighbour whose guard asks for it; if guards ask for higher names alone, the scan stops at the
-    /// first neighbour above the node. Takes no memory.
+    /// Cost: a write at the old target and at the new target. If the node became open or ceased to be open,
+    /// also a write at each neighbour whose guard asks for the node; if guards ask for higher names alone,
+    /// the scan stops at the first neighbour above the node. Takes no memory.
     pub fn write_pointer(&mut self, v: Node, target: Option<Node>) -> Change
         requires present { IsTrue (present self.old.state.network v) }
         requires near { IfSome target (λ w. IsTrue (linked self.old.state.network v w)) }
@@ -93,10 +94,10 @@ impl<R: Rules> SuitorIndex<R> {
         }
     }
 
-    /// Writes a node's flag, and returns whether the node became open or ceased to be.
+    /// Writes a node's flag, and returns whether the node became open or ceased to be open.
     ///
-    /// Cost: if it did, a write at each neighbour whose guard asks for it; if guards ask for higher names
-    /// alone, the scan stops at the first neighbour above the node. Takes no memory.
+    /// Cost: if the result is true, a write at each neighbour whose guard asks for the node; if guards ask
+    /// for higher names alone, the scan stops at the first neighbour above the node. Takes no memory.
     pub fn write_flag(&mut self, v: Node, value: bool) -> bool
         requires { IsTrue (present self.old.state.network v) }
         ensures value { self.new ≡ record self.old { state = after_flag self.old.state v value } }
@@ -111,7 +112,7 @@ impl<R: Rules> SuitorIndex<R> {
         was_open != is_open
     }
 
-    /// Makes a name a node, without an edge, its pointer null and its flag false. Takes no memory.
+    /// Adds a node without an edge; its pointer is null and its flag false. Takes no memory.
     pub fn join(&mut self, v: Node)
         requires within { v ≤ self.old.state.network.size }
         requires absent { present self.old.state.network v ≡ false }
@@ -123,9 +124,9 @@ impl<R: Rules> SuitorIndex<R> {
         self.tallies[v.place()] = NOTHING;
     }
 
-    /// Sets the stance of a name towards its edges; at first every name shuts them.
+    /// Sets the stance of a name towards its edges. At first every name shuts its edges.
     ///
-    /// Cost: one look if the stance is the same as before, else one at each neighbour; no memory.
+    /// Cost: one look if the stance does not change, else a look at each neighbour; no memory.
     pub fn set_stance(&mut self, v: Node, end: EdgeStance)
         requires { v ≤ self.old.state.network.size }
         ensures told { end_at self.new.ends v ≡ end }
@@ -154,7 +155,7 @@ impl<R: Rules> StateWriter for SuitorIndex<R> {
         let _turned = self.write_flag(v, value);
     }
 
-    /// Cost: the shift, and at most one count at each end.
+    /// Cost: a shift in two neighbour lists, and at most one changed count at each end.
     fn remove_edge(&mut self, a: Node, b: Node) {
         self.net.remove_edge(a, b);
         let tallies = self.tallies.as_mut_slice();
@@ -167,7 +168,7 @@ impl<R: Rules> StateWriter for SuitorIndex<R> {
     }
 }
 
-/// Adds v to the count of w if v is open and w's guard asks for it.
+/// Adds 1 to the count of `w` if `v` is open and the guard of `w` asks for `v`.
 fn count_end<R: Rules>(tallies: &mut [Tally], w: Node, v: Node, net: &NetState)
     requires known { v ≤ net.now.state.network.size }
     requires within { w < length tallies.old }
@@ -179,7 +180,7 @@ fn count_end<R: Rules>(tallies: &mut [Tally], w: Node, v: Node, net: &NetState)
     }
 }
 
-/// Takes v from the count of w if v is open and w's guard asks for it.
+/// Subtracts 1 from the count of `w` if `v` is open and the guard of `w` asks for `v`.
 fn discount_end<R: Rules>(tallies: &mut [Tally], w: Node, v: Node, net: &NetState)
     requires known { v ≤ net.now.state.network.size }
     requires within { w < length tallies.old }

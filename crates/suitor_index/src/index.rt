@@ -1,4 +1,4 @@
-//! Queries of a network with its index.
+//! Look-ups in a network with its index.
 
 ghost use Rattle.std.specs.Prelude.{◌≡◌, ◌≢◌, ◌≤◌, ◌&&◌, IfErr, IfOk, IsTrue, MatchOption, OnOk, is_some, not};
 ghost use Rattle.graph_store.specs.Fault.{nodes_fault, ExplainsGraphFault};
@@ -18,7 +18,7 @@ use rules_api::{Rules, asks_for};
 use std::alloc::Global;
 use std::marker::{Model, PhantomData};
 
-/// A network that counts each node's suitors and the neighbours open to it under the rules `R`.
+/// A network that counts each node's suitors and open neighbours, by the rules `R`.
 ///
 /// Contracts see the network: each look-up returns what a scan of the neighbours would.
 #[derive(Drop)]
@@ -42,10 +42,12 @@ impl<R: Rules> Model for SuitorIndex<R> {
 }
 
 impl<R: Rules> SuitorIndex<R> {
-    /// Creates names 1 to `nodes`; 1 to `present` are nodes, without an edge, pointers null, flags false.
+    /// Creates an index of names 1 to `nodes`, of which 1 to `present` are nodes.
     ///
-    /// `TooManyNodes` above 65,535 names; `Memory` if memory runs out. Takes eight bytes a name besides the
-    /// network.
+    /// There is no edge; all pointers are null and all flags false.
+    ///
+    /// Errors: `TooManyNodes` above 65,535 names; `Memory` if memory runs out. Takes eight bytes a name
+    /// besides the network.
     pub fn with_present(
         alloc: Global,
         nodes: u32,
@@ -87,7 +89,7 @@ impl<R: Rules> SuitorIndex<R> {
         self.tallies[v.place()]
     }
 
-    /// Whether a neighbour points at the node. One look.
+    /// Whether a neighbour points at node `v`. One look.
     pub fn has_suitor(&self, v: Node) -> bool
         requires { IsTrue (present self.now.state.network v) }
         ensures { result ≡ has_suitor self.now.state v }
@@ -97,8 +99,8 @@ impl<R: Rules> SuitorIndex<R> {
 
     /// Whether a neighbour is open.
     ///
-    /// Cost: one look if the guards ask for any open neighbour, else a scan of the neighbours up to the
-    /// first.
+    /// Cost: one look if guards ask for any open neighbour, else a scan of the neighbours up to the first
+    /// open one.
     pub fn has_open(&self, v: Node) -> bool
         requires { IsTrue (present self.now.state.network v) }
         ensures { result ≡ is_some (first_open R.table.opens self.now.state v) }
@@ -112,8 +114,8 @@ impl<R: Rules> SuitorIndex<R> {
 
     /// Whether an open neighbour has a higher name than the node.
     ///
-    /// Cost: one look if the guards ask for those alone, else a scan of the neighbours from the last to the
-    /// first that is.
+    /// Cost: one look if guards ask for higher names alone, else a scan of the neighbours from the greatest
+    /// down to an open one above the node.
     pub fn has_open_above(&self, v: Node) -> bool
         requires { IsTrue (present self.now.state.network v) }
         ensures { result ≡ is_some (last_open_above R.table.opens self.now.state v) }
@@ -125,9 +127,9 @@ impl<R: Rules> SuitorIndex<R> {
         }
     }
 
-    /// Whether no neighbour but `v` that the guard of `w` asks for is open. One look.
+    /// Whether, of the neighbours that the guard of `w` asks for, none but `v` is open. One look.
     ///
-    /// `v` is a neighbour of `w`, and `is_open` is whether `v` is open.
+    /// `v` is a neighbour of `w`. `is_open` is whether `v` is open.
     pub fn is_only_open_neighbour(&self, w: Node, v: Node, is_open: bool) -> bool
         requires present { IsTrue (present self.now.state.network w) }
         requires linked { IsTrue (linked self.now.state.network w v) }
@@ -139,7 +141,8 @@ impl<R: Rules> SuitorIndex<R> {
 
     /// Returns the first neighbour that points at the node, if any.
     ///
-    /// Cost: one look if there is none or one, else a scan of the neighbours up to the first.
+    /// Cost: one look if the node has at most one suitor, else a scan of the neighbours up to the first
+    /// suitor.
     pub fn first_suitor(&self, v: Node) -> Option<Node>
         requires { IsTrue (present self.now.state.network v) }
         ensures { result ≡ first_suitor self.now.state v }
@@ -152,7 +155,7 @@ impl<R: Rules> SuitorIndex<R> {
         }
     }
 
-    /// Returns the only neighbour that points at the node; `None` if none or several do. One look.
+    /// Returns the node's suitor if there is exactly one, else `None`. One look.
     pub fn lone_suitor(&self, v: Node) -> Option<Node>
         requires { IsTrue (present self.now.state.network v) }
         ensures { MatchOption result (suitor_count self.now.state v ≢ 1) (IsLoneSuitor self.now.state v) }
@@ -167,8 +170,8 @@ impl<R: Rules> SuitorIndex<R> {
 
     /// Returns the first open neighbour, if any.
     ///
-    /// Cost: one look if there is none and the guards ask for any, else a scan of the neighbours up to the
-    /// first.
+    /// Cost: one look if no neighbour is open and guards ask for any open neighbour, else a scan of the
+    /// neighbours up to the first open one.
     pub fn first_open(&self, v: Node) -> Option<Node>
         requires { IsTrue (present self.now.state.network v) }
         ensures { result ≡ first_open R.table.opens self.now.state v }
@@ -179,10 +182,10 @@ impl<R: Rules> SuitorIndex<R> {
         scan::first_open::<R>(self.net.neighbours(v), &self.net)
     }
 
-    /// Returns the greatest open neighbour if its name is above the node's.
+    /// Returns the greatest open neighbour above the node, if any.
     ///
-    /// Cost: one look if there is none and the guards ask for those alone, else a scan of the neighbours from
-    /// the last to the first that is.
+    /// Cost: one look if the result is `None` and guards ask for higher names alone, else a scan of the
+    /// neighbours from the greatest down to an open one above the node.
     pub fn last_open_above(&self, v: Node) -> Option<Node>
         requires { IsTrue (present self.now.state.network v) }
         ensures { result ≡ last_open_above R.table.opens self.now.state v }
@@ -193,7 +196,7 @@ impl<R: Rules> SuitorIndex<R> {
         scan::last_open_above::<R>(self.net.neighbours(v), &self.net, v)
     }
 
-    /// Whether a name is a neighbour that points at the node. One look.
+    /// Whether `w` is a neighbour of `v` that points at `v`. One look.
     pub fn is_suitor(&self, v: Node, w: Node) -> bool
         requires { IsTrue (present self.now.state.network v) }
         ensures { result ≡ (linked self.now.state.network v w && suits self.now.state v w) }
@@ -201,7 +204,7 @@ impl<R: Rules> SuitorIndex<R> {
         self.net.registers().points_at(w, v)
     }
 
-    /// Whether a name is an open neighbour. A binary search among the neighbours of the node.
+    /// Whether `w` is an open neighbour of `v`. A binary search among the neighbours of `v`.
     pub fn is_open(&self, v: Node, w: Node) -> bool
         requires { IsTrue (present self.now.state.network v) }
         ensures { result ≡ (linked self.now.state.network v w && is_open R.table.opens self.now.state w) }

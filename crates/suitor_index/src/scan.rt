@@ -27,7 +27,7 @@ pub(crate) fn is_open<R: Rules>(net: &NetState, w: Node) -> bool
     R::opens(net.pointer(w), net.flag(w))
 }
 
-/// Whether `w` is open, and one that the guard of `v` asks for.
+/// Whether `w` is open and the guard of `v` asks for `w`.
 pub(crate) fn is_reached<R: Rules>(net: &NetState, v: Node, w: Node) -> bool
     requires known { w ≤ net.now.state.network.size }
     ensures { result ≡ (asks_for R.COURTS_HIGHER_ONLY v w && R.table.opens (pointer net.now.state w) (flag net.now.state w)) }

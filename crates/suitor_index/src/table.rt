@@ -1,4 +1,4 @@
-//! A table of tallies, one for each name, as one node changes.
+//! Updates of a table of tallies, one for each name, when one node changes.
 
 ghost use Rattle.std.specs.Prelude.{◌≡◌, ℕ, ◌<◌, ◌≤◌, ◌&&◌, true, IfSome, length, nat_eq};
 ghost use Rattle.std.specs.List.{list_any};
@@ -11,7 +11,7 @@ use crate::tally::Tally;
 use rule_machine::Node;
 use rules_api::{Rules, asks_for};
 
-/// Removes `v` from the suitors of the node that its pointer was at.
+/// Removes `v` from the suitors of `pointer`, the old target of `v`.
 pub(crate) fn leave(tallies: &mut [Tally], pointer: Option<Node>, v: Node)
     requires within { IfSome pointer (λ w. w < length tallies.old) }
     requires counted { IfSome pointer (λ w. HasSuitor v (tally_of tallies.old w)) }
@@ -23,7 +23,7 @@ pub(crate) fn leave(tallies: &mut [Tally], pointer: Option<Node>, v: Node)
     }
 }
 
-/// Adds `v` to the suitors of the node that its pointer is at.
+/// Adds `v` to the suitors of `pointer`, the new target of `v`.
 pub(crate) fn court(tallies: &mut [Tally], pointer: Option<Node>, v: Node)
     requires within { IfSome pointer (λ w. w < length tallies.old) }
     requires room { IfSome pointer (λ w. HasTallyRoom v (tally_of tallies.old w)) }
@@ -51,7 +51,7 @@ pub(crate) fn close_at(tallies: &mut [Tally], w: Node)
     tallies[w.place()].reached -= 1;
 }
 
-/// Updates the count of `w` for one node that was open or not, and is open or not.
+/// Updates the count of `w` for one neighbour: whether that neighbour `was` open and `is` open.
 #[inline(always)]
 fn turn_at(tallies: &mut [Tally], w: Node, was: bool, is: bool)
     requires within { w < length tallies.old }
@@ -65,10 +65,10 @@ fn turn_at(tallies: &mut [Tally], w: Node, was: bool, is: bool)
     }
 }
 
-/// Updates the counts of those of `nodes`, ascending, whose guard asks for `v`.
+/// Updates the count of each of `nodes` whose guard asks for `v`.
 ///
-/// `was` and `is` are whether `v` was open and is open. If guards ask for higher names alone, stops at the
-/// first node not below `v`.
+/// `nodes` are ascending. `was` and `is` are whether `v` was open and is open. If guards ask for higher
+/// names alone, the scan stops at the first node that is not below `v`.
 pub(crate) fn turn<R: Rules>(tallies: &mut [Tally], nodes: &[Node], v: Node, was: bool, is: bool)
     requires rising { IsStrictlyIncreasing nodes.now }
     requires within { (k : ℕ) → list_any (nat_eq k) nodes.now ≡ true → k < length tallies.old }

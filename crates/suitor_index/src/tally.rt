@@ -3,9 +3,10 @@
 ghost use Rattle.std.specs.Prelude.{◌≡◌, nat_le};
 ghost use Rattle.suitor_index.specs.TallyChanges.{one_if};
 
-/// A node's counts: suitors, open neighbours that its guard asks for, and the sum of suitors' names.
+/// How many suitors and open neighbours a node has, and the sum of the suitors' names.
 ///
-/// The first two are at most 65,535. If one neighbour points at the node, the sum is its name.
+/// `reached` counts the open neighbours that the node's guard asks for. Both counts are at most 65,535. If
+/// the node has one suitor, the sum is the suitor's name.
 #[derive(Clone, Copy)]
 pub(crate) struct Tally {
     pub(crate) suitors: u16,
@@ -20,7 +21,7 @@ pub(crate) const NOTHING: Tally = Tally {
 };
 
 impl Tally {
-    /// Whether at most one neighbour is reached, or none if `is_reached` is false.
+    /// Whether the count `reached` is at most 1 if `is_reached` is true, and 0 if it is false.
     pub(crate) fn has_none_but(self, is_reached: bool) -> bool
         ensures { result ≡ nat_le self.reached (one_if is_reached) }
     {

@@ -25,15 +25,15 @@ abbrev pub node_line : RuleTable → State → ℕ → List ℕ
 node_line t s v =
     number_text v ++ codes " [label=\"" ++ number_text v ++ rule_text (rule_at t s v) ++ codes "\"" ++ fill_text (married s v) ++ codes "];\n"
 
--- An edge, by whether its lower end and its higher end point along it: a mutual pair is bold, one pointer is
--- an arrow.
+-- The style of an edge, by whether its lower end and its higher end point along the edge: bold for a mutual
+-- pair, an arrow for one pointer.
 abbrev pub style_text : Bool → Bool → List ℕ
 style_text true true = codes " [style=bold]"
 style_text true false = codes " [dir=forward]"
 style_text false true = codes " [dir=back]"
 style_text false false = []
 
--- the edge from a to the higher node b
+-- the line of the edge from a to the higher node b
 abbrev pub edge_line : State → ℕ → ℕ → List ℕ
 edge_line s a b =
     number_text a ++ codes " -- " ++ number_text b ++ style_text (points s.registers a b) (points s.registers b a) ++ codes ";\n"
@@ -42,11 +42,11 @@ edge_line s a b =
 abbrev pub above : Network → ℕ → List ℕ
 above net v = filter (nat_lt v) (neighbours net v)
 
--- the edges from a node to its higher neighbours, ascending
+-- the lines of the edges from a node to its higher neighbours, ascending
 abbrev pub edge_lines_at : State → ℕ → List ℕ
 edge_lines_at s v = flat_map (edge_line s v) (above s.network v)
 
--- the nodes ascending, then the edges ascending by their lower ends
+-- the nodes' lines in ascending order, then the edges' lines, ascending by their lower ends
 abbrev pub picture_of : RuleSet → State → List ℕ
 picture_of rules s =
     codes "graph matching {\n" ++ flat_map (node_line (table_of rules) s) (names s.network) ++ flat_map (edge_lines_at s) (names s.network) ++ codes "}\n"

@@ -8,11 +8,11 @@ use Rattle.line_text.specs.Words.{number_text}
 use Rattle.auditor.specs.declared.epoch.CostedEpoch.{CostedEpoch}
 use Rattle.auditor.specs.Epochs.{bound_of}
 
--- a number and the separator after it
+-- a number, and the separator after the number
 abbrev pub cell : ℕ → List ℕ
 cell n = number_text n ++ codes ","
 
--- the entry that began an epoch; none if it began before the transcript's opening base
+-- the entry that began an epoch; none if the epoch began before the transcript's opening base
 abbrev pub start_cell : EpochStart → List ℕ
 start_cell (At number) = cell number
 start_cell Forgotten = codes "-,"

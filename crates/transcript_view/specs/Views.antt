@@ -26,22 +26,22 @@ pub record IsTableOf (bytes : List ℕ) (text : List ℕ) : Type 0 where
   pub bounded : All (IsWithinItsBound rules) (epochs_in rows)
   pub text_is : text ≡ epoch_table rules rows
 
--- The state after this entry, or after all, is drawn; or a line up to it has the damage; or there is no such
--- entry, because the transcript ends before it or begins after it.
+-- The view is the picture of the state after this entry, or after all entries; or it names the damage of a
+-- line up to there; or there is no such entry, since the transcript ends before it or begins after it.
 abbrev pub IsPicture : List ℕ → Option ℕ → View → Type 0
 IsPicture bytes last (Text text) = IsPictureOf bytes last text.items
 IsPicture bytes last (Refused damage) = IsMetDamage bytes last damage
 IsPicture bytes last (TooFew asked entries) = HasTooFew bytes last asked entries
 IsPicture bytes last (Forgotten asked base) = HasDroppedEntry bytes last asked base
 
--- the epochs are listed, or the bytes have the damage
+-- the view is the table of epochs, or names the bytes' damage
 abbrev pub IsEpochTable : List ℕ → View → Type 0
 IsEpochTable bytes (Text text) = IsTableOf bytes text.items
 IsEpochTable bytes (Refused damage) = IsDamage bytes damage
 IsEpochTable bytes (TooFew asked entries) = ⊥
 IsEpochTable bytes (Forgotten asked base) = ⊥
 
--- two views are equal: in their texts, damages or numbers
+-- two views are equal in their texts, damages or numbers
 abbrev pub SameView : View → View → Type 0
 SameView (Text text) (Text also) = text.items ≡ also.items
 SameView (Refused damage) (Refused other) = damage ≡ other

@@ -21,7 +21,7 @@ fn put_rule(out: &mut Vec<u8>, rule: Option<Act>) -> Result<(), Want>
     Ok(())
 }
 
-// Fills a married node.
+// Writes the fill of a node, if the node is married.
 fn put_fill(out: &mut Vec<u8>, married: bool) -> Result<(), Want>
     ensures { OnOk result (out.new.items ≡ out.old.items ++ fill_text married) }
 {
@@ -60,7 +60,7 @@ fn put_node_if_present(
     Ok(())
 }
 
-/// Writes a line for each node, ascending.
+/// Writes a line for each node, in ascending order.
 pub(crate) fn put_nodes(out: &mut Vec<u8>, judge: &Judge, rules: RuleSet) -> Result<(), Want>
     ensures { OnOk result (out.new.items ≡ out.old.items ++ flat_map (node_line (table_of rules) judge.now) (names judge.now.network)) }
 {

@@ -12,7 +12,7 @@ use std::alloc::{AllocError, Global};
 /// A view of a transcript, or why there is none.
 #[derive(Drop)]
 pub enum View {
-    /// The text that was asked for.
+    /// The text of the view.
     Text(Vec<u8>),
     /// The bytes are no transcript of a run; this is their first damage.
     Refused(Damage),
@@ -22,11 +22,11 @@ pub enum View {
     Forgotten { asked: u32, base: u32 },
 }
 
-/// The picture of the state after entry `last`, or after all entries if it is `None`.
+/// The picture of the state after entry `last`, or after all entries if `last` is `None`.
 ///
-/// `last` is 0 for the opening state, or the number of the base that the transcript begins with. No line
-/// after that entry is looked at. Fails only if memory runs out. Costs the audit of these lines and a look at
-/// each node and its neighbours.
+/// For the opening state, `last` is 0, or the number of the base that opens the transcript. No line after
+/// entry `last` is looked at. Fails only if memory runs out. Costs the audit of the lines up to that entry,
+/// and a look at each node and its neighbours.
 pub fn view_picture(alloc: Global, bytes: &[u8], last: Option<u32>) -> Result<View, Want>
     ensures { IfOk result (IsPicture bytes.now last) }
 {

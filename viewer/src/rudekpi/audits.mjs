@@ -58,7 +58,7 @@ function read(engine, at) {
 export function summaryOf(engine, text) {
   const judge = new Audit(engine);
   try {
-    // a long text is passed in pieces; a character beyond ASCII is in no transcript, however it is cut
+    // a long text is passed in pieces; a character beyond ASCII is in no transcript, however the text is cut
     for (let at = 0; at < text.length; at += PIECE) {
       judge.feed(typeof text === "string" ? text.slice(at, at + PIECE) : bytesOf(text).subarray(at, at + PIECE));
     }
@@ -69,7 +69,7 @@ export function summaryOf(engine, text) {
 }
 
 /**
- * Judges a transcript and returns its counts. Throws `Damaged` if it is none.
+ * Judges a transcript and returns its counts. Throws `Damaged` if the text is no transcript.
  * @param {string | ArrayBuffer | ArrayBufferView} text
  */
 export function audit(text) {
@@ -94,7 +94,7 @@ export class Audit {
    */
   #verdict = null;
 
-  /** @param {Engine} engine by default that of the module */
+  /** @param {Engine} engine by default the engine of the module */
   constructor(engine = inUse.engine) {
     this.#engine = engine;
     this.#slot = engine.slot();
@@ -106,8 +106,8 @@ export class Audit {
   }
 
   /**
-   * Feeds the next piece. Throws `Damaged` once the pieces begin no transcript, whatever follows, and at each
-   * later call.
+   * Feeds the next piece. Throws `Damaged` once the pieces so far begin no transcript, whatever follows, and
+   * at each later call.
    * @param {string | ArrayBuffer | ArrayBufferView} piece
    */
   feed(piece) {
@@ -122,7 +122,7 @@ export class Audit {
     }
   }
 
-  /** The counts of the transcript. May be called again; ends the feeding. */
+  /** The counts of the transcript. May be called again. No piece can be fed afterwards. */
   finish() {
     if (this.#verdict === null && this.#slot !== this.#engine.nowhere) {
       this.#verdict = this.#end();
@@ -137,7 +137,7 @@ export class Audit {
     return this.#verdict.summary;
   }
 
-  /** Ends the audit, without a verdict if none was asked for. */
+  /** Ends the audit. If `finish` was not called before, there is no verdict. */
   close() {
     const engine = this.#engine;
     if (this.#slot !== engine.nowhere) {

@@ -1,4 +1,4 @@
-// An edit or a fault that is asked about beforehand: its numbers, and why it would be refused.
+// An edit or a fault that is asked about before it comes: its numbers, and why it would be refused.
 import {numberWithin, shown} from "./names.mjs";
 
 /** @typedef {import("./names.mjs").Names} Names */
@@ -14,7 +14,7 @@ const MOST_EDGES = 1_048_576;
  * @param {Names} names
  * @param {string} word
  * @param {Name[]} given
- * @param {string} asked the question
+ * @param {string} asked what is asked for, as `cost`
  */
 export function numbersOfEdit(names, word, given, asked) {
   const count = COSTED.get(word);

@@ -20,15 +20,15 @@ export const RULE_SET_NAMES = ["hh", "manne"];
 /** The size in bytes of a slot, of a session or of an audit. */
 export const SLOT_BYTES = 16;
 
-// what a call reports, in 32-bit numbers: its own three and a gap, the 64-bit number of rows, and the counts
-// of a status
+// what a call reports, in 32-bit numbers: three numbers and a gap, then the 64-bit number of rows, then the
+// counts of a status
 const TOLD_ROWS = 4;
 const COUNTS = 6;
 const DESK_WORDS = 12;
 const WORD_BYTES = 4;
 const ROW_WORDS = 3;
 const NO_ROWS = new Uint32Array(0);
-// how many names the first question for a reach has room for
+// the first question for a reach has room for this many names
 const FEW = 64;
 const WIDE_FEW = BigInt(FEW);
 // the edits and faults, whose calls are looked up once
@@ -40,7 +40,7 @@ const PROBE = Uint8Array.of(
   0, 97, 115, 109, 1, 0, 0, 0, 1, 4, 1, 96, 0, 0, 3, 2, 1, 0, 5, 3, 1, 0, 1, 10, 27, 1, 25, 0, 68, 0, 0, 0, 0, 0, 0, 0,
   0, 252, 2, 192, 26, 65, 0, 65, 0, 65, 0, 252, 10, 0, 0, 11);
 
-/** Whether this browser has what the engine needs. */
+/** Whether this browser has the features that the engine needs. */
 export function canRun() {
   return typeof WebAssembly === "object" && WebAssembly.validate(PROBE);
 }
@@ -225,7 +225,7 @@ export class Engine {
   }
 
   /**
-   * The nodes that an edit or a fault would reach, ascending; 0 stands for a null pointer. Changes nothing.
+   * The nodes that an edit or a fault would reach, ascending. Changes nothing. Among `numbers` 0 is null.
    * Throws `EngineFault` if there is no session, a name is out of range or memory runs out.
    * @param {bigint} slot
    * @param {string} word of a script, as `unlink`
@@ -290,7 +290,7 @@ export class Session {
   }
 
   /**
-   * Carries out the next line. Throws `EngineFault` if it is no command, or if there is no room.
+   * Carries out the next line. Throws `EngineFault` if the line is no command, or if memory or the log is full.
    * @param {string} line
    */
   feed(line) {
@@ -308,7 +308,8 @@ export class Session {
   }
 
   /**
-   * The lines of a base, which are no entry and come into no later text. All text before must have been read.
+   * The lines of a base. They are no entry, and no later text contains them. The caller must have read all text
+   * before.
    */
   base() {
     this.hear(this.calls.rudekpi_checkpoint(this.slot, this.engine.told));
@@ -340,7 +341,7 @@ export class Session {
     return this.engine.reachOf(this.slot, word, given.map((text) => (text === "-" ? 0 : Number(text))));
   }
 
-  /** Frees its memory and ends its use. */
+  /** Ends the session and frees its memory. */
   free() {
     this.calls.rudekpi_session_free(this.slot);
     this.calls.rudekpi_give_back(this.slot);

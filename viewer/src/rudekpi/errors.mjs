@@ -1,10 +1,10 @@
-// The errors that the module throws. For arguments out of range or of another type it throws `RangeError` and
-// `TypeError`.
+// The errors that the module throws. For an argument out of range it throws `RangeError`, for one of another
+// type `TypeError`.
 
 const STATUSES =
   ["done", "not a command", "the log is full", "memory was refused", "there is no session", "out of range"];
 
-/** All other errors of this module. */
+/** The base class of all other errors of this module. */
 export class RudekpiError extends Error {
   /** @param {string} said */
   constructor(said) {
@@ -31,7 +31,8 @@ export class Refused extends RudekpiError {
 }
 
 /**
- * The log is full, which ended the network: the exit status and the last line that the program would have.
+ * The log is full, which ended the network. The status and last line are those that the program would have
+ * ended with.
  */
 export class Ended extends RudekpiError {
   /**
@@ -48,7 +49,7 @@ export class Ended extends RudekpiError {
 /** Memory ran out: nothing was carried out, and the network is unchanged. */
 export class MemoryError extends RudekpiError {}
 
-/** The command was carried out, but memory ran out for its reply. The transcript has it, up to `entry`. */
+/** The command was carried out, but memory ran out for the reply. The transcript has it, up to `entry`. */
 export class NoReply extends MemoryError {
   /**
    * @param {number} entry
@@ -60,7 +61,7 @@ export class NoReply extends MemoryError {
   }
 }
 
-/** A text is no transcript: its first wrong line, and why. */
+/** A text is no transcript: the number of the first wrong line, and why that line is wrong. */
 export class Damaged extends RudekpiError {
   /**
    * @param {number} line
@@ -74,7 +75,7 @@ export class Damaged extends RudekpiError {
 }
 
 /**
- * Why a session did not carry out a call, as the engine reports it; a network turns this into an error of its
+ * Why a session did not carry out a call, as the engine reports it. A network turns this into an error of its
  * own.
  */
 export class EngineFault extends RudekpiError {

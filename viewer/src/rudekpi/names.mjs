@@ -87,8 +87,8 @@ export class Names {
   }
 
   /**
-   * The number of a name. Throws a `TypeError` or a `RangeError` for no name. A number up to 65,535 without a
-   * node passes, and the network refuses it.
+   * The number of a name. Throws a `TypeError` or a `RangeError` for a value that is no name. A number up to
+   * 65,535 passes even if no node has it; the network then refuses it.
    * @param {Name} name
    * @returns {number}
    */

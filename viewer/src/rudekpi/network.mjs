@@ -1,4 +1,4 @@
-// A network run by the engine in this page or program, one command a call. rudekpi.d.ts documents each.
+// A network run by the engine in this page or program, one command a call. rudekpi.d.ts documents the calls.
 import {readBase} from "../transcript.mjs";
 import {summaryOf} from "./audits.mjs";
 import {numbersOfEdit, whyRefused} from "./costs.mjs";
@@ -109,8 +109,8 @@ export class Network {
   }
 
   /**
-   * Ends the network and frees its memory; the transcript stays. Throws `MemoryError` if there is no memory
-   * for its last part, which is lost then.
+   * Ends the network and frees its memory; the transcript stays. If there is no memory for the transcript's
+   * last part, that part is lost and `MemoryError` is thrown.
    */
   close() {
     if (this.#slot !== this.#engine.nowhere) {
@@ -393,8 +393,8 @@ export class Network {
   }
 
   /**
-   * What `console run` writes for the same commands, to the byte; without `keep`, from the last checkpoint
-   * on.
+   * Returns exactly what `console run` writes for the same commands; without `keep`, only from the last
+   * checkpoint on.
    */
   transcript() {
     this.#collect();
@@ -408,7 +408,7 @@ export class Network {
   }
 
   /**
-   * Returns the reply to an edit or a fault, or throws by its status.
+   * Returns the reply to an edit or a fault, or throws the error of its status.
    * @param {number} status
    * @param {string} word
    * @param {Name} node
@@ -435,7 +435,7 @@ export class Network {
   }
 
   /**
-   * Throws by a status that is not done.
+   * Throws the error of a status that is not done.
    * @param {number} status
    * @param {string} event
    * @returns {never}
@@ -461,7 +461,7 @@ export class Network {
   }
 
   /**
-   * Throws by a question's status that is not done.
+   * Throws the error of a question's status that is not done.
    * @param {number} status
    */
   #asked(status) {
@@ -471,7 +471,7 @@ export class Network {
   }
 
   /**
-   * Returns the answer to a question; throws by its status.
+   * Returns the answer to a question, or throws the error of its status.
    * @template Answer
    * @param {() => Answer} question
    */
@@ -487,7 +487,7 @@ export class Network {
   }
 
   /**
-   * Counts an entry with `rows` rows, and takes the text if there is much.
+   * Counts an entry with `rows` rows, and takes the text if there is much of it.
    * @param {number} rows
    */
   #note(rows) {
@@ -497,7 +497,7 @@ export class Network {
     }
   }
 
-  /** Takes the text; if memory is short, leaves it for later. */
+  /** Takes the text, or leaves it for later if memory is short. */
   #collectSoon() {
     try {
       this.#collect();
@@ -516,7 +516,7 @@ export class Network {
   }
 
   /**
-   * The text of a call with this last entry. Throws `NoReply` if there is no memory for it.
+   * The text of a call whose last entry is this. Throws `NoReply` if there is no memory for the text.
    * @param {number} entry
    */
   #written(entry) {
@@ -554,8 +554,8 @@ export class Network {
   }
 
   /**
-   * The state of the network. The engine writes a base for it, which is no entry and is left out of the
-   * transcript.
+   * The state of the network, read from a base that the engine writes. That base is no entry, and is left out
+   * of the transcript.
    */
   #look() {
     if (this.#state === null) {

@@ -12,7 +12,7 @@ export const REFUSALS = [
   "empty-choice", "not-central", "chosen-twice", "not-enabled", "bad-target", "already-present"
 ];
 
-/** An item of a choice: this node shall move, to that target. */
+/** An item of a choice: the node that is to move, and the target that it is to point at. */
 export class Wish {
   /**
    * @param {Name} node

@@ -17,7 +17,9 @@ use std::sync::Wait;
 use step_log::Receipt;
 
 impl Clerk {
-    /// Whether it may call: `Behind` if the log holds fewer entries than it has seen, then `LogFull`.
+    /// Whether the clerk may call.
+    /// `Behind` if the log has fewer entries than the clerk has seen; otherwise `LogFull` if the log is
+    /// full.
     pub(crate) fn may_call<R: Rules>(&self, desk: &PublishedJournal<R>) -> Result<(), CallFault>
         ensures run { IsLog R.table desk.now.log }
         ensures free { OnOk result (call_fault (front_of self.now.receipts) desk.now.log ≡ None) }

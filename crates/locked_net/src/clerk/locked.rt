@@ -22,9 +22,9 @@ impl Clerk {
     /// Carries out an event on the network, keeps the receipt, and returns the reply.
     /// Waits for the network's lock, and for readers that still look at the previous copy.
     ///
-    /// `Behind` if the log holds fewer entries than this clerk has seen, then `LogFull`, then `Memory`. A
-    /// fault changes nothing.
-    /// Takes the memory of three replies and the journal's.
+    /// `Behind` if the log has fewer entries than this clerk has seen; otherwise `LogFull` if the log is
+    /// full; otherwise `Memory` if memory runs out. After a fault nothing has changed.
+    /// Takes the memory of three replies, and the memory that the journal takes.
     pub fn call<R: Rules, W: Wait>(
         &mut self,
         rt: &W,
@@ -45,11 +45,12 @@ impl Clerk {
         answer
     }
 
-    /// Carries out a step, as `call` does; `workers` workers, at most 64, find the verdicts of its items.
-    /// They work under the lock, which is held until they have joined. Each passes the gate before each item.
+    /// Carries out a step, as `call` does; `workers` workers, at most 64, judge the step's items first.
+    /// The workers work under the network's lock, which is kept until all have joined. Each worker passes
+    /// the gate before each item.
     ///
-    /// `Behind` and `LogFull` come before any item is judged, then `Pool(ZeroWorkers)` if `workers` is 0,
-    /// then `Memory`. A fault changes nothing.
+    /// `Behind` and `LogFull` are checked before any item is judged; then `Pool(ZeroWorkers)` if `workers`
+    /// is 0; then `Memory` if memory runs out. After a fault nothing has changed.
     pub fn step_with<R: Rules + Sync, G: Gate + Sync, T: Threads + Wait + Sync>(
         &mut self,
         rt: &T,
@@ -73,12 +74,12 @@ impl Clerk {
         answer
     }
 
-    /// Lets a daemon choose among the enabled nodes, carries out that step, and returns the reply: its moves.
-    /// The clerk keeps the receipt. `None`, and no entry, if the daemon chose nothing. Waits for the
-    /// network's lock; choice and record come under one hold of it.
+    /// Lets a daemon choose among the enabled nodes, carries out that step, and returns its moves.
+    /// The clerk keeps the receipt. Returns `None`, and records no entry, if the daemon chose nothing. Waits
+    /// for the network's lock, and keeps the lock from the choice until the step is recorded.
     ///
-    /// Faults are those of `call`. `Behind` and `LogFull` come before the daemon is asked. At `Memory` the
-    /// daemon may have advanced; log and clerk are unchanged.
+    /// Faults are those of `call`. `Behind` and `LogFull` are checked before the daemon is asked. After
+    /// `Memory` the daemon may have advanced; log and clerk are unchanged.
     pub fn drive_with<R: Rules, W: Wait, D: Daemon>(
         &mut self,
         rt: &W,
@@ -101,11 +102,11 @@ impl Clerk {
         answer
     }
 
-    /// Lets an injector draw a register fault, carries it out, and returns the reply, which accepts it.
-    /// The clerk keeps the receipt. `None`, and no entry, exactly if the network has no node then. Waits for
-    /// the network's lock; fault and record come under one hold of it.
+    /// Lets an injector draw a register fault, carries out the fault, and returns the reply `Accepted`.
+    /// The clerk keeps the receipt. Returns `None`, and records no entry, exactly if the network has no node
+    /// then. Waits for the network's lock, and keeps the lock from the draw until the fault is recorded.
     ///
-    /// Faults are those of `call`. `Behind` and `LogFull` come before a fault is drawn.
+    /// Faults are those of `call`. `Behind` and `LogFull` are checked before a fault is drawn.
     pub fn fault_with<R: Rules, W: Wait, G: Rng>(
         &mut self,
         rt: &W,

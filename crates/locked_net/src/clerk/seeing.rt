@@ -9,7 +9,7 @@ use crate::ending::begins;
 use snapshots::Note;
 
 impl Clerk {
-    /// Takes in another note of its network: its own note then includes the logs of both.
+    /// Takes in another note of the clerk's network: the clerk's note then includes the logs of both.
     /// Receipts and base stay. Takes no memory.
     pub fn sees(&mut self, other: Note)
         requires { IsOfBook other.book self.old }

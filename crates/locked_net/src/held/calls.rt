@@ -12,7 +12,7 @@ use std::sync::Wait;
 
 impl<R: Rules> HeldNet<'_, R> {
     /// Carries out an event, and has the clerk keep the receipt: `Clerk::call` under a held lock.
-    /// Its faults are that call's, in the same order.
+    /// Faults are those of `Clerk::call`, in the same order.
     pub fn call<W: Wait>(
         &mut self,
         rt: &W,

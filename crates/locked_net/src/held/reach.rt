@@ -21,7 +21,7 @@ impl<R: Rules> HeldNet<'_, R> {
         }
     }
 
-    /// The nodes that an event would reach, with a note of the log: `LockedNet::reach_of` under a held lock.
+    /// The nodes that an event would reach, with a note: `LockedNet::reach_of` under a held lock.
     /// `AllocError` if memory runs out.
     pub fn reach_of(&self, event: &Event) -> Result<SeenReach, Want>
         ensures reach { IfOk result (λ seen. seen.nodes.items ≡ reach_of R.table self.now.log.state event.now) }
