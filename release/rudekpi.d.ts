@@ -1,15 +1,18 @@
-// The types of rudekpi.mjs: networks that a proved engine plays, and audits of their transcripts. docs/LIBRARIES.md
-// begins with an example; docs/PYTHON.md has the same words for Python.
+// The types of rudekpi.mjs: networks run by a proved engine, and audits of their transcripts.
+// docs/LIBRARIES.md begins with an example; docs/PYTHON.md has the same words for Python.
 
-/** The rules of Hsu and Huang (`hh`, one node moves at a time) or of Manne and others (`manne`, any set moves). */
+/**
+ * The rules of Hsu and Huang (`hh`: one enabled node moves at a time) or of Manne and others (`manne`: any set
+ * of enabled nodes moves at once).
+ */
 export type RuleSet = "hh" | "manne";
 
-/** A node's name: a number from 1, or what the caller named it; anything but null and undefined. */
+/** A node's name: a number from 1, or the caller's own name; anything but null and undefined. */
 export type Name = any;
 
 export type Rule = "update" | "marry" | "seduce" | "abandon";
 
-/** An item of a choice: this node shall move, and to that target. */
+/** An item of a choice: the node that is to move, and the target that it is to point at. */
 export declare class Wish {
   constructor(node: Name, target: Name);
   readonly node: Name;
@@ -21,7 +24,7 @@ export interface Accepted {
   readonly entry: number;
 }
 
-/** A node moved by a rule; marry and seduce have a target, the others null. */
+/** A node moved by a rule. Moves by marry and seduce have a target; that of any other move is null. */
 export interface Move {
   readonly node: Name;
   readonly rule: Rule | string;
@@ -31,7 +34,7 @@ export interface Move {
 /** The moves of a step, ascending by the nodes' numbers. */
 export type Moves = Move[] & { readonly entry: number };
 
-/** Where a node points; null is nowhere. */
+/** A node's pointer; null points nowhere. */
 export interface Shown {
   readonly entry: number;
   readonly node: Name;
@@ -47,11 +50,11 @@ export declare class Matching {
   readonly entry: number;
   readonly pairs: [Name, Name][];
   readonly partners: Map<Name, Name>;
-  /** With whom a node is paired, or null. */
+  /** The partner of a node, or null. */
   partner(node: Name): Name | null;
 }
 
-/** Where the network stands. No more moves than `charge` can come before the next edit or fault. */
+/** The counts of a network. At most `charge` moves can come before the next edit or fault. */
 export interface Status {
   readonly entry: number;
   readonly nodes: number;
@@ -62,7 +65,7 @@ export interface Status {
   readonly spent: number;
 }
 
-/** A fault of a register: `pointer` holds a neighbour or null now, `flag` true or false. */
+/** A fault of a register. The value of a `pointer` is a neighbour or null, that of a `flag` true or false. */
 export interface Fault {
   readonly entry: number;
   readonly node: Name;
@@ -70,16 +73,16 @@ export interface Fault {
   readonly value: Name | boolean | null;
 }
 
-/** What the turns of `drive` (`Moves`) or `scramble` (`Fault`) did, and the status after them. */
+/** The results of the turns of `drive` (`Moves`) or `scramble` (`Fault`), and the status after them. */
 export type Turns<Turn> = Turn[] & { readonly status: Status };
 
-/** What a node holds: its pointer, at a neighbour or null, and its flag. */
+/** A node's registers: its pointer, at a neighbour or null, and its flag. */
 export interface Registers {
   readonly pointer: Name | null;
   readonly flag: boolean;
 }
 
-/** Where the network stands after so many entries; a base is no entry. */
+/** The state of a network after `number` entries; a base is no entry. */
 export interface Base {
   readonly number: number;
   readonly spent: number;
@@ -87,35 +90,35 @@ export interface Base {
   readonly edges: [Name, Name][];
 }
 
-/** What an accepted transcript has. */
+/** The counts of an accepted transcript. */
 export interface Summary {
   readonly entries: number;
   readonly epochs: number;
   readonly moves: number;
 }
 
-/** The edits and faults: of each can be asked what it would cost, and whom it would reach. */
+/** The edits and faults. `costOf` returns the cost of each, and `reach` the nodes that each would reach. */
 export type Disturbance = "link" | "unlink" | "join" | "leave" | "point" | "flag";
 
 /**
- * A network that the engine plays, one command a call. Each command but `checkpoint` adds an entry to the transcript.
- * A refused command throws `Refused`; a name or number out of range throws `RangeError`, another type `TypeError`, and
- * neither adds an entry.
+ * A network run by the engine, one command a call. Each command but `checkpoint` adds an entry to the
+ * transcript. A refused command throws `Refused` and adds an entry too. A name or number out of range throws
+ * `RangeError`, and a value of another type throws `TypeError`; neither adds an entry.
  */
 export declare class Network {
   /**
-   * `nodes` is how many there are, with the names 1 to that, or their names, which get the numbers 1, 2, .. in that
-   * order. The first `present` of them are there at the start, all if it is left out. With `keep: false` the
-   * transcript is kept from the last checkpoint on.
+   * `nodes` is the number of nodes, named from 1, or their names, which get the numbers 1, 2, .. in that
+   * order. The first `present` nodes are present at the start; by default all are. With `keep: false` the
+   * transcript is kept only from the last checkpoint on.
    */
   constructor(rules?: RuleSet, nodes?: number | Iterable<Name>, options?: { present?: number; keep?: boolean });
   readonly rules: RuleSet;
   /**
-   * Ends the network and gives its memory back; the transcript stays. Throws `MemoryError` if there is no memory for the
-   * end of that, which is lost then. A network that nothing refers to is ended, too.
+   * Ends the network and frees its memory; the transcript stays. If there is no memory for the transcript's
+   * last part, that part is lost and `MemoryError` is thrown. A network that nothing refers to is ended too.
    */
   close(): void;
-  /** All names, in the order of their numbers, whether their nodes are present or not. */
+  /** All names in the order of their numbers, present or not. */
   get nodes(): Name[];
   numberOf(name: Name): number;
   nameOf(number: number): Name;
@@ -124,80 +127,94 @@ export declare class Network {
   link(a: Name, b: Name): Accepted;
   /** Removes an edge, and clears the pointers that crossed it. */
   unlink(a: Name, b: Name): Accepted;
-  /** A name becomes present, without an edge, pointing nowhere and unflagged. */
+  /** Makes a name present, without an edge, pointing nowhere and unflagged. */
   join(node: Name): Accepted;
-  /** A node goes, with its edges and the pointers at it; its name may join again. */
+  /** Removes a node, with its edges and the pointers at it; its name may join again. */
   leave(node: Name): Accepted;
-  /** A fault: the node's pointer becomes a neighbour, or null. */
+  /** A fault: sets the node's pointer to a neighbour or to null. */
   point(node: Name, target: Name | null): Accepted;
-  /** A fault: the node's married flag is written (`manne` only). */
+  /** A fault: writes the node's married flag (`manne` only). */
   flag(node: Name, value: boolean): Accepted;
-  /** These nodes move at once, each by its rule: names, and `new Wish(node, target)` for a target. */
+  /** Lets these nodes move at once, each by its rule. `new Wish(node, target)` chooses a node's target. */
   step(choice: Iterable<Name | Wish>): Moves;
-  /** Up to so many steps of the seeded daemon, until nobody is enabled; and the status then, an entry too. */
+  /**
+   * Makes up to `turns` steps of the seeded daemon, and stops when no node is enabled. Then asks for the
+   * status, which is an entry too.
+   */
   drive(seed: number | bigint, turns: number): Turns<Moves>;
-  /** So many faults of registers, drawn from a seed; and the status then, an entry too. */
+  /** Makes `faults` seeded faults of registers, then asks for the status, which is an entry too. */
   scramble(seed: number | bigint, faults: number): Turns<Fault>;
-  /** Where a node points. */
+  /** Returns a node's pointer. */
   show(node: Name): Shown;
-  /** Who may move, and by which rule. */
+  /** Lists the enabled nodes, each with its rule. */
   enabled(): Enabled;
-  /** The pairs of nodes that point at each other. */
+  /** Lists the pairs of nodes that point at each other. */
   matching(): Matching;
-  /** Counts of the network, the charge, and the moves since the last edit or fault. */
+  /** Returns the counts of the network, the charge, and the moves since the last edit or fault. */
   status(): Status;
-  /** Writes the lines of a base into the transcript, which are no entry. */
+  /** Writes the lines of a base into the transcript. These lines are no entry. */
   checkpoint(): Base;
 
-  /** With whom a node is paired, or null. No entry is added, here and below. */
+  /** Returns a node's partner, or null. This and the following calls add no entry. */
   partner(node: Name): Name | null;
   /**
-   * What an edit or a fault would cost if it came now, in moves: `net.costOf("unlink", a, b)`. Throws `RangeError` for
-   * one that would be refused. A cost of 0 takes a look at the whole network.
+   * The cost, in moves, of an edit or a fault if it came now: `net.costOf("unlink", a, b)`. Throws
+   * `RangeError` if the event would be refused. To tell that from a cost of 0, looks at the whole network.
    */
   costOf(word: Disturbance, ...given: Name[]): number;
-  /** The nodes that an edit or a fault would reach if it came now; none for one that would be refused. */
+  /**
+   * The most moves that an edit or a fault of a silent network can cause; `null` if a rule is enabled. Throws
+   * the errors that `costOf` throws.
+   */
+  silentCostOf(word: Disturbance, ...given: Name[]): number | null;
+  /** The nodes that an edit or a fault would reach if it came now; none if it would be refused. */
   reach(word: Disturbance, ...given: Name[]): Set<Name>;
-  /** Whether a node does not move before an edit or a fault reaches it, whatever the daemon chooses. */
+  /** Whether a node stays still until an edit or a fault reaches it, whatever the daemon chooses. */
   isAtRest(node: Name): boolean;
   /** The nodes that are not at rest. */
   restless(): Name[];
-  /** How many moves can still come before the next edit or fault, at most. */
+  /** The most moves that can still come before the next edit or fault. */
   movesLeft(): number;
-  /** The nodes that are present; here and below a look at the whole network if it has changed. */
+  /**
+   * The nodes that are present. This call, `edges`, `neighbours` and `registers` look at the whole network if
+   * the network has changed.
+   */
   get present(): Name[];
   /** The edges, each with the node of the lower number first. */
   get edges(): [Name, Name][];
   /** The neighbours of a node that is present. */
   neighbours(node: Name): Name[];
-  /** What a node that is present holds. */
+  /** The registers of a present node. */
   registers(node: Name): Registers;
-  /** What `console run` writes of the same commands, to the byte. */
+  /** Returns exactly what `console run` writes for the same commands. */
   transcript(): string;
-  /** What the audit says of the transcript. */
+  /** The audit's summary of the transcript. */
   audit(): Summary;
 }
 
-/** Judges a transcript. Throws `Damaged` if it is none. */
+/** Returns the version of the engine, as `1.0.0`. */
+export declare function version(): string;
+
+/** Judges a transcript and returns its counts. Throws `Damaged` if the text is no transcript. */
 export declare function audit(text: string | ArrayBuffer | ArrayBufferView): Summary;
 
-/** Judges a transcript that comes in pieces, cut anywhere, and keeps only a line or a base that is not whole yet. */
+/** Judges a transcript that comes in pieces, cut anywhere. Keeps only an incomplete line or base. */
 export declare class Audit {
   constructor();
-  /** Feeds it what comes next. Throws `Damaged` if what came is no transcript, whatever comes next. */
+  /** Feeds the next piece. Throws `Damaged` once the pieces so far begin no transcript, whatever follows. */
   feed(piece: string | ArrayBuffer | ArrayBufferView): void;
-  /** What the transcript has that it was fed; it may be asked again, and nothing more can be fed. */
+  /** Returns the counts of the transcript. May be called again. No piece can be fed afterwards. */
   finish(): Summary;
-  /** Ends it, without a verdict if none was asked for. */
+  /** Ends the audit. If `finish` was not called before, there is no verdict. */
   close(): void;
 }
 
-/** All errors of this module but `RangeError` and `TypeError`. */
+/** The base class of all errors of this module but `RangeError` and `TypeError`. */
 export declare class RudekpiError extends Error {
   constructor(said: string);
 }
 
-/** The network refused an event, and is as it was. */
+/** The network refused an event and is unchanged. */
 export declare class Refused extends RudekpiError {
   constructor(event: string, number: number, text: string, entry: number);
   readonly event: string;
@@ -206,25 +223,28 @@ export declare class Refused extends RudekpiError {
   readonly entry: number;
 }
 
-/** The log is full, which ended the network: the exit status and the last line that the program would have. */
+/**
+ * The log is full, which ended the network. The status and last line are those that the program would have
+ * ended with.
+ */
 export declare class Ended extends RudekpiError {
   constructor(status: number, lastLine: string);
   readonly status: number;
   readonly lastLine: string;
 }
 
-/** Memory was refused: nothing was carried out. */
+/** Memory ran out: nothing was carried out. */
 export declare class MemoryError extends RudekpiError {
   constructor(...said: any[]);
 }
 
-/** The command was carried out, and there is no memory for its reply: the transcript has it up to `entry`. */
+/** The command was carried out, but memory ran out for the reply. The transcript has it, up to `entry`. */
 export declare class NoReply extends MemoryError {
   constructor(entry: number, what?: string);
   readonly entry: number;
 }
 
-/** A text is no transcript: its first wrong line, and why. */
+/** A text is no transcript: the number of the first wrong line, and why that line is wrong. */
 export declare class Damaged extends RudekpiError {
   constructor(line: number, why: string);
   readonly line: number;

@@ -1,14 +1,15 @@
-/* Rudekpi inside a C or C++ program: a maintainer of a maximal matching on a changing network, each function of which is proved.
+/* Rudekpi for C and C++: maintains a maximal matching on a changing network. Every function is proved.
  *
- * What C has to keep, since nothing checks it:
- * - all bytes of a slot are 0 before its first call (`struct rudekpi_slot slot = RUDEKPI_NONE;`), and from then on nothing but these
- *   calls writes to it; a slot that is full is never copied, and is freed by rudekpi_session_free;
- * - a session is used by one thread at a time. Different sessions may be used by different threads;
- * - no pointer is null, also where a length is 0, and a length is no more than what lies behind its pointer;
- * - malloc, realloc and free are those of one allocator; no call is made in a signal handler, or in the forked child of a process
- *   with threads.
+ * The caller must keep these rules; no call checks them:
+ * - All bytes of a slot are 0 before its first call (`struct rudekpi_slot slot = RUDEKPI_NONE;`). After that
+ *   only these calls write to it. A full slot is never copied; rudekpi_session_free frees it.
+ * - Only one thread at a time uses a session, even to ask a question: each call takes the session out of its
+ *   slot and puts it back, so no slot is const. Different threads may use different sessions.
+ * - No pointer is null, even if a length is 0. A length is at most the number of elements at its pointer.
+ * - malloc, realloc and free belong to one allocator. No call is made in a signal handler, or in the forked
+ *   child of a process with threads.
  *
- * No call keeps a pointer that it was given. No call ends the process, waits, starts a thread or writes anywhere else. */
+ * No call keeps a pointer. No call ends the process, waits, starts a thread or writes anywhere else. */
 #ifndef RUDEKPI_H
 #define RUDEKPI_H
 
@@ -20,72 +21,86 @@
 extern "C" {
 #endif
 
-/* The version of this header: major, minor and patch number. */
-#define RUDEKPI_VERSION "0.1.0"
+/* The version of this header: major, minor and patch number, and the same as one number. */
+#define RUDEKPI_VERSION "1.0.0"
+#define RUDEKPI_VERSION_NUMBER 1000000
 
-/* What calls answer. */
+/* The status that a call returns. */
 enum {
-    RUDEKPI_DONE = 0,         /* it was done */
-    RUDEKPI_BAD_LINE = 1,     /* the line is neither empty nor a command; nothing was done */
-    RUDEKPI_LOG_FULL = 2,     /* an entry was wanted when there were 16,777,216 */
-    RUDEKPI_NO_MEMORY = 3,    /* a growth of memory was refused; the session lives on */
-    RUDEKPI_NO_SESSION = 4,   /* the slot has none, or no audit */
-    RUDEKPI_BAD_ARGUMENT = 5, /* what was asked for is out of its range; nothing was done */
-    RUDEKPI_REFUSED = 6,      /* the machine refused the event, which its entry says; the network is as before */
-    RUDEKPI_DAMAGED = 7       /* what an audit was fed is no transcript, whatever comes behind */
+    RUDEKPI_DONE = 0,         /* success */
+    RUDEKPI_BAD_LINE = 1,     /* the line is neither empty nor a command; nothing changed */
+    RUDEKPI_LOG_FULL = 2,     /* the log has 16,777,216 entries and takes no more */
+    RUDEKPI_NO_MEMORY = 3,    /* memory ran out; the session remains usable */
+    RUDEKPI_NO_SESSION = 4,   /* the slot holds no session, or no audit */
+    RUDEKPI_BAD_ARGUMENT = 5, /* an argument is out of range; nothing changed */
+    RUDEKPI_REFUSED = 6,      /* the machine refused the event, and an entry says so; the network is unchanged */
+    RUDEKPI_DAMAGED = 7,      /* the bytes fed to an audit begin no transcript, whatever follows */
+    RUDEKPI_NOT_SILENT = 8    /* a rule is enabled, and the call needs a silent network; nothing changed */
 };
 
-/* The rules: those of Hsu and Huang (1992), where one enabled node moves at a time; those of Manne, Mjelde, Pilard and Tixeuil
- * (2009), where any set of enabled nodes moves at once. */
+/* The rule sets: Hsu and Huang (1992), one enabled node moves at a time; Manne, Mjelde, Pilard and Tixeuil
+ * (2009), any set of enabled nodes moves at once. */
 enum { RUDEKPI_HSU_HUANG = 0, RUDEKPI_MANNE = 1 };
 
-/* Where a session is kept. */
+/* A slot holds one session or none. */
 struct rudekpi_slot {
     void *at;
     bool full;
 };
 #define RUDEKPI_NONE {0, false}
 
-/* Begins a session of a new network, in the place of what the slot had. The names are 1 to `nodes`, at most 65,535, and those from 1
- * to `present` are there. DONE; BAD_ARGUMENT for other rules, too many names, or more nodes than names, and NO_MEMORY: the slot is
- * empty then. Takes some fifty bytes a name. The session's text begins with the transcript's header. */
+/* Returns the version of the library as one number: 1,000,000 times the major, plus 1,000 times the minor,
+ * plus the patch number. A program compares it with RUDEKPI_VERSION_NUMBER. */
+uint32_t rudekpi_version(void);
+
+/* Begins a session of a new network and replaces what the slot held. The names are 1 to `nodes`, at most
+ * 65,535; nodes 1 to `present` are present. The session's text begins with the transcript's header. Takes
+ * some fifty bytes a name.
+ * DONE; BAD_ARGUMENT for unknown rules, too many names, or more present nodes than names; NO_MEMORY. The slot
+ * is empty after an error. */
 uint32_t rudekpi_session_new(uint32_t rules, uint32_t nodes, uint32_t present, struct rudekpi_slot *slot);
 
-/* Carries out the session's next line of a script, without its LF, and tells its number, from 1. The text of its entries comes
- * behind the session's text. DONE, also for an empty line and for an event that is refused, which its entry says; BAD_LINE;
- * LOG_FULL, where the turns of a `drive` or `scramble` before it stay; NO_MEMORY, where nothing was done but at most some first turns
- * of such a line, with their text: the session goes on from there, and the line may be given again; NO_SESSION, where no number is
- * told. Costs what the line costs: a link some microseconds at the most, `enabled` and `matching` what they list, a `checkpoint` a
+/* Carries out the next line of a script, given without its LF. Writes the line's number, counted from 1, and
+ * appends the text of the line's entries to the session's text.
+ * - DONE: also for an empty line, and for a refused event, whose entry has the refusal.
+ * - BAD_LINE.
+ * - LOG_FULL: earlier turns of a `drive` or `scramble` remain.
+ * - NO_MEMORY: nothing was done, except that first turns of a `drive` or `scramble` may remain, with their
+ *   text. The caller may give the line again.
+ * - NO_SESSION: `number` is unchanged.
+ * A link costs at most some microseconds, `enabled` and `matching` the length of their lists, a `checkpoint` a
  * look at all names and edges. */
 uint32_t rudekpi_session_feed(struct rudekpi_slot *slot, const uint8_t *line, size_t length, uint64_t *number);
 
-/* How many bytes of text there are that were not read; 0 where there is no session. */
+/* Returns how many bytes of text are unread; 0 without a session. */
 size_t rudekpi_session_length(struct rudekpi_slot *slot);
 
-/* Copies all text to the start of `out` and forgets it, where there is room; else nothing has changed. How many bytes it has: they
- * were copied where that is at most `room`. */
+/* If `out` has room for all unread text, copies that text to the start of `out` and forgets it; otherwise
+ * changes nothing. Returns the length of the text, which was copied if its length is at most `room`. */
 size_t rudekpi_session_read(struct rudekpi_slot *slot, uint8_t *out, size_t room);
 
-/* Ends the session and gives its memory back; the slot is empty then, as it may be before. */
+/* Ends the session and frees its memory. The slot may be empty before, and is empty afterwards. */
 void rudekpi_session_free(struct rudekpi_slot *slot);
 
-/* From here to rudekpi_checkpoint: the same without lines. Each call does what its line of a script does, down to the bytes of the
- * session's text, and answers in numbers. These calls count no line.
+/* The calls from here to rudekpi_checkpoint do the same, with numbers instead of lines. Each does what its line
+ * of a script does, down to the bytes of the session's text, but does not count as a line.
  *
- * One event is one entry, also a question, and an event that is refused. Such a call answers
- *   DONE          the entry is there, and its reply is no refusal;
- *   REFUSED       the entry is there, and `refusal` says why; the network is as before;
- *   LOG_FULL, NO_MEMORY, NO_SESSION, BAD_ARGUMENT   there is no entry, and nothing was done. A name is out of its range where it is 0
- *                 or above 65,535; one above the session's `nodes` is in its range, and the machine refuses it.
- * A bad argument comes before all else. All of `told` is written in each case, 0 where nothing is to be told. */
+ * Each event adds one entry, even if the event is a question or is refused:
+ *   DONE          the entry was added, and its reply is no refusal;
+ *   REFUSED       the entry was added, `refusal` says why, and the network is unchanged;
+ *   LOG_FULL, NO_MEMORY, NO_SESSION, BAD_ARGUMENT   no entry was added and nothing changed. A name is out of
+ *                 range if it is 0 or above 65,535; the machine refuses one that is only above the session's
+ *                 `nodes`.
+ * BAD_ARGUMENT takes precedence over all others. Every call writes all fields of `told`; one without a value
+ * is 0. */
 struct rudekpi_told {
-    uint32_t entry;   /* the number of its entry, 1 to 16,777,216; of rudekpi_drive, _scramble and _checkpoint that of the last one */
-    uint32_t refusal; /* why it was refused, else 0 */
-    uint32_t target;  /* where the node points that rudekpi_show asks about; 0 for null */
-    size_t rows;      /* how many rows its answer has: the moves of a step, the enabled nodes, or the pairs */
+    uint32_t entry;   /* the entry's number, 1 to 16,777,216; of _drive, _scramble and _checkpoint the last entry's */
+    uint32_t refusal; /* why the event was refused, or 0 */
+    uint32_t target;  /* the pointer that rudekpi_show asks for; 0 is null */
+    size_t rows;      /* how many rows the answer has: moves of a step, enabled nodes, or pairs */
 };
 
-/* Why an event is refused: the first that holds, in the order that docs/USE.md tells. */
+/* Why an event is refused: the first reason that applies, in the order given in docs/USE.md. */
 enum {
     RUDEKPI_UNKNOWN_NODE = 1,
     RUDEKPI_SELF_LOOP = 2,
@@ -102,89 +117,96 @@ enum {
     RUDEKPI_ALREADY_PRESENT = 13
 };
 
-/* `link a b`, `unlink a b`: an edge comes or goes. Some microseconds at the most. */
+/* `link a b`, `unlink a b`: adds or removes an edge. At most some microseconds. */
 uint32_t rudekpi_link(struct rudekpi_slot *slot, uint32_t a, uint32_t b, struct rudekpi_told *told);
 uint32_t rudekpi_unlink(struct rudekpi_slot *slot, uint32_t a, uint32_t b, struct rudekpi_told *told);
 
-/* `join node`, `leave node`: a node comes; or goes, with its edges and the pointers at it, and costs by its degree. */
+/* `join node`: a node arrives. `leave node`: a node departs, with its edges and the pointers at it. Costs the
+ * node's degree. */
 uint32_t rudekpi_join(struct rudekpi_slot *slot, uint32_t node, struct rudekpi_told *told);
 uint32_t rudekpi_leave(struct rudekpi_slot *slot, uint32_t node, struct rudekpi_told *told);
 
-/* `point node target`, `point node -`: a fault writes a node's pointer; a target of 0 is null. */
+/* `point node target`, `point node -`: a fault writes a node's pointer; target 0 is null. */
 uint32_t rudekpi_point(struct rudekpi_slot *slot, uint32_t node, uint32_t target, struct rudekpi_told *told);
 
 /* `flag node 0`, `flag node 1`: a fault writes a node's married flag. */
 uint32_t rudekpi_flag(struct rudekpi_slot *slot, uint32_t node, bool value, struct rudekpi_told *told);
 
-/* A chosen node, and the neighbour that it shall point at; 0 where any that its rule allows will do. */
+/* A chosen node, and the neighbour that the node is to point at; a wish of 0 leaves any that its rule allows. */
 struct rudekpi_item {
     uint32_t node;
     uint32_t wish;
 };
 
-/* `step ..`: these nodes move, all at once, in the list's order where that matters for a refusal. BAD_ARGUMENT also for more than
- * 65,535 items; an empty list is a step that the machine refuses. Its rows are the moves. Costs by the degrees of the nodes that move. */
+/* `step ..`: these nodes move, all at once. The order of the list decides only which refusal is reported.
+ * BAD_ARGUMENT also for more than 65,535 items; the machine refuses an empty list. The rows are the moves.
+ * Costs the degrees of the nodes that move. */
 uint32_t rudekpi_step(struct rudekpi_slot *slot, const struct rudekpi_item *items, size_t length, struct rudekpi_told *told);
 
-/* `show node`: where a node points. */
+/* `show node`: reads a node's pointer. */
 uint32_t rudekpi_show(struct rudekpi_slot *slot, uint32_t node, struct rudekpi_told *told);
 
-/* `enabled`: who may move, and by which rule. Its rows are the nodes. */
+/* `enabled`: lists the enabled nodes, each with its rule. The rows are the nodes. */
 uint32_t rudekpi_enabled(struct rudekpi_slot *slot, struct rudekpi_told *told);
 
-/* `matching`: the nodes that point at each other. Its rows are the pairs. A look at each name. */
+/* `matching`: lists the pairs of nodes that point at each other. The rows are the pairs. Looks at each name. */
 uint32_t rudekpi_pairs(struct rudekpi_slot *slot, struct rudekpi_told *told);
 
-/* Where a network stands. */
+/* The counts of a network. */
 struct rudekpi_counts {
     uint32_t nodes;   /* the nodes that are present */
     uint32_t edges;
     uint32_t pairs;
     uint32_t enabled; /* the nodes that may move */
-    uint32_t charge;  /* no more moves than this can come before the next edit or fault */
+    uint32_t charge;  /* the potential: at most this many moves precede the next edit or fault */
     uint32_t spent;   /* the moves since the last accepted edit or fault, or since the start */
 };
 
-/* `status`: counts. All of `counts` is written in each case, 0 where the answer is not DONE. */
+/* `status`: counts. Writes every field of `counts`; all are 0 if the call does not return DONE. */
 uint32_t rudekpi_status(struct rudekpi_slot *slot, struct rudekpi_counts *counts, struct rudekpi_told *told);
 
-/* A row of an answer. */
+/* One row of an answer. */
 struct rudekpi_row {
-    uint32_t node;  /* who moved or may move; of a pair the lower name */
-    uint32_t rule;  /* by which rule; of a pair 0 */
-    uint32_t other; /* where a node that moved points now, 0 for null; of a pair the higher name; of an enabled node 0 */
+    uint32_t node;  /* the node that moved or may move; in a pair, the lower name */
+    uint32_t rule;  /* the node's rule; in a pair, 0 */
+    uint32_t other; /* the new pointer of a node that moved, 0 for null; in a pair, the higher name; else 0 */
 };
 enum { RUDEKPI_UPDATE = 1, RUDEKPI_MARRY = 2, RUDEKPI_SEDUCE = 3, RUDEKPI_ABANDON = 4 };
 
-/* Copies all rows of the last answer to the start of `out`, ascending by `node`, where there is room; else `out` is as before. How many
- * there are: they were copied where that is at most `room`. The last answer is that of the last of these calls that found the session and
- * no bad argument; the session keeps it, so that it can be asked for again. 0 where there is no session, or that answer has no rows. */
+/* Copies the rows of the last answer to the start of `out`, ascending by `node`, if there is room; otherwise
+ * `out` is unchanged. Returns how many rows there are; they were copied if that number is at most `room`.
+ * Returns 0 without a session, or if the answer has no rows. The last answer is that of the latest of these
+ * calls that found the session and no bad argument. The session keeps the answer for later calls. */
 size_t rudekpi_rows(struct rudekpi_slot *slot, struct rudekpi_row *out, size_t room);
 
-/* `drive seed count`, `scramble seed count`: up to so many steps of a seeded daemon, until nobody is enabled; so many seeded faults of
- * registers. Each turn adds an entry. After a drive that is DONE, of at least as many steps as the charge was, nobody is enabled. DONE;
- * LOG_FULL and NO_MEMORY, where the turns before stay; NO_SESSION; BAD_ARGUMENT above 1,000,000 turns. */
+/* `drive seed count`: makes up to `count` steps of a seeded daemon, and stops when no node is enabled.
+ * `scramble seed count`: makes `count` seeded faults of registers. Each turn, a step or a fault, adds an entry.
+ * If a drive returns DONE, and `count` is at least the charge before the drive, no node is enabled afterwards.
+ * DONE; LOG_FULL and NO_MEMORY: earlier turns remain; NO_SESSION; BAD_ARGUMENT above 1,000,000 turns. */
 uint32_t rudekpi_drive(struct rudekpi_slot *slot, uint64_t seed, uint32_t count, struct rudekpi_told *told);
 uint32_t rudekpi_scramble(struct rudekpi_slot *slot, uint64_t seed, uint32_t count, struct rudekpi_told *told);
 
-/* `checkpoint`: the lines of a base, from which an audit can begin, come behind the text; they are no entry. DONE; NO_MEMORY, where
- * nothing was done; NO_SESSION. A look at all names and edges. */
+/* `checkpoint`: appends the lines of a base to the text. They are no entry. An audit can begin at a base.
+ * DONE; NO_MEMORY: nothing changed; NO_SESSION. A look at all names and edges. */
 uint32_t rudekpi_checkpoint(struct rudekpi_slot *slot, struct rudekpi_told *told);
 
-/* Whether the session keeps its text from here on, as it does at the start: where not, what there is is forgotten, and so is what each
- * call adds. DONE; NO_SESSION. So that a session of weeks takes the memory of its network alone: keep no text; or, to begin a
- * transcript anew, keep none, keep it again, and call rudekpi_checkpoint, whose base is the first of it then. */
+/* Decides whether the session keeps its text from here on, as it does at the start. If `keeps` is false, the
+ * session forgets its text, and forgets what each later call adds. A session of weeks then needs memory for
+ * its network alone. To begin a transcript anew, call this with false, then with true, then call
+ * rudekpi_checkpoint: the text then begins with a base.
+ * DONE; NO_SESSION. */
 uint32_t rudekpi_transcript(struct rudekpi_slot *slot, bool keeps);
 
-/* With whom a node is paired, or 0, also where it is not present. Two looks; adds no entry, since no line of a script asks it. DONE;
- * NO_SESSION; BAD_ARGUMENT for a name that is 0 or above 65,535. `partner` is written in each case. */
+/* Writes a node's partner, or 0 if the node has none or is not present. Reads two registers and adds no entry.
+ * DONE; NO_SESSION; BAD_ARGUMENT for a name that is 0 or above 65,535. `partner` is written in each case. */
 uint32_t rudekpi_partner(struct rudekpi_slot *slot, uint32_t node, uint32_t *partner);
 
-/* What an edit or a fault would cost if it came now, in moves: by how much it would let the charge grow at most, and with it the moves
- * that may come before the next edit or fault. 0 also where the machine would refuse it. It is told from the pointers and the degrees
- * of the nodes that it touches (docs/BOUNDS.md has the table), whatever the size of the network; nothing is done, and no entry added.
- * DONE; NO_SESSION; BAD_ARGUMENT for a name that is 0 or above 65,535, but for a target, of which 0 is null. `cost` is written in each
- * case, 0 where the answer is not DONE. */
+/* Writes the cost of an edit or a fault, in moves. If the event came at this moment, it could raise the charge,
+ * and so the number of moves that may follow, by at most its cost. The cost is 0 if the machine would refuse
+ * the event. The cost is computed from the registers and degrees of the nodes that the event touches (table in
+ * docs/BOUNDS.md), whatever the size of the network. Changes nothing, adds no entry.
+ * DONE; NO_SESSION; BAD_ARGUMENT for a name that is 0 or above 65,535; only a target may be 0, for null.
+ * `cost` is written in each case, 0 if the status is not DONE. */
 uint32_t rudekpi_cost_of_link(struct rudekpi_slot *slot, uint32_t a, uint32_t b, uint32_t *cost);
 uint32_t rudekpi_cost_of_unlink(struct rudekpi_slot *slot, uint32_t a, uint32_t b, uint32_t *cost);
 uint32_t rudekpi_cost_of_join(struct rudekpi_slot *slot, uint32_t node, uint32_t *cost);
@@ -192,18 +214,36 @@ uint32_t rudekpi_cost_of_leave(struct rudekpi_slot *slot, uint32_t node, uint32_
 uint32_t rudekpi_cost_of_point(struct rudekpi_slot *slot, uint32_t node, uint32_t target, uint32_t *cost);
 uint32_t rudekpi_cost_of_flag(struct rudekpi_slot *slot, uint32_t node, bool value, uint32_t *cost);
 
-/* Whether a node is at rest: its flag is right where the rules use flags, and it is paired, or points nowhere and each of its neighbours is
- * paired. Whatever the daemon chooses, it does not move until an edit or a fault reaches it. An absent one is at rest. It looks at the
- * node's neighbours only where it points nowhere; no entry is added. DONE; NO_SESSION; BAD_ARGUMENT for a name that is 0 or above 65,535.
- * `rests` is written in each case, false where the answer is not DONE. */
+/* Writes the silent cost of an edit or a fault, in moves: if the network is silent when the event comes, at most
+ * this many moves follow before the next edit or fault, whatever the daemon chooses. Only unmarried neighbours
+ * count. Under RUDEKPI_HSU_HUANG the silent cost is at most the cost above. Under RUDEKPI_MANNE it is at most
+ * that cost plus 2 if a new pair may form, plus 1 for rudekpi_silent_cost_of_leave. The silent cost is 0 if the
+ * machine would refuse the event. Looks at the neighbours of at most two nodes. Changes nothing, adds no entry.
+ * DONE; NOT_SILENT if a rule is enabled; NO_SESSION; BAD_ARGUMENT for a name that is 0 or above 65,535; only a
+ * target may be 0, for null. `cost` is written in each case, 0 if the status is not DONE. */
+uint32_t rudekpi_silent_cost_of_link(struct rudekpi_slot *slot, uint32_t a, uint32_t b, uint32_t *cost);
+uint32_t rudekpi_silent_cost_of_unlink(struct rudekpi_slot *slot, uint32_t a, uint32_t b, uint32_t *cost);
+uint32_t rudekpi_silent_cost_of_join(struct rudekpi_slot *slot, uint32_t node, uint32_t *cost);
+uint32_t rudekpi_silent_cost_of_leave(struct rudekpi_slot *slot, uint32_t node, uint32_t *cost);
+uint32_t rudekpi_silent_cost_of_point(struct rudekpi_slot *slot, uint32_t node, uint32_t target, uint32_t *cost);
+uint32_t rudekpi_silent_cost_of_flag(struct rudekpi_slot *slot, uint32_t node, bool value, uint32_t *cost);
+
+/* Writes whether a node is at rest: it is paired, or it points nowhere while all its neighbours are paired; and
+ * its flag is right if the rules use flags. Whatever the daemon chooses, a node at rest does not move until an
+ * edit or a fault reaches it. An absent node is at rest. Looks at the node's neighbours only if the node points
+ * nowhere; adds no entry.
+ * DONE; NO_SESSION; BAD_ARGUMENT for a name that is 0 or above 65,535. `rests` is written in each case, false
+ * if the status is not DONE. */
 uint32_t rudekpi_is_at_rest(struct rudekpi_slot *slot, uint32_t node, bool *rests);
 
-/* Whom an edit or a fault would reach if it came now: each other node that is at rest stays at rest. Copies their names, ascending, to the
- * start of `out`, if there is room for all of them; else `out` is as before. `count` says how many there are: they were copied where that
- * is at most `room`. Nobody where the machine would refuse it. It is told by one look through the neighbours of the nodes that it names
- * and of their partners (docs/BOUNDS.md has the table, with how many there are at most); nothing is done, and no entry added. DONE;
- * NO_MEMORY; NO_SESSION; BAD_ARGUMENT for a name that is 0 or above 65,535, but for a target, of which 0 is null. `count` is written in
- * each case, 0 where the answer is not DONE, and then `out` is as before. */
+/* Lists the nodes that an edit or a fault would reach if the event came at this moment: every other node at
+ * rest stays at rest. Copies the names of the nodes reached, ascending, to the start of `out` if there is room
+ * for all; otherwise `out` is unchanged. Writes how many they are to `count`; their names were copied if
+ * `count` is at most `room`. The list is empty if the machine would refuse the event. Costs one pass through
+ * the neighbours of the nodes that the event names, and of their partners (table with limits in
+ * docs/BOUNDS.md). Changes nothing, adds no entry.
+ * DONE; NO_MEMORY; NO_SESSION; BAD_ARGUMENT for a name that is 0 or above 65,535; only a target may be 0, for
+ * null. `count` is written in each case; if the status is not DONE it is 0 and `out` is unchanged. */
 uint32_t rudekpi_reach_of_link(struct rudekpi_slot *slot, uint32_t a, uint32_t b, uint32_t *out, size_t room, size_t *count);
 uint32_t rudekpi_reach_of_unlink(struct rudekpi_slot *slot, uint32_t a, uint32_t b, uint32_t *out, size_t room, size_t *count);
 uint32_t rudekpi_reach_of_join(struct rudekpi_slot *slot, uint32_t node, uint32_t *out, size_t room, size_t *count);
@@ -211,72 +251,81 @@ uint32_t rudekpi_reach_of_leave(struct rudekpi_slot *slot, uint32_t node, uint32
 uint32_t rudekpi_reach_of_point(struct rudekpi_slot *slot, uint32_t node, uint32_t target, uint32_t *out, size_t room, size_t *count);
 uint32_t rudekpi_reach_of_flag(struct rudekpi_slot *slot, uint32_t node, bool value, uint32_t *out, size_t room, size_t *count);
 
-/* How many moves can still come before the next edit or fault that is accepted: at most this many, whatever the daemon chooses. It is the
- * charge; under RUDEKPI_HSU_HUANG it is also at most n*n/2 + n - 2 among n nodes, the half rounded down. Adds no entry; a look at what has changed
- * since this or a status was last asked. DONE; NO_SESSION, where `moves` is 0. */
+/* Writes how many moves can still come before the next accepted edit or fault, whatever the daemon chooses:
+ * at most the charge, and under RUDEKPI_HSU_HUANG also at most n*n/2 + n - 2 among n nodes, the half rounded
+ * down. Looks at what has changed since the last such call or `status`; adds no entry.
+ * DONE; NO_SESSION, with `moves` 0. */
 uint32_t rudekpi_moves_left(struct rudekpi_slot *slot, uint32_t *moves);
 
-/* What an audit finds. */
+/* The verdict of an audit. */
 struct rudekpi_verdict {
     uint32_t kind;    /* one of the following */
-    uint32_t entries; /* of a transcript: its entries, epochs and moves, else 0 */
+    uint32_t entries; /* of a transcript: its entries, epochs and moves; otherwise 0 */
     uint32_t epochs;
     uint64_t moves;
-    uint64_t line;    /* of other bytes: the first line that is wrong, from 1, else 0 */
+    uint64_t line;    /* of other bytes: the number of the first wrong line, from 1; otherwise 0 */
 };
 enum {
     RUDEKPI_ACCEPTED = 0,       /* the transcript of a run of the rules */
-    RUDEKPI_BAD_HEADER = 1,     /* the first line is neither a header nor the first of a base */
-    RUDEKPI_NOT_A_LINE = 2,     /* the line is no transcript line */
-    RUDEKPI_OUT_OF_ORDER = 3,   /* the line has another number than the next */
-    RUDEKPI_NOT_THE_REPLY = 4,  /* the line's reply is not one that the rules give */
-    RUDEKPI_BAD_BASE = 5,       /* the line is not that of the base there */
-    RUDEKPI_UNJUDGED = 6        /* memory was refused: nothing is said of the bytes */
+    RUDEKPI_BAD_HEADER = 1,     /* the first line begins neither a header nor a base */
+    RUDEKPI_NOT_A_LINE = 2,     /* the line is no line of a transcript */
+    RUDEKPI_OUT_OF_ORDER = 3,   /* the line does not have the next number */
+    RUDEKPI_NOT_THE_REPLY = 4,  /* the rules give another reply */
+    RUDEKPI_BAD_BASE = 5,       /* the base at this point has another line here */
+    RUDEKPI_UNJUDGED = 6        /* memory ran out: the bytes were not judged */
 };
 
-/* Judges a transcript, without the engine that writes them: accepts exactly those of runs, and names the first damage of other
- * bytes. Costs what the program's `audit` costs. Takes no slot, so any thread may call it. */
+/* Judges bytes without the engine that writes transcripts: accepts exactly the transcripts of runs, and names
+ * the first damage of all other bytes. Costs what the program's `audit` costs. Uses no slot, so any thread may
+ * call it. */
 void rudekpi_audit(const uint8_t *bytes, size_t length, struct rudekpi_verdict *verdict);
 
-/* Joins the verdict of a text with that of one that it meets: the first text ends with the lines of a base, all of them, with which the next
- * begins. Joined the base stands once, and `verdict` becomes what rudekpi_audit says of that: accepted exactly if both are, with the sums of
- * entries and moves, and of epochs less one; else the damage of the first, or that of the next so many `lines` further on, which stand in
- * the first text before the base; they are used for nothing else. UNJUDGED, if that is the verdict of the first, or if the first is
- * accepted and it is that of the next. Texts that meet one another in a row are joined in their order, two by two, in any grouping. DONE;
- * BAD_ARGUMENT for a kind above 6, or a sum that its field does not hold: `verdict` is as before. That the texts meet nothing checks.
- * Takes no memory and no slot. */
+/* Joins the verdicts of two texts that meet: the first text ends with all lines of a base, and the next text
+ * begins with the same lines. The joined text has that base once. `verdict` is that of the first text, and
+ * becomes what rudekpi_audit says of the joined text:
+ * - accepted exactly if both texts are: with the sums of entries and moves, and the sum of epochs less one;
+ * - UNJUDGED if the first is unjudged, or if the first is accepted and the next is unjudged;
+ * - otherwise the damage of the first text, or else that of the next, `lines` further on.
+ * `lines` is how many lines the first text has before that base. Texts that meet in a row are joined in order,
+ * two by two, in any grouping. The caller ensures that the texts meet.
+ * DONE; BAD_ARGUMENT for a kind above 6, or a sum that its field cannot hold: `verdict` is unchanged. Takes no
+ * memory and no slot. */
 uint32_t rudekpi_audit_join(struct rudekpi_verdict *verdict, uint64_t lines, const struct rudekpi_verdict *next);
 
-/* Where an audit is kept that is fed a transcript as it comes: what C has to keep of a slot holds of it, too. */
+/* A slot for an audit that is fed a transcript piece by piece; the rules for slots apply. */
 struct rudekpi_audit_slot {
     void *at;
     bool full;
 };
 
-/* Begins an audit that was fed nothing, in the place of what the slot had. DONE; NO_MEMORY: the slot is empty then. */
+/* Begins an audit and replaces what the slot held. DONE; NO_MEMORY: the slot is empty. */
 uint32_t rudekpi_audit_new(struct rudekpi_audit_slot *slot);
 
-/* Feeds the audit the bytes that come next, cut anywhere. DONE where nothing wrong was found by now; DAMAGED where what it was fed is no
- * transcript, whatever comes behind; NO_MEMORY, after which it judges nothing any more; NO_SESSION. What is answered once in place of
- * DONE, each later call answers. It keeps a line or a base that is not whole yet, and no other text. Costs what rudekpi_audit costs of
- * the lines that end in these bytes. */
+/* Feeds the next bytes, cut anywhere. DONE if no damage was found yet; DAMAGED if the bytes so far begin no
+ * transcript; NO_MEMORY, after which the audit judges nothing; NO_SESSION. After a status other than DONE each
+ * later call returns that status again. The audit keeps only an incomplete line or base. Costs what
+ * rudekpi_audit costs for the lines that end in these bytes. */
 uint32_t rudekpi_audit_feed(struct rudekpi_audit_slot *slot, const uint8_t *bytes, size_t length);
 
-/* Tells the verdict on all that the audit was fed, which is that of rudekpi_audit on the whole, and ends it; the slot is empty then. DONE;
- * NO_SESSION, where the verdict is UNJUDGED. Where memory was refused, now or before, it is UNJUDGED. */
+/* Writes the verdict that rudekpi_audit would give on all bytes fed, and ends the audit. The slot is empty
+ * afterwards.
+ * DONE; NO_SESSION, with the verdict UNJUDGED. The verdict is UNJUDGED also if memory ran out at this call or
+ * before. */
 uint32_t rudekpi_audit_finish(struct rudekpi_audit_slot *slot, struct rudekpi_verdict *verdict);
 
-/* Ends the audit without a verdict and gives its memory back; the slot is empty then, as it may be before. */
+/* Ends the audit without a verdict and frees its memory. The slot may be empty before, and is empty
+ * afterwards. */
 void rudekpi_audit_free(struct rudekpi_audit_slot *slot);
 
-/* The name of a status, in plain ASCII; of an unknown number "unknown". */
+/* Returns the text of a status, in ASCII; "unknown" for an unknown number. */
 static inline const char *rudekpi_status_text(uint32_t status) {
     static const char *const texts[] = {"done",       "not a command", "the log is full", "memory was refused",
-                                        "no session", "bad argument",  "refused",         "no transcript"};
+                                        "no session", "bad argument",  "refused",         "no transcript",
+                                        "not silent"};
     return status < sizeof texts / sizeof *texts ? texts[status] : "unknown";
 }
 
-/* The name of a refusal, as a transcript has it; of an unknown number "unknown". */
+/* Returns the word for a refusal in a transcript; "unknown" for an unknown number. */
 static inline const char *rudekpi_refusal_text(uint32_t refusal) {
     static const char *const texts[] = {"unknown",      "unknown-node",   "self-loop",    "already-linked",
                                         "not-linked",   "too-many-edges", "not-neighbour", "no-flag",
@@ -285,13 +334,13 @@ static inline const char *rudekpi_refusal_text(uint32_t refusal) {
     return refusal < sizeof texts / sizeof *texts ? texts[refusal] : "unknown";
 }
 
-/* The name of a rule, as a transcript has it; of an unknown number "unknown". */
+/* Returns the word for a rule in a transcript; "unknown" for an unknown number. */
 static inline const char *rudekpi_rule_text(uint32_t rule) {
     static const char *const texts[] = {"unknown", "update", "marry", "seduce", "abandon"};
     return rule < sizeof texts / sizeof *texts ? texts[rule] : "unknown";
 }
 
-/* What a verdict says, in the words of the program's `audit`; of an unknown number "unknown". */
+/* Returns a verdict in the words of the program's `audit`; "unknown" for an unknown number. */
 static inline const char *rudekpi_verdict_text(uint32_t kind) {
     static const char *const texts[] = {"accepted",
                                         "bad header",

@@ -1,9 +1,10 @@
 /* Rudekpi for C++17: a network and an audit as classes that own their memory, and faults as exceptions.
  *
- * Each call is one of rudekpi.h, which says what it does, returns and costs. Nodes are 1 to the number of names; a
- * pointer that is null is an empty optional. A network or an audit is used by one thread at a time, and may be moved.
- * Memory that is refused is std::bad_alloc, and a number out of its range std::invalid_argument; both change nothing, but
- * that first turns of a drive or a scramble stay. */
+ * Each member calls a function of rudekpi.h, which documents its effect, result and cost. Nodes are 1 to
+ * the number of names. A node that points nowhere has an empty optional as its pointer. One thread at a time
+ * uses a network or an audit; both may be moved. Members throw std::bad_alloc if memory runs out, and
+ * std::invalid_argument for a number out of range. Neither error changes anything, except that the first turns
+ * of a drive or a scramble may remain. */
 #ifndef RUDEKPI_HPP
 #define RUDEKPI_HPP
 
@@ -23,6 +24,12 @@ namespace rudekpi {
 using Node = std::uint32_t;
 using Entry = std::uint32_t;
 
+/* Returns the version of the library: 1,000,000 times the major, plus 1,000 times the minor, plus the
+ * patch number. */
+inline std::uint32_t version() {
+    return rudekpi_version();
+}
+
 enum class Rules : std::uint32_t { hsu_huang = RUDEKPI_HSU_HUANG, manne = RUDEKPI_MANNE };
 
 enum class Rule : std::uint32_t {
@@ -36,7 +43,7 @@ inline const char *text(Rule rule) {
     return rudekpi_rule_text(static_cast<std::uint32_t>(rule));
 }
 
-/* The machine refused the event; its entry says so, and the network is as before. */
+/* The machine refused the event, and an entry says so; the network is unchanged. */
 class Refused : public std::runtime_error {
   public:
     Refused(std::uint32_t why, Entry number) : std::runtime_error(rudekpi_refusal_text(why)), why(why), entry(number) {}
@@ -44,7 +51,7 @@ class Refused : public std::runtime_error {
     Entry entry;
 };
 
-/* There are 16,777,216 entries already. */
+/* The log has 16,777,216 entries and takes no more. */
 class LogFull : public std::runtime_error {
   public:
     LogFull() : std::runtime_error(rudekpi_status_text(RUDEKPI_LOG_FULL)) {}
@@ -57,13 +64,13 @@ class BadLine : public std::invalid_argument {
     std::uint64_t number;
 };
 
-/* A chosen node, and the neighbour that it shall point at, if any. */
+/* A chosen node, and optionally the neighbour that it is to point at. */
 struct Item {
     Node node;
     std::optional<Node> wish = {};
 };
 
-/* A node that moved, by which rule, and where it points now if the rule wrote its pointer. */
+/* A node that moved, its rule, and its new pointer if the rule wrote one. */
 struct Move {
     Node node;
     Rule rule;
@@ -78,7 +85,7 @@ struct Enabled {
 using Pair = std::pair<Node, Node>;
 using Counts = rudekpi_counts;
 
-/* What an audit finds: the counts of a transcript, or the first line that is wrong and how. */
+/* The verdict of an audit: the counts of a transcript, or the first wrong line and what is wrong with it. */
 struct Verdict : rudekpi_verdict {
     bool accepted() const {
         return kind == RUDEKPI_ACCEPTED;
@@ -117,7 +124,7 @@ inline void check(std::uint32_t status, const rudekpi_told &told = {}) {
     if (status != RUDEKPI_DONE) fail(status, told);
 }
 
-/* A slot at one place in memory, emptied when it goes. */
+/* A slot at a fixed address, emptied by the destructor. */
 template <typename Slot, void (*free)(Slot *)> struct Emptied {
     void operator()(Slot *slot) const {
         free(slot);
@@ -127,7 +134,7 @@ template <typename Slot, void (*free)(Slot *)> struct Emptied {
 
 } // namespace detail
 
-/* A network whose nodes are kept in pairs by its rules, with its transcript. One that was moved from may only be
+/* A network that maintains a maximal matching, with its transcript. A moved-from network may only be
  * destroyed or assigned to. */
 class Network {
   public:
@@ -137,7 +144,7 @@ class Network {
         detail::check(rudekpi_session_new(static_cast<std::uint32_t>(rules), nodes, present, slot_.get()));
     }
 
-    /* Edits and faults: each returns the number of its entry. */
+    /* Edits and faults; each returns the number of its entry. */
     Entry link(Node a, Node b) {
         return done([&](auto told) { return rudekpi_link(slot(), a, b, told); });
     }
@@ -157,7 +164,7 @@ class Network {
         return done([&](auto told) { return rudekpi_flag(slot(), node, value, told); });
     }
 
-    /* Lets nodes move at once, and returns their moves. */
+    /* Lets nodes move at once. Returns their moves. */
     std::vector<Move> step(const std::vector<Item> &items) {
         std::vector<rudekpi_item> chosen(items.size() + 1);
         for (std::size_t at = 0; at < items.size(); at++) chosen[at] = {items[at].node, items[at].wish.value_or(0)};
@@ -167,16 +174,17 @@ class Network {
         return moves;
     }
 
-    /* Lets up to `count` steps of a seeded daemon come, until nobody is enabled. Returns the number of the last entry. */
+    /* Makes up to `count` steps of a seeded daemon, and stops when no node is enabled. Returns the last
+     * entry's number. */
     Entry drive(std::uint64_t seed, std::uint32_t count) {
         return done([&](auto told) { return rudekpi_drive(slot(), seed, count, told); });
     }
-    /* Lets `count` seeded faults of registers come. Returns the number of the last entry. */
+    /* Makes `count` seeded faults of registers. Returns the last entry's number. */
     Entry scramble(std::uint64_t seed, std::uint32_t count) {
         return done([&](auto told) { return rudekpi_scramble(slot(), seed, count, told); });
     }
 
-    /* Questions: each is an entry of the transcript. */
+    /* Questions; each adds an entry. */
     std::optional<Node> show(Node node) {
         rudekpi_told told{};
         detail::check(rudekpi_show(slot(), node, &told), told);
@@ -212,7 +220,7 @@ class Network {
         return asked<bool>([&](auto it) { return rudekpi_is_at_rest(slot(), node, it); });
     }
 
-    /* How many moves an edit or a fault would cost at most. */
+    /* The cost, in moves, of an edit or a fault at this moment. */
     std::uint32_t cost_of_link(Node a, Node b) {
         return asked<std::uint32_t>([&](auto it) { return rudekpi_cost_of_link(slot(), a, b, it); });
     }
@@ -232,7 +240,27 @@ class Network {
         return asked<std::uint32_t>([&](auto it) { return rudekpi_cost_of_flag(slot(), node, value, it); });
     }
 
-    /* Whom an edit or a fault would reach, ascending. */
+    /* The most moves that an edit or a fault of a silent network can cause; empty if a rule is enabled. */
+    std::optional<std::uint32_t> silent_cost_of_link(Node a, Node b) {
+        return if_silent([&](auto it) { return rudekpi_silent_cost_of_link(slot(), a, b, it); });
+    }
+    std::optional<std::uint32_t> silent_cost_of_unlink(Node a, Node b) {
+        return if_silent([&](auto it) { return rudekpi_silent_cost_of_unlink(slot(), a, b, it); });
+    }
+    std::optional<std::uint32_t> silent_cost_of_join(Node node) {
+        return if_silent([&](auto it) { return rudekpi_silent_cost_of_join(slot(), node, it); });
+    }
+    std::optional<std::uint32_t> silent_cost_of_leave(Node node) {
+        return if_silent([&](auto it) { return rudekpi_silent_cost_of_leave(slot(), node, it); });
+    }
+    std::optional<std::uint32_t> silent_cost_of_point(Node node, std::optional<Node> target) {
+        return if_silent([&](auto it) { return rudekpi_silent_cost_of_point(slot(), node, target.value_or(0), it); });
+    }
+    std::optional<std::uint32_t> silent_cost_of_flag(Node node, bool value) {
+        return if_silent([&](auto it) { return rudekpi_silent_cost_of_flag(slot(), node, value, it); });
+    }
+
+    /* The nodes that an edit or a fault would reach, ascending. */
     std::vector<Node> reach_of_link(Node a, Node b) {
         return names([&](auto... it) { return rudekpi_reach_of_link(slot(), a, b, it...); });
     }
@@ -252,7 +280,7 @@ class Network {
         return names([&](auto... it) { return rudekpi_reach_of_flag(slot(), node, value, it...); });
     }
 
-    /* Carries out a line of a script. An event that is refused throws nothing: the transcript says so. */
+    /* Carries out a line of a script. A refused event throws nothing; its entry says so. */
     void feed(std::string_view line) {
         std::uint64_t number = 0;
         auto status = rudekpi_session_feed(slot(), detail::bytes_of(line), line.size(), &number);
@@ -260,19 +288,20 @@ class Network {
         detail::check(status);
     }
 
-    /* Adds the lines of a base to the transcript, from which an audit can begin. Returns the last entry's number. */
+    /* Adds the lines of a base to the transcript; an audit can begin at a base. Returns the last entry's
+     * number. */
     Entry checkpoint() {
         return done([&](auto told) { return rudekpi_checkpoint(slot(), told); });
     }
 
-    /* The text of the transcript since this was last called. */
+    /* Returns the text of the transcript since the last call. */
     std::string transcript() {
         std::string text(rudekpi_session_length(slot()), '\0');
         rudekpi_session_read(slot(), reinterpret_cast<std::uint8_t *>(text.data()), text.size());
         return text;
     }
 
-    /* Whether the network keeps its text from here on. If not, what there is is dropped. */
+    /* Decides whether the network keeps its text from here on. If `keeps` is false, drops the unread text. */
     void keep_transcript(bool keeps) {
         detail::check(rudekpi_transcript(slot(), keeps));
     }
@@ -303,6 +332,14 @@ class Network {
         return value;
     }
 
+    template <typename Call> std::optional<std::uint32_t> if_silent(Call call) {
+        std::uint32_t cost = 0;
+        auto status = call(&cost);
+        if (status == RUDEKPI_NOT_SILENT) return std::nullopt;
+        detail::check(status);
+        return cost;
+    }
+
     template <typename Call> std::vector<Node> names(Call call) {
         std::size_t count = 0;
         Node none = 0;
@@ -315,7 +352,7 @@ class Network {
     std::unique_ptr<rudekpi_slot, detail::Emptied<rudekpi_slot, rudekpi_session_free>> slot_;
 };
 
-/* Judges a transcript that is in memory. */
+/* Judges a transcript in memory. */
 inline Verdict audit(std::string_view transcript) {
     Verdict verdict{};
     rudekpi_audit(detail::bytes_of(transcript), transcript.size(), &verdict);
@@ -330,14 +367,14 @@ class Audit {
         detail::check(rudekpi_audit_new(slot_.get()));
     }
 
-    /* Feeds the bytes that come next, cut anywhere. Whether nothing wrong was found so far. */
+    /* Feeds the next bytes, cut anywhere. Returns whether no damage was found so far. */
     bool feed(std::string_view piece) {
         auto status = rudekpi_audit_feed(slot_.get(), detail::bytes_of(piece), piece.size());
         if (status != RUDEKPI_DAMAGED) detail::check(status);
         return status == RUDEKPI_DONE;
     }
 
-    /* The verdict on all that was fed; ends the audit. */
+    /* Returns the verdict on all bytes fed, and ends the audit. */
     Verdict finish() {
         Verdict verdict{};
         detail::check(rudekpi_audit_finish(slot_.get(), &verdict));

@@ -11,8 +11,8 @@ endif()
 if(NOT TARGET rudekpi::rudekpi)
   add_library(rudekpi::rudekpi SHARED IMPORTED)
   set_target_properties(rudekpi::rudekpi PROPERTIES
-    IMPORTED_LOCATION "${_rudekpi_lib}/librudekpi.so.0"
-    IMPORTED_SONAME librudekpi.so.0
+    IMPORTED_LOCATION "${_rudekpi_lib}/librudekpi.so.1"
+    IMPORTED_SONAME librudekpi.so.1
     INTERFACE_INCLUDE_DIRECTORIES "${_rudekpi_include}")
   add_library(rudekpi::static STATIC IMPORTED)
   set_target_properties(rudekpi::static PROPERTIES
