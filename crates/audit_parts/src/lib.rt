@@ -1,11 +1,9 @@
 //! Audits in parts: the verdict of a transcript from those of its parts.
 //!
 //! A transcript can be cut at any base: each part ends with the base that begins the next. The parts are
-//! accepted exactly if the whole is. Entries and moves add up; so do epochs, less one at each seam. If parts
-//! are damaged, the damage of the whole is that of the first damaged part; its line grows by the number of
-//! lines before that part. These statements are laws. `join` makes one verdict of two; applied in order, it
-//! makes one verdict of any number. `join` sees no text: the caller ensures that the texts meet
-//! (`specs/Seams`).
+//! accepted exactly if the whole is. Entries and moves add up; so do epochs, less one at each seam. `join`
+//! makes one verdict of two; applied in order, it makes one verdict of any number. `join` sees no text: the
+//! caller ensures that the texts meet (`specs/Seams`).
 //!
 //! ```rust
 //! let first = audit_bytes(alloc, &text[..end]);      // up to the end of a base

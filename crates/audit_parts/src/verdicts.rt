@@ -8,7 +8,6 @@ ghost use Rattle.audit_parts.specs.FieldRanges.{AreLinesBefore, FitsFields};
 
 use auditor::{Damage, JudgeFault, Summary};
 
-// The sums of both summaries, less one epoch, if each number fits its field.
 fn count_both(first: Summary, second: Summary) -> Option<Summary>
     ensures both { IfSome result (λ both. both ≡ counted_both first second) }
     ensures fits { IsNone result → FitsFields (Ok (counted_both first second)) → ⊥ }
@@ -21,7 +20,6 @@ fn count_both(first: Summary, second: Summary) -> Option<Summary>
     })
 }
 
-// The damage, its line increased by `lines`, if that number fits its field.
 fn move_on(lines: u64, damage: Damage) -> Option<Damage>
     ensures moved { IfSome result (λ moved. moved ≡ further lines damage) }
     ensures fits { IsNone result → FitsFields (Err (Damaged (further lines damage))) → ⊥ }
@@ -64,8 +62,7 @@ fn join_numbers(
 
 /// The verdict of two texts as one: the first ends with the base that begins the second.
 ///
-/// `lines` is the number of lines of the first text before that base. `lines` is used only if the first is
-/// accepted and the second is damaged.
+/// `lines` is the number of lines of the first text before that base.
 ///
 /// If the first verdict is an `Err`, the result is that `Err`. Else, if the second is an `Err`, the result is
 /// that one, with a damage's line increased by `lines`. Else the result is the sums, less one epoch. `None`

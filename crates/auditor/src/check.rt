@@ -15,8 +15,6 @@ use std::alloc::Global;
 use std::marker::Model;
 
 /// The progress of an audit.
-///
-/// The state reached, the moves since the last accepted disturbance, the last entry's number, and the counts.
 #[derive(Drop)]
 pub(crate) struct Audit {
     pub(crate) judge: Judge,
@@ -40,7 +38,6 @@ impl Model for Audit {
 }
 
 impl Audit {
-    /// An audit that begins in the state of `judge`, after entry `number`, with `spent` moves spent.
     pub(crate) fn new(judge: Judge, spent: u32, number: u32) -> Audit
         requires { number ≤ 16777216 }
         ensures { result ≡ position_at (record { moment = record { state = judge; spent = spent }; count = number }) }
@@ -76,7 +73,6 @@ impl Audit {
         self.spent
     }
 
-    /// The base of the state reached, if the moves spent are within the bound.
     pub(crate) fn base(&self, alloc: Global) -> Result<Base, Want>
         requires bounded { self.now.spent ≤ 2 * edge_count self.now.state.network + 3 * node_count self.now.state.network }
         ensures base { IfOk result (λ base. base ≡ base_of self.now.number (stand_of self.now).moment) }

@@ -26,7 +26,6 @@ pub struct Epochs {
 }
 
 impl Audit {
-    /// The new epoch that begins at the last entry.
     fn new_epoch(&self) -> Epoch
         ensures { result ≡ epoch_at self.now.number self.now.state }
     {
@@ -51,7 +50,7 @@ impl Audit {
 }
 
 impl TranscriptCursor {
-    /// The cost of the next entry, if its line ends in an accepted reply. No other line is parsed.
+    /// Parses the line only if it ends in an accepted reply.
     fn cost_ahead(&self, alloc: Global, rest: &[u8]) -> Result<Option<u32>, Want>
         ensures { IfOk result (IsNextCost self.now.rules self.now.audit.state rest.now) }
     {

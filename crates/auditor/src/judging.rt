@@ -15,7 +15,7 @@ const MOST_BYTES: u64 = (1 << 63) - 1;
 /// An audit of a transcript read in part: a cursor after the judged lines, and the bytes after them.
 ///
 /// The bytes are in `held`. While the opening is not complete, parsing is tried again once `held` has
-/// `enough` bytes. `len` is the number of bytes read.
+/// `enough` bytes.
 #[derive(Drop)]
 pub(crate) struct IncrementalAudit {
     pub(crate) run: Option<TranscriptCursor>,
@@ -53,7 +53,6 @@ impl TranscriptCursor {
         Ok(rest)
     }
 
-    // Judges the rest, after which the text ends.
     fn judge_whole(self, alloc: Global, rest: &[u8]) -> Result<Summary, JudgeFault>
         requires at { IsReachable self rest.now }
         requires compared { IsCompared self rest.now }
@@ -71,7 +70,6 @@ impl TranscriptCursor {
     }
 }
 
-/// Judges a text, part by part.
 pub(crate) fn judge_text(alloc: Global, text: &[u8]) -> Result<Summary, JudgeFault>
     ensures { IsJudged text.now result }
 {
@@ -102,8 +100,7 @@ fn judge_parts(
     Ok(())
 }
 
-// Judges the complete parts of `held` and the bytes after it, and keeps the remaining bytes in `held`. If
-// `held` was empty, no judged byte is copied.
+// If `held` was empty, no judged byte is copied.
 fn judge_behind(
     alloc: Global,
     run: &mut TranscriptCursor,
@@ -186,8 +183,7 @@ impl IncrementalAudit {
         }
     }
 
-    // Appends a piece to `held`, and tries to read the opening. If the opening is not complete, the next try
-    // waits until `held` has twice as many bytes.
+    // If the opening is not complete, the next try waits until `held` has twice as many bytes.
     fn begin(&mut self, alloc: Global, piece: &[u8]) -> Result<(), JudgeFault>
         requires unbegun { self.old.run ≡ None }
         ensures on { OnOk result (IsReadOf (self.old.held.items ++ piece.now) self.new.run self.new.held.items) }
@@ -207,7 +203,7 @@ impl IncrementalAudit {
         Ok(())
     }
 
-    /// Judges the lines that end in the next piece. An error is final, whatever bytes follow.
+    /// An error is final, whatever bytes follow.
     pub(crate) fn take(&mut self, alloc: Global, piece: &[u8]) -> Result<(), JudgeFault>
         requires { IsUnderway self.old }
         ensures on { OnOk result ((read : List ℕ) → IsRead read self.old → IsRead (read ++ piece.now) self.new) }
@@ -225,7 +221,6 @@ impl IncrementalAudit {
         judge_piece(alloc, run, &mut self.held, piece)
     }
 
-    /// Judges the bytes left over, after which the text ends.
     pub(crate) fn finish(self, alloc: Global) -> Result<Summary, JudgeFault>
         requires { IsUnderway self }
         ensures { (read : List ℕ) → IsRead read self → IsJudged read result }

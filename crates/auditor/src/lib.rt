@@ -1,15 +1,14 @@
 //! The auditor: accepts bytes that are the transcript of a run, and names the first damage of all others.
 //!
-//! The auditor reads a text part by part. It judges an entry with `entry_grammar` and `reply_checker`, and a
-//! base by comparing it with the base of the state reached. In memory is only the part that is not complete
-//! yet. The auditor accepts exactly the texts of runs and counts their entries, epochs and moves. For every
-//! other text it names the first line that fails, and the first check that this line fails. A text is the
-//! transcript of at most one run and has at most one damage (laws). The auditor builds on the definitions and
-//! uses no guard of the engine, so it also judges transcripts of other programs.
+//! The auditor reads a text part by part; in memory is only the part that is not complete yet. It judges an
+//! entry with `entry_grammar` and `reply_checker`, and a base by comparing it with the base of the state
+//! reached. The auditor accepts exactly the texts of runs and counts their entries, epochs and moves. For
+//! every other text it names the first line that fails, and the first check that this line fails. The auditor
+//! builds on the definitions and uses no guard of the engine, so it also judges transcripts of other programs.
 //!
 //! `PieceAudit` is fed a text in pieces, cut anywhere; `audit` reads a text from a reader. `state_after`
-//! returns the state after an entry. `epochs_of` returns, for each disturbance, the moves after it, the bound
-//! on these moves, and the cost of the disturbance.
+//! returns the state after an entry. `epochs_of` returns, for each disturbance, its cost, the moves after it,
+//! and the bound on these moves.
 //!
 //! ```rust
 //! match audit(alloc, &mut CountingReader::new(stdin)) {

@@ -4,7 +4,6 @@ ghost use Rattle.std.specs.Prelude.{◌≡◌, ◌≤◌, ℕ, List, ◌++◌, l
 ghost use Rattle.auditor.specs.Damage.{line_feeds};
 ghost use Rattle.auditor.specs.TranscriptCursors.{AreSameUpTo, ArePartedAt};
 
-/// How many lines end in the bytes. Looks at each byte once.
 pub(crate) fn line_feeds(bytes: &[u8]) -> u64
     ensures { result ≡ line_feeds bytes.now }
 {

@@ -11,8 +11,7 @@ use std::alloc::Global;
 
 /// An audit that is fed a transcript in pieces, cut anywhere.
 ///
-/// Only the line or base that is not complete yet is in memory. An error is final: every later call returns
-/// the same error.
+/// Only the line or base that is not complete yet is in memory.
 #[derive(Drop)]
 pub struct PieceAudit {
     trial: IncrementalAudit,

@@ -50,7 +50,6 @@ fn forgotten(entries: u32, last: Option<u32>) -> Option<u32>
     }
 }
 
-// The state reached, or `TooFew`.
 fn finish(replay: TranscriptCursor, last: Option<u32>) -> Result<ReplayedRun, ReplayFault>
     ensures reached { IfOk result (λ reached. (reached.rules ≡ replay.rules) × (reached.judge ≡ replay.audit.state) × IsLongEnough last replay.audit.number) }
     ensures few { IfErr result (λ fault. (asked : ℕ) × (fault ≡ TooFew asked replay.audit.number) × (last ≡ Some asked) × (replay.audit.number < asked)) }

@@ -46,7 +46,6 @@ fn head_of(line: BaseLine) -> Option<(RuleSet, u32)>
     }
 }
 
-// Reads the first line of a base: its rules, and its number of names.
 fn read_head(line: &[u8]) -> Option<(RuleSet, u32)>
     ensures { MatchOption result (SpellsNoHead line.now) (λ head. (head.1 ≤ 65535) × (line.now ≡ base_head head.0 head.1)) }
 {
@@ -78,7 +77,6 @@ impl Audit {
 }
 
 impl TranscriptCursor {
-    /// A cursor after a header, at the opening state.
     fn at_header(
         alloc: Global,
         text: &[u8],
@@ -104,7 +102,7 @@ impl TranscriptCursor {
         })
     }
 
-    /// Reads a base after its first line. Returns a cursor and the rest; `None` if the base is cut off.
+    /// `None` if the base is cut off.
     fn at_base<'a>(
         alloc: Global,
         text: &[u8],
@@ -145,9 +143,9 @@ impl TranscriptCursor {
         Ok(Some((replay, behind)))
     }
 
-    /// Reads the opening, a header or a base. Returns a cursor after the opening, and the rest.
+    /// Reads the opening; `None` if the text ends inside it.
     ///
-    /// `None` if the text ends inside the opening. An error is final, whatever would follow the text.
+    /// An error is final, whatever would follow the text.
     pub(crate) fn open(
         alloc: Global,
         text: &[u8],
@@ -189,7 +187,7 @@ impl TranscriptCursor {
         self.audit.number()
     }
 
-    // Judges the next entry, and returns the rest after it; `None` if the entry's line has no LF yet.
+    // `None` if the entry's line has no LF yet.
     fn pass_entry<'a>(
         &mut self,
         alloc: Global,
@@ -225,8 +223,7 @@ impl TranscriptCursor {
         Ok(())
     }
 
-    // Compares the next base with the base of the state reached, and returns the rest after it; `None` if the
-    // rest is only a beginning of that base.
+    // `None` if the rest is only a beginning of the base of the state reached.
     fn pass_base<'a>(
         &mut self,
         alloc: Global,

@@ -41,7 +41,6 @@ fn tell(judged: Result<Summary, JudgeFault>) -> Result<Summary, AuditFault>
     }
 }
 
-// Reads to the end, and judges the parts as they come.
 fn judge_read<In: Read>(
     alloc: Global,
     reader: &mut CountingReader<In>,

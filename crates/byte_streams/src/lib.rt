@@ -1,12 +1,12 @@
 //! Readers and writers of bytes that never retry a failed call.
 //!
-//! A `FailStopWriter` writes exactly the given bytes or, if a write fails, a prefix of these bytes. No byte
-//! is written twice. So the contract says for each error what the file contains. An interrupted write counts
-//! as failed; std's `write_all` would retry it.
+//! A `FailStopWriter` writes exactly the given bytes or, if a write fails, a prefix of these bytes. So the
+//! contract says for each error what the file contains. An interrupted write counts as failed; std's
+//! `write_all` would retry it.
 //!
 //! `CountingReader` and `FailStopWriter` record each failed read or write, so contracts can say that an error
-//! follows a failure. `read_whole` reads to the end in chunks of 65,536 bytes and returns all bytes. A run
-//! and an audit read line by line, from a `CountingReader`.
+//! follows a failure. `read_whole` reads in chunks of 65,536 bytes. A run and an audit read line by line,
+//! from a `CountingReader`.
 //!
 //! ```rust
 //! let bytes = read_whole(alloc, &mut CountingReader::new(stdin))?;      // `InputFault`: `Read` or `Memory`

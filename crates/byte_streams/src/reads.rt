@@ -9,7 +9,6 @@ use crate::InputFault;
 use std::alloc::{AllocError, Global};
 use std::io::Read;
 
-/// How many bytes a read asks for.
 const CHUNK: usize = 65_536;
 
 /// A reader that counts its reads. It never retries: after a failed read it does not read again.

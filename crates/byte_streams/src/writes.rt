@@ -26,8 +26,6 @@ impl<Out: Write> FailStopWriter<Out> {
         }
     }
 
-    // Writes once; returns how many bytes the writer took, at least one.
-    // Error: the write fails or takes no byte. Later calls then fail without writing.
     fn write(&mut self, bytes: &[u8]) -> Result<usize, OutputFault>
         requires some { 0 < length bytes.now }
         ensures bytes { IfOk result (λ len. Appends (Out.contents self.old.writer) (Out.contents self.new.writer) (take len bytes.now)) }
@@ -67,7 +65,7 @@ impl<Out: Write> FailStopWriter<Out> {
     }
 
     /// Flushes the writer.
-    /// Error: the flush fails. There is no retry. After a failure, calls fail without flushing.
+    /// Error: the flush fails. There is no retry.
     pub fn flush_once(&mut self) -> Result<(), OutputFault>
         ensures bytes { Keeps (Out.contents self.old.writer) (Out.contents self.new.writer) }
         ensures good { OnOk result (self.new.failed ≡ self.old.failed) }

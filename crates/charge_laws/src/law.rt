@@ -26,8 +26,7 @@ pub fn moves_are_bounded()
 
 /// Without a disturbance, the moves so far plus the charge left are at most the charge at the start.
 ///
-/// The charge at the start is at most 2m + n (Hsu and Huang) or 2m + 3n (Manne). Holds from any state,
-/// whatever the daemon chooses.
+/// The charge at the start is at most 2m + n (Hsu and Huang) or 2m + 3n (Manne).
 pub fn moves_are_paid()
     ensures hsu_huang { (start : Moment) → IsState start.state → (log : List Entry) (end : Moment) → Run hsu_huang start log end → IsUndisturbed log
         → (moves_in log + hsu_huang.charge end.state ≤ hsu_huang.charge start.state)

@@ -16,7 +16,6 @@ use std::alloc::{AllocError, Global};
 
 static RULES: [&str; 2] = ["hh", "manne"];
 
-// `--NAME` with one value.
 fn valued_arg<'a>(alloc: Global, name: &'a str, value: &'a str, help: &'a str) -> Arg<'a>
     ensures rule { rule_of result ≡ valued_rule name.entry.now }
     ensures local { result.global ≡ false }
@@ -27,7 +26,6 @@ fn valued_arg<'a>(alloc: Global, name: &'a str, value: &'a str, help: &'a str) -
         .help(help)
 }
 
-// `--rules`, whose value is one of these names.
 fn rules_arg<'a>(alloc: Global, names: &'a [&'a str]) -> Arg<'a>
     ensures rule { rule_of result ≡ rules_rule names.entry }
     ensures local { result.global ≡ false }
@@ -37,7 +35,6 @@ fn rules_arg<'a>(alloc: Global, names: &'a [&'a str]) -> Arg<'a>
         .value_parser(names)
 }
 
-// `--nodes`, a number from 0 to 65,535.
 fn nodes_arg<'a>(alloc: Global) -> Arg<'a>
     ensures rule { rule_of result ≡ nodes_rule }
     ensures local { result.global ≡ false }
@@ -47,7 +44,6 @@ fn nodes_arg<'a>(alloc: Global) -> Arg<'a>
         .value_parser(value_parser!(u16))
 }
 
-// `--present`, a number from 0 to 65,535.
 fn present_arg<'a>(alloc: Global) -> Arg<'a>
     ensures rule { rule_of result ≡ present_rule }
     ensures local { result.global ≡ false }
@@ -55,7 +51,6 @@ fn present_arg<'a>(alloc: Global) -> Arg<'a>
     valued_arg(alloc, "present", "P", PRESENT_HELP).value_parser(value_parser!(u16))
 }
 
-// `--workers`, a number from 1 to 64.
 fn workers_arg<'a>(alloc: Global) -> Arg<'a>
     ensures rule { rule_of result ≡ workers_rule }
     ensures local { result.global ≡ false }
@@ -65,7 +60,6 @@ fn workers_arg<'a>(alloc: Global) -> Arg<'a>
         .value_parser(value_parser!(u16).range(1..=64))
 }
 
-// A subcommand without its arguments.
 fn told_command<'a>(alloc: Global, name: &'a str, about: &'a str, notes: &'a str) -> Command<'a>
     ensures app { app_of result ≡ new_app name.entry.now }
     ensures local { (fields_of result).has_globals ≡ false }
@@ -73,7 +67,6 @@ fn told_command<'a>(alloc: Global, name: &'a str, about: &'a str, notes: &'a str
     Command::new(alloc, name).about(about).after_help(notes)
 }
 
-// A subcommand that reads a transcript.
 fn reading_command<'a>(
     alloc: Global,
     name: &'a str,
@@ -87,7 +80,6 @@ fn reading_command<'a>(
     told_command(alloc, name, about, notes).override_usage(usage)
 }
 
-// Adds the arguments of a network: rules, names, nodes at the start, and workers.
 fn network_command<'a>(
     alloc: Global,
     command: Command<'a>,
@@ -112,7 +104,6 @@ fn run_command<'a>(alloc: Global, names: &'a [&'a str]) -> Result<Command<'a>, A
     network_command(alloc, run, names)
 }
 
-// `--entry`, a number from 0 to 16,777,216.
 fn entry_arg<'a>(alloc: Global) -> Arg<'a>
     ensures rule { rule_of result ≡ entry_rule }
     ensures local { result.global ≡ false }
@@ -136,7 +127,6 @@ fn picture_command<'a>(alloc: Global) -> Result<Command<'a>, AllocError>
     .arg(entry_arg(alloc))
 }
 
-// `--roam`, a number from 0 to 64.
 fn roam_arg<'a>(alloc: Global) -> Arg<'a>
     ensures rule { rule_of result ≡ roam_rule }
     ensures local { result.global ≡ false }
@@ -146,7 +136,6 @@ fn roam_arg<'a>(alloc: Global) -> Arg<'a>
         .value_parser(value_parser!(u16).range(..=64))
 }
 
-// `--turns`, a number from 0 to 1,000,000.
 fn turns_arg<'a>(alloc: Global) -> Arg<'a>
     ensures rule { rule_of result ≡ turns_rule }
     ensures local { result.global ≡ false }
@@ -156,7 +145,6 @@ fn turns_arg<'a>(alloc: Global) -> Arg<'a>
         .value_parser(value_parser!(u32).range(..=1_000_000))
 }
 
-// The names of one or more script files.
 fn script_arg<'a>(alloc: Global) -> Arg<'a>
     ensures rule { rule_of result ≡ script_rule }
     ensures local { result.global ≡ false }
@@ -178,7 +166,6 @@ fn storm_command<'a>(alloc: Global, names: &'a [&'a str]) -> Result<Command<'a>,
         .arg(script_arg(alloc))
 }
 
-// The command before its subcommands are added.
 fn top_command<'a>(alloc: Global) -> Command<'a>
     ensures { app_of result ≡ top_app }
 {
@@ -190,7 +177,6 @@ fn top_command<'a>(alloc: Global) -> Command<'a>
         .arg_required_else_help(true)
 }
 
-// The command with the subcommands `run` and `audit`.
 fn judging_command<'a>(alloc: Global, names: &'a [&'a str]) -> Result<Command<'a>, AllocError>
     ensures { IfOk result (λ command. app_of command ≡ judging_app names.entry) }
 {
@@ -199,7 +185,6 @@ fn judging_command<'a>(alloc: Global, names: &'a [&'a str]) -> Result<Command<'a
         .subcommand(reading_command(alloc, "audit", AUDIT_ABOUT, AUDIT_NOTES, AUDIT_USAGE))
 }
 
-// The command with the subcommands `run`, `audit`, `picture` and `epochs`.
 fn showing_command<'a>(alloc: Global, names: &'a [&'a str]) -> Result<Command<'a>, AllocError>
     ensures { IfOk result (λ command. app_of command ≡ showing_app names.entry) }
 {

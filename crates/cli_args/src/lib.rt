@@ -1,12 +1,10 @@
 //! The words of the command line, and the tasks that they ask for.
 //!
-//! `read_words` returns the task, or clap's error with its text. `command` builds one clap command, and
-//! clap's definition of that command says which words are good. By contract, the task is what clap's
-//! definition gives for the words: each number is in its range, and an argument that is left out has its
-//! default. The help texts in `help` are plain bytes; they are tested, not proved.
+//! `read_words` returns the task, or clap's error with its text. By contract, the task is what clap's
+//! definition of the command gives for the words: each number is in its range, and an argument that is left
+//! out has its default. The help texts in `help` are plain bytes; they are tested, not proved.
 //!
-//! Since clap's contracts are wide and costly to prove, this is a crate of its own. The crate depends only on
-//! `rule_machine` and clap, and only `command_line` depends on it.
+//! Since clap's contracts are wide and costly to prove, this is a crate of its own.
 //!
 //! ```rust
 //! match read_words(alloc, &words)? {                // the first word is the program's name

@@ -37,9 +37,7 @@ fn turns(storm: &ArgMatches<'_>) -> Option<u32>
     storm.get_one::<u32>("turns")
 }
 
-/// The task of `storm`; `None` if a value is missing or is not one that its argument allows.
-///
-/// Fails only if memory runs out.
+/// `None` if a value is missing or is not one that its argument allows.
 pub(crate) fn storm_task<'a>(
     alloc: Global,
     storm: &ArgMatches<'a>,

@@ -61,8 +61,6 @@ pub(crate) fn number(found: &ArgMatches<'_>, id: &str) -> Option<u16>
     found.get_one::<u16>(id)
 }
 
-/// The rule set, the names, the nodes at the start (if given) and the workers.
-///
 /// `None` if a value is missing or is not one that its argument allows.
 pub(crate) fn network(found: &ArgMatches<'_>) -> Option<(RuleSet, u16, Option<u16>, u16)>
     ensures { MatchOption result
@@ -87,7 +85,6 @@ pub(crate) fn network(found: &ArgMatches<'_>) -> Option<(RuleSet, u16, Option<u1
     Some((rules, nodes, present, workers))
 }
 
-// The task of `run`; `None` if a value is missing or is not one that its argument allows.
 fn run_task<'a>(run: &ArgMatches<'a>) -> Option<Task<'a>>
     ensures { MatchOption result
         ((rules : RuleSet) (nodes : ℕ) (present : Option ℕ) (workers : ℕ) → HoldsRun (rows_of (found_of run.now)) rules nodes present workers → ⊥)
@@ -104,7 +101,6 @@ fn run_task<'a>(run: &ArgMatches<'a>) -> Option<Task<'a>>
     })
 }
 
-// The task of `picture`; `None` if the value of `--entry` is no number.
 fn picture_task<'a>(picture: &ArgMatches<'a>) -> Option<Task<'a>>
     ensures { MatchOption result
         ((entry : Option ℕ) → HoldsPicture (rows_of (found_of picture.now)) entry → ⊥)

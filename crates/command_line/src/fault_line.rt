@@ -41,7 +41,6 @@ pub fn write_fault<Faults: Write>(
     }
 }
 
-// The line of a fault without numbers.
 fn plain_line(fault: RunFault) -> &'static [u8]
     requires { IsLinelessRunFault fault }
     ensures { result.now ≡ run_fault_line fault }

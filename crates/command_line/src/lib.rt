@@ -1,10 +1,8 @@
 //! The program from the words of its command line to its exit status.
 //!
-//! `start` reads the words, does their task on the given streams, and returns the status: 0 done or accepted,
-//! 1 refused, 2 bad words or a bad line, 3 a failed device, 4 no memory or a full log. The clause `does` of
-//! `start` joins the contracts of the words and of their task; so the words and the script determine the
-//! transcript bytes of a `run`. A verdict is one line, written once. Writing the line of a fault takes no
-//! memory.
+//! `start` reads the words, does their task on the given streams, and returns the exit status. The clause
+//! `does` of `start` joins the contracts of the words and of their task; so the words and the script
+//! determine the transcript bytes of a `run`. Writing the line of a fault takes no memory.
 //!
 //! `console` passes the process's words and streams to `start`. `start` opens the script files of a storm and
 //! nothing else.

@@ -22,7 +22,7 @@ use std::thread::Threads;
 use steal_pool::NoGate;
 use storm_runner::{StormFault, storm, storm_end};
 
-// Opens these files in order; `Read` at the first file that cannot be opened.
+// `Read` at the first file that cannot be opened.
 fn open_all<T: Files>(rt: &T, alloc: Global, names: &[&str]) -> Result<Vec<T::File>, StormFault>
     ensures count { IfOk result (λ files. length files.items ≡ length names.now) }
     ensures fault { IfErr result (FailsToOpen (length names.now)) }

@@ -84,8 +84,8 @@ pub fn tell_bad_present<Faults: Write>(faults: &mut FailStopWriter<Faults>) -> u
     2
 }
 
-// Writes clap's text about bad words, and returns 2. If memory ran out while the words were read, reports
-// that, and returns 4. If memory runs out for clap's text, reports that instead of the text, and returns 2.
+// Returns 2 for bad words, also if memory runs out for clap's text. Returns 4 if memory ran out while the
+// words were read.
 fn refuse<Faults: Write>(alloc: Global, error: Error, faults: &mut FailStopWriter<Faults>) -> u8
     ensures status { result ≡ words_status (kind_of error) }
     ensures device { result ≢ 3 }
@@ -102,7 +102,6 @@ fn refuse<Faults: Write>(alloc: Global, error: Error, faults: &mut FailStopWrite
     2
 }
 
-// Writes a text, or reports that memory ran out for it, and returns the exit status.
 fn show_made<Out: Write, Faults: Write>(
     made: Result<String, AllocError>,
     writer: &mut FailStopWriter<Out>,
@@ -121,7 +120,6 @@ fn show_made<Out: Write, Faults: Write>(
     }
 }
 
-// Writes clap's text of the help or the version. If the text cannot be made, reports that memory ran out.
 fn show<Out: Write, Faults: Write>(
     alloc: Global,
     text: Error,
@@ -157,8 +155,7 @@ fn run_script<In: Read, Out: Write, Faults: Write, T: Threads + Wait + Sync>(
     }
 }
 
-// Runs the script under the options, or, without options, reports too many nodes at the start. Returns the
-// exit status.
+// Without options, reports too many nodes at the start.
 fn run_network<In: Read, Out: Write, Faults: Write, T: Threads + Wait + Sync>(
     rt: &T,
     alloc: Global,

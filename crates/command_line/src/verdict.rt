@@ -32,7 +32,6 @@ impl CheckEnd {
     }
 }
 
-// The verdict of an audit's result, or the fault that left no verdict.
 fn verdict_of(audited: Result<Summary, AuditFault>) -> Result<CheckEnd, RunFault>
     ensures verdict { result ≡ check_result audited }
     ensures unread { IsErrOf result RunFault.Read → IsErrOf audited AuditFault.Read }

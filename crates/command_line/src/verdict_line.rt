@@ -9,7 +9,6 @@ use auditor::{AuditFault, Summary};
 use itoa::Buffer;
 use std::alloc::{AllocError, Global};
 
-/// Writes a number in decimal, and then a text.
 pub(crate) fn put_number(line: &mut Vec<u8>, number: u64, text: &[u8]) -> Result<(), AllocError>
     ensures { OnOk result (line.new.items ≡ line.old.items ++ (number_text number ++ text.now)) }
 {

@@ -54,7 +54,6 @@ pub fn show_text<Out: Write, Faults: Write>(
     }
 }
 
-// Writes an audit's verdict that names a damage, and returns the exit status.
 fn show_refusal<Out: Write, Faults: Write>(
     alloc: Global,
     damage: Damage,
@@ -72,7 +71,6 @@ fn show_refusal<Out: Write, Faults: Write>(
     }
 }
 
-// Writes the line of a missing entry, or reports that memory ran out for it. Returns the exit status.
 fn tell_missing<Faults: Write>(
     line: Result<Vec<u8>, AllocError>,
     faults: &mut FailStopWriter<Faults>,
@@ -91,7 +89,6 @@ fn tell_missing<Faults: Write>(
     }
 }
 
-// Writes a view, or the reason why there is none, and returns the exit status.
 fn tell_view<Out: Write, Faults: Write>(
     alloc: Global,
     viewed: Result<View, InputFault>,

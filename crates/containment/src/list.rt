@@ -12,7 +12,7 @@ use net_state::NetState;
 use rule_machine::{Event, Node, Want};
 use std::alloc::Global;
 
-/// Returns the lesser of the first nodes of two lists.
+/// The lesser of the first nodes of two lists.
 fn least_head(xs: &[Node], ys: &[Node]) -> Option<Node>
     ensures { result ≡ among.least_head xs.now ys.now }
 {
@@ -33,7 +33,6 @@ fn without_head(nodes: &[Node], v: Node) -> &[Node]
     }
 }
 
-/// Returns the neighbours of a node; none if the node is absent.
 fn near(net: &NetState, v: Node) -> &[Node]
     ensures { result.now ≡ neighbours net.now.state.network v }
 {
@@ -48,7 +47,6 @@ fn near(net: &NetState, v: Node) -> &[Node]
 fn partner(net: &NetState, v: Node) -> Option<Node>
     ensures { result ≡ state.partner net.now.state v }
 {
-    // Gives the prover `IsState`.
     let _ = net.registers();
     if !net.has(v) {
         return None;
@@ -77,8 +75,6 @@ fn parts_a_pair(net: &NetState, event: &Event) -> bool
 /// Whether the event hits or parts `v`, or parts a pair while `v` is unmarried.
 ///
 /// `parts` is whether the event parts a pair.
-///
-/// Cost: a few looks, none at the neighbours of `v`.
 fn is_touched(net: &NetState, event: &Event, parts: bool, v: Node) -> bool
     requires { parts ≡ of.parts_a_pair net.now.state event.now }
     ensures { result ≡ among.is_hit_or_parted net.now.state event.now v }
@@ -86,7 +82,7 @@ fn is_touched(net: &NetState, event: &Event, parts: bool, v: Node) -> bool
     is_hit(net, event, v) || is_parted(net, event, v) || (parts && !is_married(net, v))
 }
 
-/// Returns those nodes of two ascending lists that the event touches (`is_touched`), ascending.
+/// Those nodes of two ascending lists that the event touches, ascending.
 fn touched(
     alloc: Global,
     net: &NetState,
@@ -111,7 +107,7 @@ fn touched(
     Ok(list)
 }
 
-/// Returns `one`, which contains `v` alone, if `v` is present, else the empty list.
+/// `one`, which contains `v` alone, if `v` is present, else the empty list.
 fn only<'a>(net: &NetState, v: Node, one: &'a [Node]) -> &'a [Node]
     requires { one.now ≡ v ∷ [] }
     ensures { result.now ≡ filter (λ x. nat_eq x v) (names net.now.state.network) }
@@ -122,12 +118,11 @@ fn only<'a>(net: &NetState, v: Node, one: &'a [Node]) -> &'a [Node]
     &[]
 }
 
-/// Returns the reach of an event that parts a pair: parted nodes and their unmarried neighbours.
+/// The reach of an event that parts a pair: parted nodes and their unmarried neighbours.
 fn list_beside(alloc: Global, net: &NetState, event: &Event) -> Result<Vec<Node>, Want>
     requires { IsTrue (of.parts_a_pair net.now.state event.now) }
     ensures { IfOk result (λ list. list.items ≡ filter (of.is_in_reach net.now.state event.now) (names net.now.state.network)) }
 {
-    // Gives the prover `IsState`.
     let _ = net.registers();
     match event {
         Event::Unlink(a, b) => touched(alloc, net, event, near(net, *a), near(net, *b)),
@@ -143,7 +138,7 @@ fn list_beside(alloc: Global, net: &NetState, event: &Event) -> Result<Vec<Node>
     }
 }
 
-/// Returns the nodes, ascending, that an event would reach if this state accepted the event.
+/// The nodes, ascending, that an event would reach if this state accepted the event.
 ///
 /// `AllocError` if memory runs out.
 ///
@@ -151,7 +146,6 @@ fn list_beside(alloc: Global, net: &NetState, event: &Event) -> Result<Vec<Node>
 pub fn list_reach(alloc: Global, net: &NetState, event: &Event) -> Result<Vec<Node>, Want>
     ensures { IfOk result (λ list. list.items ≡ filter (of.is_in_reach net.now.state event.now) (names net.now.state.network)) }
 {
-    // Gives the prover `IsState`.
     let _ = net.registers();
     if parts_a_pair(net, event) {
         return list_beside(alloc, net, event);

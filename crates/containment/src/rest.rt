@@ -9,8 +9,6 @@ use net_state::NetState;
 use rule_machine::Node;
 
 /// Whether each neighbour of a node is married.
-///
-/// Cost: two looks at each neighbour, up to the first unmarried one.
 fn is_surrounded(net: &NetState, v: Node) -> bool
     requires { IsTrue (network.present net.now.state.network v) }
     ensures { result ≡ of.is_surrounded net.now.state v }
@@ -23,7 +21,6 @@ fn is_surrounded(net: &NetState, v: Node) -> bool
     true
 }
 
-/// Whether a node is married; false if the node is absent.
 pub(crate) fn is_married(net: &NetState, v: Node) -> bool
     ensures { result ≡ state.married net.now.state v }
 {
@@ -44,7 +41,6 @@ pub(crate) fn is_married(net: &NetState, v: Node) -> bool
 pub fn is_at_rest(net: &NetState, uses_flags: bool, v: Node) -> bool
     ensures { result ≡ of.is_at_rest uses_flags net.now.state v }
 {
-    // Gives the prover `IsState`.
     let _ = net.registers();
     if !net.has(v) {
         return true;

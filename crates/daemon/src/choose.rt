@@ -23,7 +23,6 @@ pub trait Daemon {
         ensures chosen { IfOk result (λ choice. chooses (members set.now) central self.old choice self.new) };
 }
 
-/// The members, ascending. They ascend strictly, so there are at most 65,535.
 pub(crate) fn list_of(set: &EnabledSet) -> Result<Vec<Node>, Want>
     ensures list { IfOk result (λ list. list.items ≡ members set.now) }
     ensures few { OnOk result (length (members set.now) ≤ 65535) }

@@ -13,7 +13,6 @@ use rule_machine::{Choice, Item, MAX_NAME, Node, Want};
 use std::alloc::Global;
 use std::marker::Model;
 
-/// A table of 65,536 bytes: `true` for each name that the list has. One write for each node.
 fn marks_of(alloc: Global, list: &[Node]) -> Result<Vec<bool>, Want>
     ensures { IfOk result (λ marks. AreMarksOf marks.items list.now) }
 {
@@ -24,7 +23,6 @@ fn marks_of(alloc: Global, list: &[Node]) -> Result<Vec<bool>, Want>
     Ok(marks)
 }
 
-/// An item for each node of `names` that `list` has, in the order of `names`. One look at each node.
 fn items_of(alloc: Global, names: &[Node], list: &[Node]) -> Result<Vec<Item>, Want>
     ensures { IfOk result (λ items. items.items ≡ plain (named_of names.now list.now)) }
 {

@@ -13,7 +13,6 @@ use rule_machine::{Choice, Item, Node, Want};
 use std::alloc::Global;
 use std::marker::Model;
 
-/// The member that the next word picks: the one with index (word mod count), ascending from 0.
 fn next_member<G: Rng>(generator: &mut G, set: &EnabledSet) -> Node
     requires { 1 ≤ length (members set.now) }
     ensures { (result ∷ [], G.stream generator.new) ≡ draw_one (members set.now) (G.stream generator.old) }
@@ -23,7 +22,6 @@ fn next_member<G: Rng>(generator: &mut G, set: &EnabledSet) -> Node
     set.nth(word % count).unwrap()
 }
 
-/// A choice of one member, picked by one word. Takes no memory.
 fn choose_one<G: Rng>(generator: &mut G, set: &EnabledSet) -> Choice
     requires { 1 ≤ length (members set.now) }
     ensures { (result, G.stream generator.new) ≡ as_choice (draw_one (members set.now) (G.stream generator.old)) }
@@ -38,8 +36,8 @@ fn is_odd(word: u32) -> bool
     word % 2 == 1
 }
 
-/// Draws one word for each node, and appends an item for the node if its word is odd.
-/// Each item is written first and removed if its word is even: a branch would be mispredicted half the time.
+/// Each item is written first and removed if its word is even:
+/// a branch would be mispredicted half the time.
 fn push_odd<G: Rng>(generator: &mut G, names: &[Node], items: &mut Vec<Item>)
     requires empty { items.old.items ≡ [] }
     requires room { length names.now ≤ vec_capacity items.old }
@@ -83,7 +81,6 @@ fn some_items<G: Rng>(
     Ok(items)
 }
 
-/// The choice of a daemon that is not central: at least one item.
 fn choose_some<G: Rng>(alloc: Global, generator: &mut G, set: &EnabledSet) -> Result<Choice, Want>
     requires { 1 ≤ length (members set.now) }
     ensures drawn { IfOk result (λ choice. (choice, G.stream generator.new) ≡ as_choice (draw_some (members set.now) (G.stream generator.old))) }
@@ -128,9 +125,8 @@ impl<G: Rng> Daemon for Seeded<G> {
 
     /// The choice that the generator's next words pick; `None` if and only if the set is empty.
     /// Error: out of memory; no word has been drawn.
-    /// A central daemon draws one word, with some 40 looks and no memory. Any other daemon draws a word for
-    /// each member and at most one more, and takes memory for a node and an item for each member: at most
-    /// 65,535 of each.
+    /// A central daemon takes some 40 looks and no memory. Any other daemon takes memory for a node and an
+    /// item for each member: at most 65,535 of each.
     fn choose(&mut self, set: &EnabledSet, central: bool) -> Result<Option<Choice>, Want>
         ensures lawful { IfOk result (λ choice. IfSome choice (IsLawful set.now central)) }
         ensures drawn { IfOk result (λ choice. (choice, G.stream self.new) ≡ choice_drawn central (members set.now) (G.stream self.old)) }

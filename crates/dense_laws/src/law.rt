@@ -26,7 +26,7 @@ pub fn dense_charge_falls()
 
 /// Twice a run's moves plus the dense charge at its end are at most the dense charge at its start.
 ///
-/// The run has no disturbance. Holds from any state, whatever the daemon chooses.
+/// The run has no disturbance.
 pub fn dense_moves_are_paid()
     ensures { (start : Moment) → IsState start.state → (log : List Entry) (end : Moment) → Run hsu_huang start log end → IsUndisturbed log
         → 2 * moves_in log + dense_charge end.state ≤ dense_charge start.state }

@@ -7,7 +7,6 @@ ghost use Rattle.enabled_set.specs.Counts.{tally, before, below};
 use crate::word::{Spot, bit_is_set, first_bit, spot_behind, without_bit};
 use rule_machine::{Node, Want};
 
-/// The word at an index; 0 past the end.
 #[inline(always)]
 pub fn word_at(words: &[u64], place: usize) -> u64
     ensures { result ≡ slice_index words.now place }
@@ -25,8 +24,8 @@ pub fn look(words: &[u64], place: usize) -> bool
     bit_is_set(word_at(words, place / 64), place % 64)
 }
 
-/// Finds the block that has member `to_pass`, and the index of this member in the block; both from 0.
-/// Looks at the counts of 16 blocks. Stops at the block found, since a network has few blocks to pass.
+/// Finds the block that has member `to_pass`, and the member's index in the block; both from 0.
+/// Stops at the block found, since a network has few blocks to pass.
 #[inline(always)]
 pub fn pass_in_16(counts: &[u16], to_pass: u32) -> Spot
     requires room { 16 ≤ length counts.now }
@@ -47,7 +46,7 @@ pub fn pass_in_16(counts: &[u16], to_pass: u32) -> Spot
 }
 
 /// Like `pass_in_16`, for the eight counts from index `from` on.
-/// Sums all of these counts, to avoid a mispredicted branch.
+/// Sums all of them, to avoid a mispredicted branch.
 #[inline(always)]
 pub fn pass_in_8(counts: &[u16], from: usize, to_pass: u32) -> Spot
     requires room { from + 8 ≤ length counts.now }

@@ -65,8 +65,7 @@ fn pass_over(spot: Spot, width: usize, members: u32) -> Spot
     }
 }
 
-/// The spot at `place` if at most `to_pass` members come before `place`, else the old spot.
-/// `members` is how many members come before `place`.
+/// The spot at `place` if the `members` before `place` are at most `to_pass`, else the old spot.
 #[inline(always)]
 pub fn spot_behind(spot: Spot, place: usize, to_pass: u32, members: u32) -> Spot
     ensures stays_place { to_pass < members → result.place ≡ spot.place }

@@ -40,7 +40,6 @@ pub enum BaseLine {
     Link(Edge),
 }
 
-// Reads the rules and the number of names.
 fn read_head(bytes: &[u8]) -> Option<(RuleSet, u32)>
     ensures { ReadsTwo (λ rules size. size ≤ 65535) rules_text bytes.now result }
 {

@@ -48,7 +48,6 @@ fn numbers_of(line: BaseLine) -> Option<(u32, u32, u32, u32)>
     }
 }
 
-// Reads the line with the numbers of a base.
 fn next_numbers(bytes: &[u8]) -> Option<((u32, u32, u32, u32), &[u8])>
     ensures { MatchOption result
         ((q : ℕ × ℕ × ℕ × ℕ) (more : List ℕ) → Starts AreCounts numbers_text bytes.now q more → ⊥)
@@ -85,7 +84,6 @@ fn edge_of(line: BaseLine) -> Option<Edge>
     }
 }
 
-// Reads a node whose name is above `last`.
 fn next_node(bytes: &[u8], last: u32) -> Option<(NodeRecord, &[u8])>
     ensures { MatchOption result
         ((place : PlaceKept) (more : List ℕ) → last < place.node → Starts IsPlace node_record_text bytes.now place more → ⊥)
@@ -117,7 +115,6 @@ fn is_above(last: (u32, u32), edge: Edge) -> bool
     last.0 < low || last.0 == low && last.1 < edge.high().name()
 }
 
-// Reads an edge that comes after `last`.
 fn next_edge(bytes: &[u8], last: (u32, u32)) -> Option<(Edge, &[u8])>
     ensures { MatchOption result
         ((edge : ℕ × ℕ) (more : List ℕ) → IsEdgeAbove last edge → Starts IsOrderedPair link_text bytes.now edge more → ⊥)

@@ -19,7 +19,6 @@ pub(crate) fn read_up_to(bytes: &[u8], most: u32) -> Option<u32>
     Some(number as u32)
 }
 
-/// Reads a field, which is a name and then a number; returns the number.
 pub(crate) fn read_field(bytes: &[u8], name: &[u8]) -> Option<u32>
     ensures { ParsesAs IsCountValue (λ number. field_text (name.now, number)) bytes.now result }
 {
@@ -29,7 +28,6 @@ pub(crate) fn read_field(bytes: &[u8], name: &[u8]) -> Option<u32>
     read_up_to(digits, u32::MAX)
 }
 
-/// Reads a field and the space after the field; returns the field's number and the rest.
 pub(crate) fn read_next<'a>(bytes: &'a [u8], name: &[u8]) -> Option<(u32, &'a [u8])>
     requires { IsFree 32 name.now }
     ensures { MatchOption result
@@ -45,7 +43,6 @@ pub(crate) fn read_next<'a>(bytes: &'a [u8], name: &[u8]) -> Option<(u32, &'a [u
     Some((number, rest))
 }
 
-/// Reads the six fields of a `status` reply; `None` for any other text.
 pub fn read_counts(bytes: &[u8]) -> Option<Counts>
     ensures { ParsesAs IsCounts counts_text bytes.now result }
 {

@@ -17,7 +17,6 @@ use log_entry::{Entry, MAX_ENTRIES};
 use rule_machine::Want;
 use std::alloc::Global;
 
-// A line's number, and the texts of its event and its reply.
 fn parts(line: &[u8]) -> Option<(u32, &[u8], &[u8])>
     ensures { MatchOption result
         ((number : ℕ) (event : List ℕ) (reply : List ℕ) → number < 100000000 → PartsOf line.now (number_text number) event reply → ⊥)

@@ -28,7 +28,6 @@ pub(crate) fn read_rules(bytes: &[u8]) -> Option<RuleSet>
     None
 }
 
-/// Reads the number of names.
 pub(crate) fn read_size(bytes: &[u8]) -> Option<u32>
     ensures { ParsesAs (λ n. n ≤ 65535) number_text bytes.now result }
 {

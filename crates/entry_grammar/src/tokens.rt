@@ -31,7 +31,6 @@ pub(crate) fn read_marked(bytes: &[u8], mark: u8) -> Option<(Node, &[u8])>
     Some((node, rest))
 }
 
-// The rule whose word begins with this byte.
 #[inline(always)]
 fn act_with(first: u8) -> Option<Act>
     ensures { MatchOption result
@@ -61,7 +60,6 @@ fn after_act(bytes: &[u8], act: Act) -> Option<&[u8]>
     }
 }
 
-// Reads a rule's word at the front of the text; returns the rule and the rest.
 // The first byte decides which word is tested.
 #[inline(always)]
 fn read_act(bytes: &[u8]) -> Option<(Act, &[u8])>

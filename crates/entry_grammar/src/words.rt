@@ -35,7 +35,6 @@ fn read_alone<W: Token + Copy>(bytes: &[u8]) -> Option<W>
     }
 }
 
-/// Reads one or more words joined by one space; `None` for any other text.
 #[inline(never)]
 fn read_many<W: Token + Copy>(alloc: Global, bytes: &[u8]) -> Result<Option<Listing<W>>, Want>
     requires some { bytes.now ≢ [] }

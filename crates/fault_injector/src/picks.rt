@@ -8,7 +8,6 @@ ghost use Rattle.fault_injector.specs.DrawnFaults.{node_at, drawn_target, is_odd
 use graph_store::EdgeStore;
 use rule_machine::Node;
 
-/// The node at an index, from 0, names ascending.
 /// Looks at 24 counts and eight words at most, and at none of them if every name is a node.
 fn nth_node(store: &EdgeStore, place: u32) -> Node
     requires { place < node_count store.now.network }
@@ -20,7 +19,6 @@ fn nth_node(store: &EdgeStore, place: u32) -> Node
     store.nth(place).unwrap()
 }
 
-/// The node that a word picks: of the n nodes, ascending, the one at index `word mod n`, from 0.
 pub(crate) fn pick_node(store: &EdgeStore, word: u32) -> Node
     requires { 0 < node_count store.now.network }
     ensures node { result ≡ node_at store.now.network word }
@@ -29,7 +27,7 @@ pub(crate) fn pick_node(store: &EdgeStore, word: u32) -> Node
     nth_node(store, word % store.nodes())
 }
 
-/// The value that a word picks for a node's pointer, as in `Injector::draw`. Looks at one neighbour.
+/// Looks at one neighbour.
 pub(crate) fn pick_target(store: &EdgeStore, node: Node, word: u32) -> Option<Node>
     requires { IsTrue (present store.now.network node) }
     ensures target { result ≡ drawn_target store.now.network node word }

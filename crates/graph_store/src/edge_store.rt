@@ -63,8 +63,7 @@ impl EdgeStore {
     }
 
     /// The graph of the names 1 to `nodes` without edges. Nodes 1 to `present` are present.
-    /// Takes memory for an empty list, a byte and a bit for each name.
-    /// Errors: `TooManyNodes` if `nodes` is above 65,535; `Memory` if memory runs out.
+    /// Memory and errors are those of `new`.
     pub fn with_present(alloc: Global, nodes: u32, present: u32) -> Result<EdgeStore, GraphFault>
         requires within { present ≤ nodes }
         ensures ok { IfOk result (λ store. store.network ≡ edgeless_with nodes present) }
@@ -88,7 +87,7 @@ impl EdgeStore {
         })
     }
 
-    /// The number of nodes, which are the names that are present; at most 65,535. One look.
+    /// The number of names that are present, at most 65,535. One look.
     pub fn nodes(&self) -> u32
         ensures count { result ≡ node_count self.now.network }
         ensures few { result ≤ 65535 }
@@ -172,7 +171,7 @@ impl EdgeStore {
     }
 
     /// Sets a name's stance on its edges. At first each name's stance is `Shut`.
-    /// One look if the stance is unchanged, else one look at each neighbour. Takes no memory.
+    /// One look if the stance is unchanged, else one look at each neighbour.
     pub fn set_stance(&mut self, v: Node, end: EdgeStance)
         requires { v ≤ self.old.network.size }
         ensures told { end_at self.new.ends v ≡ end }
@@ -236,7 +235,6 @@ impl EdgeStore {
         find_gap(self.neighbours(v), w)
     }
 
-    // The index where `w` belongs among the neighbours of `v`. Two looks if `last_gap` is right.
     fn guess_gap(&self, v: Node, w: Node) -> usize
         requires present { IsTrue (present self.now.network v) }
         requires apart { linked self.now.network v w ≡ false }
@@ -256,7 +254,6 @@ impl EdgeStore {
         reserve_both(&mut self.rows, a, b).map_err(|_| GraphFault::Memory)
     }
 
-    // Inserts an edge that has room in both rows: each end among the other's neighbours, at these indices.
     fn put_edge(&mut self, a: Node, place_in_a: usize, b: Node, place_in_b: usize)
         requires free { link_fault self.old.network a b ≡ None }
         requires room { HasRoomFor self.old.room a b }
@@ -273,7 +270,6 @@ impl EdgeStore {
     /// Inserts the edge between two nodes: a binary search and a shift in both rows.
     /// Errors, in this order: `UnknownNode` if an end is not a node of the graph, `SelfLoop`,
     /// `AlreadyLinked`, `TooManyEdges` at 1,048,576 edges, `Memory`.
-    /// An error leaves the network unchanged.
     pub fn link(&mut self, a: Node, b: Node) -> Result<(), GraphFault>
         ensures ok { OnOk result ((link_fault self.old.network a b ≡ None) × (self.new.network ≡ with_edge self.old.network a b)) }
         ensures fault { IfErr result (λ fault. ExplainsGraphFault (link_fault self.old.network a b) fault) }
@@ -287,7 +283,7 @@ impl EdgeStore {
         Ok(())
     }
 
-    /// Makes room for the edge between two nodes, so that `link_reserved` can insert the edge.
+    /// Makes room for an edge, so that `link_reserved` can insert the edge.
     /// Costs a binary search among the neighbours of `a`, and the growth of at most two rows.
     /// Errors: those of `link`, in the same order. No edge changes.
     pub fn reserve_link(&mut self, a: Node, b: Node) -> Result<(), GraphFault>
@@ -300,7 +296,7 @@ impl EdgeStore {
         self.make_room(a, b)
     }
 
-    /// Inserts an edge after room was made for the edge. Takes no memory.
+    /// Inserts an edge after room was made for the edge.
     /// Costs a binary search in the row of `b`, another in the row of `a` unless the last `reserve_link` was
     /// for this edge, and a shift in both rows.
     pub fn link_reserved(&mut self, a: Node, b: Node)
@@ -324,7 +320,7 @@ impl EdgeStore {
         }
     }
 
-    /// Removes an edge: a binary search and a shift in both rows. Takes no memory.
+    /// Removes an edge: a binary search and a shift in both rows.
     pub fn remove_edge(&mut self, a: Node, b: Node)
         requires { IsTrue (linked self.old.network a b) }
         ensures network { self.new.network ≡ without_edge self.old.network a b }
@@ -337,9 +333,8 @@ impl EdgeStore {
         self.open_edges -= u32::from(are_open(&self.ends, a, b));
     }
 
-    /// Removes the edge between two nodes: binary searches and a shift in both rows. Takes no memory.
+    /// Removes the edge between two nodes: binary searches and a shift in both rows.
     /// Errors, in this order: `UnknownNode` if an end is not a node of the graph, `SelfLoop`, `NotLinked`.
-    /// An error leaves the network unchanged.
     pub fn unlink(&mut self, a: Node, b: Node) -> Result<(), GraphFault>
         ensures ok { OnOk result ((unlink_fault self.old.network a b ≡ None) × (self.new.network ≡ without_edge self.old.network a b)) }
         ensures fault { IfErr result (λ fault. unlink_fault self.old.network a b ≡ Some fault) }
@@ -354,9 +349,8 @@ impl EdgeStore {
         Ok(())
     }
 
-    /// Adds a node without neighbours: writes a bit and the counts of nodes. Takes no memory.
+    /// Adds a node without neighbours: writes a bit and the counts of nodes.
     /// Errors, in this order: `UnknownNode` if the name is above the capacity, `AlreadyPresent`.
-    /// An error leaves the network unchanged.
     pub fn join(&mut self, v: Node) -> Result<(), GraphFault>
         ensures ok { OnOk result ((join_fault self.old.network v ≡ None) × (self.new.network ≡ with_node self.old.network v)) }
         ensures fault { IfErr result (λ fault. join_fault self.old.network v ≡ Some fault) }
@@ -373,7 +367,6 @@ impl EdgeStore {
         Ok(())
     }
 
-    // The last neighbour of a node: the next edge to remove when the node leaves.
     fn last_neighbour(&self, v: Node) -> Option<Node>
         requires { IsTrue (present self.now.network v) }
         ensures { MatchOption result (neighbours self.now.network v ≡ []) (λ w. unlink_fault self.now.network v w ≡ None) }
@@ -381,9 +374,9 @@ impl EdgeStore {
         self.rows[v.place()].last().copied()
     }
 
-    /// Removes a node and its edges. Takes no memory.
+    /// Removes a node and its edges.
     /// Costs, for each neighbour, a binary search in two rows and a shift in the neighbour's row.
-    /// Error: `UnknownNode` if `v` is not a node of the graph; the network is then unchanged.
+    /// Error: `UnknownNode` if `v` is not a node of the graph.
     pub fn leave(&mut self, v: Node) -> Result<(), GraphFault>
         ensures ok { OnOk result ((leave_fault self.old.network v ≡ None) × (self.new.network ≡ without_node self.old.network v)) }
         ensures fault { IfErr result (λ fault. leave_fault self.old.network v ≡ Some fault) }
@@ -401,7 +394,7 @@ impl EdgeStore {
         Ok(())
     }
 
-    /// Removes a node without edges: writes a bit and the counts of nodes. Takes no memory.
+    /// Removes a node without edges: writes a bit and the counts of nodes.
     pub fn part(&mut self, v: Node)
         requires present { IsTrue (present self.old.network v) }
         requires alone { neighbours self.old.network v ≡ [] }

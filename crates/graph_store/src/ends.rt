@@ -8,7 +8,6 @@ use rule_machine::{Node, Want};
 use std::alloc::Global;
 
 /// A node's stance on its edges.
-/// An edge is open if neither end is `Shut` and not both ends are `Courted`.
 #[derive(Clone, Copy, PartialEq, Eq)]
 pub enum EdgeStance {
     /// No edge at the node is open.
@@ -59,8 +58,8 @@ fn open_to(row: &[Node], ends: &[EdgeStance], end: EdgeStance) -> u32
     count
 }
 
-/// Sets the stance of `v`, whose neighbours are `row`. Returns how many edges are open afterwards.
-/// `count` is how many edges were open before.
+/// Sets the stance of `v`, whose neighbours are `row`. `count` is how many edges were open before;
+/// the result is how many are open afterwards.
 pub fn turn_end(row: &[Node], ends: &mut [EdgeStance], count: u32, v: Node, end: EdgeStance) -> u32
     requires few { length row.now ≤ 65536 }
     requires within { All (λ w. w < length ends.old) row.now }

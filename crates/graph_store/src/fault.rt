@@ -2,7 +2,7 @@
 
 use thiserror::Error;
 
-/// Why an edge store could not be made, or could not be changed.
+/// Why an edge store could not be made or changed.
 #[derive(Clone, Copy, Debug, PartialEq, Eq, Error)]
 pub enum GraphFault {
     /// The graph would have more than 65,535 names.
@@ -12,7 +12,7 @@ pub enum GraphFault {
     /// For `join`: the name is above the capacity.
     #[error("no node of the graph has this name")]
     UnknownNode,
-    /// The name to join is present already. Only `join` returns it.
+    /// The name to join is present already.
     #[error("a node of the graph has this name already")]
     AlreadyPresent,
     /// The two ends are the same node.

@@ -3,11 +3,10 @@
 //! An `EdgeStore` has the edges of a network and the names that are present. Each node has an ascending list
 //! of its neighbours, so each edge is listed at both ends. The store counts its edges and its open edges
 //! (`open_edges`): which edges are open depends on each node's stance (`set_stance`). The store refuses
-//! exactly what the definitions refuse, for the same first reason. A refusal leaves the network unchanged.
+//! exactly what the definitions refuse, for the same first reason. An error leaves the network unchanged.
 //!
-//! Inserting or removing an edge costs a binary search and a shift in two lists. Only a new store, `link` and
-//! `list` take memory. `link` can be done in two calls: `reserve_link`, which may fail, then `link_reserved`,
-//! which can't fail.
+//! Only a new store, `link`, `reserve_link` and `list` take memory. `link` can be done in two calls:
+//! `reserve_link`, which may fail, then `link_reserved`, which can't fail.
 //!
 //! ```rust
 //! let mut store = EdgeStore::new(alloc, 3)?;

@@ -33,7 +33,6 @@ struct Part {
     size: usize,
 }
 
-/// Halves a part of a row; returns the half that has the index of the name.
 #[inline(always)]
 fn halve(row: &[Node], name: Node, part: Part) -> Part
     requires rising { IsStrictlyIncreasing row.now }
@@ -54,7 +53,6 @@ fn halve(row: &[Node], name: Node, part: Part) -> Part
     }
 }
 
-/// A part of at most 64 entries that has the index of the name; the whole row if the row is short.
 fn shorten(row: &[Node], name: Node) -> Part
     requires rising { IsStrictlyIncreasing row.now }
     requires some { 0 < length row.now }
@@ -71,7 +69,7 @@ fn shorten(row: &[Node], name: Node) -> Part
     part
 }
 
-/// The index of the last entry that is at most `name`; 0 if there is no such entry.
+/// The index of the last entry that is at most `name`; 0 if there is none.
 /// The last loop has a fixed number of turns: idle turns cost less than a mispredicted exit.
 fn narrow(row: &[Node], name: Node) -> usize
     requires rising { IsStrictlyIncreasing row.now }
@@ -85,8 +83,7 @@ fn narrow(row: &[Node], name: Node) -> usize
     part.start
 }
 
-/// A name's index in a row (`Ok`); if the row lacks the name, the index where the name belongs (`Err`).
-/// Costs a binary search.
+/// `Ok`: the name's index in a row. `Err`: the index where the name belongs. Costs a binary search.
 pub fn find_place(row: &[Node], name: Node) -> Result<usize, usize>
     requires { IsStrictlyIncreasing row.now }
     ensures { MatchResult result (IsPlaceOf row.now name) (IsGapFor row.now name) }
@@ -149,7 +146,6 @@ pub fn guess_gap(row: &[Node], guess: usize, name: Node) -> usize
 // By how many names a full row grows: as many as fit the smallest block of memory.
 const MORE: usize = 12;
 
-/// Makes room for one more name in a node's row. Changes no names.
 fn make_room(rows: &mut [Vec<Node>], node: Node) -> Result<(), Want>
     requires { node < length rows.old }
     ensures names { contents rows.new ≡ contents rows.old }
@@ -196,7 +192,6 @@ fn put_in(rows: &mut [Vec<Node>], node: Node, place: usize, name: Node)
     put_at(&mut rows[node.place()], place, name);
 }
 
-/// Makes room for one more name in both rows. Changes no names.
 pub fn reserve_both(rows: &mut [Vec<Node>], a: Node, b: Node) -> Result<(), Want>
     requires a_known { a < length rows.old }
     requires b_known { b < length rows.old }
@@ -207,7 +202,6 @@ pub fn reserve_both(rows: &mut [Vec<Node>], a: Node, b: Node) -> Result<(), Want
     make_room(rows, b)
 }
 
-/// Inserts two nodes into each other's rows at these indices. Both rows have room.
 pub fn put_both(rows: &mut [Vec<Node>], a: Node, place_in_a: usize, b: Node, place_in_b: usize)
     requires apart { a ≢ b }
     requires a_known { a < length rows.old }
@@ -247,7 +241,6 @@ fn take_out(rows: &mut [Vec<Node>], node: Node, place: usize)
     take_at(&mut rows[node.place()], place);
 }
 
-/// Removes two nodes from each other's rows at these indices.
 pub fn take_both(rows: &mut [Vec<Node>], a: Node, place_in_a: usize, b: Node, place_in_b: usize)
     requires apart { a ≢ b }
     requires a_known { a < length rows.old }
@@ -271,7 +264,7 @@ fn push_above(pairs: &mut Vec<Edge>, v: Node, row: &[Node]) -> Result<(), Want>
     Ok(())
 }
 
-/// The edges in all rows, each once, in order. Takes memory for `count` edges.
+/// Takes memory for `count` edges.
 pub fn list_pairs(alloc: Global, rows: &[Vec<Node>], count: u32) -> Result<Vec<Edge>, Want>
     requires few { length rows.now ≤ 65536 }
     requires nobody { row_at (contents rows.now) 0 ≡ [] }

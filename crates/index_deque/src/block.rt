@@ -12,15 +12,12 @@ pub struct Block {
     ghost some: { first < end },
 }
 
-// The most ends of a deque, and so the most takers at once.
 const MOST_ENDS: u32 = 64;
 
 // The most places of a block. Taking such a block costs little compared with the work on its places.
 const WIDEST: u32 = 64;
 
-/// How many places block `number`, from 0, has if `left` places are left.
-/// The first 64 blocks have one place each, so each end can begin with such a block. A later block has a
-/// 64th of the places left, but at least 1 and at most 64. So the last blocks are small again.
+/// How many places block `number`, from 0, has if `left` places are left; see `ends`.
 pub(crate) fn width(number: u32, left: u32) -> u32
     requires { 0 < left }
     ensures { (0 < result) × (result ≤ left) }

@@ -27,7 +27,6 @@ impl Protocol<Block, Ledger> for EachOnce {
     ghost guest = { ledger 0 0 [] };
 }
 
-/// The step that puts a block.
 pub(crate) struct Put;
 
 impl Outcome<Block, Ledger> for Put {

@@ -4,7 +4,6 @@
 //! names as stale: what their nodes contribute to the charge and the pairs may have changed. A question
 //! (`totals`, `lower_ends`) looks at the stale names alone and updates the sums.
 //!
-//! A write that opens or closes its node scans that node's neighbours; every other write costs a few looks.
 //! Only `with_present`, `reserve_link` and `lower_ends` take memory.
 //!
 //! ```rust

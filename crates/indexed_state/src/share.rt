@@ -12,10 +12,9 @@ use rule_machine::Node;
 use rules_api::{ChargeInput, Rules};
 use suitor_index::SuitorIndex;
 
-/// What a node contributes to the totals of its network.
+/// `added` is what the node adds to the charge apart from its edges.
 ///
-/// `added` is what the node adds to the charge apart from its edges. `closing` is how many pointers at the
-/// node close an edge that is open by the stances of its ends.
+/// `closing` is how many pointers at the node close an edge that is open by the stances of its ends.
 #[derive(Clone, Copy)]
 pub(crate) struct Contribution {
     pub(crate) added: u16,
@@ -50,7 +49,7 @@ fn is_unanswered(registers: &Registers, node: &ChargeInput) -> bool
     }
 }
 
-/// Returns the facts about a node that the charge depends on. A few looks.
+/// The facts about a node that the charge depends on.
 #[inline(always)]
 fn standing<R: Rules>(index: &SuitorIndex<R>, v: Node) -> ChargeInput
     requires { IsTrue (present index.now.state.network v) }
@@ -76,7 +75,7 @@ fn closes_edge<R: Rules>(index: &SuitorIndex<R>, w: Node, node: &ChargeInput) ->
     index.net().points(w, node.node) && R::closes(w, node)
 }
 
-/// Counts the pointers at a node that close an edge open by its ends. A look at each neighbour.
+/// As `closing_at`, by a look at each neighbour.
 fn closing_among<R: Rules>(index: &SuitorIndex<R>, node: &ChargeInput) -> u16
     requires present { IsTrue (present index.now.state.network node.now.node) }
     requires standing { IsChargeInput index.now.state node.now }
@@ -89,9 +88,9 @@ fn closing_among<R: Rules>(index: &SuitorIndex<R>, node: &ChargeInput) -> u16
     closing
 }
 
-/// Counts the pointers at a node that close an edge open by its ends.
+/// The number of pointers at a node that close an edge open by its ends.
 ///
-/// Cost: a scan of the neighbours only if the node has several suitors.
+/// Scans the neighbours only if the node has several suitors.
 fn closing_at<R: Rules>(index: &SuitorIndex<R>, node: &ChargeInput) -> u16
     requires present { IsTrue (present index.now.state.network node.now.node) }
     requires standing { IsChargeInput index.now.state node.now }
@@ -133,7 +132,7 @@ pub(crate) fn is_lower_end<R: Rules>(index: &SuitorIndex<R>, v: Node) -> bool
     }
 }
 
-/// Returns the stance of node `v` towards its edges; `None` if `v` is absent.
+/// The stance of node `v` towards its edges; `None` if `v` is absent.
 pub(crate) fn end_at<R: Rules>(index: &SuitorIndex<R>, v: Node) -> Option<EdgeStance>
     ensures { MatchOption result (present index.now.state.network v ≡ false) (λ end. end ≡ stance_of R.COURTED_PAIR_CLOSES_EDGE index.now.state v) }
 {

@@ -11,8 +11,6 @@ use enabled_set::{EnabledSet, Marks};
 use rule_machine::{Node, Want};
 use std::alloc::Global;
 
-/// What each node contributed at the last look, whether it was the lower end of a pair, and the sums.
-///
 /// The contribution of a stale name may have changed since the last look.
 #[derive(Drop)]
 pub(crate) struct Contributions {
@@ -72,7 +70,6 @@ impl Contributions {
         }
     }
 
-    /// Marks the node of a pointer write, the old target and the new target as stale.
     #[inline(always)]
     pub(crate) fn mark_pointer(&mut self, v: Node, was: Option<Node>, is: Option<Node>)
         requires node { v < length self.old.stale }

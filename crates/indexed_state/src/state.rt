@@ -46,7 +46,7 @@ impl<R: Rules> Model for IndexedState<R> {
 }
 
 impl<R: Rules> IndexedState<R> {
-    /// Creates a state with names 1 to `nodes`, of which 1 to `present` are nodes.
+    /// A state with names 1 to `nodes`, of which 1 to `present` are nodes.
     ///
     /// There is no edge; all pointers are null and all flags false.
     ///
@@ -68,7 +68,7 @@ impl<R: Rules> IndexedState<R> {
         Ok(IndexedState { index, shares })
     }
 
-    /// Returns the edges.
+    /// The edges.
     pub fn store(&self) -> &EdgeStore
         ensures value { result.now.network ≡ self.now.state.network }
         ensures room { result.now.room ≡ self.now.room }
@@ -78,7 +78,7 @@ impl<R: Rules> IndexedState<R> {
         self.index.net().store()
     }
 
-    /// Returns the registers.
+    /// The registers.
     pub fn registers(&self) -> &Registers
         ensures value { result.now ≡ self.now.state.registers }
         ensures state { IsState self.now.state }
@@ -86,7 +86,7 @@ impl<R: Rules> IndexedState<R> {
         self.index.net().registers()
     }
 
-    /// Returns the view of a node that is present.
+    /// The view of a node that is present.
     pub fn at(&self, node: Node) -> NodeView<'_, R>
         requires { IsTrue (present self.now.state.network node) }
         ensures state { result.state.now ≡ self.now }
@@ -116,7 +116,7 @@ impl<R: Rules> IndexedState<R> {
         self.index.is_only_open_neighbour(w, v, is_open)
     }
 
-    /// Returns the node's suitor if there is exactly one, else `None`. One look.
+    /// The node's suitor if there is exactly one. One look.
     pub fn lone_suitor(&self, v: Node) -> Option<Node>
         requires { IsTrue (present self.now.state.network v) }
         ensures { MatchOption result (suitor_count self.now.state v ≢ 1) (IsLoneSuitor self.now.state v) }
@@ -212,14 +212,12 @@ impl<R: Rules> StateWriter for IndexedState<R> {
         let _turned = self.write_flag(v, value);
     }
 
-    /// Takes no memory.
     fn remove_edge(&mut self, a: Node, b: Node) {
         self.index.remove_edge(a, b);
         self.shares.mark(a);
         self.shares.mark(b);
     }
 
-    /// Takes no memory.
     fn remove_node(&mut self, v: Node) {
         self.index.remove_node(v);
         self.shares.mark(v);

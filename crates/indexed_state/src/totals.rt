@@ -17,21 +17,18 @@ use rules_api::Rules;
 /// The totals over all nodes and edges that a status needs.
 #[derive(Clone, Copy)]
 pub struct Totals {
-    /// How many mutual pairs there are.
+    /// The number of mutual pairs.
     pub pairs: u32,
-    /// How many edges are open by the stances of their ends.
+    /// The number of edges that are open by the stances of their ends.
     pub open_edges: u32,
     /// What all nodes add to the charge apart from their edges.
     pub added: u32,
-    /// How many pointers close an edge that is open by the stances of its ends.
+    /// The number of pointers that close an edge that is open by the stances of its ends.
     pub closing: u32,
 }
 
 impl<R: Rules> IndexedState<R> {
     /// Updates the contribution of each stale name, so that no name is stale.
-    ///
-    /// Cost: a few looks at each stale name, and a look at each neighbour of a node whose stance changed or
-    /// that has several suitors.
     fn look_again(&mut self)
         ensures state { self.new.state ≡ self.old.state }
         ensures room { self.new.room ≡ self.old.room }
@@ -48,7 +45,7 @@ impl<R: Rules> IndexedState<R> {
         }
     }
 
-    /// Returns the totals that a status needs.
+    /// The totals that a status needs.
     ///
     /// Cost: looks at the names that became stale since the last call of `totals` or `lower_ends`, and at
     /// the neighbours of each such node whose stance changed or that has several suitors. Takes no memory.
@@ -69,7 +66,7 @@ impl<R: Rules> IndexedState<R> {
         }
     }
 
-    /// Returns the lower ends of the mutual pairs, ascending.
+    /// The lower ends of the mutual pairs, ascending.
     ///
     /// `Want` if memory runs out. Cost: the looks of `totals`; takes two bytes for each pair.
     pub fn lower_ends(&mut self) -> Result<Vec<Node>, Want>

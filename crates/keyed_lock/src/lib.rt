@@ -2,12 +2,10 @@
 //!
 //! `take` gives exclusive access to the value, and the fact that `I::holds` is true of the key and the value.
 //! `give` requires the same fact of the value given back. So a thread can rely on what earlier threads
-//! proved, without a check: `locked_net` guards its log this way. The key never changes; only contracts
-//! compare it.
+//! proved, without a check: `locked_net` guards its log this way.
 //!
-//! The lock occupies one word and one slot of the kit's `atomic_table`. A waiting thread sleeps; no claim is
-//! made that the thread ever gets the lock. Neither the lock nor a `Hold` can be dropped: `give` ends a hold,
-//! `into_inner` ends the lock.
+//! The lock occupies one word and one slot of the kit's `atomic_table`. No claim is made that a waiting
+//! thread ever gets the lock.
 //!
 //! ```rust
 //! let (mut value, hold) = lock.take(rt);

@@ -15,16 +15,14 @@ const TAKEN: u64 = 1;
 /// The lock is taken, and a thread may sleep until the lock is free.
 const AWAITED: u64 = 2;
 
-/// What a locked value satisfies, given its lock's key. Only contracts use this trait; none of it runs.
+/// What a locked value satisfies, given its lock's key. Only contracts use this trait.
 pub trait Invariant<T, K> {
     ghost holds: { K → T → Type 0 };
 }
 
 /// A lock for one value, with a key that never changes and that only contracts compare.
 ///
-/// Taking the lock gives exclusive access to a value that satisfies `I.holds` under the key. Only such a
-/// value may be given back. The lock occupies a word and a slot. It can't be dropped, only ended by
-/// `into_inner`.
+/// The lock can't be dropped, only ended by `into_inner`.
 pub struct KeyedLock<T, K, I: Invariant<T, K>> {
     table: Table<Option<T>, K, K, OneValue<I>, Global>,
     ghost one_word: { table.shared.table_id.words ≡ 1 },
@@ -78,7 +76,6 @@ impl<T, K, I: Invariant<T, K>> KeyedLock<T, K, I> {
         (value, Hold { seat })
     }
 
-    /// Waits until the slot belongs to the calling thread, whose place at the table is `seat`.
     fn claim<R: Wait>(&self, rt: &R, seat: &mut Seat<Option<T>, K>)
         requires { Waits self.now.table.shared.table_id (key_of self.now) seat.old }
         ensures table { seat.new.table_id ≡ seat.old.table_id }

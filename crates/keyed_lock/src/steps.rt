@@ -1,4 +1,4 @@
-//! The rule of the table that a lock uses, and the steps that the lock takes.
+//! The table's rule, and the lock's steps.
 
 ghost use Rattle.keyed_lock.specs.LockSteps.{IsLockState, arrived, claimed, left};
 

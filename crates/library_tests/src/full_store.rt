@@ -4,7 +4,6 @@ use crate::helpers::named;
 use graph_store::{EdgeStore, GraphFault};
 use std::process::Abort;
 
-/// Links two nodes, and checks the result.
 fn link(rt: &impl Abort, store: &mut EdgeStore, a: u32, b: u32, wanted: Result<(), GraphFault>) {
     let came = store.link(named(rt, a), named(rt, b));
     assert!(rt; came == wanted, "link {a} {b}");

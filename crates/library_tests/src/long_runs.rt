@@ -58,7 +58,6 @@ fn drawn_event<R: Rules>(
     }
 }
 
-/// Checks that the engine and the plain machine give the same reply to an event.
 fn agree<R: Rules>(
     rt: &impl Abort,
     alloc: Global,
@@ -89,7 +88,6 @@ fn agree_a_while<R: Rules>(
     agree(rt, alloc, net, plain, &Event::Status);
 }
 
-/// Checks that the engine and the plain machine agree along 600 drawn events.
 fn agree_along<R: Rules>(rt: &impl Abort, alloc: Global, rules: RuleSet, nodes: u16, seed: u64) {
     let mut net = net_of::<R>(rt, alloc, u32::from(nodes));
     let mut plain = plain_of(rt, alloc, rules, nodes);

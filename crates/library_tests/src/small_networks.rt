@@ -34,7 +34,6 @@ struct Names {
     here: u8,
 }
 
-/// The kind of a reply.
 #[derive(Clone, Copy, PartialEq)]
 enum Kind {
     Accepted,
@@ -83,7 +82,6 @@ impl<R: Rules> Twins<R> {
         assert!(rt; right.expect(rt, "memory"), "{event:?}");
     }
 
-    /// Gives an event to both machines, and compares their replies.
     fn ask(&mut self, rt: &impl Abort, alloc: Global, event: Event) -> Kind {
         let spent = u64::from(self.net.spent());
         let reply = self.net.apply(&event).expect(rt, "memory");
@@ -106,7 +104,6 @@ impl<R: Rules> Twins<R> {
         self.ask(rt, alloc, event) == Kind::Accepted
     }
 
-    /// Makes the present names join.
     fn join(&mut self, rt: &impl Abort, alloc: Global) {
         let here = self.names.here;
         for (name, bit) in BITS {
@@ -155,7 +152,6 @@ impl<R: Rules> Twins<R> {
         true
     }
 
-    /// Asks for every pointer, the enabled nodes, the matching and the counts.
     fn look(&mut self, rt: &impl Abort, alloc: Global) {
         for name in 1..4 {
             let _ = self.ask(rt, alloc, Event::Show(named(rt, name)));
@@ -174,8 +170,6 @@ impl<R: Rules> Twins<R> {
         );
     }
 
-    /// Asks both machines to move the nodes of a choice.
-    ///
     /// If nodes move, checks the charge, asks all questions, and restores the state.
     fn step(&mut self, rt: &impl Abort, alloc: Global, number: u32) {
         let choice = choice_of(rt, alloc, self.names.all, number);
@@ -232,7 +226,7 @@ fn is_first(nodes: u8, number: u32) -> bool {
     number == 0 || number % digits_of(nodes) > 0
 }
 
-/// Tries every choice of up to two items in the state; returns how many choices were tried.
+/// Tries every choice of up to two items; returns how many it tried.
 fn try_pairs<R: Rules>(rt: &impl Abort, alloc: Global, twins: &mut Twins<R>) -> u64 {
     let nodes = twins.names.all;
     let mut tried = 0u64;
@@ -260,7 +254,7 @@ fn try_orders<R: Rules>(rt: &impl Abort, alloc: Global, twins: &mut Twins<R>) ->
     6
 }
 
-/// Tries every choice in the state, if the state is valid; returns how many choices were tried.
+/// Tries every choice, if the state is valid; returns how many it tried.
 fn try_state<R: Rules>(rt: &impl Abort, alloc: Global, twins: &mut Twins<R>) -> u64 {
     if !twins.set(rt, alloc) {
         return 0;

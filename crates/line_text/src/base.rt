@@ -14,7 +14,6 @@ trait Line {
     // The line's text, without its LF.
     ghost text: { Self → List ℕ };
 
-    /// Writes the line, without its LF.
     fn put_line(&self, out: &mut Vec<u8>) -> Result<(), Want>
         ensures ok { OnOk result (out.new.items ≡ out.old.items ++ text self.now) }
         ensures err { OnErr result (Extends out.old.items out.new.items) };
@@ -52,7 +51,6 @@ fn put_lines<L: Line>(out: &mut Vec<u8>, lines: &[L]) -> Result<(), Want>
     Ok(())
 }
 
-// Writes the first line of a base, with its LF.
 fn put_head(out: &mut Vec<u8>, rules: RuleSet, size: u32) -> Result<(), Want>
     ensures ok { OnOk result (out.new.items ≡ out.old.items ++ (base_head rules size ++ 10 ∷ [])) }
     ensures err { OnErr result (Extends out.old.items out.new.items) }
@@ -64,7 +62,6 @@ fn put_head(out: &mut Vec<u8>, rules: RuleSet, size: u32) -> Result<(), Want>
     out.extend_from_slice(b"\n")
 }
 
-// Writes the second line of a base, with its LF.
 fn put_counts(out: &mut Vec<u8>, base: &Base) -> Result<(), Want>
     requires few_nodes { length base.now.nodes ≤ 65535 }
     requires few_edges { length base.now.edges ≤ 1048576 }

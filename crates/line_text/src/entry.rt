@@ -18,7 +18,6 @@ use rule_machine::{Event, Item, Moved, Reply, RuleSet, Want};
 // An entry with one item and one move has fewer bytes than this.
 const ROOM: usize = 72;
 
-// Writes the number of names and, if not all are present, how many are.
 fn put_sizes(out: &mut Vec<u8>, size: u32, count: u32) -> Result<(), Want>
     ensures ok { OnOk result (out.new.items ≡ out.old.items ++ sizes_text size count) }
     ensures err { OnErr result (Extends out.old.items out.new.items) }
@@ -42,7 +41,6 @@ fn append_header(out: &mut Vec<u8>, rules: RuleSet, size: u32, count: u32) -> Re
     out.extend_from_slice(b"\n")
 }
 
-// Writes the reply part of an entry. Short replies are written together with the LF.
 fn append_answer(out: &mut Vec<u8>, reply: &Reply) -> Result<(), Want>
     ensures ok { OnOk result (out.new.items ≡ out.old.items ++ (codes " = " ++ reply_text reply.now ++ 10 ∷ [])) }
     ensures err { OnErr result (Extends out.old.items out.new.items) }
@@ -64,7 +62,6 @@ fn append_answer(out: &mut Vec<u8>, reply: &Reply) -> Result<(), Want>
     }
 }
 
-// The item and the move of a step with exactly one of each.
 #[inline(always)]
 fn one_move<'a>(event: &'a Event, reply: &'a Reply) -> Option<(&'a Item, &'a Moved)>
     ensures { IfSome result (λ pair. (event.now ≡ Step (pair.0.now ∷ [])) × (reply.now ≡ Moves (pair.1.now ∷ []))) }
@@ -78,7 +75,6 @@ fn one_move<'a>(event: &'a Event, reply: &'a Reply) -> Option<(&'a Item, &'a Mov
     }
 }
 
-// Writes the entry of a one-move step at index `at`; returns the index after the entry.
 #[inline(always)]
 fn put_one_move(room: &mut [u8], at: usize, number: u32, item: &Item, moved: &Moved) -> usize
     requires below { number < 1000000 }
@@ -93,7 +89,7 @@ fn put_one_move(room: &mut [u8], at: usize, number: u32, item: &Item, moved: &Mo
     moved.put(room, at, b'\n')
 }
 
-// Appends the entry of a one-move step. One check for room.
+// One check for room.
 fn append_one_move(out: &mut Vec<u8>, number: u32, item: &Item, moved: &Moved) -> Result<(), Want>
     requires { number < 1000000 }
     ensures ok { OnOk result (out.new.items ≡ out.old.items ++ entry_line number (Step (item.now ∷ [])) (Moves (moved.now ∷ []))) }
@@ -149,8 +145,7 @@ pub(crate) fn whole_or_none(
 }
 
 /// Appends a transcript's header, with its LF.
-/// The header has the rules and the number of names. If some names are absent at the start, it also has
-/// the number of names present.
+/// `count` of the `size` names are present at the start; the header omits `count` if all names are.
 /// A `count` above `size` counts as `size`. If memory runs out, `out` is unchanged.
 pub fn put_header(out: &mut Vec<u8>, rules: RuleSet, size: u32, count: u32) -> Result<(), Want>
     ensures ok { OnOk result (out.new.items ≡ out.old.items ++ header_line rules size count) }
@@ -174,7 +169,6 @@ pub fn put_entry(out: &mut Vec<u8>, number: u32, event: &Event, reply: &Reply) -
 }
 
 /// Like `put_entry`, but copies the event's script line instead of writing the event.
-/// If memory runs out, `out` is unchanged.
 pub fn put_entry_of_line(
     out: &mut Vec<u8>,
     number: u32,

@@ -7,13 +7,11 @@ ghost use Rattle.line_text.specs.Parsing.{ParsesAs, NoDigit, NameThen, WordThen}
 
 use rule_machine::{MAX_NAME, Node};
 
-/// The most digits of a name.
 const NAME_DIGITS: usize = 5;
 
 /// How many bytes are enough to read a name and to see that the name ends.
 const ENOUGH: usize = 6;
 
-/// The byte of the digit 0.
 const ZERO: u32 = 48;
 
 /// The text after its beginning `front`; `None` if the text does not begin with `front`.
@@ -61,7 +59,7 @@ fn name_digits(bytes: &[u8]) -> (usize, u32)
 }
 
 /// Reads the name at the front of the text in one pass; returns the name and the rest.
-/// Returns `None` if the text does not begin with a name from 1 to 65,535, or the name has a leading zero.
+/// `None` if the text does not begin with a name from 1 to 65,535, or the name has a leading zero.
 #[inline(always)]
 pub fn read_name(bytes: &[u8]) -> Option<(Node, &[u8])>
     ensures { MatchOption result
@@ -95,7 +93,6 @@ pub fn read_last(bytes: &[u8]) -> Option<Node>
     Some(node)
 }
 
-/// Reads a name and a space at the front of the text; returns the name and the rest.
 pub(crate) fn read_word(bytes: &[u8]) -> Option<(Node, &[u8])>
     ensures { MatchOption result
         ((name : ℕ) (rest : List ℕ) → WordThen bytes.now name rest → ⊥)

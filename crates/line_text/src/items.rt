@@ -14,7 +14,6 @@ use std::alloc::{AllocError, Global};
 /// Room is made for items of this width, and grows if the items are shorter.
 const WIDTH: usize = 6;
 
-// Reads a space and an item at the front of the text; returns the item and the rest.
 fn read_item(bytes: &[u8]) -> Option<(Item, &[u8])>
     ensures { MatchOption result
         ((item : Item) (rest : List ℕ) → ItemThen bytes.now item rest → ⊥)
@@ -62,7 +61,7 @@ fn count_items(bytes: &[u8]) -> Option<usize>
     Some(count)
 }
 
-// The result if memory runs out: an error, or `None` if the text is not the items of a choice.
+// The result if memory runs out: no error if the text is no choice.
 fn read_none(bytes: &[u8]) -> Result<Option<Choice>, Want>
     ensures items { IfOk result (ParsesAs AreChoiceItems (spaced item_text) bytes.now) }
     ensures memory { OnErr result (SpellsChoice bytes.now) }
@@ -73,7 +72,6 @@ fn read_none(bytes: &[u8]) -> Result<Option<Choice>, Want>
     }
 }
 
-// Reads a single item after one space.
 fn read_one(bytes: &[u8]) -> Option<Choice>
     ensures { IfSome result (λ choice. AreChoiceItems choice × (bytes.now ≡ spaced item_text choice)) }
 {

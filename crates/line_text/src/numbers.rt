@@ -8,7 +8,6 @@ use crate::room::{TOO_LONG, WINDOW, put_digits};
 use itoa::Buffer;
 use rule_machine::{Node, Want};
 
-// Appends a number of more than six digits, and a byte.
 fn put_longest(out: &mut Vec<u8>, number: u32, behind: u8) -> Result<(), Want>
     ensures ok { OnOk result (out.new.items ≡ out.old.items ++ (number_text number ++ behind ∷ [])) }
     ensures err { OnErr result (out.new.items ≡ out.old.items) }
@@ -34,8 +33,8 @@ fn append_digits(out: &mut Vec<u8>, number: u32, behind: u8) -> Result<(), Want>
     Ok(())
 }
 
-// Appends a number and a byte if the number is long, or if room must still be made.
-// Not inlined: both cases are rare, so the common path saves no registers for this call.
+// Not inlined: a long number and a lack of room are rare, so the common path saves no registers for
+// this call.
 #[cold]
 #[inline(never)]
 fn put_rare(out: &mut Vec<u8>, number: u32, behind: u8) -> Result<(), Want>
@@ -86,7 +85,6 @@ pub(crate) fn put_name_then(out: &mut Vec<u8>, node: Node, behind: u8) -> Result
     put_number_then(out, node.name(), behind)
 }
 
-/// Appends a name, or `-` for null.
 pub(crate) fn put_target(out: &mut Vec<u8>, target: Option<Node>) -> Result<(), Want>
     ensures ok { OnOk result (out.new.items ≡ out.old.items ++ target_text target) }
     ensures err { OnErr result (out.new.items ≡ out.old.items) }

@@ -12,7 +12,7 @@ use std::str;
 const FEW_DIGITS: usize = 8;
 
 /// Reads the number at the front of the text in one pass; returns the number and the rest.
-/// Returns `None` if there is no digit, if there are more than eight, or if the number has a leading zero.
+/// `None` if there is no digit, if there are more than eight, or if the number has a leading zero.
 #[inline]
 pub fn number_in_front(bytes: &[u8]) -> Option<(u32, &[u8])>
     ensures { MatchOption result
@@ -41,7 +41,6 @@ fn read_short(bytes: &[u8]) -> Option<u32>
     Some(number)
 }
 
-// Reads a number below 2^64.
 fn read_long(bytes: &[u8]) -> Option<u64>
     ensures { ParsesAs (λ n. n < 2 ^ 64) number_text bytes.now result }
 {

@@ -9,7 +9,6 @@ use crate::room::{put_node, put_window};
 use crate::word::{Word, put_joined, put_joined_or};
 use rule_machine::{Act, Counts, Edge, Moved, Node, Refusal, Reply, Want};
 
-// A window of eight bytes that begins with the rule's word.
 #[inline(always)]
 fn act_window(act: Act) -> [u8; 8]
     ensures { take (length (act_word act)) result ≡ act_word act }
@@ -33,7 +32,7 @@ fn act_length(act: Act) -> usize
     }
 }
 
-// Writes a rule's word and a byte at index `at`; returns the index after the byte. Branch-free.
+// Branch-free.
 #[inline(always)]
 fn put_act(room: &mut [u8], at: usize, act: Act, behind: u8) -> usize
     requires { at + 8 ≤ length room.old }
@@ -94,7 +93,6 @@ impl Word for Edge {
     }
 }
 
-// Appends a field's name and its number.
 pub(crate) fn put_field(out: &mut Vec<u8>, name: &[u8], number: u32) -> Result<(), Want>
     ensures ok { OnOk result (out.new.items ≡ out.old.items ++ field_text (name.now, number)) }
     ensures err { OnErr result (Extends out.old.items out.new.items) }
@@ -117,7 +115,6 @@ fn put_counts(out: &mut Vec<u8>, counts: Counts) -> Result<(), Want>
     put_field(out, b" spent=", counts.spent)
 }
 
-/// Appends a reply as transcripts spell it.
 pub(crate) fn put_reply(out: &mut Vec<u8>, reply: &Reply) -> Result<(), Want>
     ensures ok { OnOk result (out.new.items ≡ out.old.items ++ reply_text reply.now) }
     ensures err { OnErr result (Extends out.old.items out.new.items) }

@@ -16,7 +16,6 @@ pub(crate) const TOO_LONG: u32 = 1_000_000;
 static PAIRS: [u8; 200] =
     *b"00010203040506070809101112131415161718192021222324252627282930313233343536373839404142434445464748495051525354555657585960616263646566676869707172737475767778798081828384858687888990919293949596979899";
 
-// The two digits of a number below 100, the first in the low byte.
 #[inline(always)]
 fn pair(number: u32) -> u64
     requires { number < 100 }
@@ -30,7 +29,6 @@ fn pair(number: u32) -> u64
 // last digit, so that the last digit counts even if it is 0.
 const LAST_COUNTS: u64 = (0x80 << 40) - 0x3030_3030_3030;
 
-// The six digits of a number, the first in the lowest byte.
 #[inline(always)]
 fn digits(number: u32) -> u64
     requires { number < 1000000 }
@@ -40,7 +38,7 @@ fn digits(number: u32) -> u64
     pair(first) + (pair(front - first * 100) << 16) + (pair(number - front * 100) << 32)
 }
 
-// How many of six digits are leading zeros. After the addition each leading zero is eight clear bits.
+// After the addition each leading zero is eight clear bits.
 #[inline(always)]
 fn leading_zeros(digits: u64) -> u32
     requires { digits < 2 ^ 48 }
@@ -62,7 +60,7 @@ fn number_window(number: u32, behind: u8) -> ([u8; 8], usize)
     (window.to_le_bytes(), 7 - zeros as usize)
 }
 
-// Writes a window over eight bytes. Assigns an array: a copy of a slice would test for overlap.
+// Assigns an array: a copy of a slice would test for overlap.
 #[inline(always)]
 fn put_whole(place: &mut [u8], window: [u8; 8])
     requires { length place.old ≡ 8 }
@@ -101,7 +99,6 @@ pub(crate) fn put_digits(room: &mut [u8], at: usize, number: u32, behind: u8) ->
     put_window(room, at, window, count)
 }
 
-/// Writes a node's name and a byte at index `at`; returns the index after the byte.
 #[inline(always)]
 pub(crate) fn put_node(room: &mut [u8], at: usize, node: Node, behind: u8) -> usize
     requires { at + 8 ≤ length room.old }

@@ -29,7 +29,6 @@ const ROOM: usize = 24;
 // For how many words room is made at once. The limit bounds the room made ahead.
 const BATCH: usize = 64;
 
-// Writes each word and a space, from index `at` on; returns the index after the last space.
 #[inline(always)]
 fn put_words<W: Word>(room: &mut [u8], at: usize, words: &[W]) -> usize
     requires { at + 24 * length words.now ≤ length room.old }
@@ -43,7 +42,7 @@ fn put_words<W: Word>(room: &mut [u8], at: usize, words: &[W]) -> usize
     end
 }
 
-// Appends a batch of words, each with a space after it. One check for room.
+// One check for room.
 fn put_batch<W: Word>(out: &mut Vec<u8>, words: &[W]) -> Result<(), Want>
     requires { length words.now ≤ 64 }
     ensures ok { OnOk result (out.new.items ≡ out.old.items ++ space_ended W.text words.now) }
@@ -57,7 +56,6 @@ fn put_batch<W: Word>(out: &mut Vec<u8>, words: &[W]) -> Result<(), Want>
     Ok(())
 }
 
-// Appends each word with a space after it.
 fn put_each<W: Word>(out: &mut Vec<u8>, words: &[W]) -> Result<(), Want>
     ensures ok { OnOk result (out.new.items ≡ out.old.items ++ space_ended W.text words.now) }
     ensures err { OnErr result (Extends out.old.items out.new.items) }
@@ -72,7 +70,6 @@ fn put_each<W: Word>(out: &mut Vec<u8>, words: &[W]) -> Result<(), Want>
     Ok(())
 }
 
-/// Appends each word with a space before it.
 pub(crate) fn put_spaced<W: Word>(out: &mut Vec<u8>, words: &[W]) -> Result<(), Want>
     ensures ok { OnOk result (out.new.items ≡ out.old.items ++ spaced W.text words.now) }
     ensures err { OnErr result (Extends out.old.items out.new.items) }
@@ -84,7 +81,6 @@ pub(crate) fn put_spaced<W: Word>(out: &mut Vec<u8>, words: &[W]) -> Result<(), 
     Ok(())
 }
 
-/// Appends the words, joined by one space.
 pub(crate) fn put_joined<W: Word>(out: &mut Vec<u8>, words: &[W]) -> Result<(), Want>
     ensures ok { OnOk result (out.new.items ≡ out.old.items ++ joined_texts W.text words.now) }
     ensures err { OnErr result (Extends out.old.items out.new.items) }
@@ -98,7 +94,7 @@ pub(crate) fn put_joined<W: Word>(out: &mut Vec<u8>, words: &[W]) -> Result<(), 
     Ok(())
 }
 
-/// Appends the words, joined by one space; `none` if there are no words.
+/// Appends `none` if there are no words.
 pub(crate) fn put_joined_or<W: Word>(
     out: &mut Vec<u8>,
     none: &[u8],

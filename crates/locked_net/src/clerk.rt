@@ -88,7 +88,6 @@ impl Clerk {
         &self.receipts
     }
 
-    /// The clerk's note.
     pub(crate) fn note(&self) -> Option<&Note>
         ensures note { MatchOption result (self.now.note ≡ None) (λ note. self.now.note ≡ Some note.now) }
         ensures clerk { IsClerk self.now }

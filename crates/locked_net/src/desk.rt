@@ -48,8 +48,8 @@ impl<R: Rules> Model for PublishedJournal<R> {
     ghost invariant = { λ d. IsPublishedJournal R.table (kept_of d.journal) d.board };
 }
 
-/// The result of an event: the receipt of its entry, the reply, and a note that ends with the entry.
 #[derive(Drop)]
+/// The result of an event; the note ends with the receipt's entry.
 pub(crate) struct RecordedEvent {
     pub(crate) receipt: Receipt,
     pub(crate) reply: Reply,
@@ -124,7 +124,7 @@ impl<R: Rules> PublishedJournal<R> {
         self.journal.reach_of(event)
     }
 
-    /// Carries out an event, records it and publishes its entry. After a fault nothing has changed.
+    /// After a fault nothing has changed.
     pub(crate) fn record<W: Wait>(
         &mut self,
         rt: &W,
@@ -142,7 +142,6 @@ impl<R: Rules> PublishedJournal<R> {
         Ok(finish(&mut self.journal, &mut self.board, rt, prepared)?)
     }
 
-    /// Like `record` of a step, but takes the verdicts of the step's items.
     pub(crate) fn record_step<W: Wait>(
         &mut self,
         rt: &W,
@@ -162,9 +161,7 @@ impl<R: Rules> PublishedJournal<R> {
         Ok(finish(&mut self.journal, &mut self.board, rt, prepared)?)
     }
 
-    /// Makes the present state the base of the journal, and drops its entries.
-    /// Returns how many entries there were, dropped ones included. Published entries stay published. If
-    /// memory runs out, nothing has changed.
+    /// Published entries stay published.
     pub(crate) fn checkpoint(&mut self) -> Result<u32, Want>
         ensures number { IfOk result (λ number. number ≡ length self.old.log.entries) }
         ensures base { OnOk result (self.new ≡ based self.old) }
@@ -194,7 +191,7 @@ impl<R: Rules> PublishedJournal<R> {
     }
 }
 
-/// Records and publishes a prepared entry. After the entry is posted nothing fails.
+/// After the entry is posted nothing fails.
 fn finish<R: Rules, W: Wait>(
     journal: &mut Journal<R>,
     board: &mut Board<Runs<R>>,

@@ -88,7 +88,6 @@ fn all_begin(clerks: &[Clerk], last: &Note) -> bool
     true
 }
 
-/// Whether the log of a clerk's note is known to be a prefix of the log of `last`.
 pub(crate) fn begins(clerk: &Clerk, last: &Note) -> bool
     requires { IsOfBook last.now.book clerk.now }
     ensures yes { IsTrue result → IsPrefix (noted clerk.now.note) last.now.log }

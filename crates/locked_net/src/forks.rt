@@ -49,7 +49,6 @@ pub(crate) fn roam_all<R: Rules + Send, G: Gate + Sync, T: Threads + Wait + Sync
     fault.or(other)
 }
 
-/// Lets two rows of clerks roam, at once if a thread is available.
 #[cycle(forks)]
 fn roam_halves<R: Rules + Send, G: Gate + Sync, T: Threads + Wait + Sync>(
     rt: &T,

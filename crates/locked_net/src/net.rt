@@ -125,7 +125,6 @@ impl<R: Rules> LockedNet<R> {
         self.alloc
     }
 
-    /// Waits for the lock, and takes out the journal and the board.
     pub(crate) fn take<W: Wait>(
         &self,
         rt: &W,
@@ -136,7 +135,6 @@ impl<R: Rules> LockedNet<R> {
         self.lock.take(rt)
     }
 
-    /// Puts the journal and the board back, and frees the lock.
     pub(crate) fn give(&self, hold: Hold<PublishedJournal<R>, NetKey>, desk: PublishedJournal<R>)
         requires key { IsOfKey (net_key_of self.now) desk }
         requires hold { IsHoldOf self.now.lock hold }

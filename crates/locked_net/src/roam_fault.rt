@@ -1,4 +1,4 @@
-//! Why clerks did not roam to their last turns.
+//! The faults of clerks that roam.
 
 use crate::CallFault;
 use thiserror::Error;

@@ -10,7 +10,6 @@ use rule_engine::Rules;
 use std::sync::Wait;
 use steal_pool::Gate;
 
-/// The network of the clerks that roam, the gate that they pass, and their number of turns.
 #[derive(Drop)]
 pub(crate) struct RoamConfig<'a, R: Rules, G: Gate> {
     pub net: &'a LockedNet<R>,
@@ -18,7 +17,6 @@ pub(crate) struct RoamConfig<'a, R: Rules, G: Gate> {
     pub turns: u32,
 }
 
-/// Takes a turn under one hold of the network's lock.
 fn take_turn<R: Rules, W: Wait>(
     rt: &W,
     net: &LockedNet<R>,
@@ -37,7 +35,6 @@ fn take_turn<R: Rules, W: Wait>(
 }
 
 /// Takes a clerk's turns in order, up to the last turn or to the first fault.
-/// Passes the gate before each turn, with the worker's number and the turn's.
 pub(crate) fn take_turns<R: Rules, G: Gate, W: Wait>(
     rt: &W,
     round: &RoamConfig<R, G>,

@@ -17,7 +17,7 @@ use rule_engine::Rules;
 use std::alloc::Global;
 use step_log::{Journal, NoEntry, Receipt};
 
-/// Whether the clerks account for the journal's log; see `settle` for the faults and their order.
+/// See `settle` for the faults and their order.
 /// Takes one byte for each entry, and looks at each entry, clerk and receipt.
 pub(crate) fn settled_with<R: Rules>(
     alloc: Global,
@@ -44,7 +44,6 @@ pub(crate) fn settled_with<R: Rules>(
     Ok(())
 }
 
-/// The fault `Stranger` with these indices; `Memory` if the clerk's index does not fit a `u32`.
 fn stranger(clerk: usize, place: usize) -> SettleFault
     requires { place < 2 ^ 32 }
     ensures { ((clerk < 2 ^ 32) × (result ≡ Stranger clerk place)) ⊎ ((2 ^ 32 ≤ clerk) × (result ≡ Memory)) }
@@ -72,7 +71,6 @@ fn has_count(clerks: &[Clerk], count: usize) -> bool
     left == 0
 }
 
-/// The number of the last dropped entry.
 fn last_base<R: Rules>(journal: &Journal<R>) -> Option<u32>
     ensures { result ≡ base_number journal.now.base }
 {

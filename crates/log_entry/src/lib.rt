@@ -4,7 +4,7 @@
 //! lists the kinds. Runs, judges and journals check whether the machine may give the reply.
 //!
 //! Journal and auditor build on this crate, so transcripts are read without the engine.
-//! Making an entry takes no memory. `same_event` and `same_reply` look at each item of a list.
+//! Making an entry takes no memory.
 //!
 //! ```rust
 //! let entry = Entry::new(Event::Link(a, b), Reply::Accepted);      // `None` if the reply is of another kind

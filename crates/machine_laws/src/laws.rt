@@ -1,4 +1,4 @@
-//! Laws of the rule machine's definitions; the functions do nothing and their contracts are the laws.
+//! Laws of the rule machine's definitions.
 
 ghost use Rattle.std.specs.Prelude.{◌≡◌, ℕ, ◌*◌, ◌≤◌, Bool, List, length, Some, IfSome, IsTrue, All, Contains};
 ghost use Rattle.std.specs.FinMap as map;

@@ -1,4 +1,4 @@
-//! Disturbances and moves that are made of several writes, for any type that stores a state.
+//! Disturbances and moves that consist of several writes, for any type that stores a state.
 
 ghost use Rattle.std.specs.Prelude.{◌≡◌, All, IfSome, IsTrue, List, MatchOption, None, [], false, fold};
 ghost use Rattle.graph_store.specs.declared.ends.EdgeStance.{EdgeStance};
@@ -15,8 +15,6 @@ use crate::NetState;
 use rule_machine::{Act, Moved, Node};
 
 /// A type that stores a state; each write changes the state and updates what depends on it.
-///
-/// `unlink`, `leave` and `make_moves` are built from these writes.
 pub trait StateWriter {
     /// The state.
     ghost state: { Self → State };
@@ -24,7 +22,7 @@ pub trait StateWriter {
     /// The stance of each name towards its edges.
     ghost ends: { Self → List EdgeStance };
 
-    /// Returns the network with its registers.
+    /// The network with its registers.
     fn net(&self) -> &NetState
         ensures state { result.now.state ≡ state self.now }
         ensures sound { IsState (state self.now) };
@@ -145,14 +143,11 @@ fn write_pointers<D: StateWriter>(it: &mut D, moves: &[Moved])
     }
 }
 
-/// Carries out the moves of one step.
-///
-/// Flags are written first, because each new flag is computed from the pointers before the step.
+/// Carries out the moves of one step. Each new flag is computed from the pointers before the step.
 pub fn make_moves<D: StateWriter>(it: &mut D, moves: &[Moved])
     requires { All (IsMoveIn (D.state it.old).network) moves.now }
     ensures { D.state it.new ≡ after_moves (D.state it.old) moves.now }
 {
-    // Gives the prover `IsState`.
     let _ = it.net();
     write_flags(it, moves);
     write_pointers(it, moves);

@@ -1,8 +1,8 @@
 //! A network with its registers: a state of the rule machine, and the writes that change it.
 //!
-//! The type guarantees that a `NetState` is a valid state before and after each call: every pointer is null
-//! or at a neighbour, and an absent name has no edge, a null pointer and a false flag. Each call has
-//! preconditions, which `NetState` does not check: its callers refuse events.
+//! A `NetState` is a valid state before and after each call: every pointer is null or at a neighbour, and an
+//! absent name has no edge, a null pointer and a false flag. `NetState` does not check the preconditions of
+//! its calls: its callers refuse events.
 //!
 //! `StateWriter` has four write steps: a pointer, a flag, the removal of an edge, the release of a name.
 //! `unlink`, `leave` and `make_moves` are built from these four. The judge, the index, the indexed state

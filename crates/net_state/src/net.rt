@@ -36,7 +36,7 @@ impl Model for NetState {
 }
 
 impl NetState {
-    /// Creates a state with names 1 to `nodes`, of which 1 to `present` are nodes.
+    /// A state with names 1 to `nodes`, of which 1 to `present` are nodes.
     ///
     /// There is no edge; all pointers are null and all flags false.
     ///
@@ -54,7 +54,7 @@ impl NetState {
         Ok(NetState { store, registers })
     }
 
-    /// Returns the edges.
+    /// The edges.
     #[inline(always)]
     pub fn store(&self) -> &EdgeStore
         ensures network { result.now.network ≡ self.now.state.network }
@@ -65,7 +65,7 @@ impl NetState {
         &self.store
     }
 
-    /// Returns the registers.
+    /// The registers.
     #[inline(always)]
     pub fn registers(&self) -> &Registers
         ensures value { result.now ≡ self.now.state.registers }
@@ -74,7 +74,7 @@ impl NetState {
         &self.registers
     }
 
-    /// Returns the number of nodes, at most 65,535.
+    /// The number of nodes, at most 65,535.
     pub fn nodes(&self) -> u32
         ensures count { result ≡ network.node_count self.now.state.network }
         ensures few { result ≤ 65535 }
@@ -82,7 +82,7 @@ impl NetState {
         self.store.nodes()
     }
 
-    /// Returns the greatest name that a node may have, at most 65,535.
+    /// The greatest name that a node may have, at most 65,535.
     #[inline(always)]
     pub fn capacity(&self) -> u32
         ensures size { result ≡ self.now.state.network.size }
@@ -92,7 +92,7 @@ impl NetState {
         self.store.capacity()
     }
 
-    /// Returns the number of edges, at most 1,048,576.
+    /// The number of edges, at most 1,048,576.
     pub fn edges(&self) -> u32
         ensures count { result ≡ network.edge_count self.now.state.network }
         ensures few { result ≤ 1048576 }
@@ -100,7 +100,7 @@ impl NetState {
         self.store.edges()
     }
 
-    /// Returns the edges, by ascending lower end, then by ascending higher end.
+    /// The edges, by ascending lower end, then higher end.
     ///
     /// Takes four bytes an edge; fails only if memory runs out.
     pub fn list_edges(&self) -> Result<Vec<Edge>, Want>
@@ -110,7 +110,7 @@ impl NetState {
         self.store.list()
     }
 
-    /// Returns how many edges are open by the stances of their ends. One look.
+    /// How many edges are open by the stances of their ends. One look.
     pub fn open_edges(&self) -> u32
         ensures count { result ≡ open_edges self.now.state.network self.now.ends }
         ensures few { result ≤ 1048576 }
@@ -126,7 +126,7 @@ impl NetState {
         self.store.has(v)
     }
 
-    /// Whether the name is at most the capacity; the name may be absent.
+    /// Whether the name is at most the capacity; it may be absent.
     pub fn is_name(&self, v: Node) -> bool
         ensures { result ≡ (nat_le 1 v && nat_le v self.now.state.network.size) }
     {
@@ -142,7 +142,7 @@ impl NetState {
         self.store.linked(a, b)
     }
 
-    /// Returns a node's neighbours, ascending.
+    /// A node's neighbours, ascending.
     #[inline(always)]
     pub fn neighbours(&self, v: Node) -> &[Node]
         requires { IsTrue (network.present self.now.state.network v) }
@@ -153,7 +153,7 @@ impl NetState {
         self.store.neighbours(v)
     }
 
-    /// Returns a node's pointer; `None` if it is null or the name is absent. One look.
+    /// A node's pointer; `None` if it is null or the name is absent. One look.
     #[inline(always)]
     pub fn pointer(&self, v: Node) -> Option<Node>
         requires { v ≤ self.now.state.network.size }
@@ -162,7 +162,7 @@ impl NetState {
         self.registers.pointer(v)
     }
 
-    /// Returns a node's flag; false if the name is absent. One look.
+    /// A node's flag; false if the name is absent. One look.
     #[inline(always)]
     pub fn flag(&self, v: Node) -> bool
         requires { v ≤ self.now.state.network.size }

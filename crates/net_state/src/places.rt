@@ -22,7 +22,7 @@ impl NetState {
         })
     }
 
-    /// Returns the nodes with their registers, ascending.
+    /// The nodes with their registers, ascending.
     ///
     /// Cost: a look at each name. Fails only if memory runs out.
     pub fn list_places(&self, alloc: Global) -> Result<Vec<NodeRecord>, Want>

@@ -31,8 +31,7 @@ impl NetState {
 
     /// Makes room for the edge between two nodes, so that `link_reserved` takes no memory.
     ///
-    /// Errors, checked in this order: `UnknownNode`, `SelfLoop`, `AlreadyLinked`, `TooManyEdges`, `Memory`.
-    /// The state never changes.
+    /// Errors: as for `link`. The state never changes.
     ///
     /// Cost: a binary search, and the growth of at most two neighbour lists.
     pub fn reserve_link(&mut self, a: Node, b: Node) -> Result<(), GraphFault>

@@ -9,7 +9,7 @@ use rules_api::Rules;
 pub trait NodeBound: Rules {
     ghost most: { ℕ → Option ℕ };
 
-    /// Returns a bound on the moves of this many nodes between two disturbances.
+    /// A bound on the moves of this many nodes between two disturbances.
     ///
     /// The bound holds for any edges, any state and any daemon. `None` if no such bound is known.
     fn most_moves(nodes: u32) -> Option<u32>

@@ -12,9 +12,8 @@ use std::alloc::Global;
 impl PlainNet {
     /// Answers an event. A move for which no target is wished takes the least allowed target.
     ///
-    /// `spent` is the number of moves since the last accepted disturbance.
-    ///
-    /// A refused event changes nothing. `Want` if memory runs out; the network is unchanged then.
+    /// `spent` is the number of moves since the last accepted disturbance. A refused event changes nothing.
+    /// `Want` if memory runs out; the network is unchanged then.
     ///
     /// Cost with n names and m edges: about n·n·m looks for each chosen node of a step, n·m·m for `Status`.
     pub fn answer(

@@ -10,7 +10,7 @@ use crate::PlainNet;
 use rule_machine::RuleSet;
 
 impl PlainNet {
-    /// Returns the charge (the potential), which each move lowers; at most 2,293,757.
+    /// The charge (the potential), which each move lowers; at most 2,293,757.
     ///
     /// Cost: about n·m·m looks with n names and m edges.
     pub fn charge(&self, rules: RuleSet) -> u64

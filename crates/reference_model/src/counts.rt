@@ -13,7 +13,7 @@ use crate::lists::pair_above;
 use rule_machine::{Counts, Node, RuleSet};
 
 impl PlainNet {
-    /// Returns the counts of the network, with `spent` moves since the last accepted disturbance.
+    /// The counts of the network, with `spent` moves since the last accepted disturbance.
     ///
     /// Cost: about n·m·m looks with n names and m edges.
     pub fn counts(&self, rules: RuleSet, spent: u32) -> Counts

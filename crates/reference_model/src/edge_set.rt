@@ -30,7 +30,7 @@ impl Model for EdgeSet {
 }
 
 impl EdgeSet {
-    /// Creates the empty set.
+    /// The empty set.
     pub fn new(alloc: Global) -> EdgeSet
         ensures { result ≡ map.empty }
     {
@@ -39,7 +39,7 @@ impl EdgeSet {
         }
     }
 
-    /// Returns the number of edges.
+    /// The number of edges.
     pub fn len(&self) -> usize
         ensures count { result ≡ map.len self.now }
         ensures few { result ≤ 1048576 }
@@ -47,7 +47,7 @@ impl EdgeSet {
         self.edges.len()
     }
 
-    /// Returns the edges in order.
+    /// The edges in order.
     pub fn as_slice(&self) -> &[Edge]
         ensures list { result.now ≡ map.keys self.now }
         ensures few { length result.now ≤ 1048576 }
@@ -104,7 +104,7 @@ fn has_pair(edges: &[Edge], low: Node, high: Node) -> bool
     false
 }
 
-/// Returns the index of the first edge that is greater than `e`; the length if there is none.
+/// The index of the first edge that is greater than `e`; the length if there is none.
 fn place_for(edges: &[Edge], e: Edge) -> usize
     ensures { result ≡ position_or_len (is_below e) edges.now }
 {

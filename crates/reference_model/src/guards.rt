@@ -9,7 +9,7 @@ use rule_machine::{Act, Node, RuleSet, Want};
 use std::alloc::Global;
 
 impl PlainNet {
-    /// Returns the rule that is enabled at a node, if any. The name may be absent.
+    /// The rule that is enabled at a node, if any. The name may be absent.
     pub fn rule_at(&self, rules: RuleSet, v: Node) -> Option<Act>
         ensures { result ≡ table.rule_at (table_of rules) self.now v }
     {
@@ -26,7 +26,7 @@ impl PlainNet {
         }
     }
 
-    /// Returns the targets that a rule allows at a node, ascending. `Want` only if memory runs out.
+    /// The targets that a rule allows at a node, ascending. `Want` only if memory runs out.
     pub fn allowed_targets(
         &self,
         alloc: Global,
@@ -48,7 +48,7 @@ impl PlainNet {
         Ok(targets)
     }
 
-    /// Returns the least target that a rule allows at a node, if any.
+    /// The least target that a rule allows at a node, if any.
     pub fn least_target(&self, rules: RuleSet, v: Node, act: Act) -> Option<Node>
         ensures { result ≡ table.least_target (table_of rules) self.now v act }
     {

@@ -1,12 +1,10 @@
 //! A plain, slow interpreter of the rule machine: its code follows the definitions, by scans.
 //!
-//! `PlainNet` is a network that has no index, no set of enabled nodes and no sorted rows: each function
-//! scans all names or all edges. Tests compare the engine with `PlainNet` on every small network and along
-//! long runs. `PlainNet` also computes the worked examples. `PlainNet` and the engine share no code except
-//! the plain types.
+//! `PlainNet` is a network without an index, a set of enabled nodes or sorted rows: each function scans all
+//! names or all edges. Tests compare the engine with `PlainNet` on every small network and along long runs.
+//! `PlainNet` also computes the worked examples. `PlainNet` and the engine share only the plain types.
 //!
-//! `PlainNet` is for small networks. With n names and m edges a step takes about n·n·m looks for each
-//! chosen node, and a `Status` n·m·m.
+//! With n names and m edges a step takes about n·n·m looks for each chosen node, and a `Status` n·m·m.
 //!
 //! ```rust
 //! let mut net = PlainNet::new(alloc, 3)?;

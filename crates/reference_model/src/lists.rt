@@ -10,7 +10,7 @@ use rule_machine::{Act, Edge, Node, RuleSet, Want};
 use std::alloc::Global;
 
 impl PlainNet {
-    /// Returns the enabled nodes, ascending, each with its rule.
+    /// The enabled nodes, ascending, each with its rule.
     ///
     /// `Want` only if memory runs out. Cost: about n·n·m looks with n names and m edges.
     pub fn enabled(&self, alloc: Global, rules: RuleSet) -> Result<Vec<(Node, Act)>, Want>
@@ -24,9 +24,7 @@ impl PlainNet {
             .collect(alloc)
     }
 
-    /// Returns the mutual pairs, ascending by lower end.
-    ///
-    /// `Want` only if memory runs out. Cost: about n·n·m looks with n names and m edges.
+    /// The mutual pairs, ascending by lower end. `Want` and cost as for `enabled`.
     pub fn mutual_pairs(&self, alloc: Global) -> Result<Vec<Edge>, Want>
         ensures { IfOk result (λ pairs. pairs.items ≡ mutual_pairs self.now) }
     {

@@ -63,7 +63,7 @@ pub(crate) fn flag_charges(net: &PlainNet) -> u64
     total
 }
 
-/// Returns what a node adds to the charge by its flag and whether it is married, 0 to 2.
+/// What a node adds to the charge by its flag and whether it is married, 0 to 2.
 fn flag_charge(net: &PlainNet, v: Node) -> u64
     ensures value { result ≡ charge.manne_node_charge net.now v }
     ensures small { result ≤ 2 }
@@ -75,7 +75,6 @@ fn flag_charge(net: &PlainNet, v: Node) -> u64
     }
 }
 
-/// Whether a node's flag is right: true exactly if it is married.
 fn is_settled(net: &PlainNet, v: Node) -> bool
     ensures { result ≡ state.is_settled net.now v }
 {

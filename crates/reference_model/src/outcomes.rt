@@ -9,7 +9,7 @@ use crate::PlainNet;
 use rule_machine::{Act, Item, Moved, Node, Outcome, RuleSet};
 
 impl PlainNet {
-    /// Returns the outcome of an item alone. An item that wishes no target takes the least target.
+    /// The outcome of an item alone. An item that wishes no target takes the least target.
     pub fn outcome(&self, rules: RuleSet, item: Item) -> Outcome
         ensures { result ≡ outcome_of (table_of rules) self.now item }
     {
@@ -37,7 +37,7 @@ impl PlainNet {
         })
     }
 
-    /// Returns the move that the first item at `v` makes; `None` if there is no item or no move.
+    /// The move that the first item at `v` makes; `None` if there is no item or no move.
     pub(crate) fn move_of(&self, rules: RuleSet, items: &[Item], v: Node) -> Option<Moved>
         ensures { result ≡ option_and_then (λ item. move_in (outcome_of (table_of rules) self.now item)) (item_of items.now v) }
     {

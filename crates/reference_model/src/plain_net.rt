@@ -15,8 +15,7 @@ use std::marker::Model;
 
 /// A network and its registers; contracts see a state.
 ///
-/// There is no index, so every answer takes a scan of all names or all edges: to find a node's rule takes
-/// about n·m looks with n names and m edges.
+/// To find a node's rule takes about n·m looks with n names and m edges.
 #[derive(Drop)]
 pub struct PlainNet {
     names: Vec<Node>,
@@ -44,7 +43,7 @@ impl Model for PlainNet {
 }
 
 impl PlainNet {
-    /// Creates nodes 1 to `nodes` without an edge; all pointers are null and all flags false.
+    /// Nodes 1 to `nodes` without an edge; all pointers are null and all flags false.
     ///
     /// At most 65,535 nodes. `Want` if memory runs out.
     pub fn new(alloc: Global, nodes: u32) -> Result<PlainNet, Want>
@@ -54,9 +53,7 @@ impl PlainNet {
         PlainNet::with_present(alloc, nodes, nodes)
     }
 
-    /// Creates a network of names 1 to `nodes`, of which 1 to `present` are nodes.
-    ///
-    /// There is no edge; all pointers are null and all flags false.
+    /// A network of names 1 to `nodes`, of which 1 to `present` are nodes; otherwise as `new`.
     ///
     /// At most 65,535 names. `Want` if memory runs out.
     pub fn with_present(alloc: Global, nodes: u32, present: u32) -> Result<PlainNet, Want>
@@ -75,7 +72,7 @@ impl PlainNet {
         })
     }
 
-    /// Returns the greatest name that a node may have, 0 to 65,535.
+    /// The greatest name that a node may have, 0 to 65,535.
     pub fn capacity(&self) -> u32
         ensures value { result ≡ self.now.network.size }
         ensures few { result ≤ 65535 }
@@ -114,7 +111,7 @@ impl PlainNet {
         self.edges.contains(a, b)
     }
 
-    /// Returns a node's pointer; `None` if it is null or the name is absent.
+    /// A node's pointer; `None` if it is null or the name is absent.
     pub fn pointer(&self, v: Node) -> Option<Node>
         ensures { result ≡ pointer_of self.now.registers v }
     {
@@ -220,7 +217,7 @@ fn all_names(alloc: Global, nodes: u32) -> Result<Vec<Node>, Want>
     Ok(names)
 }
 
-/// Returns entries 0 to `nodes`, of which entries 1 to `present` are true and all others false.
+/// Entries 0 to `nodes`, of which entries 1 to `present` are true and all others false.
 fn first_row(alloc: Global, nodes: u32, present: u32) -> Result<Vec<bool>, Want>
     requires { nodes ≤ 65535 }
     ensures { IfOk result (λ row. row.items ≡ first_names nodes present) }
@@ -232,7 +229,6 @@ fn first_row(alloc: Global, nodes: u32, present: u32) -> Result<Vec<bool>, Want>
     Ok(row)
 }
 
-/// Whether `name` is from 1 to `present`; false for 0.
 fn is_among_first(name: u32, present: u32) -> bool
     ensures { result ≡ (nat_le 1 name && nat_le name present) }
 {

@@ -11,7 +11,7 @@ use crate::rules::{is_central, uses_flags};
 use rule_machine::{Act, Event, Item, MAX_EDGES, Node, Refusal, RuleSet};
 
 impl PlainNet {
-    /// Returns the first reason, in a fixed order, to refuse an event; `None` if there is none.
+    /// The first reason, in a fixed order, to refuse an event, if any.
     pub fn refusal(&self, rules: RuleSet, event: &Event) -> Option<Refusal>
         ensures { result ≡ refuse.refusal_of (table_of rules) self.now event.now }
     {
@@ -124,7 +124,7 @@ impl PlainNet {
         None
     }
 
-    /// Returns why an item after the items `earlier` is refused; `None` if it is not refused.
+    /// Why an item after the items `earlier` is refused; `None` if it is not refused.
     fn item_refusal(&self, rules: RuleSet, earlier: &[Item], item: Item) -> Option<Refusal>
         ensures { result ≡ refuse.item_refusal (table_of rules) self.now earlier.now item }
     {

@@ -26,7 +26,7 @@ impl Model for RegisterTable {
 }
 
 impl RegisterTable {
-    /// Creates the registers of names up to `size`, at most 65,535: pointers null, flags false.
+    /// The registers of names up to `size`, at most 65,535: pointers null, flags false.
     ///
     /// `Want` if memory runs out.
     pub fn new(alloc: Global, size: usize) -> Result<RegisterTable, Want>
@@ -38,7 +38,7 @@ impl RegisterTable {
         Ok(RegisterTable { pointers, flags })
     }
 
-    /// Returns a copy of the registers. `Want` if memory runs out.
+    /// A copy. `Want` if memory runs out.
     pub fn copy(&self, alloc: Global) -> Result<RegisterTable, Want>
         ensures { IfOk result (λ r. r ≡ self.now) }
     {
@@ -47,14 +47,14 @@ impl RegisterTable {
         Ok(RegisterTable { pointers, flags })
     }
 
-    /// Returns a node's pointer.
+    /// A node's pointer.
     pub fn pointer(&self, v: Node) -> Option<Node>
         ensures { result ≡ pointer_of self.now v }
     {
         self.pointers.get(v.place()).copied().flatten()
     }
 
-    /// Returns a node's flag.
+    /// A node's flag.
     pub fn flag(&self, v: Node) -> bool
         ensures { result ≡ flag_of self.now v }
     {

@@ -41,7 +41,6 @@ impl PlainNet {
         self.partner(v).is_some()
     }
 
-    /// Whether a node has a target that does not point back.
     pub(crate) fn is_unanswered(&self, v: Node) -> bool
         ensures { result ≡ state.is_unanswered self.now v }
     {

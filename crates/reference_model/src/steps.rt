@@ -26,7 +26,6 @@ impl PlainNet {
         Ok(moves)
     }
 
-    /// Makes the moves of one step. `Want` if memory runs out; the network is unchanged then.
     fn make_moves(&mut self, alloc: Global, moves: &[Moved]) -> Result<(), Want>
         ensures ok { OnOk result (self.new ≡ after_moves self.old moves.now) }
         ensures err { OnErr result (self.new ≡ self.old) }
@@ -47,8 +46,6 @@ impl PlainNet {
             .collect(alloc)
     }
 
-    /// Returns the registers after these moves.
-    ///
     /// A node that updates its flag reads the pointers as they were before the step.
     fn registers_after(&self, alloc: Global, moves: &[Moved]) -> Result<RegisterTable, Want>
         ensures { IfOk result (λ registers. registers ≡ registers_after self.now moves.now) }

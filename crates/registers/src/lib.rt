@@ -1,6 +1,5 @@
 //! Each node's pointer and married flag.
 //!
-//! `Registers` are two tables with an entry for each name: its pointer (null or a node) and its flag.
 //! `net_state`, one crate up, ensures that each pointer is at a neighbour and that absent names have null
 //! pointers.
 //!

@@ -1,4 +1,4 @@
-//! Bases: begins a judge at a base, and returns the base of a judge's state.
+//! Begins a judge at a base, and returns the base of a judge's state.
 
 ghost use Rattle.std.specs.Prelude.{◌≡◌, ◌≤◌, ◌+◌, ◌↔◌, ℕ, IfOk, IfSome, IsTrue, None, false, length, nat_le};
 ghost use Rattle.std.specs.List.{list_any};
@@ -27,16 +27,13 @@ fn has_flag(nodes: &[NodeRecord]) -> bool
     false
 }
 
-/// Returns the bound on moves spent plus charge.
-///
-/// The bound is twice the number of edges plus the rules' weight for each node.
+/// The bound on moves spent plus charge: twice the number of edges plus the rules' weight per node.
 fn bound(net: &NetState, rules: RuleSet) -> u64
     ensures { result ≡ charge_bound (weight_of rules) net.now.state.network }
 {
     2 * u64::from(net.edges()) + rules.node_weight() * u64::from(net.nodes())
 }
 
-/// Whether moves spent plus the charge are at most the bound of the network.
 fn is_within(survey: &mut CountedNet, rules: RuleSet, spent: u32) -> bool
     ensures within { result ≡ nat_le (spent + (table_of rules).charge survey.old.net.state) (charge_bound (weight_of rules) survey.old.net.state.network) }
     ensures sound { IsState survey.old.net.state }
@@ -101,7 +98,7 @@ impl Judge {
         Ok(Some(Judge::of_survey(alloc, survey)?))
     }
 
-    /// Returns the base of the present state.
+    /// The base of the present state.
     ///
     /// `number` is the number of entries so far, `spent` the number of moves since the last accepted
     /// disturbance. `Want` if memory runs out.

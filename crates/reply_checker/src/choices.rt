@@ -8,7 +8,6 @@ use rule_machine::{Act, Item, Moved, Node, Want};
 use std::alloc::Global;
 use std::marker::Model;
 
-/// An item, and the rule that is enabled at its node.
 #[derive(Clone, Copy)]
 pub(crate) struct RuledItem {
     pub(crate) item: Item,
@@ -75,7 +74,6 @@ impl ChosenItems {
         }
     }
 
-    /// Removes the entries of the nodes that `moves` move.
     pub(crate) fn take_movers(&mut self, moves: &[Moved])
         ensures len { length self.new ≡ length self.old }
         ensures out { (v : ℕ) → ruled_at self.new v ≡ cond (is_mover moves.now v) None (ruled_at self.old v) }
@@ -85,7 +83,6 @@ impl ChosenItems {
         }
     }
 
-    /// Whether no node that `items` name has an entry.
     pub(crate) fn has_none(&self, items: &[Item]) -> bool
         ensures { result ≡ list_all (λ i. is_none (ruled_at self.now i.node)) items.now }
     {

@@ -47,7 +47,6 @@ pub(crate) fn write(net: &mut NetState, place: NodeRecord)
     ensures written { net.new.state ≡ after_flag (after_point net.old.state place.node place.target) place.node place.flagged }
     ensures sound { IsState net.old.state }
 {
-    // Gives the prover `IsState`.
     let _ = net.registers();
     point(net, place.node, place.target);
     net.set_flag(place.node, place.flagged);

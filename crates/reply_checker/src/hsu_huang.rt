@@ -59,8 +59,6 @@ pub(crate) fn closes(net: &NetState, v: Node) -> bool
     }
 }
 
-/// Returns the stance of node `v` towards its edges; `rule` is the rule enabled at `v`.
-///
 /// A node with a null pointer has a suitor exactly if the node may marry.
 #[inline(always)]
 pub(crate) fn end_of(net: &NetState, v: Node, rule: Option<Act>) -> EdgeStance
@@ -120,7 +118,6 @@ fn point_cost(net: &NetState, v: Node) -> u32
     }
 }
 
-/// Returns the degree of the target of `v`; 0 if `v` has no target.
 fn edges_of_target(net: &NetState, v: Node) -> u32
     ensures value { result ≡ degrees.degree_at net.now.state.network (state.pointer net.now.state v) }
     ensures few { result ≤ 65535 }

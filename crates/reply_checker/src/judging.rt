@@ -21,9 +21,7 @@ use crate::{ChosenItems, CountedNet};
 use net_state::{NetState, StateWriter, leave, make_moves, unlink};
 use rule_machine::{Event, Item, Refusal, Reply, RuleSet, Want};
 
-/// Whether the machine may give this reply to the event. If so, carries the event out.
-///
-/// Afterwards `chosen` may contain items of the event, if the event is a step.
+/// As `Judge::replay`; afterwards `chosen` may contain items of the event, if the event is a step.
 pub(crate) fn judge_reply(
     survey: &mut CountedNet,
     rules: RuleSet,
@@ -47,7 +45,7 @@ pub(crate) fn judge_reply(
     }
 }
 
-/// Returns why an event is refused; `None` if it is not refused.
+/// Why an event is refused.
 ///
 /// Afterwards `chosen` contains the items of a step before the first refused item.
 fn refusal(
@@ -148,7 +146,7 @@ fn may_move(
     }
 }
 
-/// Carries out an event with the moves of its right reply. `Want` if memory runs out.
+/// Carries out an event with the moves of its right reply.
 fn follow(survey: &mut CountedNet, rules: RuleSet, event: &Event, reply: &Reply) -> Result<(), Want>
     requires accepted { refusal_of (table_of rules) survey.old.net.state event.now ≡ None }
     requires right { (spent : ℕ) × IsRightReply (table_of rules) survey.old.net.state spent event.now reply.now }
@@ -164,7 +162,6 @@ fn follow(survey: &mut CountedNet, rules: RuleSet, event: &Event, reply: &Reply)
     Ok(())
 }
 
-/// Carries out a disturbance. Does nothing for a step or a question.
 fn disturb(survey: &mut CountedNet, event: &Event) -> Result<(), Want>
     requires accepted { (t : RuleTable) × (refusal_of t survey.old.net.state event.now ≡ None) }
     ensures ok { OnOk result (survey.new.net.state ≡ disturbed survey.old.net.state event.now) }

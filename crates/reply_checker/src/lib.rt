@@ -1,13 +1,12 @@
 //! A judge of replies: finds, by looks at an event's nodes, whether the machine may give a reply.
 //!
-//! A `Judge` keeps the state of a run. If a reply is right, the judge carries out the event, with whatever
-//! allowed targets the reply took. A wrong reply changes nothing. The judge's guards, targets and counts
-//! are written from the tables alone. They share no code with the engine's rule sets, so that the judge
-//! does not repeat a mistake of the engine. Only the state (`net_state`) is shared.
+//! A `Judge` keeps the state of a run. It carries out the event of a right reply; a wrong reply changes
+//! nothing. The judge's guards, targets and counts are written from the tables alone and share no code with
+//! the engine's rule sets, so that the judge does not repeat a mistake of the engine. Only the state
+//! (`net_state`) is shared.
 //!
-//! A disturbance and a `Show` cost look-ups. A step looks at the neighbours of its nodes. A question looks
-//! at what changed since the last question and at what the reply lists. A judge may begin at a base
-//! (`at_base`). It returns the base of its state (`base`) and the cost of a disturbance (`cost_of`).
+//! A judge may begin at a base (`at_base`). It returns the base of its state (`base`) and the cost of a
+//! disturbance (`cost_of`).
 //!
 //! ```rust
 //! let mut judge = Judge::new(alloc, 2)?;

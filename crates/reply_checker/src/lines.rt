@@ -12,12 +12,10 @@ use net_state::NetState;
 use rule_machine::{Edge, NodeRecord, Want};
 use std::alloc::Global;
 
-/// Creates the network that the lines of a base describe, with names up to `size`.
+/// The network that the lines of a base describe, with names up to `size`.
 ///
-/// `None` if no state has these lines: a name is above `size`, an end of an edge is no node, or a pointer
-/// is neither null nor at a neighbour. `Want` if memory runs out.
-///
-/// Cost: a look-up for each node and a search for each edge.
+/// `None` if a name is above `size`, an end of an edge is no node, or a pointer is neither null nor at a
+/// neighbour.
 pub(crate) fn from_lines(
     alloc: Global,
     size: u32,
@@ -44,7 +42,7 @@ pub(crate) fn from_lines(
     Ok(Some(net))
 }
 
-/// Adds the nodes. Stops and returns false at the first name above the capacity.
+/// Stops with false at the first name above the capacity.
 fn join_all(net: &mut NetState, nodes: &[NodeRecord]) -> bool
     requires empty { (v : ℕ) → present net.old.state.network v ≡ false }
     requires rise { NamesRise 0 nodes.now }
@@ -62,7 +60,7 @@ fn join_all(net: &mut NetState, nodes: &[NodeRecord]) -> bool
     true
 }
 
-/// Adds the edges. Stops and returns false at the first edge with an end that is no node.
+/// Stops with false at the first edge with an end that is no node.
 fn link_all(net: &mut NetState, edges: &[Edge]) -> Result<bool, Want>
     requires bare { edge_list net.old.state.network ≡ [] }
     requires few { length edges.now ≤ 1048576 }
@@ -84,7 +82,7 @@ fn link_all(net: &mut NetState, edges: &[Edge]) -> Result<bool, Want>
     Ok(true)
 }
 
-/// Writes the registers of all nodes. Stops and returns false at the first pointer to no neighbour.
+/// Stops with false at the first pointer to no neighbour.
 fn write_all(net: &mut NetState, nodes: &[NodeRecord]) -> bool
     requires named { names net.old.state.network ≡ map (λ p. p.node) nodes.now }
     requires rise { NamesRise 0 nodes.now }

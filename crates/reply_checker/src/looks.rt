@@ -11,7 +11,7 @@ use crate::rules::rule_at;
 use rule_machine::{Act, Node, RuleSet};
 
 impl Judge {
-    /// Returns the number of nodes, at most 65,535.
+    /// The number of nodes, at most 65,535.
     pub fn nodes(&self) -> u32
         ensures count { result ≡ network.node_count self.now.network }
         ensures few { result ≤ 65535 }
@@ -19,7 +19,7 @@ impl Judge {
         self.survey.net.nodes()
     }
 
-    /// Returns the greatest name that a node may have, at most 65,535.
+    /// The greatest name that a node may have, at most 65,535.
     pub fn capacity(&self) -> u32
         ensures size { result ≡ self.now.network.size }
         ensures few { result ≤ 65535 }
@@ -34,14 +34,14 @@ impl Judge {
         self.survey.net.has(v)
     }
 
-    /// Returns the number of edges, at most 1,048,576.
+    /// The number of edges, at most 1,048,576.
     pub fn edges(&self) -> u32
         ensures { result ≡ network.edge_count self.now.network }
     {
         self.survey.net.edges()
     }
 
-    /// Returns a node's neighbours, ascending.
+    /// A node's neighbours, ascending.
     pub fn neighbours(&self, v: Node) -> &[Node]
         requires { IsTrue (network.present self.now.network v) }
         ensures { result.now ≡ network.neighbours self.now.network v }
@@ -64,7 +64,7 @@ impl Judge {
         self.survey.net.married(v)
     }
 
-    /// Returns the rule that is enabled at a node, if any. Looks at the node's neighbours.
+    /// The rule that is enabled at a node, if any. Looks at the node's neighbours.
     pub fn rule_at(&self, rules: RuleSet, v: Node) -> Option<Act>
         requires { IsTrue (network.present self.now.network v) }
         ensures { result ≡ table.rule_at (table_of rules) self.now v }

@@ -55,8 +55,6 @@ fn has_rule(survey: &CountedNet, v: Node, act: Act) -> bool
 }
 
 /// Whether a reply lists exactly the mutual pairs, by ascending lower end.
-///
-/// Compares the number of entries with the count of pairs, then checks each entry.
 pub(crate) fn are_mutual(survey: &mut CountedNet, rules: RuleSet, reply: &Reply) -> bool
     ensures value { IsTrue result ↔ (reply.now ≡ Reply.Pairs (mutual_pairs survey.old.net.state)) }
     ensures kept { survey.new.net.state ≡ survey.old.net.state }

@@ -1,4 +1,4 @@
-//! Reads of a name's registers and edges.
+//! Reads of a name's registers and edges. An absent name has a null pointer, a false flag and no edge.
 
 ghost use Rattle.std.specs.Prelude.{◌≡◌, ◌-◌, ◌≤◌, IsTrue, Some, cond};
 ghost use Rattle.rule_machine.specs.Network.{present};
@@ -8,7 +8,6 @@ ghost use Rattle.charge_laws.specs.Degrees as degrees;
 use net_state::NetState;
 use rule_machine::Node;
 
-/// Returns a node's pointer; `None` if it is null or no node has the name.
 pub(crate) fn pointer(net: &NetState, v: Node) -> Option<Node>
     ensures { result ≡ state.pointer net.now.state v }
 {
@@ -17,11 +16,9 @@ pub(crate) fn pointer(net: &NetState, v: Node) -> Option<Node>
     if net.is_name(v) { net.pointer(v) } else { None }
 }
 
-/// Returns a node's flag; false if no node has the name.
 pub(crate) fn flag(net: &NetState, v: Node) -> bool
     ensures { result ≡ state.flag net.now.state v }
 {
-    // Gives the prover `IsState`.
     let _ = net.registers();
     net.is_name(v) && net.flag(v)
 }
@@ -33,7 +30,6 @@ pub(crate) fn points_back(net: &NetState, v: Node, w: Node) -> bool
     ensures back { result ≡ state.points net.now.state.registers w v }
     ensures sound { state.IsState net.now.state }
 {
-    // Gives the prover `IsState`.
     let _ = net.registers();
     net.points(w, v)
 }
@@ -50,7 +46,6 @@ pub(crate) fn first_suitor(net: &NetState, v: Node) -> Option<Node>
     None
 }
 
-/// Returns the degree of a node, at most 65,535; 0 if no node has the name.
 #[tactic(auto, using(crate::proofs::Degrees::no_edges, crate::proofs::Degrees::few_edges))]
 pub(crate) fn degree(net: &NetState, v: Node) -> u32
     ensures value { result ≡ degrees.degree net.now.state.network v }
@@ -65,17 +60,15 @@ pub(crate) fn degree(net: &NetState, v: Node) -> u32
     }
 }
 
-/// Whether a neighbour points at a node; false if no node has the name.
 #[tactic(auto, using(crate::proofs::Degrees::no_suitor))]
 pub(crate) fn has_suitor(net: &NetState, v: Node) -> bool
     ensures { result ≡ state.has_suitor net.now.state v }
 {
-    // Gives the prover `IsState`.
     let _ = net.registers();
     net.has(v) && first_suitor(net, v).is_some()
 }
 
-/// If `from` points at `head`, returns how many edges `head` has besides theirs, else 0.
+/// How many edges `head` has besides theirs if `from` points at `head`, else 0.
 pub(crate) fn freed_edges(net: &NetState, from: Node, head: Node) -> u32
     ensures value { result ≡ cond (state.points net.now.state.registers from head) (degrees.degree net.now.state.network head - 1) 0 }
     ensures few { result ≤ 65535 }

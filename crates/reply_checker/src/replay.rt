@@ -16,9 +16,7 @@ use std::marker::Model;
 
 /// A network that judges replies; contracts see a state.
 ///
-/// Guards and targets are computed at each event from the neighbour lists and the registers. Totals are
-/// updated by what changed since the last question. The entries for a choice's items are empty between two
-/// calls.
+/// Computes guards and targets at each event from the neighbour lists and the registers.
 #[derive(Drop)]
 pub struct Judge {
     pub(crate) survey: CountedNet,
@@ -39,7 +37,7 @@ impl Model for Judge {
 }
 
 impl Judge {
-    /// Creates a judge of nodes 1 to `nodes` without an edge; pointers are null and flags false.
+    /// A judge of nodes 1 to `nodes` without an edge; pointers are null and flags false.
     ///
     /// At most 65,535 nodes. `Want` if memory runs out. Takes some forty bytes a node.
     pub fn new(alloc: Global, nodes: u32) -> Result<Judge, Want>
@@ -49,10 +47,9 @@ impl Judge {
         Judge::with_present(alloc, nodes, nodes)
     }
 
-    /// Creates a judge of names 1 to `nodes`, of which 1 to `present` are nodes.
+    /// A judge of names 1 to `nodes`, of which 1 to `present` are nodes; otherwise as `new`.
     ///
-    /// There is no edge, all pointers are null and all flags false. At most 65,535 names. `Want` if memory
-    /// runs out. Takes some forty bytes a name.
+    /// At most 65,535 names. `Want` if memory runs out. Takes some forty bytes a name.
     pub fn with_present(alloc: Global, nodes: u32, present: u32) -> Result<Judge, Want>
         requires few { nodes ≤ 65535 }
         requires within { present ≤ nodes }
@@ -78,7 +75,7 @@ impl Judge {
     /// `Want` if memory runs out, which can happen only at a rightly accepted `Link`; the judge is
     /// unchanged then.
     ///
-    /// Cost: a disturbance and a `Show` take look-ups, and a step a look at the neighbours of its nodes.
+    /// Cost: a disturbance and a `Show` take look-ups, a step a look at the neighbours of its nodes.
     /// `Enabled`, `Matching` and `Status` look at
     ///
     /// - what their replies list;
@@ -111,10 +108,9 @@ impl Judge {
         right
     }
 
-    /// Returns how much an event may add to the charge if the present state accepts the event.
+    /// How much an event may add to the charge if the present state accepts the event.
     ///
-    /// The result is a sum of degrees of the nodes that the event touches, at most 262,144; 0 for a step
-    /// and a question.
+    /// A sum of degrees of the nodes that the event touches, at most 262,144; 0 for a step and a question.
     ///
     /// Cost: a few looks, and one at each neighbour of a node that a fault hits.
     pub fn cost_of(&self, rules: RuleSet, event: &Event) -> u32

@@ -12,7 +12,7 @@ use graph_store::EdgeStance;
 use net_state::NetState;
 use rule_machine::{Act, Event, Node, RuleSet};
 
-/// Returns the rule that is enabled at a node, if any. Looks at neighbours if the pointer is null.
+/// The rule enabled at a node. Looks at neighbours if the pointer is null.
 #[inline(always)]
 pub(crate) fn rule_at(net: &NetState, rules: RuleSet, v: Node) -> Option<Act>
     requires { IsTrue (present net.now.state.network v) }
@@ -75,7 +75,7 @@ pub(crate) fn closes(net: &NetState, rules: RuleSet, v: Node) -> bool
     }
 }
 
-/// Returns the stance of node `v` towards its edges; `rule` is the rule enabled at `v`.
+/// The stance of node `v` towards its edges; `rule` is the rule enabled at `v`.
 #[inline(always)]
 pub(crate) fn end_of(net: &NetState, rules: RuleSet, v: Node, rule: Option<Act>) -> EdgeStance
     requires present { IsTrue (present net.now.state.network v) }

@@ -13,12 +13,9 @@ use graph_store::EdgeStance;
 use net_state::NetState;
 use rule_machine::{Act, Node, RuleSet};
 
-/// What a node contributes to the totals of its network.
+/// `added` is what the node adds to the charge apart from its edges.
 ///
-/// - The rule enabled at the node.
-/// - Whether the node is the lower end of a mutual pair.
-/// - What the node adds to the charge apart from its edges.
-/// - Whether the node's pointer closes an edge that is open by the stances of its ends.
+/// `closes` is whether the node's pointer closes an edge that is open by the stances of its ends.
 #[derive(Clone, Copy)]
 pub(crate) struct Contribution {
     pub(crate) rule: Option<Act>,
@@ -43,10 +40,6 @@ impl Contribution {
     }
 }
 
-/// Returns the contribution of a name.
-///
-/// Cost: looks at the registers of the name, its target and the target's target, and at the neighbours of a
-/// node whose pointer is null.
 pub(crate) fn share_of(net: &NetState, rules: RuleSet, v: Node) -> Contribution
     requires { v ≤ net.now.state.network.size }
     ensures share { IsShare rules net.now.state v result }
@@ -87,9 +80,7 @@ fn is_unanswered(net: &NetState, v: Node) -> bool
     }
 }
 
-/// Returns the stance of node `v` towards its edges; `None` if `v` is absent.
-///
-/// `rule` is the rule enabled at `v`.
+/// `None` if `v` is absent. `rule` is the rule enabled at `v`.
 #[inline(always)]
 pub(crate) fn end_at(
     net: &NetState,

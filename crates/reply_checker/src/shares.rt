@@ -61,7 +61,6 @@ impl Contributions {
         self.touched.mark(v);
     }
 
-    /// Marks the node of a pointer write, the old target and the new target as touched.
     #[inline(always)]
     pub(crate) fn touch_pointer(&mut self, v: Node, was: Option<Node>, is: Option<Node>)
         requires node { v < length self.old.touched }

@@ -18,9 +18,7 @@ use crate::targets::is_target;
 use net_state::NetState;
 use rule_machine::{Act, Item, Moved, Refusal, RuleSet};
 
-/// Returns why a step is refused; `None` if it is not refused.
-///
-/// Afterwards `chosen` contains the items before the first refused item.
+/// Why a step is refused; afterwards `chosen` contains the items before the first refused item.
 pub(crate) fn step_refusal(
     net: &NetState,
     rules: RuleSet,
@@ -66,7 +64,7 @@ fn items_refusal(
     None
 }
 
-/// Returns the rule of an item's node, or why the item is refused.
+/// The rule of an item's node, or why the item is refused.
 ///
 /// `twice` is whether an earlier item has the same node.
 fn taken(net: &NetState, rules: RuleSet, item: Item, twice: bool) -> Result<Act, Refusal>
@@ -103,8 +101,7 @@ fn allows_wish(net: &NetState, rules: RuleSet, act: Act, item: Item) -> bool
 
 /// Whether `moves` are the moves of one step of `items`, which `chosen` contains.
 ///
-/// They are if there is at least one move, exactly one under a central daemon, the moves ascend by node, an
-/// item asks for each move, and each item has a move. Removes the movers' items from `chosen`.
+/// Removes the movers' items from `chosen`.
 pub(crate) fn is_step(
     net: &NetState,
     rules: RuleSet,

@@ -13,10 +13,7 @@ use net_state::{NetState, StateWriter};
 use rule_machine::{Node, RuleSet, Want};
 use std::alloc::Global;
 
-/// A network with its registers and the contributions of its names, by the rules of the last question.
-///
-/// A write marks the names that it changes as touched. The next question looks again at the names that
-/// depend on touched names.
+/// A network and the contributions of its names, by the rules of the last question.
 #[derive(Drop)]
 pub(crate) struct CountedNet {
     pub(crate) net: NetState,

@@ -13,7 +13,6 @@ use enabled_set::Marks;
 use net_state::NetState;
 use rule_machine::{Act, Node, RuleSet};
 
-/// The numbers of mutual pairs and enabled nodes, and the charge.
 #[derive(Clone, Copy)]
 pub(crate) struct Totals {
     pub(crate) pairs: u32,
@@ -42,7 +41,6 @@ fn mark_around(net: &NetState, v: Node, due: &mut Marks)
     requires places { length due.old ≡ net.now.state.network.size + 1 }
     ensures { AreAsking net.now.state v due.old due.new }
 {
-    // Gives the prover `IsState`.
     let _ = net.registers();
     due.mark(v);
     if !net.has(v) {
@@ -56,7 +54,7 @@ fn mark_around(net: &NetState, v: Node, due: &mut Marks)
 }
 
 impl CountedNet {
-    /// Marks as due the names that depend on touched names. Looks at neighbours.
+    /// Marks as due the names that depend on touched names.
     fn spread(&mut self)
         ensures kept { (self.new.net.state ≡ self.old.net.state) × (self.new.rules ≡ self.old.rules) }
         ensures none { (v : ℕ) → is_in self.new.shares.touched v ≡ false }
@@ -82,7 +80,6 @@ impl CountedNet {
         }
     }
 
-    /// Switches the totals to these rules.
     fn use_rules(&mut self, rules: RuleSet)
         ensures rules { self.new.rules ≡ rules }
         ensures kept { self.new.net.state ≡ self.old.net.state }
@@ -93,11 +90,6 @@ impl CountedNet {
         }
     }
 
-    /// Returns the totals by these rules.
-    ///
-    /// Cost: looks at the touched names and their neighbours. A name is due if it is touched, or if its
-    /// pointer is null or at a touched neighbour. Looks at the neighbours of each due name whose pointer is
-    /// null or whose stance towards its edges changed.
     pub(crate) fn totals(&mut self, rules: RuleSet) -> Totals
         ensures value { AreTotals rules self.old.net.state result }
         ensures kept { self.new.net.state ≡ self.old.net.state }
@@ -110,8 +102,6 @@ impl CountedNet {
         self.count()
     }
 
-    /// Returns the totals; no name is touched or due.
-    ///
     /// An edge that is open by the stances of its ends adds 2 to the charge, unless a pointer closes it.
     fn count(&self) -> Totals
         requires { AreFresh self.now.shares.touched self.now.shares.due }
@@ -126,7 +116,6 @@ impl CountedNet {
         }
     }
 
-    /// Returns the rule that is enabled at the node of a name, if any. One look.
     #[inline(always)]
     pub(crate) fn rule_of(&self, v: Node) -> Option<Act>
         requires { AreFresh self.now.shares.touched self.now.shares.due }

@@ -99,7 +99,6 @@ fn are_items(chosen: &[StepItem]) -> bool
     true
 }
 
-/// The items, if all are valid.
 fn items(alloc: Global, chosen: &[StepItem]) -> Result<Vec<Item>, Want>
     requires { AllByRecursion IsItem (map item_named chosen.now) }
     ensures { IfOk result (λ items. items.items ≡ map item_named chosen.now) }
@@ -114,14 +113,12 @@ fn items(alloc: Global, chosen: &[StepItem]) -> Result<Vec<Item>, Want>
     Ok(items)
 }
 
-/// A `step` with one item. Takes no memory.
 fn step_one(chosen: StepItem) -> Option<Command>
     ensures { SomeIff result (IsCommand (Tell (step_named (chosen ∷ [])))) (Tell (step_named (chosen ∷ []))) }
 {
     Some(Command::Tell(Event::Step(Choice::one(item(chosen)?))))
 }
 
-/// A `step` with any number of items.
 fn step_all(alloc: Global, chosen: &[StepItem]) -> Result<Option<Command>, Want>
     ensures { IsAsked result (Tell (step_named chosen.now)) }
 {

@@ -76,7 +76,6 @@ impl AuditSlot {
         Some(old.handle.into_parts().into_box())
     }
 
-    /// Puts an audit into the slot, in place of the old audit.
     pub(crate) fn put(&mut self, audit: Box<PieceAudit>)
         ensures { self.new.handle.value ≡ Some audit.value }
     {

@@ -29,7 +29,7 @@ fn status_of(done: &Result<bool, Want>, reply: &Reply) -> u32
     }
 }
 
-// Gives the session a command; returns 5 if there is no command, because a number is out of range.
+// Returns 5 if there is no command: a number is out of range.
 fn call(alloc: Global, slot: &mut Slot, command: Option<Command>, told: &mut CallResult) -> u32
     ensures { (asked : Command) → SomeIff command (IsCommand asked) asked → AnswersCommand asked result told.new slot.old.handle.value slot.new.handle.value }
 {

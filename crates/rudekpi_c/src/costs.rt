@@ -14,7 +14,7 @@ use crate::status::{BAD_ARGUMENT, DONE, NO_SESSION};
 use script_text::Command;
 use std::alloc::Global;
 
-// Writes the cost of an event; returns 5 if there is no event, because a number is out of range.
+// Returns 5 if there is no event: a number is out of range.
 fn cost_of(alloc: Global, slot: &mut Slot, asked: Option<Command>, cost: &mut u32) -> u32
     ensures costed { (event : Event) → SomeIff asked (IsCommand (Tell event)) (Tell event) → AnswersCost event result cost.new slot.old.handle.value }
     ensures kept { slot.new.handle.value ≡ slot.old.handle.value }

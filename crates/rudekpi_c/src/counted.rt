@@ -52,7 +52,6 @@ impl StatusCounts {
     }
 }
 
-/// The counts in the last answer.
 pub(crate) fn counted_of(alloc: Global, slot: &mut Slot) -> StatusCounts
     ensures counted { result ≡ counted_kept slot.old.handle.value }
     ensures kept { slot.new.handle.value ≡ slot.old.handle.value }

@@ -59,7 +59,6 @@ fn left<R: Rules>(run: &Run<R>) -> Answer
     unanswered(run.recorder.len())
 }
 
-/// Carries out a command, and stores its answer.
 pub(crate) fn follow<R: Rules>(
     run: &mut Run<R>,
     alloc: Global,
@@ -110,7 +109,6 @@ fn pointer(registers: &Registers, v: Node) -> Option<Node>
     None
 }
 
-/// The node that `v` is paired with, if any.
 pub(crate) fn partner<R: Rules>(run: &Run<R>, v: Node) -> Option<Node>
     ensures { result ≡ partner run.now.recorder.state v }
 {

@@ -8,7 +8,6 @@ use crate::status::{BAD_ARGUMENT, DONE};
 use audit_parts::join;
 use auditor::{Damage, JudgeFault, Summary};
 
-// The result that a verdict encodes, if its kind is valid.
 fn found_in(verdict: Verdict) -> Option<Result<Summary, JudgeFault>>
     ensures { MatchOption result (7 ≤ verdict.kind) (λ found. (verdict.kind ≤ 6) × (found ≡ said_by verdict)) }
 {

@@ -11,7 +11,6 @@ use rule_engine::NodeBound;
 use run_session::Run;
 use std::alloc::Global;
 
-/// A bound on the moves that can still come in the run's state.
 pub(crate) fn moves_left<R: NodeBound>(run: &mut Run<R>) -> u32
     ensures value { result ≡ moves_left (R.table.charge run.old.recorder.state) (R.most (node_count run.old.recorder.state.network)) }
     ensures promise { BoundsMoves R.table run.old.recorder.state run.old.recorder.spent result }

@@ -2,9 +2,8 @@
 //!
 //! Its functions have C's names and types; `include/rudekpi.h` lists the statuses and the cost of each
 //! function. A session is a network that carries out script lines and keeps the transcript's text until C
-//! reads it. An audit judges a transcript in memory, or a transcript fed in pieces. A slot is empty, or has
-//! the address of a block of memory that the slot owns, with one session or one audit in the block. The
-//! status that a call returns says what the call did to the slot. If memory runs out, the session lives on.
+//! reads it. An audit judges a transcript in memory, or a transcript fed in pieces. A slot is empty, or owns
+//! a block of memory with one session or one audit. If memory runs out, the session lives on.
 //!
 //! C must keep these rules, which nothing checks: a slot is all bytes 0 at first; it is not copied while it
 //! is full; only one thread at a time uses it; no pointer is null. No state is kept outside slots, and no

@@ -60,7 +60,6 @@ impl Session {
     }
 }
 
-// Writes names over the first places of `out`.
 fn put_names(out: &mut [u32], nodes: &[Node])
     requires { length nodes.now ≤ length out.old }
     ensures { out.new ≡ nodes.now ++ drop (length nodes.now) out.old }
@@ -70,7 +69,7 @@ fn put_names(out: &mut [u32], nodes: &[Node])
     }
 }
 
-// Writes the nodes that an event would reach; returns 5 if there is no event: a number is out of range.
+// Returns 5 if there is no event: a number is out of range.
 fn reach_of(
     alloc: Global,
     slot: &mut Slot,

@@ -78,7 +78,6 @@ fn rule_told(act: Act) -> u32
     }
 }
 
-/// Writes the items' rows over the first places of `out`.
 pub(crate) fn put_rows<T: AsRow>(out: &mut [Row], items: &[T])
     requires { length items.now ≤ length out.old }
     ensures { out.new ≡ map T.shown items.now ++ drop (length items.now) out.old }

@@ -119,7 +119,6 @@ impl Session {
         }
     }
 
-    /// A bound on the moves that can still come in the session's state.
     pub(crate) fn moves_left(&mut self) -> u32
         ensures value { result ≡ left_at self.old }
         ensures promise { IsMost (table_of (rules_of self.old)) (stands self.old).moment result }

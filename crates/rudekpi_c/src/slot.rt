@@ -19,7 +19,6 @@ pub struct Slot {
 }
 
 impl Slot {
-    /// Takes the session out of the slot.
     pub(crate) fn take(&mut self, alloc: Global) -> Option<Box<Session>>
         ensures left { self.new.handle.value ≡ None }
         ensures none { IsNone result → self.old.handle.value ≡ None }
@@ -36,14 +35,13 @@ impl Slot {
         Some(old.handle.into_parts().into_box())
     }
 
-    /// Puts a session into the slot, in place of the old session.
     pub(crate) fn put(&mut self, session: Box<Session>)
         ensures { self.new.handle.value ≡ Some session.value }
     {
         let handle = Handle::of_parts(Parts::of(session));
         *self = Slot { handle, full: true };
     }
-    /// Puts a session back into the slot; drops the session's text if it keeps no transcript.
+    /// Drops the session's text if it keeps no transcript.
     pub(crate) fn put_back(&mut self, session: Box<Session>)
         ensures { IsPutBack session.value self.new.handle.value }
     {

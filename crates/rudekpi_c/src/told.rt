@@ -31,7 +31,6 @@ impl CallResult {
         }
     }
 
-    /// The answer as numbers.
     pub(crate) fn of(answer: &Answer) -> CallResult
         ensures { result ≡ told_of answer.now.seq answer.now.reply }
     {
@@ -84,7 +83,6 @@ pub(crate) fn count_rows(reply: &Reply) -> usize
     }
 }
 
-/// Writes a reply's rows over the first places of `out`.
 pub(crate) fn write_rows(out: &mut [Row], reply: &Reply)
     requires { length (rows_of reply.now) ≤ length out.old }
     ensures { out.new ≡ rows_of reply.now ++ drop (length (rows_of reply.now)) out.old }

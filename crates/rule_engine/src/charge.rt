@@ -13,14 +13,12 @@ use indexed_state::IndexedState;
 use rule_machine::{MAX_NAME, Reply};
 use rules_api::Rules;
 
-/// The two numbers that a status reports of all nodes together: mutual pairs and the charge.
 #[derive(Clone, Copy)]
 pub(crate) struct Totals {
     pub(crate) pairs: u32,
     pub(crate) charge: u32,
 }
 
-/// The charge of a state, from the sums over its edges and nodes.
 fn charge_by<R: Rules>(state: &IndexedState<R>, open_edges: u32, added: u32, closing: u32) -> u32
     requires open { open_edges ≡ count_by (ends_open R.COURTED_PAIR_CLOSES_EDGE state.now.state) (edge_list state.now.state.network) }
     requires added { added ≡ sum_by (node_part (R.adds state.now.state) state.now.state) (names state.now.state.network) }
@@ -33,7 +31,6 @@ fn charge_by<R: Rules>(state: &IndexedState<R>, open_edges: u32, added: u32, clo
     (2 * u64::from(open_edges) + u64::from(added) - 2 * u64::from(closing)) as u32
 }
 
-/// The number of mutual pairs and the charge.
 /// Looks at the nodes whose contribution may have changed since the last call.
 pub(crate) fn totals_of<R: Rules>(state: &mut IndexedState<R>) -> Totals
     ensures state { state.new.state ≡ state.old.state }

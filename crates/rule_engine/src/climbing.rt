@@ -12,7 +12,7 @@ use indexed_state::IndexedState;
 use rule_machine::{Item, Refusal};
 use rules_api::Rules;
 
-/// Whether each item names a higher node than the item before. Stops at the first item that does not.
+/// Whether each item names a higher node than the item before.
 pub(crate) fn ascend(items: &[Item]) -> bool
     ensures { IsTrue result → Ascend items.now }
 {
@@ -28,8 +28,6 @@ pub(crate) fn ascend(items: &[Item]) -> bool
 }
 
 /// Gathers the moves of items that ascend, or returns the first refusal.
-/// Looks at the items up to the first refused one. If an item's target is free, searches the neighbours of
-/// the item's node.
 pub(crate) fn take_ascending<R: Rules>(
     state: &IndexedState<R>,
     gathered: &mut CollectedMoves,

@@ -8,7 +8,6 @@ use indexed_state::IndexedState;
 use rule_machine::{Event, Node};
 use rules_api::{Local, Rules, Touched};
 
-/// A state that shows only the nodes that a disturbance touches.
 #[derive(Drop)]
 struct TouchedNodes<'a, R: Rules> {
     state: &'a IndexedState<R>,

@@ -9,7 +9,6 @@ use graph_store::{EdgeStore, GraphFault};
 use rule_machine::{Node, Refusal, Reply, Want};
 use rules_api::Rules;
 
-/// The refusal that corresponds to a fault of the edge store; none for `TooManyNodes` and `Memory`.
 pub(crate) fn refusal_of(fault: GraphFault) -> Option<Refusal>
     ensures { result ≡ refused_as fault }
 {
@@ -24,7 +23,6 @@ pub(crate) fn refusal_of(fault: GraphFault) -> Option<Refusal>
     }
 }
 
-/// Writes the reply to an edit or a fault into `reply`: the refusal, or `Accepted` without a refusal.
 pub(crate) fn put_edit(reply: &mut Reply, refusal: Option<Refusal>) -> Result<(), Want>
     ensures { stored_reply result reply.new ≡ Ok (edit_reply refusal) }
 {
@@ -42,7 +40,7 @@ pub(crate) fn put(reply: &mut Reply, found: Result<Reply, Want>) -> Result<(), W
     Ok(())
 }
 
-/// Why removing this edge would be refused, if it would be. One look-up if the edge exists.
+/// One look-up if the edge exists.
 pub(crate) fn refused_unlink(store: &EdgeStore, a: Node, b: Node) -> Option<Refusal>
     ensures { result ≡ unlink_refusal store.now.network a b }
 {

@@ -45,7 +45,6 @@ use rules_api::Rules;
 use std::alloc::{AllocError, Global};
 use std::marker::Model;
 
-/// A state under the rules `R`: edges and registers with their index, and the enabled nodes.
 /// Contracts see the state of the rule machine and the room for more neighbours.
 #[derive(Drop)]
 pub(crate) struct Engine<R: Rules> {
@@ -69,7 +68,6 @@ impl<R: Rules> Model for Engine<R> {
 }
 
 impl<R: Rules> Engine<R> {
-    /// The engine of a new network of the names 1 to `nodes`. Faults are those of `Net::with_present`.
     pub(crate) fn with_present(
         alloc: Global,
         nodes: u32,
@@ -175,8 +173,7 @@ impl<R: Rules> Engine<R> {
         totals_of(&mut self.state).charge
     }
 
-    /// Writes the reply to an event into `reply`, and takes all memory that carrying out the event needs.
-    /// `spent` is the number of moves spent so far. The state does not change.
+    /// Writes the reply to an event into `reply`, and takes all memory that `commit` needs.
     /// The caller keeps the reply, because replies are large to move.
     #[inline(always)]
     pub(crate) fn prepare(
@@ -237,7 +234,7 @@ impl<R: Rules> Engine<R> {
         put(reply, step_reply(refused, gathered))
     }
 
-    /// The reply to a step, from the verdicts of the step's items. No guard is evaluated again.
+    /// Evaluates no guard again.
     pub(crate) fn prepare_step(
         &mut self,
         choice: &Choice,
@@ -309,7 +306,7 @@ impl<R: Rules> Engine<R> {
         });
     }
 
-    /// Carries out an event, given the reply that was prepared for it. Takes no memory.
+    /// Takes no memory.
     #[inline(always)]
     pub(crate) fn commit(&mut self, event: &Event, reply: &Reply)
         requires reply { (spent : ℕ) × (reply.now ≡ reply_of R.table self.old.state spent event.now) }
@@ -332,7 +329,6 @@ impl<R: Rules> Engine<R> {
         }
     }
 
-    /// Carries out an edit or a fault. Does nothing for a step or a query.
     fn disturb(&mut self, event: &Event)
         requires accepted { refusal_of R.table self.old.state event.now ≡ None }
         requires room { HasRoomTo event.now Accepted self.old.room }
@@ -359,8 +355,7 @@ impl<R: Rules> Engine<R> {
         look_at(&self.state, &mut self.enabled, b);
     }
 
-    /// Makes a name a node without edges, with a null pointer and a false flag. Takes no memory.
-    /// Looks at no other node.
+    /// Takes no memory. Looks at no other node.
     pub(crate) fn join(&mut self, v: Node)
         requires within { v ≤ self.old.state.network.size }
         requires absent { present self.old.state.network v ≡ false }

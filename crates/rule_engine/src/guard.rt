@@ -24,7 +24,6 @@ pub(crate) fn rule_at<R: Rules>(state: &IndexedState<R>, v: Node) -> Option<Act>
     R::guard(&state.at(v), v)
 }
 
-/// The rule enabled at a node, if any; none at an absent node.
 pub(crate) fn rule_enabled<R: Rules>(state: &IndexedState<R>, v: Node) -> Option<Act>
     ensures { result ≡ guard_at R.table state.now.state v }
 {
@@ -54,7 +53,6 @@ pub(crate) fn outcome<R: Rules>(state: &IndexedState<R>, item: Item) -> Outcome
     }
 }
 
-/// Takes items in order up to the first refused one, and returns that item's refusal.
 fn take_up_to_refusal<R: Rules>(
     state: &IndexedState<R>,
     chosen: &mut Marks,
@@ -102,8 +100,7 @@ pub(crate) fn take_items<R: Rules>(
     refusal
 }
 
-/// Writes the reply to a step of one item into `reply`.
-/// Looks at that item alone, and needs no mark and no memory.
+/// Needs no mark and no memory.
 pub(crate) fn put_reply_to_one<R: Rules>(reply: &mut Reply, state: &IndexedState<R>, item: Item)
     ensures { IsToldOf (items_refusal R.table state.now.state [] (item ∷ [])) (moves_by R.table state.now.state (item ∷ [])) reply.new }
 {

@@ -7,7 +7,6 @@ ghost use Rattle.node_bound.specs.MovesLeft.{moves_left, BoundsMoves};
 use crate::Net;
 use node_bound::NodeBound;
 
-/// The smaller of two bounds, or the first if there is no second.
 fn smaller(charge: u32, most: Option<u32>) -> u32
     ensures { result ≡ moves_left charge most }
 {

@@ -12,7 +12,6 @@ use rule_machine::{Act, Edge, Node, Want};
 use rules_api::Rules;
 use std::alloc::Global;
 
-/// The given enabled nodes, each with its rule.
 pub(crate) fn enabled_rules<R: Rules>(
     alloc: Global,
     state: &IndexedState<R>,
@@ -30,7 +29,6 @@ pub(crate) fn enabled_rules<R: Rules>(
     Ok(rules)
 }
 
-/// The mutual pair whose lower end is `v`.
 #[inline(always)]
 fn pair_at(registers: &Registers, v: Node) -> Option<Edge>
     requires { IsTrue (is_lower_end registers.now v) }
@@ -42,7 +40,6 @@ fn pair_at(registers: &Registers, v: Node) -> Option<Edge>
     }
 }
 
-/// The pairs with these lower ends, in the same order.
 fn pairs_of(alloc: Global, registers: &Registers, ends: &[Node]) -> Result<Vec<Edge>, Want>
     requires { All (λ v. IsTrue (is_lower_end registers.now v)) ends.now }
     ensures { IfOk result (λ pairs. pairs.items ≡ filter_map (λ v. pair_above v (answered_by registers.now v)) ends.now) }
@@ -56,7 +53,6 @@ fn pairs_of(alloc: Global, registers: &Registers, ends: &[Node]) -> Result<Vec<E
     Ok(pairs)
 }
 
-/// The mutual pairs, ascending by their lower ends.
 /// Looks at each pair, and at the nodes that may have become or ceased to be a lower end since the last
 /// call.
 pub(crate) fn mutual_edges<R: Rules>(

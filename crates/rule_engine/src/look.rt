@@ -48,7 +48,7 @@ pub(crate) fn look_at_target<R: Rules>(
     }
 }
 
-/// Evaluates guards again at the neighbours that point at `v`. Searches only if several point at `v`.
+/// Searches only if several neighbours point at `v`.
 fn look_at_suitors<R: Rules>(state: &IndexedState<R>, enabled: &mut EnabledSet, v: Node)
     requires has { IsTrue (present state.now.state.network v) }
     requires places { length enabled.old ≡ state.now.state.network.size + 1 }

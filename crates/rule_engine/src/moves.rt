@@ -25,7 +25,6 @@ impl CollectedMoves {
         }
     }
 
-    /// Adds a move, if memory has lasted so far.
     #[inline(always)]
     pub(crate) fn add(&mut self, moved: Moved)
         ensures whole { IsTrue self.new.whole → IsTrue self.old.whole }
@@ -34,8 +33,7 @@ impl CollectedMoves {
         self.whole = self.whole && add_one(&mut self.moves, self.items, moved);
     }
 
-    /// The moves, ascending by node; `AllocError` if memory ran out while moves were added.
-    /// Takes no memory. If the moves ascend already, the cost is one look at each move.
+    /// Takes no memory. `AllocError` if memory ran out while moves were added.
     pub(crate) fn into_ascending(self) -> Result<Listing<Moved>, Want>
         ensures { IfOk result (λ moves. IsTrue self.whole × AreLeast self.moves.items moves) }
     {
@@ -52,8 +50,7 @@ impl CollectedMoves {
     }
 }
 
-/// Adds an item to a list of at most `most` items; false if memory runs out.
-/// The first item takes the room for all.
+/// False if memory runs out. The first item takes the room for all `most` items.
 pub(crate) fn add_one<T: Copy>(list: &mut Vec<T>, most: usize, item: T) -> bool
     ensures { IsTrue result → list.new.items ≡ list.old.items ++ item ∷ [] }
 {
@@ -63,7 +60,7 @@ pub(crate) fn add_one<T: Copy>(list: &mut Vec<T>, most: usize, item: T) -> bool
     list.push(item).is_ok()
 }
 
-/// The reply to a step: the refusal, or else the moves that were gathered. Takes no memory.
+/// Takes no memory.
 pub(crate) fn step_reply(refused: Option<Refusal>, gathered: CollectedMoves) -> Result<Reply, Want>
     ensures told { IfOk result (λ reply. IsToldOf refused gathered.moves.items reply) }
     ensures whole { OnOk result (refused ≡ None → IsTrue gathered.whole) }

@@ -70,7 +70,7 @@ impl<R: Rules> Net<R> {
         Net::with_present(alloc, nodes, nodes)
     }
 
-    /// Like `new`, but only the names 1 to `present` are nodes; the others are absent.
+    /// Like `new`, but only the names 1 to `present` are nodes.
     /// `TooManyNodes` above 65,535 names; `Memory` if memory runs out.
     /// Takes about fifty bytes a name.
     pub fn with_present(alloc: Global, nodes: u32, present: u32) -> Result<Net<R>, GraphFault>
@@ -169,7 +169,7 @@ impl<R: Rules> Net<R> {
     }
 
     /// Whether `v` is at rest: no rule is enabled at `v`, and none will be until a disturbance reaches `v`.
-    /// This is so for any daemon; `v` makes no move until then.
+    /// This is so for any daemon.
     /// This means: `v` is married, or points nowhere and all neighbours of `v` are married. If the rules use
     /// flags, the flag of `v` is right too.
     /// Goes through the neighbours only if `v` points nowhere.
@@ -260,9 +260,7 @@ impl<R: Rules> Net<R> {
         self.engine.prepare(event, self.spent, reply)
     }
 
-    /// The reply that `apply` would give to a step, from the verdicts of the step's items.
-    /// The state does not change. Takes all memory that `commit` of the step needs, and evaluates no guard
-    /// again.
+    /// Like `prepare` of a step, but takes the verdicts of the step's items. Evaluates no guard again.
     /// `AllocError` if memory runs out, which can happen only if the step is not refused.
     pub fn prepare_step(&mut self, choice: &Choice, verdicts: &[Verdict]) -> Result<Reply, Want>
         requires { verdicts.now ≡ verdicts_of R.table self.old.state choice.now }
@@ -352,9 +350,7 @@ impl<R: Rules> Net<R> {
         Ok(Listing::from_vec(replies))
     }
 
-    /// Carries out a step from the verdicts of the step's items, with the result of `apply`.
-    /// `AllocError` if memory runs out, which can happen only if the step is not refused; nothing has
-    /// changed then.
+    /// Carries out a step from the verdicts of the step's items, with the result and errors of `apply`.
     /// Evaluates no guard again to find the reply.
     pub fn apply_step(&mut self, choice: &Choice, verdicts: &[Verdict]) -> Result<Reply, Want>
         requires { verdicts.now ≡ verdicts_of R.table self.old.state choice.now }

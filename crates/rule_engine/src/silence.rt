@@ -12,7 +12,6 @@ use net_state::StateWriter;
 use rule_machine::Event;
 use silent_cost::SilentCost;
 
-/// What an event would cost a silent network; 0 if the event would not be accepted.
 #[tactic(auto, using(crate::proofs::EventCosts::not_refused))]
 fn silent_cost_of<R: SilentCost>(state: &IndexedState<R>, event: &Event) -> u32
     ensures { result ≡ disturbance_cost R.table R.silent_cost state.now.state event.now }

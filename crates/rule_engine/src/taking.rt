@@ -10,7 +10,6 @@ use crate::moves::CollectedMoves;
 use enabled_set::Marks;
 use rule_machine::{Moved, Node, Outcome, Refusal, Verdict};
 
-/// Why a choice of `count` items is refused, whatever the items are.
 pub(crate) fn refused_size(central: bool, count: usize) -> Option<Refusal>
     ensures { result ≡ size_refusal central count }
 {
@@ -23,7 +22,6 @@ pub(crate) fn refused_size(central: bool, count: usize) -> Option<Refusal>
     None
 }
 
-/// The move in an outcome, or why the item is refused.
 /// `twice`: whether an earlier item of the choice names the same node.
 pub(crate) fn accepted(outcome: Outcome, twice: bool) -> Result<Moved, Refusal>
     ensures { MatchResult result (λ moved. (refused_by outcome twice ≡ None) × (move_in outcome ≡ Some moved)) (λ refusal. refused_by outcome twice ≡ Some refusal) }
@@ -37,8 +35,8 @@ pub(crate) fn accepted(outcome: Outcome, twice: bool) -> Result<Moved, Refusal>
     }
 }
 
-/// Marks the item's node and adds the item's move, or returns the item's refusal.
-/// The nodes of the earlier items are marked already. The move is added only if memory has lasted so far.
+/// The nodes of the earlier items are marked already.
+/// The move is added only if memory has lasted so far.
 pub(crate) fn take_outcome(
     chosen: &mut Marks,
     gathered: &mut CollectedMoves,
@@ -61,7 +59,6 @@ pub(crate) fn take_outcome(
     }
 }
 
-/// Takes the items of verdicts in order up to the first refused one, and returns that item's refusal.
 fn take_up_to_refusal(
     chosen: &mut Marks,
     gathered: &mut CollectedMoves,

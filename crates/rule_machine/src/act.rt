@@ -9,7 +9,7 @@ pub enum Act {
     Update,
     /// Points the node at a neighbour that points at the node.
     Marry,
-    /// Points the node at an open neighbour. The rule set says which neighbours are open.
+    /// Points the node at a neighbour that the rule set calls open.
     Seduce,
     /// Sets the node's pointer to null.
     Abandon,
@@ -22,6 +22,6 @@ pub struct Moved {
     pub node: Node,
     /// The node's rule.
     pub act: Act,
-    /// The node's new target for `Marry` and `Seduce`; `None` for the other rules.
+    /// The node's new target for `Marry` and `Seduce`, else `None`.
     pub target: Option<Node>,
 }

@@ -13,7 +13,7 @@ pub struct NodeRecord {
     pub flagged: bool,
 }
 
-/// A base: all that a run needs to continue without the entries before the base, and their number.
+/// A base: all that a run needs to continue without the entries before the base.
 #[derive(Debug, Drop, PartialEq, Eq)]
 pub struct Base {
     /// The number of the last entry before the base; 0 if there was none.

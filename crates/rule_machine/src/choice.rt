@@ -9,7 +9,7 @@ use std::marker::Model;
 /// The most items of a choice.
 pub const MAX_ITEMS: usize = 65_535;
 
-/// One chosen node, and the target that its daemon wishes for.
+/// One chosen node and its wished target.
 #[derive(Clone, Copy, Debug, PartialEq, Eq)]
 pub struct Item {
     /// The node to move.

@@ -1,6 +1,6 @@
-//! The numbers that `status` reports.
+//! Counts of a network.
 
-/// A network's size, its distance from silence, and the moves since the last accepted disturbance.
+/// What `status` reports.
 #[derive(Clone, Copy, Debug, PartialEq, Eq)]
 pub struct Counts {
     /// The number of nodes.

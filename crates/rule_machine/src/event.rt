@@ -29,7 +29,7 @@ pub enum Event {
     Enabled,
     /// Asks for the mutual pairs.
     Matching,
-    /// Asks for the `Counts`: size, distance from silence, and moves since the last disturbance.
+    /// Asks for the `Counts`.
     Status,
 }
 

@@ -1,13 +1,11 @@
 //! The plain types of a matching network, and in `specs/` the definitions of its rule machine.
 //!
-//! A `Node` is a name from 1 to 65,535. An `Edge` is the pair of its ends. An `Event` is a request to a
-//! network, a `Reply` the answer to an event, a `Refusal` the reason why an event was refused. The
-//! definitions (`Network`, `State`, `RuleTable`, `Step`, `Answer`, `Run`) say what a network may answer;
-//! docs/DEFINITIONS.md explains the definitions.
+//! An `Event` is a request to a network, a `Reply` the answer, a `Refusal` the reason why an event was
+//! refused. The definitions (`Network`, `State`, `RuleTable`, `Step`, `Answer`, `Run`) say what a network may
+//! answer; docs/DEFINITIONS.md explains them.
 //!
-//! In contracts, a node is its name, an edge is the pair of its ends with the lower end first, and a
-//! `Listing` is the list of its items. So two events may be equal although they use memory differently. The
-//! numbers and texts of refusals never change, because transcripts contain them.
+//! In contracts a `Listing` is the list of its items, so two events may be equal although they use memory
+//! differently. The numbers and texts of refusals never change, because transcripts contain them.
 //!
 //! ```rust
 //! let (Some(a), Some(b)) = (Node::new(1), Node::new(2)) else { return None };

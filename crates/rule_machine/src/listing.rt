@@ -6,14 +6,13 @@ ghost use Rattle.std.specs.Cmp.Lexicographic.{pointwise, lists_per, lists_equiv}
 use std::alloc::AllocError;
 use std::marker::Model;
 
-/// The items of a listing. A listing of one item takes no memory.
 #[derive(Debug, Drop)]
 enum ListingItems<T> {
     One([T; 1]),
     Many(Vec<T>),
 }
 
-/// A list. Contracts see only the items, not how the list stores them.
+/// A list. Contracts see only its items.
 #[derive(Debug, Drop)]
 pub struct Listing<T> {
     held: ListingItems<T>,

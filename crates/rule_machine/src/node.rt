@@ -4,7 +4,7 @@ ghost use Rattle.std.specs.Prelude.{◌≡◌, ℕ, ◌≤◌, SomeIff};
 
 use std::marker::Model;
 
-/// The greatest name. Every name fits 16 bits.
+/// The greatest name.
 pub const MAX_NAME: u32 = 65_535;
 
 /// A node of a network. Contracts see its name, 1 to 65,535. Nodes are ordered by name.
@@ -45,7 +45,7 @@ impl Node {
         u32::from(self.name)
     }
 
-    /// The name as an index into a table with one entry for each name. Index 0 belongs to no node.
+    /// The name as an index into a table. Index 0 belongs to no node.
     pub fn place(self) -> usize
         ensures same { result ≡ self }
         ensures named { (1 ≤ result) × (result ≤ 65535) }

@@ -1,4 +1,4 @@
-//! What each item of a choice would do alone.
+//! Verdicts on items.
 
 use crate::{Moved, Node};
 

@@ -10,7 +10,7 @@ ghost use Rattle.charge_laws.specs.Costs.{hsu_huang_cost, hsu_huang_point_cost};
 use rule_machine::Node;
 use rules_api::{Touched, points_at};
 
-/// If `v` points at `w`, returns how many edges `w` has besides the edge to `v`, else 0.
+/// How many edges `w` has besides the edge to `v` if `v` points at `w`, else 0.
 fn other_edges<T: Touched>(touched: &T, v: Node, w: Node) -> u32
     requires from { IsTrue (present (T.state touched.now).network v) }
     requires to { IsTrue (present (T.state touched.now).network w) }

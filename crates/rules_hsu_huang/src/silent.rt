@@ -10,7 +10,6 @@ use crate::HsuHuang;
 use rule_machine::{Event, Node};
 use silent_cost::{SilentCost, SilentView, is_pair, unmarried_neighbours};
 
-/// Returns the silent cost of a new edge.
 fn link_cost<V: SilentView>(view: &V, a: Node, b: Node) -> u32
     requires state { IsState (V.state view.now) }
     requires first { IsTrue (present (V.state view.now).network a) }
@@ -24,7 +23,6 @@ fn link_cost<V: SilentView>(view: &V, a: Node, b: Node) -> u32
     }
 }
 
-/// Returns the silent cost of the removal of an edge.
 fn unlink_cost<V: SilentView>(view: &V, a: Node, b: Node) -> u32
     requires state { IsState (V.state view.now) }
     requires first { IsTrue (present (V.state view.now).network a) }
@@ -38,7 +36,7 @@ fn unlink_cost<V: SilentView>(view: &V, a: Node, b: Node) -> u32
     }
 }
 
-/// Returns the silent cost of writing the pointer of a paired node.
+/// The silent cost of writing the pointer of a paired node.
 fn pair_cost<V: SilentView>(view: &V, v: Node, partner: Node, target: Option<Node>) -> u32
     requires state { IsState (V.state view.now) }
     requires present { IsTrue (present (V.state view.now).network v) }
@@ -55,7 +53,6 @@ fn pair_cost<V: SilentView>(view: &V, v: Node, partner: Node, target: Option<Nod
     2 * (view.unmarried_neighbours_but(v, target) + unmarried_neighbours(view, partner)) + 4
 }
 
-/// Returns the silent cost of writing a pointer.
 #[tactic(auto, using(charge_laws::specs::PresentNodes::target_present))]
 fn point_cost<V: SilentView>(view: &V, v: Node, target: Option<Node>) -> u32
     requires state { IsState (V.state view.now) }
@@ -69,7 +66,6 @@ fn point_cost<V: SilentView>(view: &V, v: Node, target: Option<Node>) -> u32
     }
 }
 
-/// Returns the silent cost of a node that leaves.
 #[tactic(auto, using(charge_laws::specs::PresentNodes::target_present))]
 fn leave_cost<V: SilentView>(view: &V, v: Node) -> u32
     requires state { IsState (V.state view.now) }

@@ -125,7 +125,7 @@ fn is_free<L: Local>(local: &L, v: Node) -> bool
     local.pointer(v).is_none() && !local.flag(v)
 }
 
-// Returns the first suitor; if there is none, the greatest open neighbour above the node.
+// The first suitor; if there is none, the greatest open neighbour above the node.
 fn least_target<L: Local>(local: &L) -> Option<Node>
     ensures { result ≡ option_or (first_suitor (L.state local.now) (L.at local.now)) (last_open_above L.opens (L.state local.now) (L.at local.now)) }
 {
@@ -135,7 +135,6 @@ fn least_target<L: Local>(local: &L) -> Option<Node>
     }
 }
 
-// Whether `w` is a suitor or, if there is no suitor, the greatest open neighbour above the node.
 fn is_allowed<L: Local>(local: &L, w: Node) -> bool
     ensures { result
         ≡ ((linked (L.state local.now).network (L.at local.now) w

@@ -1,10 +1,7 @@
 //! The single-threaded run of a script: each line adds its entries to a text.
 //!
-//! A `Run` has three parts: the rule set's name, a recorder, and the text that its caller has not taken yet.
-//! The text begins with the header. `carry_out` takes a line without its LF, carries out the line's command,
-//! and adds the command's entries to the text; a `checkpoint` adds the lines of a base. If the line is bad or
-//! meets a full log, `carry_out` returns that, and the run can go on. If memory runs out, the run can go on
-//! too: either nothing has changed, or some first turns of the line were taken whole.
+//! The text of a `Run` begins with the header. `carry_out` carries out a line's command and adds the
+//! command's entries to the text; a `checkpoint` adds the lines of a base. After each error the run can go on.
 //!
 //! A `Run` reads and writes no stream and keeps no entry, so both `script_run` and the library for C build on
 //! it. Besides its text, a line takes memory only for lists of several items.

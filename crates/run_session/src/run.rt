@@ -83,9 +83,7 @@ impl<R: Rules> Run<R> {
         }
     }
 
-    // Carries out up to `count` events that `source` draws, and stops at a turn that draws none. Returns
-    // `false` if the log is full, before the next turn is drawn. `Want` comes after some first turns, each
-    // taken whole.
+    // Stops at a turn that draws no event. Returns `false` if the log is full, before the next turn is drawn.
     fn take_turns<S: EventSource>(&mut self, source: &mut S, count: u32) -> Result<bool, Want>
         ensures ends { TurnsEnd S.draws R.table self.old.recorder.limit count (S.stream source.old) (progress_of self.old) (progress_of self.new) result }
         ensures unasked { self.old.recorder.len ≡ self.old.recorder.limit → S.stream source.new ≡ S.stream source.old }

@@ -1,14 +1,9 @@
 //! The run of a script: bytes in, transcript out.
 //!
 //! `run` reads a script piece by piece and carries out each line as `run_session` does. Before each read,
-//! `run` writes and flushes the text of all whole lines read so far, so a program can send a line and wait
-//! for the reply. If `run` returns `Ok`, the writer has exactly the header, the machine's entries for the
-//! lines (each with the least free targets), and the bases of the checkpoints. The clause `outcome` says what
-//! the writer has after each error. Workers evaluate steps of many nodes; the transcript is the same for any
-//! number of workers.
-//!
-//! `run` keeps no entry. Memory is taken for the network, for 65,536 bytes and one line of the script, and
-//! for as much of the transcript.
+//! `run` writes and flushes the text of all whole lines read so far. If `run` returns `Ok`, the writer has
+//! exactly the header, the machine's entries for the lines (each with the least free targets), and the bases
+//! of the checkpoints. The clause `outcome` says what the writer has after each error.
 //!
 //! ```rust
 //! let Some(options) = Options::new(RuleSet::Hh, 2) else { return Err(..) };

@@ -52,9 +52,8 @@ impl<R: Rules + Sync> Run<R> {
         Ok(stop)
     }
 
-    // Carries out the lines that end in a piece, and writes the text whenever it has reached 65,536 bytes.
-    // Keeps the line that the piece begins but does not end. A line too long to be a command is bad before
-    // its end is read.
+    // Writes the text whenever it has reached 65,536 bytes. A line too long to be a command is bad before its
+    // end is read.
     pub fn carry_out_piece<Out: Write, T: Threads + Wait + Sync>(
         &mut self,
         rt: &T,

@@ -52,8 +52,7 @@ impl<R: Rules> Run<R> {
 }
 
 impl<R: Rules + Sync> Run<R> {
-    // Carries out the command of `line`; returns `false` if the log is full. Workers judge the items of a
-    // step that is worth more than one worker.
+    // Workers judge the items of a step that is worth more than one worker.
     #[inline(always)]
     fn follow<T: Threads + Wait + Sync>(
         &mut self,
@@ -74,8 +73,7 @@ impl<R: Rules + Sync> Run<R> {
         }
     }
 
-    // Carries out line `number`, which may be a step worth several workers. If memory runs out, text may have
-    // been added.
+    // If memory runs out, text may have been added.
     fn carry_out_wide<T: Threads + Wait + Sync>(
         &mut self,
         rt: &T,
@@ -100,8 +98,7 @@ impl<R: Rules + Sync> Run<R> {
         }
     }
 
-    // Carries out line `number`, with several workers if the line may be worth them. If memory runs out, text
-    // may have been added.
+    // If memory runs out, text may have been added.
     #[inline(always)]
     fn carry_out_line<T: Threads + Wait + Sync>(
         &mut self,
@@ -119,8 +116,7 @@ impl<R: Rules + Sync> Run<R> {
         self.line.carry_out(alloc, number, line)
     }
 
-    // Carries out line `number`; returns the error that stops the run, or `None`. If memory runs out, no text
-    // is added, not even the text of turns that were taken.
+    // If memory runs out, no text is added, not even the text of turns that were taken.
     #[inline(always)]
     pub fn carry_out<T: Threads + Wait + Sync>(
         &mut self,

@@ -18,7 +18,6 @@ use steal_pool::{NoGate, evaluate};
 use step_log::RecordFault;
 
 impl<R: Rules> Run<R> {
-    // Whether a step is worth more than one worker.
     pub fn pays(&self, choice: &Choice) -> bool
         ensures some { IsTrue result → 1 < self.now.workers }
         ensures many { IsTrue result ↔ 1 < min self.now.workers (min (max (length choice.now / 16384) 1) 64) }
@@ -28,7 +27,6 @@ impl<R: Rules> Run<R> {
 }
 
 impl<R: Rules + Sync> Run<R> {
-    // Carries out the step of `line`, with as many workers as the step is worth, and adds the entry's text.
     // Returns `false` if the log is full, before any item is judged.
     pub fn log_step<T: Threads + Wait + Sync>(
         &mut self,

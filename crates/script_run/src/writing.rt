@@ -7,7 +7,6 @@ ghost use Rattle.script_run.specs.RunEnds.{SplitsOutput};
 use byte_streams::{FailStopWriter, OutputFault};
 use std::io::Write;
 
-/// A text of at least this many bytes is written.
 const CHUNK: usize = 65_536;
 
 /// Writes and empties the text, if it has reached 65,536 bytes.

@@ -5,7 +5,7 @@ use rule_machine::Event;
 /// The most turns that one line may ask for.
 pub const MAX_TURNS: u32 = 1_000_000;
 
-/// The arguments of `drive` and `scramble`: a seed, and a limit of turns.
+/// The arguments of `drive` and `scramble`.
 #[derive(Clone, Copy, PartialEq, Eq)]
 pub struct Turns {
     /// The seed of the generator.

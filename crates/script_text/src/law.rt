@@ -23,9 +23,7 @@ pub fn long_line()
     ensures { (line : List ℕ) → 1048576 < length line → SaysNothing line }
 {}
 
-/// After a `drive` of at least as many turns as the charge, no node is enabled, whatever the seed.
-///
-/// The charge is that of the state before the `drive`.
+/// A `drive` of at least as many turns as the charge before it leaves no node enabled.
 pub fn long_drives_end_silent()
     ensures hsu_huang { (limit : ℕ) (lines : List (List ℕ)) (line : List ℕ) (turns : Turns) (start before after : Progress) → IsState start.moment.state
         → LinesDo hsu_huang limit lines start before → Says line (Drive turns) → LineDoes hsu_huang limit line before after

@@ -2,12 +2,10 @@
 //!
 //! A `Command` is one event, drawn turns (`drive`, `scramble`) or a `checkpoint`. A line reads as a command
 //! exactly if the line is that command's text. `specs/Script` defines what lines do, as a relation between
-//! the run before the lines and the run after them: state, moves spent, entries and text. From one start a
-//! script leads to one end (the law `one_end`).
+//! the run before the lines and the run after them: state, moves spent, entries and text.
 //!
-//! `read_line_into` reads one line, for a caller that carries out the line at once. Only the items of a
-//! `step` take memory. `read_scripts` reads one script from each of at most 64 readers. If a script has a bad
-//! line, `read_scripts` returns the first such line as an error, before any script is played.
+//! `read_line_into` reads one line, for a caller that carries out the line at once. `read_scripts` reads one
+//! script from each of at most 64 readers.
 //!
 //! ```rust
 //! let mut command = Command::Checkpoint;

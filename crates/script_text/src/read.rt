@@ -10,7 +10,6 @@ use memchr::memchr;
 use rule_machine::{Event, Want};
 use std::alloc::Global;
 
-/// Reads a seed and a number of turns.
 fn read_turns(bytes: &[u8]) -> Option<Turns>
     ensures { ParsesAs IsTurns turns_text bytes.now result }
 {
@@ -43,8 +42,7 @@ fn read_turning(line: &[u8]) -> Option<Command>
 
 /// Reads a line and writes its command into `command`; returns `false` if the line is no command.
 ///
-/// `Want` if memory runs out; only the items of a `step` take memory. The command is written in place, so
-/// that no command is moved.
+/// `Want` if memory runs out; only the items of a `step` take memory.
 #[inline(always)]
 pub fn read_line_into(alloc: Global, line: &[u8], command: &mut Command) -> Result<bool, Want>
     ensures { IfOk result (λ is_one. MatchOption (kept_if is_one command.new) (SaysNothing line.now) (λ found. Says line.now found)) }

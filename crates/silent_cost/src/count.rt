@@ -7,7 +7,6 @@ ghost use Rattle.silence_laws.specs.Costs.{is_single_but, single_neighbours_but}
 use net_state::NetState;
 use rule_machine::Node;
 
-/// Whether a node is unmarried and not `but`.
 fn is_unmarried_but(net: &NetState, but: &Option<Node>, w: Node) -> bool
     requires { IsTrue (present net.now.state.network w) }
     ensures { result ≡ is_single_but net.now.state but.now w }

@@ -5,9 +5,8 @@
 //! computes the bound and requires its proof. The engine reports the bound (`Net::silent_cost_of`). The trait
 //! `Rules` has another bound, `cost`, which is valid in every network, silent or not.
 //!
-//! A silent cost sees a network only through `SilentView`: pointers, and how many neighbours of a node are
-//! unmarried. So `silent_cost` looks at each neighbour of two nodes, whatever the size of the network. A
-//! `NetState` is a `SilentView`.
+//! A silent cost sees a network only through `SilentView`. So `silent_cost` looks at each neighbour of two
+//! nodes, whatever the size of the network. A `NetState` is a `SilentView`.
 //!
 //! ```rust
 //! let most = R::silent_cost(net, &Event::Unlink(a, b));

@@ -74,7 +74,6 @@ fn copied(entry: &Entry) -> Result<Entry, AllocError>
     Ok(copy)
 }
 
-/// Adds one more pending entry; false if memory runs out.
 fn append<L: Law>(writer: &mut Copies<L>, posted: Posted) -> bool
     ensures desk { writer.new.desk ≡ writer.old.desk }
     ensures pending { Appends result posted (drop writer.old.behind writer.old.log.items) (drop writer.new.behind writer.new.log.items) }
@@ -85,7 +84,7 @@ fn append<L: Law>(writer: &mut Copies<L>, posted: Posted) -> bool
     }
 }
 
-/// Shows readers a copy with all pending entries. Waits for readers that still read the other copy.
+/// Waits for readers that still read the other copy.
 fn show<L: Law, R: Wait>(writer: Copies<L>, rt: &R) -> (Copies<L>, ())
     requires { IsPublishable L.holds writer.desk.shown.value (drop writer.behind writer.log.items) }
     ensures copy { result.0.desk.shown.value ≡ fold absorbed writer.desk.shown.value (drop writer.behind writer.log.items) }

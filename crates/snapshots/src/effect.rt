@@ -34,14 +34,12 @@ fn clear(row: &mut [Option<Node>], v: Node, w: Node)
     }
 }
 
-/// The given pointer, or null if that pointer is at `v`.
 fn unless_at(pointer: Option<Node>, v: Node) -> Option<Node>
     ensures { result ≡ unless_at v pointer }
 {
     if pointer == Some(v) { None } else { pointer }
 }
 
-/// Makes every pointer at `v` null, in one pass.
 fn drop_at(row: &mut [Option<Node>], v: Node)
     ensures { row.new ≡ map (unless_at v) row.old }
 {
@@ -50,7 +48,6 @@ fn drop_at(row: &mut [Option<Node>], v: Node)
     }
 }
 
-/// Makes the pointer of `v` null, and every pointer at `v`.
 fn drop_name(row: &mut [Option<Node>], v: Node)
     ensures { row.new ≡ slice_set (map (unless_at v) row.old) v None }
 {
@@ -90,7 +87,6 @@ fn disturb(row: &mut [Option<Node>], event: &Event)
     }
 }
 
-/// Changes the pointers as an entry does.
 pub(crate) fn take_in(row: &mut [Option<Node>], entry: &Entry)
     ensures { row.new ≡ row_effect row.old entry.now }
 {
@@ -120,7 +116,6 @@ fn turn(here: &mut [bool], event: &Event)
     }
 }
 
-/// Changes the present nodes as an entry does.
 pub(crate) fn take_presence(here: &mut [bool], entry: &Entry)
     ensures { here.new ≡ here_by here.old entry.now }
 {

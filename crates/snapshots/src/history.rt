@@ -28,7 +28,6 @@ impl Rule<Option<Entry>, u64> for Numbered {
     ghost moves = { λ ask before after answer. Unit {0} };
 }
 
-/// The gain of a mark: none.
 pub(crate) struct Nothing;
 
 impl Gain<Option<Entry>, u64> for Nothing {
@@ -37,7 +36,6 @@ impl Gain<Option<Entry>, u64> for Nothing {
     ghost after = { λ names about answer. ftrue };
 }
 
-/// The step that adds a mark.
 pub(crate) struct Add;
 
 impl Play<Option<Entry>, u64> for Add {
@@ -86,7 +84,6 @@ impl HistoryPrefix {
         }
     }
 
-    /// The longer of two prefixes of one history.
     pub(crate) fn longer(&self, other: &HistoryPrefix) -> HistoryPrefix
         requires { other.now.seen.book ≡ self.now.seen.book }
         ensures book { result.seen.book ≡ self.now.seen.book }
@@ -102,7 +99,6 @@ impl HistoryPrefix {
         }
     }
 
-    /// Whether all entries published in this prefix are known to be shown in `other`.
     pub(crate) fn is_shown_at(&self, other: &HistoryPrefix) -> bool
         requires { other.now.seen.book ≡ self.now.seen.book }
         ensures { IsTrue result → IsPrefix (published self.now.seen.log) (shown other.now.seen.log) }
@@ -112,8 +108,7 @@ impl HistoryPrefix {
         self.count.saturating_sub(1) <= other.count
     }
 
-    /// Whether the entries published in this prefix are known to be a prefix of those in `other`.
-    /// If not, the reverse holds. Compares the numbers of marks.
+    /// Compares the numbers of marks.
     pub(crate) fn begins(&self, other: &HistoryPrefix) -> bool
         requires { other.now.seen.book ≡ self.now.seen.book }
         ensures yes { IsTrue result → IsPrefix (published self.now.seen.log) (published other.now.seen.log) }
@@ -124,7 +119,7 @@ impl HistoryPrefix {
         self.count <= other.count
     }
 
-    /// The entries that two prefixes of one history publish and show are of one log. Runs no code.
+    /// Runs no code.
     pub(crate) fn meets(&self, other: &HistoryPrefix)
         requires { other.now.seen.book ≡ self.now.seen.book }
         ensures published { AreComparable (published self.now.seen.log) (published other.now.seen.log) }
@@ -155,14 +150,13 @@ impl History {
         }
     }
 
-    /// Whether a `u64` can count two more marks.
     pub(crate) fn has_room(&self) -> bool
         ensures { IsTrue result → length self.now.front.seen.log + 1 < max_marks }
     {
         self.front.count < u64::MAX - 1
     }
 
-    /// Adds a mark; false if someone else has added a mark meanwhile, which never happens.
+    /// False if someone else has added a mark meanwhile, which never happens.
     pub(crate) fn add<X, M: Plain<X, Option<Entry>, u64>>(&mut self, about: &X) -> bool
         requires state { M.state about.now ≡ None }
         requires room { length self.old.front.seen.log < max_marks }

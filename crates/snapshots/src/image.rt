@@ -45,7 +45,6 @@ pub struct Posted {
 }
 
 impl RegisterCopy {
-    /// A copy before any entry: all pointers are null, and the names 1 to `present` are nodes.
     pub(crate) fn blank(
         alloc: Global,
         places: usize,
@@ -63,14 +62,12 @@ impl RegisterCopy {
         })
     }
 
-    /// How many entries this copy includes.
     pub(crate) fn front(&self) -> u32
         ensures { result ≡ self.now.front }
     {
         self.front
     }
 
-    /// The prefix of the history that shows these entries.
     pub(crate) fn past(&self) -> HistoryPrefix
         ensures { (result.seen.log ≡ self.now.marks) × (result.seen.book ≡ self.now.book) }
     {

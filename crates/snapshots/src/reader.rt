@@ -30,7 +30,6 @@ pub struct Snapshot {
     pub found: Option<(Option<Node>, Option<Node>)>,
 }
 
-/// What a look found, with the prefix of the history that this look shows.
 struct VersionedSnapshot {
     look: Snapshot,
     past: HistoryPrefix,
@@ -67,7 +66,6 @@ impl<L: Law> Model for Reader<L> {
     ghost invariant = { λ r. IsReader (known r.seat.place) r.seen.seen.log r.seen.seen.book r.learnt.seen.book };
 }
 
-/// Looks at the published copy.
 fn peek<L: Law>(seat: SeatAt<L>, place: usize) -> (SeatAt<L>, Option<VersionedSnapshot>)
     ensures none { IfNone result.1 (known result.0.place ≡ known seat.place) }
     ensures some { IfSome result.1 (λ g. (x : CopyView) × Sees L.holds (known seat.place) x x (known result.0.place)

@@ -42,7 +42,6 @@ pub fn evaluate<R: Rules + Sync, G: Gate + Sync, T: Threads + Wait + Sync>(
     Ok(merge(alloc, shares, net, choice)?)
 }
 
-// The verdicts of all items, by one worker.
 fn judge_all<R: Rules, G: Gate, W: Wait>(
     rt: &W,
     alloc: Global,
@@ -61,7 +60,7 @@ fn judge_all<R: Rules, G: Gate, W: Wait>(
     Ok(verdicts)
 }
 
-// The shares of all hands. Each call splits the hands in half and gives one half to a new thread.
+// Each call splits the hands in half and gives one half to a new thread.
 #[cycle(work)]
 fn work_all<R: Rules + Sync, G: Gate + Sync, T: Threads + Wait + Sync>(
     rt: &T,

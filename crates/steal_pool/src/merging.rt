@@ -45,7 +45,6 @@ pub fn merge<R: Rules>(
     Ok(verdicts)
 }
 
-// Writes the verdicts of all shares at their places, and returns the ends of the shares.
 fn lay_out<R: Rules>(
     alloc: Global,
     mut shares: Vec<Share>,
@@ -78,7 +77,6 @@ fn lay(table: &mut [Verdict], verdicts: &[Verdict])
     }
 }
 
-// Takes the blocks that are left on the deque and judges them.
 fn judge_left<R: Rules>(mut owner: Owner, net: &Net<R>, choice: &Choice, table: &mut [Verdict])
     requires whole { (owner_ledger owner).parts ≡ 64 }
     requires count { (owner_ledger owner).count ≡ length choice.now }

@@ -11,7 +11,6 @@ use index_deque::Block;
 use rule_engine::{Choice, Net, Rules, Verdict, Want};
 use std::sync::Wait;
 
-/// A worker's number, and the gate that it passes before each place.
 #[derive(Drop)]
 struct Worker<'a, G: Gate> {
     number: u32,
@@ -53,7 +52,7 @@ impl Hand {
     }
 }
 
-// Judges each place of a block, after passing the gate, and adds the verdicts to a list with room for them.
+// The list has room for the verdicts.
 fn judge_block<R: Rules, G: Gate, W: Wait>(
     rt: &W,
     worker: &Worker<G>,

@@ -45,7 +45,6 @@ impl<R: Rules> Journal<R> {
         self.base.as_ref().map(|base| base.number)
     }
 
-    /// How many entries checkpoints have dropped.
     pub(crate) fn dropped(&self) -> u32
         ensures count { result ≡ dropped self.now.base }
         ensures few { result ≤ 16777216 }

@@ -27,7 +27,6 @@ pub struct Epoch {
 }
 
 impl Epoch {
-    /// The epoch that began at `start`, up to now.
     fn up_to_now<R: Rules>(start: EpochStart, net: &Net<R>) -> Epoch
         ensures { of_run result ≡ open_at start (net_moment net.now) }
     {
@@ -41,7 +40,6 @@ impl Epoch {
     }
 }
 
-/// The epochs of a log: those that are over, and the start of the current epoch.
 /// The moves and the size of the current epoch come from the network.
 #[derive(Drop)]
 pub(crate) struct Epochs {
@@ -61,7 +59,6 @@ impl Epochs {
         }
     }
 
-    /// Makes room for one more epoch that is over, if an entry with this reply ends an epoch.
     pub fn make_room(&mut self, reply: &Reply) -> Result<(), Want>
         ensures room { OnOk result (reply.now ≡ Accepted → length self.new.over.items < vec_capacity self.new.over) }
         ensures over { self.new.over.items ≡ self.old.over.items }
@@ -73,7 +70,6 @@ impl Epochs {
         Ok(())
     }
 
-    /// Ends the current epoch and begins the next, if the entry is an accepted disturbance.
     /// `net` is the network before the entry. Takes no memory.
     pub fn turn<R: Rules>(&mut self, number: u32, reply: &Reply, net: &Net<R>)
         requires { reply.now ≡ Accepted → length self.old.over.items < vec_capacity self.old.over }
@@ -86,7 +82,6 @@ impl Epochs {
         }
     }
 
-    /// All epochs in order; the last is the current one, up to now.
     pub fn list<R: Rules>(&self, alloc: Global, net: &Net<R>) -> Result<Vec<Epoch>, Want>
         ensures { IfOk result (λ epochs. map of_run epochs.items ≡ map of_run self.now.over.items ++ open_at self.now.begun (net_moment net.now) ∷ []) }
     {

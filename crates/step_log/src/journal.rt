@@ -235,10 +235,7 @@ impl<R: Rules> Journal<R> {
         Ok(Prepared::new(seq, event, reply)?)
     }
 
-    /// The entry that `record_step` would add, with its receipt. Takes all memory for `commit`.
-    /// `commit` then records the entry and cannot fail. The log and the network do not change. No guard is
-    /// evaluated again.
-    /// Faults are those of `record`.
+    /// Like `prepare`, for the entry that `record_step` would add. No guard is evaluated again.
     pub fn prepare_step(
         &mut self,
         choice: Choice,
@@ -302,7 +299,6 @@ impl<R: Rules> Journal<R> {
         Ok(self.commit(prepared))
     }
 
-    /// Makes room for one more entry, and returns the number of that entry.
     fn make_room(&mut self) -> Result<u32, RecordFault>
         ensures number { IfOk result (λ number. number ≡ last_number (kept_of self.old) + 1) }
         ensures below { OnOk result (last_number (kept_of self.old) < self.old.limit) }

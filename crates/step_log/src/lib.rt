@@ -4,7 +4,6 @@
 //! from the last checkpoint, whose base replaces the dropped entries; numbers continue. The type of a
 //! journal states three facts (`Upholds`): the kept log is a run of the rule machine to the network's state;
 //! each reply is the machine's; each epoch's moves are within the bound. After a fault nothing has changed.
-//! `LogFull` is returned exactly if the log has reached its limit.
 //!
 //! `record` is `prepare`, which takes all the memory, then `commit`, which cannot fail. An entry takes at
 //! most 80 bytes, plus its lists.

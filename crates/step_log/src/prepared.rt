@@ -28,7 +28,6 @@ impl Model for Prepared {
 }
 
 impl Prepared {
-    /// The prepared entry with this number. The receipt contains copies of the event and the reply.
     pub(crate) fn new(seq: u32, event: Event, reply: Reply) -> Result<Prepared, Want>
         requires { IsTrue (fits event reply) }
         ensures { IfOk result (λ prepared. prepared ≡ record { seq = seq; event = event; reply = reply }) }

@@ -2,7 +2,7 @@
 
 use rule_machine::{Event, Reply};
 
-/// The entry that a call added: its number in the log, the event and the reply.
+/// The entry that a call added.
 #[derive(Debug, Drop, PartialEq, Eq)]
 pub struct Receipt {
     /// The number of the entry, 1 to 16,777,216.

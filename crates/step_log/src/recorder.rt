@@ -184,8 +184,7 @@ impl<R: Rules> Recorder<R> {
     }
 }
 
-/// Appends the text of an entry with an LF; copies the event's text from `line` if `line` is given.
-/// If memory runs out the text is unchanged.
+/// Copies the event's text from `line`, if given. If memory runs out the text is unchanged.
 #[inline(always)]
 fn put_text(
     out: &mut Vec<u8>,

@@ -10,10 +10,8 @@ use rule_engine::{Event, SilentCost};
 
 impl<R: SilentCost> Recorder<R> {
     /// The most moves that an event can cause in a silent network; `None` if a rule is enabled.
-    /// Counts the moves until the network is silent again, if no other disturbance comes.
-    /// 0 for an event that would be refused, for a step and for a query.
-    /// Under the rules of Manne and others the result may exceed what `Net::cost_of` returns for the event.
-    /// Records nothing. Costs as much as `Net::silent_cost_of`.
+    /// 0 for an event that would be refused, for a step and for a query. Records nothing.
+    /// See `Net::silent_cost_of`, also for the cost.
     pub fn silent_cost_of(&self, event: &Event) -> Option<u32>
         ensures silent { IsSome result ↔ (enabled_names R.table self.now.state ≡ []) }
         ensures cost { IfSome result (λ most. most ≡ disturbance_cost R.table R.silent_cost self.now.state event.now) }
@@ -26,11 +24,8 @@ impl<R: SilentCost> Recorder<R> {
 
 impl<R: SilentCost> Journal<R> {
     /// The most moves that an event can cause in a silent network; `None` if a rule is enabled.
-    /// Counts the moves until the network is silent again, if no other disturbance comes.
-    /// 0 for an event that would be refused, for a step and for a query.
-    /// Under Hsu and Huang's rules the result is at most `cost_of`. Under the rules of Manne and others the
-    /// result is at most `cost_of`, plus 2 if a new pair may form, plus 1 for `Leave`.
-    /// Records nothing. Costs as much as `Net::silent_cost_of`.
+    /// 0 for an event that would be refused, for a step and for a query. Records nothing.
+    /// See `Net::silent_cost_of`, also for the cost.
     pub fn silent_cost_of(&self, event: &Event) -> Option<u32>
         ensures silent { IsSome result ↔ (enabled_names R.table self.now.state ≡ []) }
         ensures cost { IfSome result (λ most. most ≡ disturbance_cost R.table R.silent_cost self.now.state event.now) }

@@ -80,7 +80,6 @@ fn play_and_roam<R: Rules + Send + Sync, G: Gate + Sync, T: Threads + Wait + Syn
     (met, roamed)
 }
 
-/// Lets fresh clerks roam, each for `turns` turns.
 fn roam_new<R: Rules + Send, G: Gate, T: Threads + Wait + Sync>(
     rt: &T,
     stage: &StormContext<R, G>,
@@ -95,7 +94,6 @@ fn roam_new<R: Rules + Send, G: Gate, T: Threads + Wait + Sync>(
     roam(rt, stage.net, clerks, turns, &NoGate)
 }
 
-/// The storm's fault: the scripts' fault, or, if they met none, the workers' fault.
 fn first_fault(met: Option<CallFault>, roamed: Result<(), RoamFault>) -> Option<CallFault>
     requires { IfErr roamed (λ fault. fault ≢ Thread) }
     ensures { result ≡ option_or met (roam_call_fault roamed) }

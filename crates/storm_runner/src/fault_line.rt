@@ -12,7 +12,6 @@ use itoa::Buffer;
 use locked_net::SettleFault;
 use std::io::Write;
 
-// Writes a text and then a number.
 fn write_numbered<Faults: Write>(
     text: &[u8],
     number: u64,
@@ -56,7 +55,6 @@ pub fn write_fault<Faults: Write>(
     }
 }
 
-// The line of a fault without numbers.
 fn plain_line(fault: StormFault) -> &'static [u8]
     requires { IsLinelessStormFault fault }
     ensures { result.now ≡ storm_fault_line fault }

@@ -52,7 +52,6 @@ pub(crate) fn play_all<R: Rules + Send + Sync, G: Gate + Sync, T: Threads + Wait
     fault.or(other)
 }
 
-/// Plays two rows of scripts, both at once if a thread can be started.
 #[cycle(forks)]
 fn play_halves<R: Rules + Send + Sync, G: Gate + Sync, T: Threads + Wait + Sync>(
     rt: &T,

@@ -3,11 +3,11 @@
 //! `storm` reads and checks every script, and plays the scripts on a `LockedNet`, whose lock alone decides
 //! the order of the scripts' lines. Then `storm` settles all clerks and writes the one log. The text is that
 //! of a run of the machine: each script's entries are the events of its lines in order, and all other entries
-//! are steps of one node by the workers. If the receipts do not account for the log, `storm` returns that
-//! error and writes nothing. Two storms of the same scripts may write different logs; `audit` accepts each.
+//! are steps of one node by the workers. Two storms of the same scripts may write different logs; `audit`
+//! accepts each.
 //!
 //! In memory are the scripts, the receipts, and the log since its last base. Threads are started by forks in
-//! two; if no thread can be started, scripts are played one after another.
+//! two.
 //!
 //! ```rust
 //! let mut writer = FailStopWriter::new(stdout);

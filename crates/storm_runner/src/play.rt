@@ -19,7 +19,6 @@ use std::sync::Wait;
 use std::thread::Threads;
 use steal_pool::{Gate, NoGate};
 
-/// Calls the network for a step, evaluated by as many of the crew's workers as the step is worth.
 fn step<R: Rules + Sync, G: Gate, T: Threads + Wait + Sync>(
     rt: &T,
     stage: &StormContext<R, G>,
@@ -67,7 +66,7 @@ fn tell<R: Rules + Sync, G: Gate, T: Threads + Wait + Sync>(
     }
 }
 
-/// Makes the network's state the base of its log. A checkpoint adds no receipt.
+/// A checkpoint adds no receipt.
 fn checkpoint<R: Rules, W: Wait>(
     rt: &W,
     net: &LockedNet<R>,

@@ -22,7 +22,6 @@ use std::thread::Threads;
 use steal_pool::Gate;
 use step_log::Journal;
 
-/// `count` fresh clerks.
 fn clerks_of<R: Rules>(alloc: Global, net: &LockedNet<R>, count: usize) -> Result<Vec<Clerk>, Want>
     ensures count { IfOk result (λ clerks. vec_len clerks ≡ count) }
     ensures fresh { IfOk result (λ clerks. All (λ clerk. clerk ≡ fresh) clerks.items) }

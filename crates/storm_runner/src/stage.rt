@@ -30,7 +30,6 @@ pub struct WorkerConfig {
     ghost few_roamers: { roamers ≤ 64 },
 }
 
-/// The network that scripts are played on, the scripts' gate, and the crew.
 #[derive(Drop)]
 pub(crate) struct StormContext<'a, R: Rules, G: Gate> {
     pub alloc: Global,
@@ -40,8 +39,6 @@ pub(crate) struct StormContext<'a, R: Rules, G: Gate> {
 }
 
 /// Plays a script line by line, up to its end or its first fault.
-///
-/// Before each line, the script passes the gate with two numbers: the script's, from 0, and the line's.
 fn play_script<R: Rules + Sync, G: Gate, T: Threads + Wait + Sync>(
     rt: &T,
     stage: &StormContext<R, G>,
@@ -60,7 +57,6 @@ fn play_script<R: Rules + Sync, G: Gate, T: Threads + Wait + Sync>(
     Ok(())
 }
 
-/// Plays the first script, if there is one.
 pub(crate) fn play_first<R: Rules + Sync, G: Gate, T: Threads + Wait + Sync>(
     rt: &T,
     stage: &StormContext<R, G>,

@@ -24,7 +24,6 @@ use std::thread::Threads;
 use steal_pool::Gate;
 use step_log::Journal;
 
-// Plays scripts on a new network while workers roam; returns the log that remains, and the first fault.
 fn play<R: Rules + Send + Sync, G: Gate + Sync, T: Threads + Wait + Sync>(
     rt: &T,
     alloc: Global,

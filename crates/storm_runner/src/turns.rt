@@ -139,7 +139,6 @@ pub(crate) fn recall(clerk: &mut Clerk, before: Option<Note>)
     }
 }
 
-/// Has the clerk take up to `count` turns, and stops at a turn that has nothing to do.
 fn take_turns<R: Rules, S: TurnTaker, W: Wait>(
     rt: &W,
     net: &LockedNet<R>,

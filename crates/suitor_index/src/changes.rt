@@ -46,8 +46,7 @@ impl<R: Rules> SuitorIndex<R> {
 
     /// Adds the edge between two nodes that have room for it.
     ///
-    /// Cost: a binary search, a shift in two neighbour lists, and at most one changed count at each end; no
-    /// memory.
+    /// Cost: that of `NetState::link_reserved`, and at most one changed count at each end; no memory.
     pub fn link_reserved(&mut self, a: Node, b: Node)
         requires free { link_fault self.old.state.network a b ≡ None }
         requires room { HasRoomFor self.old.room a b }
@@ -63,9 +62,8 @@ impl<R: Rules> SuitorIndex<R> {
 
     /// Writes a node's pointer, to null or to a neighbour, and returns what that changed.
     ///
-    /// Cost: a write at the old target and at the new target. If the node became open or ceased to be open,
-    /// also a write at each neighbour whose guard asks for the node; if guards ask for higher names alone,
-    /// the scan stops at the first neighbour above the node. Takes no memory.
+    /// Cost: a write at the old target and at the new target; if the node became open or ceased to be open,
+    /// also the writes of `write_flag`. Takes no memory.
     pub fn write_pointer(&mut self, v: Node, target: Option<Node>) -> Change
         requires present { IsTrue (present self.old.state.network v) }
         requires near { IfSome target (λ w. IsTrue (linked self.old.state.network v w)) }
@@ -112,7 +110,7 @@ impl<R: Rules> SuitorIndex<R> {
         was_open != is_open
     }
 
-    /// Adds a node without an edge; its pointer is null and its flag false. Takes no memory.
+    /// As `NetState::join`.
     pub fn join(&mut self, v: Node)
         requires within { v ≤ self.old.state.network.size }
         requires absent { present self.old.state.network v ≡ false }
@@ -124,9 +122,7 @@ impl<R: Rules> SuitorIndex<R> {
         self.tallies[v.place()] = NOTHING;
     }
 
-    /// Sets the stance of a name towards its edges. At first every name shuts its edges.
-    ///
-    /// Cost: one look if the stance does not change, else a look at each neighbour; no memory.
+    /// As `NetState::set_stance`.
     pub fn set_stance(&mut self, v: Node, end: EdgeStance)
         requires { v ≤ self.old.state.network.size }
         ensures told { end_at self.new.ends v ≡ end }
@@ -155,7 +151,7 @@ impl<R: Rules> StateWriter for SuitorIndex<R> {
         let _turned = self.write_flag(v, value);
     }
 
-    /// Cost: a shift in two neighbour lists, and at most one changed count at each end.
+    /// Cost: as for `NetState`, and at most one changed count at each end.
     fn remove_edge(&mut self, a: Node, b: Node) {
         self.net.remove_edge(a, b);
         let tallies = self.tallies.as_mut_slice();

@@ -42,7 +42,7 @@ impl<R: Rules> Model for SuitorIndex<R> {
 }
 
 impl<R: Rules> SuitorIndex<R> {
-    /// Creates an index of names 1 to `nodes`, of which 1 to `present` are nodes.
+    /// An index of names 1 to `nodes`, of which 1 to `present` are nodes.
     ///
     /// There is no edge; all pointers are null and all flags false.
     ///
@@ -69,7 +69,7 @@ impl<R: Rules> SuitorIndex<R> {
         })
     }
 
-    /// Returns the edges and registers.
+    /// The edges and registers.
     #[inline(always)]
     pub fn net(&self) -> &NetState
         ensures value { result.now ≡ self.now }
@@ -79,7 +79,6 @@ impl<R: Rules> SuitorIndex<R> {
         &self.net
     }
 
-    // The counts of a node.
     fn tally(&self, v: Node) -> Tally
         requires { IsTrue (present self.now.state.network v) }
         ensures value { result ≡ tally_at R.COURTS_HIGHER_ONLY R.table.opens self.now.state v }
@@ -139,7 +138,7 @@ impl<R: Rules> SuitorIndex<R> {
         self.tally(w).has_none_but(asks_for::<R>(w, v) && is_open)
     }
 
-    /// Returns the first neighbour that points at the node, if any.
+    /// The first neighbour that points at the node, if any.
     ///
     /// Cost: one look if the node has at most one suitor, else a scan of the neighbours up to the first
     /// suitor.
@@ -155,7 +154,7 @@ impl<R: Rules> SuitorIndex<R> {
         }
     }
 
-    /// Returns the node's suitor if there is exactly one, else `None`. One look.
+    /// The node's suitor if there is exactly one. One look.
     pub fn lone_suitor(&self, v: Node) -> Option<Node>
         requires { IsTrue (present self.now.state.network v) }
         ensures { MatchOption result (suitor_count self.now.state v ≢ 1) (IsLoneSuitor self.now.state v) }
@@ -168,7 +167,7 @@ impl<R: Rules> SuitorIndex<R> {
         }
     }
 
-    /// Returns the first open neighbour, if any.
+    /// The first open neighbour, if any.
     ///
     /// Cost: one look if no neighbour is open and guards ask for any open neighbour, else a scan of the
     /// neighbours up to the first open one.
@@ -182,7 +181,7 @@ impl<R: Rules> SuitorIndex<R> {
         scan::first_open::<R>(self.net.neighbours(v), &self.net)
     }
 
-    /// Returns the greatest open neighbour above the node, if any.
+    /// The greatest open neighbour above the node, if any.
     ///
     /// Cost: one look if the result is `None` and guards ask for higher names alone, else a scan of the
     /// neighbours from the greatest down to an open one above the node.

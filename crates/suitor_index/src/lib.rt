@@ -2,14 +2,12 @@
 //!
 //! Besides the edges and registers (`net_state`) the index stores three numbers for each node: how many
 //! suitors the node has (neighbours that point at the node), the sum of the suitors' names, and how many
-//! open neighbours the node's guard asks for. If the node has one suitor, the sum is the suitor's name.
-//! Each change updates the numbers, so that a look-up returns what a scan of the neighbours would.
-//! Contracts see the network alone.
+//! open neighbours the node's guard asks for. Each change updates the numbers. Contracts see the network
+//! alone.
 //!
 //! To find whether a node has a suitor or an open neighbour takes one look; to find which, a scan up to the
 //! first. A register write that opens or closes its node costs a write at each neighbour whose guard asks
-//! for the node. Only `with_present` (eight bytes a name besides the network) and `reserve_link` take
-//! memory.
+//! for the node. Only `with_present` and `reserve_link` take memory.
 //!
 //! ```rust
 //! let mut index = SuitorIndex::<R>::with_present(alloc, 2, 2)?;

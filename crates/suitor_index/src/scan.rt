@@ -47,7 +47,7 @@ pub(crate) fn first_open<R: Rules>(nodes: &[Node], net: &NetState) -> Option<Nod
     None
 }
 
-/// Returns the last of these nodes that is open and above `v`.
+/// The last of these nodes that is open and above `v`.
 pub(crate) fn last_open_above<R: Rules>(nodes: &[Node], net: &NetState, v: Node) -> Option<Node>
     requires present { All (λ w. IsTrue (present net.now.state.network w)) nodes.now }
     ensures { result ≡ find (λ w. R.table.opens (pointer net.now.state w) (flag net.now.state w) && nat_lt v w) (reverse nodes.now) }

@@ -11,7 +11,7 @@ use crate::tally::Tally;
 use rule_machine::Node;
 use rules_api::{Rules, asks_for};
 
-/// Removes `v` from the suitors of `pointer`, the old target of `v`.
+/// Removes `v` from the suitors of `pointer`, its old target.
 pub(crate) fn leave(tallies: &mut [Tally], pointer: Option<Node>, v: Node)
     requires within { IfSome pointer (λ w. w < length tallies.old) }
     requires counted { IfSome pointer (λ w. HasSuitor v (tally_of tallies.old w)) }
@@ -23,7 +23,7 @@ pub(crate) fn leave(tallies: &mut [Tally], pointer: Option<Node>, v: Node)
     }
 }
 
-/// Adds `v` to the suitors of `pointer`, the new target of `v`.
+/// Adds `v` to the suitors of `pointer`, its new target.
 pub(crate) fn court(tallies: &mut [Tally], pointer: Option<Node>, v: Node)
     requires within { IfSome pointer (λ w. w < length tallies.old) }
     requires room { IfSome pointer (λ w. HasTallyRoom v (tally_of tallies.old w)) }
@@ -65,10 +65,9 @@ fn turn_at(tallies: &mut [Tally], w: Node, was: bool, is: bool)
     }
 }
 
-/// Updates the count of each of `nodes` whose guard asks for `v`.
+/// Updates the count of each of the ascending `nodes` whose guard asks for `v`.
 ///
-/// `nodes` are ascending. `was` and `is` are whether `v` was open and is open. If guards ask for higher
-/// names alone, the scan stops at the first node that is not below `v`.
+/// `was` and `is` are whether `v` was open and is open.
 pub(crate) fn turn<R: Rules>(tallies: &mut [Tally], nodes: &[Node], v: Node, was: bool, is: bool)
     requires rising { IsStrictlyIncreasing nodes.now }
     requires within { (k : ℕ) → list_any (nat_eq k) nodes.now ≡ true → k < length tallies.old }

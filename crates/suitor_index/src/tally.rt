@@ -5,8 +5,8 @@ ghost use Rattle.suitor_index.specs.TallyChanges.{one_if};
 
 /// How many suitors and open neighbours a node has, and the sum of the suitors' names.
 ///
-/// `reached` counts the open neighbours that the node's guard asks for. Both counts are at most 65,535. If
-/// the node has one suitor, the sum is the suitor's name.
+/// `reached` counts the open neighbours that the node's guard asks for. If the node has one suitor, the sum
+/// is the suitor's name.
 #[derive(Clone, Copy)]
 pub(crate) struct Tally {
     pub(crate) suitors: u16,
@@ -21,7 +21,6 @@ pub(crate) const NOTHING: Tally = Tally {
 };
 
 impl Tally {
-    /// Whether the count `reached` is at most 1 if `is_reached` is true, and 0 if it is false.
     pub(crate) fn has_none_but(self, is_reached: bool) -> bool
         ensures { result ≡ nat_le self.reached (one_if is_reached) }
     {

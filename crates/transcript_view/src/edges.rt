@@ -9,8 +9,7 @@ use crate::words::put_name;
 use reply_checker::Judge;
 use rule_machine::{Node, Want};
 
-// Writes how an edge is drawn. `forward`: the lower end points at the higher; `back`: the higher at the
-// lower.
+// `forward`: the lower end points at the higher; `back`: the higher at the lower.
 fn put_style(out: &mut Vec<u8>, forward: bool, back: bool) -> Result<(), Want>
     ensures { OnOk result (out.new.items ≡ out.old.items ++ style_text forward back) }
 {
@@ -56,7 +55,6 @@ fn put_edges_if_present(out: &mut Vec<u8>, judge: &Judge, v: Node) -> Result<(),
     Ok(())
 }
 
-/// Writes a line for each edge, in ascending order.
 pub(crate) fn put_edges(out: &mut Vec<u8>, judge: &Judge) -> Result<(), Want>
     ensures { OnOk result (out.new.items ≡ out.old.items ++ flat_map (edge_lines_at judge.now) (names judge.now.network)) }
 {

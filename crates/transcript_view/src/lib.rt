@@ -1,12 +1,8 @@
 //! Views of a transcript: a picture of a state as a Graphviz graph, or the table of its epochs.
 //!
-//! Each view is exactly the text that its definition gives for the run whose transcript the bytes are. For
-//! each entry there is at most one picture, and there is at most one table (laws). Damaged bytes are refused
-//! as the auditor refuses them, but a picture ignores the lines after its entry. The judge's guards find the
-//! enabled nodes, so no view needs the engine.
-//!
-//! A picture costs the audit of the lines up to its entry, and a look at each node and its neighbours. The
-//! whole picture is in memory.
+//! Each view is exactly the text that its definition gives for the run whose transcript the bytes are.
+//! Damaged bytes are refused as the auditor refuses them, but a picture ignores the lines after its entry.
+//! The judge's guards find the enabled nodes, so no view needs the engine. The whole picture is in memory.
 //!
 //! ```rust
 //! match view_picture(alloc, &bytes, Some(3))? {

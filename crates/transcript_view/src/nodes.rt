@@ -10,7 +10,6 @@ use crate::words::{put_act, put_name};
 use reply_checker::Judge;
 use rule_machine::{Act, Node, RuleSet, Want};
 
-// Writes the rule that is enabled at a node, if any is.
 fn put_rule(out: &mut Vec<u8>, rule: Option<Act>) -> Result<(), Want>
     ensures { OnOk result (out.new.items ≡ out.old.items ++ rule_text rule) }
 {
@@ -21,7 +20,6 @@ fn put_rule(out: &mut Vec<u8>, rule: Option<Act>) -> Result<(), Want>
     Ok(())
 }
 
-// Writes the fill of a node, if the node is married.
 fn put_fill(out: &mut Vec<u8>, married: bool) -> Result<(), Want>
     ensures { OnOk result (out.new.items ≡ out.old.items ++ fill_text married) }
 {
@@ -60,7 +58,6 @@ fn put_node_if_present(
     Ok(())
 }
 
-/// Writes a line for each node, in ascending order.
 pub(crate) fn put_nodes(out: &mut Vec<u8>, judge: &Judge, rules: RuleSet) -> Result<(), Want>
     ensures { OnOk result (out.new.items ≡ out.old.items ++ flat_map (node_line (table_of rules) judge.now) (names judge.now.network)) }
 {

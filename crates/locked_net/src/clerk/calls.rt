@@ -17,9 +17,6 @@ use std::sync::Wait;
 use step_log::Receipt;
 
 impl Clerk {
-    /// Whether the clerk may call.
-    /// `Behind` if the log has fewer entries than the clerk has seen; otherwise `LogFull` if the log is
-    /// full.
     pub(crate) fn may_call<R: Rules>(&self, desk: &PublishedJournal<R>) -> Result<(), CallFault>
         ensures run { IsLog R.table desk.now.log }
         ensures free { OnOk result (call_fault (front_of self.now.receipts) desk.now.log ≡ None) }
@@ -30,7 +27,6 @@ impl Clerk {
         admit(desk, self.seen())
     }
 
-    /// Records an event for a clerk that may call, and keeps the receipt and a note of the log then.
     pub(crate) fn record_on<R: Rules, W: Wait>(
         &mut self,
         rt: &W,
@@ -70,7 +66,7 @@ pub(crate) fn admit<R: Rules>(desk: &PublishedJournal<R>, seen: u32) -> Result<(
     Ok(())
 }
 
-/// Keeps a receipt and a note, and returns the reply. There is room for the receipt.
+/// There is room for the receipt.
 pub(super) fn keep(
     receipts: &mut Vec<Receipt>,
     note: &mut Option<Note>,

@@ -37,7 +37,6 @@ impl Clerk {
         answer
     }
 
-    /// Keeps the number that a checkpoint returned, if it is the greatest so far.
     pub(crate) fn take_base(&mut self, number: u32)
         ensures { self.new ≡ record self.old { base = greater_base self.old.base (Some number) } }
     {

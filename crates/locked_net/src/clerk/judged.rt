@@ -17,7 +17,6 @@ use rule_engine::{Choice, Reply, Rules, Verdict};
 use std::sync::Wait;
 
 impl Clerk {
-    /// Records a step from its verdicts for a clerk that may call, and keeps the receipt and the note.
     pub(crate) fn record_judged<R: Rules, W: Wait>(
         &mut self,
         rt: &W,

@@ -11,8 +11,7 @@ use rule_engine::{Event, Reply, Rules};
 use std::sync::Wait;
 
 impl<R: Rules> HeldNet<'_, R> {
-    /// Carries out an event, and has the clerk keep the receipt: `Clerk::call` under a held lock.
-    /// Faults are those of `Clerk::call`, in the same order.
+    /// Carries out an event: `Clerk::call` under a held lock, with the same faults in the same order.
     pub fn call<W: Wait>(
         &mut self,
         rt: &W,

@@ -58,8 +58,6 @@ impl<R: Rules> HeldNet<'_, R> {
     }
 }
 
-/// The node whose turn it is; `None` if no node is enabled.
-/// Of the n enabled nodes, ascending, this is the one at index `turn mod n`, from 0.
 fn next_mover<R: Rules>(desk: &PublishedJournal<R>, turn: u32) -> Option<Node>
     ensures mover { result ≡ mover R.table desk.now.log.state turn }
     ensures run { IsLog R.table desk.now.log }
