@@ -43,7 +43,7 @@ export class Address {
   write() {
     clearTimeout(this.timer);
     this.timer = null;
-    // a number that someone has just typed is not overwritten: the page goes to it
+    // a number just typed is not overwritten: the page goes to it
     if (this.number !== null && this.number !== this.entry && location.hash === this.known) {
       this.written = performance.now();
       history.replaceState(history.state, "", `#${this.number}`);

@@ -25,7 +25,7 @@ export function strideOf(last, width) {
 }
 
 /**
- * The least, greatest and mean value and the middle place of each column of `stride` values.
+ * Least, greatest and mean value, and middle place, of each column of `stride` values.
  * @param {(at: number) => number} valueAt
  * @param {number} last
  * @param {number} stride
@@ -47,7 +47,6 @@ export function columnsOf(valueAt, last, stride) {
 }
 
 /**
- * A line through the values of 0 to `last`, each held until the next.
  * @param {(at: number) => number} valueAt
  * @param {number} last
  * @param {(at: number) => number} xOf
@@ -73,7 +72,6 @@ export function meanPath(columns, xOf, yOf) {
 }
 
 /**
- * The band between the least and the greatest of columns.
  * @param {Column[]} columns
  * @param {(at: number) => number} xOf
  * @param {(value: number) => number} yOf

@@ -24,7 +24,7 @@ function stepsFrom(start, lists) {
 }
 
 /**
- * Squared distances from nodes that lie far apart, one column for each pivot.
+ * Squared distances from nodes that lie far apart, a column for each pivot.
  * @param {number[][]} lists
  */
 function pivotColumns(lists) {
@@ -68,7 +68,7 @@ function product(a, b) {
 }
 
 /**
- * The direction with the greatest products of the pivots, at a right angle to those found before.
+ * The direction of the greatest products, at a right angle to those found before.
  * @param {number[][]} products
  * @param {number[][]} before
  */

@@ -1,4 +1,4 @@
-// The network as a drawing. Elements keep their places, and only those that change are written anew.
+// The network as a drawing. Only elements that change are written anew.
 import {labelOf, wholeOf} from "./own_names.mjs";
 import {add} from "./svg.mjs";
 
@@ -26,8 +26,8 @@ const MARKS = {
 };
 
 /**
- * Two angles round a node for marks that hide no pointer: both in the widest gap between edges if it is wide,
- * else one in each of the two widest gaps.
+ * Two angles for marks that hide no pointer: both in the widest gap between edges if it is wide, else one in
+ * each of the two widest.
  * @param {number[]} angles
  */
 export function freeAngles(angles) {
@@ -36,7 +36,7 @@ export function freeAngles(angles) {
   }
   const sorted = [...angles].sort((a, b) => a - b);
   const gaps = sorted.map((angle, at) => ({ from: angle, size: (sorted[at + 1] ?? sorted[0] + 2 * Math.PI) - angle }));
-  // rounded, so that of nearly equal gaps the first one is taken
+  // so that of nearly equal gaps the first one is taken
   gaps.sort((one, other) => Math.round(1e6 * (other.size - one.size)));
   /** @param {{ from: number, size: number }} gap */
   const middle = ({ from, size }) => from + size / 2;
@@ -195,7 +195,7 @@ export class Drawing {
   }
 
   /**
-   * Shows a machine's state after an entry that named the nodes in `lit`.
+   * `lit` are the nodes that the entry named.
    * @param {import("./machine.mjs").Machine} machine
    * @param {Entry | null} entry
    * @param {number[]} lit
@@ -231,10 +231,7 @@ export class Drawing {
     this.shownEdges = [...shown.keys()].filter((edge) => edge.classes !== "edge absent");
   }
 
-  /**
-   * A new edge has a plus at its middle; a removed one is dashed with a cross.
-   * @param {{ low: number, high: number, change: string } | null} changed
-   */
+  /** @param {{ low: number, high: number, change: string } | null} changed */
   showChange(changed) {
     this.layers.changes.replaceChildren();
     this.layers.edges.querySelector(".change")?.remove();
@@ -332,10 +329,7 @@ export class Drawing {
     return this.shapes.filter((shape, v) => shape && !shape.classes.includes("absent") && isIn(v)).length;
   }
 
-  /**
-   * Marks a node or an edge; null marks none.
-   * @param {Thing | null} thing
-   */
+  /** @param {Thing | null} thing */
   pick(thing) {
     this.layers.picks.replaceChildren();
     if (thing === null) {

@@ -16,7 +16,7 @@ function namesOf(entry) {
 }
 
 /**
- * Whether a node may move by this rule, to this target (0 if the rule takes none).
+ * `target` is 0 if the rule takes none.
  * @param {import("./machine.mjs").Machine} machine
  * @param {Move} move
  */

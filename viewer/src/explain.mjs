@@ -6,7 +6,7 @@ import {told} from "./own_names.mjs";
 const MOST_NAMED = 12;
 
 /**
- * Names in words: `3`, `3 and 5`, `3, 5 and 9`.
+ * `3`, `3 and 5`, `3, 5 and 9`.
  * @param {number[]} numbers
  */
 export function listed(numbers) {
@@ -39,7 +39,6 @@ function pointerOf(machine, v) {
 }
 
 /**
- * The end of a sentence about a node: its target.
  * @param {import("./machine.mjs").Machine} machine
  * @param {number} w
  */
@@ -118,7 +117,7 @@ function whyQuiet(machine, v) {
 }
 
 /**
- * The parts of v's charge, each with its count and reason.
+ * Each part with its count and reason.
  * @param {import("./machine.mjs").Machine} machine
  * @param {number} v
  */
@@ -156,7 +155,6 @@ function chargeOfNode(machine, v) {
 }
 
 /**
- * A heading, and terms with their descriptions.
  * @param {import("./machine.mjs").Machine} machine
  * @param {number} v
  * @returns {Explained}

@@ -49,7 +49,7 @@ export class Gestures {
     element.addEventListener("pointerup", (event) => this.release(event));
     element.addEventListener("pointercancel", (event) => this.cancel(event));
     element.addEventListener("pointerleave", () => this.held.size === 0 && handlers.leave());
-    // two fingers belong to the element; the page does not scroll under them
+    // the page does not scroll under two fingers
     for (const kind of /** @type {const} */ (["touchstart", "touchmove"])) {
       element.addEventListener(kind, (event) => event.touches.length > 1 && event.preventDefault(), { passive: false });
     }

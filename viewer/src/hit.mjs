@@ -32,8 +32,7 @@ function nearestNode(layout, machine, x, y, within) {
 }
 
 /**
- * The present node at a place, `{ node }`, within `radius` and `reach`; else the edge, `{ low, high }`,
- * within `reach`; else null. Looks at each node and edge once.
+ * The present node within `radius` and `reach`; else the edge within `reach`; else null.
  * @param {Layout} layout
  * @param {import("./machine.mjs").Machine} machine
  * @param {number} x

@@ -13,8 +13,7 @@ function isSame(one, other) {
 
 export class Inspector {
   /**
-   * `machine()` is the state that is shown. `stage` marks a thing (`pick`) and gives its place on the screen
-   * (`pixelOf`), or null without a drawing.
+   * `machine()` is the shown state; `stage` is null without a drawing.
    * @param {() => import("./machine.mjs").Machine} machine
    * @param {import("./stage.mjs").Stage | null} stage
    */
@@ -25,12 +24,11 @@ export class Inspector {
     this.picked = null;
     /** @type {Thing | null} */
     this.under = null;
-    /** The node whose edges the keys step through, or 0. */
+    /** The node that the keys began from, or 0. */
     this.end = 0;
     byId("card-close").addEventListener("click", () => this.pick(null));
   }
 
-  /** The thing under the pointer, else the picked one. */
   get thing() {
     return this.under ?? this.picked;
   }
@@ -70,10 +68,7 @@ export class Inspector {
     }
   }
 
-  /**
-   * The node whose edges the keys step through: the picked one, or the end of the picked edge that they began
-   * from.
-   */
+  /** The picked node, or the end of the picked edge that the keys began from. */
   get hub() {
     const { picked } = this;
     return picked === null ? 0 : picked.node ?? (this.end === picked.high ? picked.high : picked.low);
@@ -112,7 +107,6 @@ export class Inspector {
     this.place();
   }
 
-  /** Puts the card near its thing, and covers little. */
   place() {
     const { thing, stage } = this;
     if (thing === null || !stage) {

@@ -4,7 +4,7 @@
  * @typedef {{ page: Record<string, string>, drawing: Record<string, string> }} Keys
  */
 
-/** Keys while a transcript is played: of the whole page, and of the drawing if it has the focus. */
+/** Keys while a transcript is played; those of the drawing only if it has the focus. */
 export const PLAYER_KEYS = {
   page: {
     ArrowLeft: "back",

@@ -204,8 +204,7 @@ function pack(parts) {
 }
 
 /**
- * A place for each name from 1, in a box with its upper left corner at 0, 0; `edges` are in the order of
- * their arrival.
+ * A place for each name, in a box with its upper left corner at 0, 0; `edges` are in order of arrival.
  * @param {number} nodes
  * @param {Link[]} edges
  * @returns {Layout}
@@ -226,8 +225,7 @@ export function layOut(nodes, edges) {
 }
 
 /**
- * The same drawing in a box of at least the size that a page shows well. A smaller one is spread: nodes keep
- * their size and lie farther apart.
+ * Spreads a small drawing to the size that a page shows well; nodes keep their size.
  * @param {Layout} layout
  * @returns {Layout}
  */

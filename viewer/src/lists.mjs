@@ -10,7 +10,6 @@ export function lastOf(list) {
 }
 
 /**
- * The last item that `isWanted` accepts, or undefined.
  * @template Item
  * @param {Item[]} list
  * @param {(item: Item) => boolean} isWanted

@@ -36,7 +36,6 @@ export class Machine {
     this.load({ here, pointers: new Int32Array(nodes + 1), flags: new Uint8Array(nodes + 1), ends: new Int32Array(0) });
   }
 
-  /** The state in the form that `load` restores. */
   snapshot() {
     const ends = new Int32Array(2 * this.edgeCount);
     this.edges().forEach(([v, w], at) => ends.set([v, w], 2 * at));
@@ -173,8 +172,7 @@ export class Machine {
   }
 
   /**
-   * What v adds to the charge, apart from open edges. An absent name, which is null and unflagged, adds
-   * nothing.
+   * What v adds to the charge, apart from open edges. An absent name adds nothing.
    * @param {number} v
    */
   nodeCharge(v) {
@@ -195,7 +193,6 @@ export class Machine {
     return 2 * this.edgeCount + RULE_SETS[this.rules].weight * this.present;
   }
 
-  /** The most moves of an epoch: the smaller of that bound and the bound by the nodes alone. */
   get epochBound() {
     return Math.min(this.bound, mostAmong(this.rules, this.present));
   }
@@ -320,10 +317,7 @@ export class Machine {
     this.setPresent(v, 1);
   }
 
-  /**
-   * Removes a node, with its edges and the pointers that cross them.
-   * @param {number} v
-   */
+  /** @param {number} v */
   leave(v) {
     for (const w of [...this.neighbours[v]]) {
       this.unlink(v, w);

@@ -6,7 +6,7 @@ export function grouped(number) {
 }
 
 /**
- * `1 entry`, `2 entries`: a count with its noun; `many` is the plural if it is not formed with s.
+ * `1 entry`, `2 entries`; `many` is a plural not formed with s.
  * @param {number} count
  * @param {string} one
  * @param {string} many

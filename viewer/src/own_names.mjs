@@ -12,7 +12,6 @@ export function useNames(names) {
 }
 
 /**
- * What is drawn at a node, or null if it has no name.
  * @param {number} v
  * @returns {string | null}
  */
@@ -30,8 +29,8 @@ export function wholeOf(v) {
 }
 
 /**
- * A node in a sentence: its number, with its label if it has one. The label is isolated, so that a name in a
- * script from right to left does not reorder the sentence.
+ * A node in a sentence. Its label is isolated, so that a name in a script from right to left does not reorder
+ * the sentence.
  * @param {number} v
  */
 export function told(v) {

@@ -98,7 +98,6 @@ class Page {
     return engine;
   }
 
-  /** Plays the page's own transcript, or a recorded one. */
   playRecorded() {
     if (this.embedded !== null) {
       this.play(this.embedded, dataOf("judge"));
@@ -236,10 +235,7 @@ class Page {
     }
   }
 
-  /**
-   * Shows what is wrong with the input, and the line; null without a mistake.
-   * @param {Wrong | null} wrong
-   */
+  /** @param {Wrong | null} wrong */
   refuse(wrong) {
     byId("refusal").hidden = wrong === null;
     byId("refusal-said").textContent = wrong?.said ?? "";

@@ -49,7 +49,7 @@ function item(transcript, number, current) {
 }
 
 /**
- * A later base, which is no entry; the page does not go to it.
+ * A later base; the page does not go to it.
  * @param {string} line
  */
 function baseItem(line) {

@@ -51,8 +51,7 @@ function boxes(place, room, { width, height }) {
 }
 
 /**
- * The best box of a size for a thing at a place of the room; `shareIn` returns the share of all things that a
- * box covers.
+ * `shareIn` returns the share of all things that a box covers.
  * @param {Place} place
  * @param {Size} size
  * @param {(box: Box) => number} shareIn

@@ -6,7 +6,6 @@ const FAR = 10;
 
 export class Player {
   /**
-   * `show` draws an entry; `moved` gets the entry that a person went to.
    * @param {import("./replay.mjs").Replay} replay
    * @param {(number: number) => void} show
    */

@@ -166,7 +166,6 @@ function show(text, judge, signal) {
   play(replay, signal);
 }
 
-/** The part of the page that plays transcripts, one after another. */
 export class Playing {
   constructor() {
     this.fresh = PARTS.map((id) => /** @type {Element} */ (byId(id).cloneNode(true)));

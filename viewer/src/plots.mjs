@@ -81,7 +81,6 @@ export class Plot {
     this.point(this.at ?? this.first);
   }
 
-  /** Explains the lines if entries share a column. */
   sayStride() {
     const caption = this.svg.parentElement.querySelector(".shared");
     caption.textContent = this.stride === 1 ? "" : `mean and range of ${grouped(this.stride)} entries`;
@@ -146,7 +145,6 @@ export class Plot {
 }
 
 /**
- * Both plots of the page: the budget, and the nodes.
  * @param {import("./replay.mjs").Replay} replay
  * @param {(number: number) => void} goTo
  */

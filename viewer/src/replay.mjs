@@ -19,10 +19,7 @@ export class Replay {
     this.at = transcript.first;
     this.weight = RULE_SETS[transcript.rules].weight;
     const places = transcript.length + 1;
-    /**
-     * The plots' values, by name and entry.
-     * @type {Record<string, Int32Array>}
-     */
+    /** @type {Record<string, Int32Array>} */
     this.series = Object.fromEntries(
       ["charge", "spent", "nodes", "edges", "pairs", "enabled"].map((name) => [name, new Int32Array(places)]));
     /** @type {number[]} */
@@ -137,10 +134,7 @@ export class Replay {
     return `accepted: ${this.transcript.length} entries, ${this.disturbances.length + 1} epochs, ${this.moves} moves`;
   }
 
-  /**
-   * The most moves that can come after `number` entries before the next disturbance.
-   * @param {number} number
-   */
+  /** @param {number} number */
   movesLeft(number) {
     return Math.min(this.valueAt("charge", number), mostAmong(this.transcript.rules, this.valueAt("nodes", number)));
   }
@@ -156,10 +150,7 @@ export class Replay {
     return !isCut && mostAmong(rules, this.valueAt("nodes", number)) < this.boundByEdges(number);
   }
 
-  /**
-   * 2m + n under hh, 2m + 3n under manne.
-   * @param {number} number
-   */
+  /** @param {number} number */
   boundByEdges(number) {
     return 2 * this.valueAt("edges", number) + this.weight * this.valueAt("nodes", number);
   }
@@ -193,10 +184,7 @@ export class Replay {
     return this.burstEnds.find((end) => end > number) ?? null;
   }
 
-  /**
-   * The end of the last burst that ends before an entry, or null.
-   * @param {number} number
-   */
+  /** @param {number} number */
   previousDisturbance(number) {
     return lastWhere(this.burstEnds, (end) => end < number) ?? null;
   }

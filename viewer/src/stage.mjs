@@ -10,7 +10,6 @@ const REACH = 7;
 
 export class Stage {
   /**
-   * The names 1 to `nodes`, with places for all edges that ever exist.
    * @param {SVGSVGElement} svg
    * @param {number} nodes
    * @param {Link[]} edgesEver
@@ -31,7 +30,6 @@ export class Stage {
   }
 
   /**
-   * Pointing informs the inspector, dragging moves the view.
    * @param {import("./inspector.mjs").Inspector} inspector
    * @param {() => import("./machine.mjs").Machine} machine
    */
@@ -60,10 +58,7 @@ export class Stage {
     this.drawing.show(machine, entry, lit);
   }
 
-  /**
-   * Marks a node or an edge; null marks none.
-   * @param {Thing | null} thing
-   */
+  /** @param {Thing | null} thing */
   pick(thing) {
     this.drawing.pick(thing);
   }

@@ -1,7 +1,6 @@
 // Elements of the page.
 
 /**
- * Appends a new SVG element to `parent`.
  * @param {Element} parent
  * @param {string} name
  * @param {Record<string, string | number>} attributes
@@ -19,7 +18,6 @@ export function add(parent, name, attributes = {}, text = "") {
 }
 
 /**
- * Appends a new HTML element to `parent`.
  * @param {Element} parent
  * @param {string} name
  * @param {string} text

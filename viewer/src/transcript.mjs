@@ -33,7 +33,7 @@ export class TranscriptFault extends Error {
 }
 
 /**
- * One line of a transcript, such as `3 step 1 = 1:seduce>2`.
+ * Such as `3 step 1 = 1:seduce>2`.
  * @param {string} line
  */
 export function readEntry(line) {
@@ -56,7 +56,7 @@ export function wordsOf(entry) {
 }
 
 /**
- * The moves in a step's reply: each node, its rule, and its target (0 if the rule takes none).
+ * The moves in a step's reply; a target is 0 if the rule takes none.
  * @param {Entry} entry
  */
 export function movesOf(entry) {
@@ -119,8 +119,7 @@ function numbersOf(words, most, text, at) {
 }
 
 /**
- * The base whose lines begin at a place: its numbers, its state in the form that a machine loads, and its
- * end.
+ * The base that begins at a place: its numbers, its state for a machine, and its end.
  * @param {string} text
  * @param {number} at
  */
@@ -170,18 +169,12 @@ export class Transcript {
     this.text = text;
     /** @type {number[]} */
     this.starts = [];
-    /**
-     * The lines of bases, by the entry before each.
-     * @type {Map<number, string>}
-     */
+    /** @type {Map<number, string>} */
     this.bases = new Map();
     /** @type {RuleName} */
     this.rules = "hh";
     this.nodes = this.present = this.first = this.spent = 0;
-    /**
-     * The state of the base that begins the transcript, or null.
-     * @type {MachineState | null}
-     */
+    /** @type {MachineState | null} */
     this.state = null;
     this.opening = "";
     let at = text.startsWith("matching2 ") ? this.openAtBase() : this.openAtHeader();

@@ -20,7 +20,7 @@ export class View {
   }
 
   /**
-   * Zooms by a factor; the place x, y, by default the middle, stays fixed on the screen.
+   * Zooms; the place x, y, by default the middle, stays fixed on the screen.
    * @param {number} factor
    */
   by(factor, x = this.x, y = this.y) {

@@ -14,7 +14,7 @@ export class Zoom {
    * @param {number} height
    * @param {(pixels: number) => number} changed called with the pixels of a unit when another part comes
    *   into view; returns how much nodes are enlarged
-   * @param {number} leastName names of fewer pixels are left out
+   * @param {number} leastName
    */
   constructor(svg, width, height, changed, leastName = LEAST_NAME) {
     this.svg = svg;

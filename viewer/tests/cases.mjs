@@ -26,7 +26,6 @@ export function* transcriptsOfCases() {
   }
 }
 
-/** Name and text of each transcript of the examples. */
 export function* transcriptsOfExamples() {
   for (const file of readdirSync(EXAMPLES).filter((name) => name.endsWith(".transcript"))) {
     yield { name: file, text: readFileSync(new URL(file, EXAMPLES), "ascii") };

@@ -1,6 +1,5 @@
-// Compares the engine inside the playground with the program on random scripts: the same bytes of each
-// script, and the same verdict on each transcript, whole or damaged. SCRIPTS is the number of scripts; by
-// default 200.
+// Compares the engine inside the playground with the program on random scripts (SCRIPTS, by default 200): the
+// same bytes of each script, and the same verdict on each transcript, whole or damaged.
 import assert from "node:assert/strict";
 import test from "node:test";
 import {scriptOf, wordsOf} from "./scripts.mjs";

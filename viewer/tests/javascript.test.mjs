@@ -1,6 +1,5 @@
-// Compares release/rudekpi.mjs, or the module that RUDEKPI_MJS names, with the program: random scripts
-// carried out by calls give the same bytes, and each reply agrees with its entry. SCRIPTS is the number of
-// scripts; by default 200.
+// Compares release/rudekpi.mjs, or the module that RUDEKPI_MJS names, with the program on random scripts
+// (SCRIPTS, by default 200): calls give the same bytes, and each reply agrees with its entry.
 import assert from "node:assert/strict";
 import {existsSync, readFileSync} from "node:fs";
 import {spawnSync} from "node:child_process";
@@ -45,7 +44,6 @@ function told(net, line, name = (number) => number) {
   }
 }
 
-/** A reply in the form of its entry. */
 function written(word, reply) {
   const move = ({ node, rule, target }) => `${node}:${rule}${target === null ? "" : `>${target}`}`;
   switch (word) {
@@ -100,14 +98,12 @@ function linesOf({ lines }) {
   });
 }
 
-/** The script in the form for the program. */
 function scriptFor(lines) {
   return lines.flatMap((line) => (TURNED.includes(line.split(" ")[0]) ? [line, "status"] : [line]))
     .map((line) => `${line}\n`)
     .join("");
 }
 
-/** Entries of a transcript with their replies. */
 function entriesIn(text) {
   return [...text.matchAll(/^(\d+) [^=]*?(?: = )(.*)$/gm)].map(([, entry, reply]) => [Number(entry), reply]);
 }
@@ -217,7 +213,6 @@ test("what an edit or a fault costs, and whom it reaches, by the tables of docs/
   assert.equal(net.costOf("unlink", 1, 2), 2);
   assert.equal(net.costOf("leave", 4), 2);
   assert.equal(net.costOf("point", 1, null), 6);
-  // no node is unpaired
   assert.equal(net.silentCostOf("unlink", 1, 2), 0);
   assert.equal(net.silentCostOf("leave", 4), 0);
   assert.equal(net.silentCostOf("point", 1, null), 1);
@@ -377,7 +372,6 @@ test("a full log ends the network, as it ends the program", { skip }, () => {
   assert.ok(net.transcript().endsWith("\n16777216 show 1 = -\n"));
 });
 
-/** The programs that run the example here. */
 const RUNNERS = [["node", [EXAMPLE]], ["deno", ["run", "--allow-read", EXAMPLE]], ["bun", ["run", EXAMPLE]]];
 
 for (const [name, words] of RUNNERS) {

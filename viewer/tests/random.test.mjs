@@ -1,6 +1,6 @@
 // Compares the machine of the page with the program, state by state, on random scripts. After each command
-// the program writes a base, with all registers and edges, and is asked for the enabled nodes, the pairs and
-// the status. The program is the repository's as it is built, or the one that CONSOLE names.
+// the program writes a base and is asked for the enabled nodes, the pairs and the status. The program is the
+// repository's, or the one that CONSOLE names.
 import assert from "node:assert/strict";
 import {spawnSync} from "node:child_process";
 import {existsSync} from "node:fs";
@@ -14,7 +14,6 @@ const SCRIPTS = 200;
 const COMMANDS = 30;
 const PROGRAM = process.env.CONSOLE ?? fileURLToPath(new URL("../../crates/console/out/console", import.meta.url));
 
-/** Numbers from 0 that a seed draws (Park and Miller, 1988). */
 function drawn(seed) {
   let state = seed;
   return (most) => (state = (state * 48271) % 2147483647) % most;

@@ -56,7 +56,7 @@ function numberIn(line, word, least, most, what) {
   return Number(word);
 }
 
-/** Collects nodes and links in the order of their appearance; a link given from both ends counts once. */
+/** A link given from both ends counts once. */
 class Collected {
   constructor() {
     /** @type {Map<string, number>} */
@@ -258,8 +258,8 @@ const READERS = {
 /** @typedef {keyof typeof READERS} GraphFormat */
 
 /**
- * The network of a graph file: its number of nodes, its links, and whether its names were replaced by
- * numbers. Throws `GraphFault` if the text does not have the format, or is too large to draw.
+ * The network of a graph file, and whether its names were replaced by numbers. Throws `GraphFault` if the
+ * text does not have the format, or is too large to draw.
  * @param {string} text
  * @param {GraphFormat} format
  */

@@ -45,7 +45,7 @@ export function linesAt({name, from}, seen, thing) {
 
 /**
  * The edit or fault of a line drawn from a node to a thing.
- * @param {string} name that of the tool
+ * @param {string} name
  * @param {number} node
  * @param {Thing | null} thing
  * @returns {string[]}
@@ -59,7 +59,7 @@ export function linesBetween(name, node, thing) {
 }
 
 /**
- * The nodes that one of the lines would reach, ascending; all others at rest stay at rest.
+ * The nodes that one of the lines would reach, ascending.
  * @param {import("../rudekpi/engine.mjs").Session} session
  * @param {string[]} lines
  */

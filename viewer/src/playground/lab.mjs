@@ -56,7 +56,7 @@ export class Lab {
     this.lines = [];
     this.parts = [this.session.read()];
     this.size = this.parts[0].length;
-    /** The text that the engine wrote since the state was last read. */
+    /** The engine's text since the state was last read. */
     this.unseen = "";
     this.look();
   }
@@ -81,10 +81,7 @@ export class Lab {
     return text;
   }
 
-  /**
-   * Throws `BadLine` if a line would produce more than this page holds.
-   * @param {string} line
-   */
+  /** @param {string} line */
   admit(line) {
     const [, faults] = /^scramble \d+ (\d+)$/.exec(line) ?? [];
     if (Number(faults) > MOST_FAULTS) {
@@ -155,7 +152,7 @@ export class Lab {
     return `run --rules ${rules} --nodes ${names}${present === names ? "" : ` --present ${present}`}`;
   }
 
-  /** The file name of a saved script or transcript; a script's name includes its network. */
+  /** Of a saved script or transcript; a script's includes its network. */
   get fileName() {
     const { rules, names, present } = this;
     return `matching-${rules}-${names}${present === names ? "" : `-${present}`}`;

@@ -27,8 +27,8 @@ function isCalm() {
 export class LabPage {
   /**
    * @param {import("../rudekpi/engine.mjs").Engine} engine
-   * @param {(text: string) => void} judge judges a transcript and plays it
-   * @param {(wrong: Wrong | null) => void} refuse shows why an input was refused
+   * @param {(text: string) => void} judge
+   * @param {(wrong: Wrong | null) => void} refuse
    */
   constructor(engine, judge, refuse) {
     this.play = new Playground(engine, judge);
@@ -217,7 +217,7 @@ export class LabPage {
   /**
    * Opens a text of a kind that `kindOf` returned. If it is bad, shows why and changes nothing.
    * @param {string} text
-   * @param {string} name the file's, or empty
+   * @param {string} name
    * @param {string} kind
    * @param {() => void} enter shows the playground, once the text is known to be good
    */

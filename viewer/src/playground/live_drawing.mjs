@@ -4,7 +4,6 @@ import {add} from "../svg.mjs";
 
 export class LiveDrawing extends Drawing {
   /**
-   * The names 1 to `names`, at the places of `layout`.
    * @param {SVGSVGElement} svg
    * @param {Layout} layout
    * @param {number} names
@@ -15,7 +14,7 @@ export class LiveDrawing extends Drawing {
     // detects changes of each node's edges
     this.seen = new Float64Array(names + 1).fill(NaN);
     this.band = add(this.layers.picks, "line", { class: "band" });
-    // which nodes have the ring of a node that may still move
+    // nodes with the ring of one that may still move
     this.ringed = new Uint8Array(names + 1);
     /** @type {Set<number>} */
     this.reached = new Set();
@@ -143,7 +142,7 @@ export class LiveDrawing extends Drawing {
   }
 
   /**
-   * Marks a node or an edge by a class; null marks none.
+   * Marks by a class; null marks none.
    * @param {Thing | null} thing
    */
   pick(thing, as = "") {

@@ -12,7 +12,7 @@ import {Trace} from "./trace.mjs";
 // a place within this many pixels of an edge is on it, for a mouse and for a finger
 const REACH = 8;
 const FINGER_REACH = 18;
-// smaller names, in pixels, are left out here: they are the slowest to draw
+// smaller names, in pixels, are left out
 const LEAST_NAME = 7;
 const RULE_SET_NAMES = {
   hh: "rules of Hsu and Huang",
@@ -119,7 +119,6 @@ export class Pane {
   }
 
   /**
-   * Shows the network's state after an entry that names the nodes in `lit`.
    * @param {Entry | null} entry
    * @param {number[]} lit
    */
@@ -133,7 +132,6 @@ export class Pane {
     this.parts.state.classList.toggle("stable", quiet);
   }
 
-  /** Draws the bar: its length is the bound, its parts the moves spent and the moves that can come. */
   meter() {
     const { movesLeft, epochBound, spent } = this.lab.seen;
     const shares = sharesOf(spent, movesLeft, epochBound);

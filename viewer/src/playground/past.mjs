@@ -19,7 +19,7 @@ export class Past {
   }
 
   /**
-   * Remembers the lengths of all scripts before an act. With `whole` the act may change existing lines.
+   * With `whole` the act may change existing lines.
    * @param {Lab[]} labs
    * @param {boolean} whole
    */
@@ -53,7 +53,7 @@ export class Past {
   }
 
   /**
-   * Redoes the act that was undone last: the lines that each lab has then, or null if there is none.
+   * Redoes the act undone last; returns what `back` does.
    * @param {Lab[]} labs
    */
   again(labs) {

@@ -74,7 +74,7 @@ export function within({width, height}, x, y) {
 }
 
 /**
- * The place that is farthest from all present nodes.
+ * The place farthest from all present nodes.
  * @param {Layout} layout
  * @param {Uint8Array} here
  */

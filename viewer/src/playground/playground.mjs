@@ -21,10 +21,7 @@ const MARKED = 1600;
 // and a moved node lit
 const LIT = 700;
 
-/**
- * The last entry of some lines of a transcript, or null.
- * @param {string} text
- */
+/** @param {string} text */
 function lastEntry(text) {
   const line = lastOf(text.trimEnd().split("\n"));
   return /^\d/.test(line) ? readEntry(line) : null;
@@ -41,7 +38,7 @@ function isSame(one, other) {
 export class Playground {
   /**
    * @param {import("../rudekpi/engine.mjs").Engine} engine
-   * @param {(text: string) => void} judge judges a transcript and plays it
+   * @param {(text: string) => void} judge
    */
   constructor(engine, judge) {
     this.engine = engine;
@@ -204,7 +201,7 @@ export class Playground {
   }
 
   /**
-   * Feeds a line to some networks. Returns their entries.
+   * Returns the entries.
    * @param {string} line
    * @param {Lab[]} labs
    */
@@ -368,7 +365,7 @@ export class Playground {
 
   /**
    * Draws a halo round the nodes that the intended act would reach, until the intention changes.
-   * @param {() => string[]} intended the lines of that act
+   * @param {() => string[]} intended
    */
   surround(intended) {
     this.intended = intended;

@@ -59,8 +59,8 @@ function around(angle, far) {
 }
 
 /**
- * The hub in the middle, the others on a circle. Many lie like the seeds of a sunflower (Vogel, 1979), since
- * their circle would be too large.
+ * The hub in the middle, the others on a circle; many lie like sunflower seeds (Vogel, 1979), since their
+ * circle would be too large.
  * @param {number} nodes
  */
 function star(nodes) {
@@ -100,7 +100,7 @@ function near(places, reach) {
 }
 
 /**
- * Radios at random places, linked to all in reach; none lies on another, so that all are visible.
+ * Radios at random places, linked to all in reach; none lies on another.
  * @param {number} nodes
  * @param {number} seed
  */
@@ -208,9 +208,7 @@ function racks(nodes) {
   return { links, places };
 }
 
-/**
- * By their words in the page: the initial number of nodes, and the network of a number of nodes and a seed.
- */
+/** By their words in the page, with the initial number of nodes. */
 /**
  * @type {Record<string, { name: string, nodes: number,
  *   make: (nodes: number, seed: number) => { links: Link[], places?: Link[] } }>}

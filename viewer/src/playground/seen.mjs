@@ -15,15 +15,13 @@ export class Seen extends Machine {
    */
   constructor(rules, names, present) {
     super(rules, names, present);
-    /** Moves since the last edit or fault. */
     this.spent = 0;
-    /** Whether each node may still move before the next edit or fault: it is not at rest. */
+    /** Which nodes are not at rest. */
     this.restless = new Uint8Array(names + 1);
     this.left = 0;
   }
 
   /**
-   * Follows the new text of a session, and asks the session about its network.
    * @param {string} text whole lines, all since the last call
    * @param {import("../rudekpi/engine.mjs").Session} session
    */
@@ -40,7 +38,7 @@ export class Seen extends Machine {
   }
 
   /**
-   * Carries out the changes of entries. The lines of a base change nothing.
+   * The lines of a base change nothing.
    * @param {string} text whole lines
    */
   follow(text) {

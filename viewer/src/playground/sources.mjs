@@ -77,7 +77,7 @@ function readNetwork(text, name, format, rules) {
  * The source of a text. Throws `GraphFault` if it is no graph, or too large to draw. Does not check the lines
  * of a script.
  * @param {string} text
- * @param {string} name the file's, or empty
+ * @param {string} name
  * @param {string} kind as `kindOf` returned it
  * @param {RuleName[]} rules those that play it if its name gives none
  */

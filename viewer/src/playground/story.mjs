@@ -53,7 +53,6 @@ export class Story {
   }
 
   /**
-   * Reports the progress: further moves, and how many nodes may still move.
    * @param {number} moves
    * @param {number} enabled
    * @param {number} pairs

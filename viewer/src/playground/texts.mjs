@@ -5,8 +5,7 @@ import {copy, save} from "./files.mjs";
 import {BadLine} from "./lab.mjs";
 import {writeAddress} from "./sharing.mjs";
 
-// how many milliseconds lie between two updates of a growing text; more if it is long, as a field takes long
-// to show it
+// milliseconds between two updates of a growing text; more for a long one, which a field is slow to show
 const GAP = 300;
 const CHARACTERS_A_MILLISECOND = 15;
 // farther down than any text goes
@@ -44,7 +43,7 @@ export function renumbered(wrong, numbers) {
 
 export class Texts {
   /**
-   * @param {() => import("./lab.mjs").Lab} lab the network whose texts are shown
+   * @param {() => import("./lab.mjs").Lab} lab
    * @param {TextActs} acts
    */
   constructor(lab, acts) {
@@ -97,7 +96,7 @@ export class Texts {
   }
 
   /**
-   * Shows below the field what is wrong with its text; an empty message means nothing.
+   * Shows below the field what is wrong; an empty message means nothing.
    * @param {string} said
    */
   refuse(said) {

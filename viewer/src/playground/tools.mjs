@@ -65,7 +65,7 @@ export class Tools {
   }
 
   /**
-   * The thing under the pointer that a click would hit, or null if a click does nothing to it.
+   * The thing that a click would hit, or null if a click does nothing to it.
    * @param {Thing | null} thing
    */
   aims(thing) {

@@ -1,5 +1,4 @@
-// Judges transcripts: the engine's audit accepts exactly the texts of runs, and names the first wrong line of
-// every other text.
+// Judges transcripts by the engine's audit. rudekpi.d.ts documents the calls.
 import {DONE, Engine, inUse, NO_SESSION} from "./engine.mjs";
 import {Damaged, MemoryError} from "./errors.mjs";
 import {shown} from "./names.mjs";
@@ -10,10 +9,7 @@ const PIECE = 1 << 20;
 const ACCEPTED = 0;
 const WHYS = ["", "bad header", "not a transcript line", "out of order", "not the machine's reply", "bad base"];
 
-/**
- * The counts of an accepted transcript.
- * @typedef {{ entries: number, epochs: number, moves: number }} Summary
- */
+/** @typedef {{ entries: number, epochs: number, moves: number }} Summary */
 
 /**
  * @param {any} text
@@ -35,7 +31,7 @@ function bytesOf(text) {
 /**
  * Reads a verdict. Throws `Damaged` or `MemoryError`.
  * @param {Engine} engine
- * @param {bigint} at its address
+ * @param {bigint} at
  * @returns {Summary}
  */
 function read(engine, at) {
@@ -68,10 +64,7 @@ export function summaryOf(engine, text) {
   }
 }
 
-/**
- * Judges a transcript and returns its counts. Throws `Damaged` if the text is no transcript.
- * @param {string | ArrayBuffer | ArrayBufferView} text
- */
+/** @param {string | ArrayBuffer | ArrayBufferView} text */
 export function audit(text) {
   return summaryOf(inUse.engine, typeof text === "string" ? text : bytesOf(text));
 }
@@ -82,7 +75,6 @@ const FORGOTTEN = new FinalizationRegistry(({ engine, slot }) => {
   engine.calls.rudekpi_give_back(slot);
 });
 
-/** Judges a transcript that comes in pieces, cut anywhere. Keeps only an incomplete line or base. */
 export class Audit {
   /** @type {Engine} */
   #engine;
@@ -105,11 +97,7 @@ export class Audit {
     FORGOTTEN.register(this, { engine, slot: this.#slot }, this);
   }
 
-  /**
-   * Feeds the next piece. Throws `Damaged` once the pieces so far begin no transcript, whatever follows, and
-   * at each later call.
-   * @param {string | ArrayBuffer | ArrayBufferView} piece
-   */
+  /** @param {string | ArrayBuffer | ArrayBufferView} piece */
   feed(piece) {
     const bytes = bytesOf(piece);
     const engine = this.#engine;
@@ -122,7 +110,6 @@ export class Audit {
     }
   }
 
-  /** The counts of the transcript. May be called again. No piece can be fed afterwards. */
   finish() {
     if (this.#verdict === null && this.#slot !== this.#engine.nowhere) {
       this.#verdict = this.#end();
@@ -137,7 +124,6 @@ export class Audit {
     return this.#verdict.summary;
   }
 
-  /** Ends the audit. If `finish` was not called before, there is no verdict. */
   close() {
     const engine = this.#engine;
     if (this.#slot !== engine.nowhere) {

@@ -40,7 +40,6 @@ const PROBE = Uint8Array.of(
   0, 97, 115, 109, 1, 0, 0, 0, 1, 4, 1, 96, 0, 0, 3, 2, 1, 0, 5, 3, 1, 0, 1, 10, 27, 1, 25, 0, 68, 0, 0, 0, 0, 0, 0, 0,
   0, 252, 2, 192, 26, 65, 0, 65, 0, 65, 0, 252, 10, 0, 0, 11);
 
-/** Whether this browser has the features that the engine needs. */
 export function canRun() {
   return typeof WebAssembly === "object" && WebAssembly.validate(PROBE);
 }
@@ -82,7 +81,6 @@ export class Engine {
     this.memory = memory;
     this.given = new Room(this);
     this.taken = new Room(this);
-    /** Receives what calls report, and the counts of a status. */
     this.told = this.roomFor(DESK_WORDS * WORD_BYTES);
     this.counts = this.told + BigInt(COUNTS * WORD_BYTES);
     this.desk = Number(this.told) / WORD_BYTES;
@@ -333,7 +331,7 @@ export class Session {
   }
 
   /**
-   * The nodes that an edit or a fault would reach, ascending; none if it would be refused. Changes nothing.
+   * None if the event would be refused.
    * @param {string} line of a script
    */
   reachOf(line) {

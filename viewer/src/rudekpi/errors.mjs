@@ -1,10 +1,8 @@
-// The errors that the module throws. For an argument out of range it throws `RangeError`, for one of another
-// type `TypeError`.
+// The errors that the module throws, besides `RangeError` and `TypeError`. rudekpi.d.ts documents them.
 
 const STATUSES =
   ["done", "not a command", "the log is full", "memory was refused", "there is no session", "out of range"];
 
-/** The base class of all other errors of this module. */
 export class RudekpiError extends Error {
   /** @param {string} said */
   constructor(said) {
@@ -13,7 +11,6 @@ export class RudekpiError extends Error {
   }
 }
 
-/** The network refused an event and is unchanged. */
 export class Refused extends RudekpiError {
   /**
    * @param {string} event
@@ -30,10 +27,6 @@ export class Refused extends RudekpiError {
   }
 }
 
-/**
- * The log is full, which ended the network. The status and last line are those that the program would have
- * ended with.
- */
 export class Ended extends RudekpiError {
   /**
    * @param {number} status
@@ -46,10 +39,8 @@ export class Ended extends RudekpiError {
   }
 }
 
-/** Memory ran out: nothing was carried out, and the network is unchanged. */
 export class MemoryError extends RudekpiError {}
 
-/** The command was carried out, but memory ran out for the reply. The transcript has it, up to `entry`. */
 export class NoReply extends MemoryError {
   /**
    * @param {number} entry
@@ -61,7 +52,6 @@ export class NoReply extends MemoryError {
   }
 }
 
-/** A text is no transcript: the number of the first wrong line, and why that line is wrong. */
 export class Damaged extends RudekpiError {
   /**
    * @param {number} line

@@ -100,7 +100,6 @@ export class Names {
   }
 
   /**
-   * Throws the error for a value that is no name.
    * @param {any} name
    * @returns {number}
    */

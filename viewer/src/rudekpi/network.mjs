@@ -87,9 +87,8 @@ export class Network {
 
   /**
    * @param {RuleName} rules
-   * @param {number | Iterable<Name>} nodes how many there are, or their names
-   * @param {{ present?: number, keep?: boolean }} options how many are present at the start,
-   *   and whether the transcript before the last checkpoint is kept
+   * @param {number | Iterable<Name>} nodes
+   * @param {{ present?: number, keep?: boolean }} options
    */
   constructor(rules = "manne", nodes = 0, { present, keep = true } = {}) {
     if (!RULE_SET_NAMES.includes(rules)) {
@@ -108,10 +107,6 @@ export class Network {
     FORGOTTEN.register(this, this.#session, this);
   }
 
-  /**
-   * Ends the network and frees its memory; the transcript stays. If there is no memory for the transcript's
-   * last part, that part is lost and `MemoryError` is thrown.
-   */
   close() {
     if (this.#slot !== this.#engine.nowhere) {
       try {
@@ -280,10 +275,7 @@ export class Network {
     return baseOf(this.#names, text);
   }
 
-  /**
-   * The partner of a node, or null, also if the node is not present. Adds no entry.
-   * @param {Name} node
-   */
+  /** @param {Name} node */
   partner(node) {
     this.#asked(this.#calls.rudekpi_partner(this.#slot, this.#names.numberOf(node), this.#told));
     return this.#names.named(this.#engine.entry);
@@ -314,7 +306,7 @@ export class Network {
   }
 
   /**
-   * Returns the cost that the last call wrote. Throws a `RangeError` if the event would be refused.
+   * Throws a `RangeError` if the event would be refused.
    * @param {string} word
    * @param {Name[]} given
    * @param {number[]} numbers
@@ -382,27 +374,19 @@ export class Network {
     return near.sort((a, b) => a - b).map((other) => this.nameOf(other));
   }
 
-  /**
-   * The registers of a present node.
-   * @param {Name} node
-   */
+  /** @param {Name} node */
   registers(node) {
     const number = this.#presentNumber(node);
     const { pointers, flags } = this.#look();
     return { pointer: this.#names.named(pointers[number]), flag: flags[number] === 1 };
   }
 
-  /**
-   * Returns exactly what `console run` writes for the same commands; without `keep`, only from the last
-   * checkpoint on.
-   */
   transcript() {
     this.#collect();
     this.#parts = [this.#parts.join("")];
     return this.#parts[0];
   }
 
-  /** The audit's summary of the transcript. */
   audit() {
     return summaryOf(this.#engine, this.transcript());
   }
@@ -435,7 +419,6 @@ export class Network {
   }
 
   /**
-   * Throws the error of a status that is not done.
    * @param {number} status
    * @param {string} event
    * @returns {never}
@@ -460,10 +443,7 @@ export class Network {
     throw new RangeError(`${event}: the engine takes no such numbers`);
   }
 
-  /**
-   * Throws the error of a question's status that is not done.
-   * @param {number} status
-   */
+  /** @param {number} status */
   #asked(status) {
     if (status !== DONE) {
       this.#fail(status, "");
@@ -471,7 +451,6 @@ export class Network {
   }
 
   /**
-   * Returns the answer to a question, or throws the error of its status.
    * @template Answer
    * @param {() => Answer} question
    */
@@ -553,10 +532,7 @@ export class Network {
     return listWith(lines.map(read), { status: this.status() });
   }
 
-  /**
-   * The state of the network, read from a base that the engine writes. That base is no entry, and is left out
-   * of the transcript.
-   */
+  /** Read from a base that the engine writes, which is left out of the transcript. */
   #look() {
     if (this.#state === null) {
       this.#collect();

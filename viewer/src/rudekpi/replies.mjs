@@ -1,4 +1,5 @@
-// The replies of a network, and the texts of turns and bases parsed into them.
+// The replies of a network, and the texts of turns and bases parsed into them. rudekpi.d.ts documents the
+// replies.
 import {movesOf, readBase, readEntry} from "../transcript.mjs";
 
 /** @typedef {import("./names.mjs").Names} Names */
@@ -12,7 +13,6 @@ export const REFUSALS = [
   "empty-choice", "not-central", "chosen-twice", "not-enabled", "bad-target", "already-present"
 ];
 
-/** An item of a choice: the node that is to move, and the target that it is to point at. */
 export class Wish {
   /**
    * @param {Name} node
@@ -24,7 +24,6 @@ export class Wish {
   }
 }
 
-/** The pairs of nodes that point at each other, each with the node of the lower number first. */
 export class Matching {
   /**
    * @param {number} entry
@@ -37,7 +36,6 @@ export class Matching {
   }
 
   /**
-   * The partner of a node, or null.
    * @param {Name} node
    * @returns {Name | null}
    */
@@ -47,7 +45,6 @@ export class Matching {
 }
 
 /**
- * A list with further properties.
  * @template {object} List
  * @template {object} Beside
  * @param {List} list

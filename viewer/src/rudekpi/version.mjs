@@ -1,7 +1,6 @@
 // The version of the engine in use.
 import {inUse} from "./engine.mjs";
 
-/** Returns the version of the engine, as `1.0.0`. */
 export function version() {
   const number = inUse.engine.calls.rudekpi_version();
   return [number / 1_000_000, (number / 1000) % 1000, number % 1000].map(Math.floor).join(".");
