@@ -1,8 +1,8 @@
 #!/usr/bin/env python3
 """Hosts that keep a copy of each other's data, in pairs of neighbours.
 
-A host whose partner fails looks for another partner; a host that returns also looks for a partner. The cost
-of each failure is printed with its budget, the charge: no schedule can make a failure cost more than that.
+A host whose partner fails, or that returns, looks for a partner. Each failure's cost is printed with its
+budget, the charge: no schedule can make it cost more.
 
 usage: examples/backup_partners.py
 """
@@ -33,7 +33,7 @@ EVENTS = [
 
 
 def some(enabled: Enabled, drawn: random.Random = random.Random(7)) -> list[Any]:
-    """The daemon: each enabled host moves with probability one half, and at least one host moves."""
+    """Each enabled host moves with probability one half; at least one moves."""
     return [host for host in enabled if drawn.random() < 0.5] or [drawn.choice(list(enabled))]
 
 

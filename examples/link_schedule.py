@@ -24,7 +24,7 @@ GO = {3: [("c2", "c3"), ("a4", "a5")]}
 
 
 def mesh() -> Iterator[tuple[str, str]]:
-    """The links of a grid: each host is linked with the next in its row and in its column."""
+    """A grid: each host is linked with the next in its row and in its column."""
     for row, next_row in itertools.zip_longest(ROWS, ROWS[1:]):
         for column, next_column in itertools.zip_longest(COLUMNS, COLUMNS[1:]):
             if next_column:
@@ -34,7 +34,6 @@ def mesh() -> Iterator[tuple[str, str]]:
 
 
 def change(net: Network, waiting: set[Any], number: int) -> None:
-    """Carries out the changes before a round."""
     for link in COME.get(number, []):
         net.link(*link)
         waiting.add(link)

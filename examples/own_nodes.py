@@ -48,7 +48,7 @@ class Log:
 
 
 class Peer:
-    """A holder of locks: it asks for them in the order of the names, so that no circle of waiting arises."""
+    """Asks for locks in the order of the names, so that no circle of waiting arises."""
 
     def __init__(self, name: str, mail: dict[str, asyncio.Queue[Message]]) -> None:
         self.name, self.mail = name, mail
@@ -59,7 +59,7 @@ class Peer:
         self.mail[to].put_nowait((word, self.name, held))
 
     async def lock(self, names: set[str]) -> dict[str, Held]:
-        """Waits until these nodes have granted their locks; returns what each of them holds."""
+        """Waits until these nodes have granted their locks; returns what each holds."""
         found: dict[str, Held] = {}
         for name in sorted(names):
             self.send(name, "ask")
@@ -73,7 +73,6 @@ class Peer:
             self.send(name, "free")
 
     async def receive(self) -> None:
-        """Reads the mail as long as it lives."""
         while True:
             word, sender, held = await self.mail[self.name].get()
             self.take(word, sender, held)
@@ -84,7 +83,7 @@ class Peer:
 
 
 class Node(Peer):
-    """A node of the layer: its registers, its neighbours' last known ones, and the holder of its lock."""
+    """A node's registers, its neighbours' last known ones, and the holder of its lock."""
 
     def __init__(self, name: str, mail: dict[str, asyncio.Queue[Message]], rules: str, log: Log) -> None:
         super().__init__(name, mail)
@@ -112,7 +111,7 @@ class Node(Peer):
             self.send(self.waiting.pop(0), "grant", (self.pointer, self.flag))
 
     def tell(self) -> None:
-        """Sends its registers to its neighbours, without a lock, so that they see that they may move."""
+        """Sends its registers to its neighbours, without a lock: they see that they may move."""
         self.news.set()
         for name in self.copies:
             self.send(name, "told", (self.pointer, self.flag))
@@ -138,7 +137,6 @@ class Node(Peer):
             self.let_go(names)
 
     def move(self, chosen: Optional[dict[str, Any]]) -> None:
-        """Writes a register and the log, and tells the neighbours."""
         if chosen is None:
             return
         self.pointer = chosen.get("pointer", self.pointer)
@@ -147,7 +145,7 @@ class Node(Peer):
         self.tell()
 
     def choose(self, near: dict[str, Held], chance: random.Random) -> Optional[dict[str, Any]]:
-        """The register that the rules let the node write, given its neighbours' registers."""
+        """The register that the rules let the node write."""
         if self.rules == "hh":
             return self.choose_alone(near, chance)
         return self.choose_with_flag(near, chance)
@@ -180,8 +178,6 @@ class Node(Peer):
 
 
 class World(Peer):
-    """What happens to the nodes: links come and go, nodes leave and return, registers are written."""
-
     def __init__(self, nodes: dict[str, Node], mail: dict[str, asyncio.Queue[Message]], log: Log) -> None:
         super().__init__(WORLD, mail)
         self.nodes, self.log, self.away = nodes, log, set[str]()
@@ -212,7 +208,6 @@ class World(Peer):
             await chance.choice(acts)(chance)
 
     async def toggle(self, chance: random.Random) -> None:
-        """A link comes or goes."""
         a, b = chance.sample([name for name in NODES if name not in self.away], 2)
         await self.lock({a, b})
         if b in self.nodes[a].copies:
@@ -224,7 +219,6 @@ class World(Peer):
         self.let_go({a, b})
 
     async def write(self, chance: random.Random) -> None:
-        """A fault writes a register of a node."""
         name = chance.choice([name for name in NODES if name not in self.away])
         node = self.nodes[name]
         await self.lock({name})
@@ -238,7 +232,7 @@ class World(Peer):
         self.let_go({name})
 
     async def go(self, chance: random.Random) -> None:
-        """A node leaves, or a node that had left returns, without a link."""
+        """A node leaves, or one that had left returns, without a link."""
         name = chance.choice(NODES)
         node = self.nodes[name]
         names = {name, *node.copies}
@@ -256,7 +250,6 @@ class World(Peer):
 
 
 async def played(rules: str, events: int, seed: int, mistake: str) -> list[str]:
-    """The log of this many events."""
     mail: dict[str, asyncio.Queue[Message]] = {}
     log, chance = Log(events), random.Random(seed)
     nodes = {name: Node(name, mail, rules, log) for name in NODES}

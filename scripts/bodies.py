@@ -1,5 +1,4 @@
-"""Finds the functions of a crate in its files, by the layout of rt fmt, and makes the crate without the
-bodies of most."""
+"""Finds a crate's functions, by the layout of rt fmt, and makes the crate without the bodies of most."""
 
 from __future__ import annotations
 
@@ -15,7 +14,7 @@ LEFT_OUT = "unreachable!()"
 
 
 class Function:
-    """A function with a body: its path below the crate as the prover names it, its file, its line there, the
+    """A function with a body: its path below the crate as the prover names it, its file and line, the
     lines of its body from `first` to before `end`, and its declared cycle of calls, after its module."""
 
     def __init__(self, path: str, file: str, line: int, first: int, end: int, cycle: Optional[str]) -> None:
@@ -56,8 +55,8 @@ def without_parameters(head: str) -> str:
 
 
 def holder_of(head: str, module: str, modules: Mapping[str, str]) -> str:
-    """The path of the members of an `impl` or a trait: a type's own functions have the type's path, those of
-    a trait for a type the module of the `impl`, under both names."""
+    """The path of the members of an `impl` or a trait: a type's own functions have the type's path, a
+    trait's for a type the module of the `impl`, under both names."""
     if not head.startswith("impl"):
         return joined(module, re.findall(r"trait (\w+)", head)[0])
     what = re.split(r" where\b| \{$", without_parameters(head))[0]
@@ -74,7 +73,7 @@ def holder_of(head: str, module: str, modules: Mapping[str, str]) -> str:
 
 
 def body_of(lines: list[str], at: int, indent: str) -> Optional[tuple[int, int]]:
-    """The lines of the body of the function whose head begins in a line, or None without a body, or for one
+    """The lines of the body of the function whose head begins in a line; None without a body, or for one
     of one line."""
     for first in range(at, len(lines)):
         line = lines[first]
@@ -116,7 +115,7 @@ def functions_of(texts: Mapping[str, str]) -> list[Function]:
 
 
 def without_bodies(texts: Mapping[str, str], kept: Collection[str]) -> tuple[dict[str, str], list[str]]:
-    """The texts with `unreachable!()` as the body of each function, except those kept and those in a cycle of
+    """The texts with `unreachable!()` as body of each function, except those kept and those in a cycle of
     calls with a kept one; and the paths of the changed functions, and of their cycles. Callers rely only
     on the lines above the body."""
     functions = functions_of(texts)

@@ -1,4 +1,4 @@
-"""How long a build has taken, and about how long the rest of it may."""
+"""How long a build has taken, and about how long the rest may."""
 
 from __future__ import annotations
 
@@ -6,12 +6,12 @@ import os
 import time
 from typing import Any, Sequence
 
-# The seconds for each line of code of a crate that has no line in the file.
+# Seconds a line of code, for crates without a line in the file.
 A_LINE = 0.3
 
 
 def measured_seconds() -> dict[str, float]:
-    """The seconds of each crate, on one processor of a machine of 2026."""
+    """By crate, on one processor of a machine of 2026."""
     found = {}
     with open(f"{os.path.dirname(os.path.abspath(__file__))}/build_seconds") as file:
         for line in file:
@@ -22,8 +22,8 @@ def measured_seconds() -> dict[str, float]:
 
 
 class Clock:
-    """A clock for the build of some crates: it estimates by the measured seconds of each, and by how much
-    slower or faster the crates built so far were."""
+    """Estimates the rest of a build by the measured seconds of its crates, and by how much slower or
+    faster those built so far were."""
 
     def __init__(self, crates: Sequence[Any], processors: int) -> None:
         measured = measured_seconds()
@@ -34,7 +34,7 @@ class Clock:
         self.took, self.guessed = 0.0, 0.0
 
     def begins(self, crate: Any) -> str:
-        """Notes that a crate begins, and returns the line that reports it."""
+        """Returns the line that reports the crate."""
         self.begun[crate] = time.monotonic()
         so_far, rest = (self.begun[crate] - self.started) / 60, self.rest() / 60
         place = f"[{len(self.begun)}/{len(self.crates)}] {crate.name}"
@@ -56,7 +56,7 @@ class Clock:
         return max(0.0, self.seconds[crate] - passed / self.pace())
 
     def chains(self) -> dict[Any, float]:
-        """For each crate the rest of it and of the longest chain of crates that wait for it."""
+        """For each crate the rest of it and of the longest chain that waits for it."""
         found: dict[Any, float] = {}
         for crate in reversed(self.crates):
             above = [found[it] for it in found if crate in it.deps]
@@ -64,7 +64,7 @@ class Clock:
         return found
 
     def rest(self) -> float:
-        """Seconds until all is built: those of the longest chain, or of all the rest if that takes longer."""
+        """Seconds: those of the longest chain, or of all the rest if that takes longer."""
         shared = sum(map(self.left, self.crates)) / self.processors
         return self.pace() * max(shared, *self.chains().values())
 

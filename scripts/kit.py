@@ -1,4 +1,4 @@
-"""The Rattle kit's own library for its commands, which knows how a crate is checked and built."""
+"""The Rattle kit's own library for its commands, which checks and builds crates."""
 
 from __future__ import annotations
 
@@ -17,7 +17,7 @@ WITHOUT = (
 
 
 def require() -> None:
-    """Ends the program with a one-line message if the kit is missing."""
+    """Ends the program with one line if the kit is missing."""
     if shutil.which("rt") is None:
         sys.exit(f"{os.path.basename(sys.argv[0])}: the Rattle kit is missing (no rt in PATH): {WITHOUT}")
 
@@ -40,7 +40,7 @@ def load() -> types.ModuleType:
 
 
 def at_once() -> int:
-    """How many checks to run side by side: one a processor, if memory allows."""
+    """How many checks to run: one a processor, if memory allows."""
     with open("/proc/meminfo") as file:
         free = int(re.findall(r"MemAvailable:\s+(\d+)", file.read())[0]) * 1024
     return max(1, min(len(os.sched_getaffinity(0)), int(free // 2_500_000_000)))

@@ -14,7 +14,6 @@ HEADERS = TOP / "include" / "rudekpi.h", TOP / "include" / "rudekpi.hpp"
 
 
 def version() -> str:
-    """The program's version, which is that of its engine."""
     for line in (TOP / "crates" / "cli_args" / "src" / "command.rt").read_text().splitlines():
         if ".version(" in line:
             return line.split('"')[1]
@@ -22,13 +21,12 @@ def version() -> str:
 
 
 def shared_name() -> str:
-    """The name of the shared library, and its soname: libraries of one major version may replace each
-    other."""
+    """The shared library's name and soname: libraries of one major version may replace each other."""
     return f"librudekpi.so.{version().split('.')[0]}"
 
 
 def text(prefix: str = "${pcfiledir}", include: str = "", libraries: str = "") -> str:
-    """The lines of rudekpi.pc, for a header and libraries in these folders below the prefix."""
+    """The lines of rudekpi.pc, for these folders below the prefix."""
     library = f"${{prefix}}{libraries}"
     lines = [
         f"prefix={prefix}",
@@ -44,8 +42,7 @@ def text(prefix: str = "${pcfiledir}", include: str = "", libraries: str = "") -
 
 
 def for_cmake() -> str:
-    """The lines of rudekpi-config.cmake, which finds the files in its own folder or in those of an
-    installation."""
+    """rudekpi-config.cmake, which finds the files in its own folder or in those of an installation."""
     return f"""# find_package(rudekpi) defines rudekpi::rudekpi, the shared library, and rudekpi::static, the archive.
 get_filename_component(_rudekpi_root "${{CMAKE_CURRENT_LIST_DIR}}/../../.." ABSOLUTE)
 find_path(_rudekpi_include rudekpi.h NO_DEFAULT_PATH NO_CACHE
@@ -71,7 +68,7 @@ endif()
 
 
 def version_for_cmake() -> str:
-    """The lines of rudekpi-config-version.cmake: another major version is another library."""
+    """Another major version is another library."""
     major = version().split(".")[0]
     return f"""set(PACKAGE_VERSION {version()})
 if(PACKAGE_FIND_VERSION VERSION_GREATER PACKAGE_VERSION OR
@@ -91,13 +88,12 @@ TEXTS: dict[str, Callable[[], str]] = {
     "rudekpi-config.cmake": for_cmake,
     "rudekpi-config-version.cmake": version_for_cmake,
 }
-# All files of a library, but for the name librudekpi.so of the shared one.
+# Without the name librudekpi.so of the shared one.
 FILES = "librudekpi.a", shared_name(), "rudekpi.h", "rudekpi.hpp", *TEXTS
 
 
 def link(folder: pathlib.Path) -> None:
-    """Puts the shared library there as librudekpi.so too, for compilers. A link would not do: `rt ci` takes
-    no links."""
+    """Copies the shared library to librudekpi.so, for compilers: `rt ci` takes no links."""
     shutil.copyfile(folder / shared_name(), folder / "librudekpi.so")
 
 

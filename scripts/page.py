@@ -1,4 +1,4 @@
-"""The page of viewer/, as one file: its script, its style, the engine, and a transcript or none."""
+"""The page of viewer/ as one file: script, style, engine, and a transcript or none."""
 
 from __future__ import annotations
 
@@ -15,7 +15,7 @@ SOURCES = VIEWER / "src"
 RELEASED = TOP / "release" / "playground.html"
 IMPORT = re.compile(r'^import (\{[^}]*\}) from "(\.{1,2}/[\w/.]+)\.mjs";$', re.MULTILINE)
 EXPORT = re.compile(r"^export ((?:const|class|async function|function) (\w+))", re.MULTILINE)
-# played by a browser without WebAssembly; examples/check has it judged, and tests/pages compares the verdict
+# played without WebAssembly; examples/check has it judged, and tests/pages compares the verdict
 RECORDED = TOP / "examples" / "breaks_and_mends.transcript"
 RECORDED_VERDICT = "accepted: 382 entries, 341 epochs, 719 moves"
 ENGINE = re.compile(r'<script type="application/json" id="engine">"([A-Za-z0-9+/=]+)"</script>')
@@ -26,7 +26,7 @@ def named(path: pathlib.Path) -> str:
 
 
 def module_order(path: pathlib.Path, seen: set[str]) -> list[tuple[pathlib.Path, str]]:
-    """The module and all its imports, each after those that it imports itself."""
+    """The module and all its imports, each after those that it imports."""
     if named(path) in seen:
         return []
     seen.add(named(path))
@@ -36,13 +36,13 @@ def module_order(path: pathlib.Path, seen: set[str]) -> list[tuple[pathlib.Path,
 
 
 def renamed_imports(path: pathlib.Path, text: str) -> str:
-    """A module's text, which takes its imports from the joined modules."""
+    """The text, which takes its imports from the joined modules."""
     return IMPORT.sub(lambda found: f'const {found[1]} = modules["{named(path.parent / found[2])}"];', text)
 
 
 def joined_script(top: str, begin: str = "") -> str:
-    """The module `top` and its dependencies in one, each in a function of its own, so that their names do not
-    clash; after the dependencies comes `begin`, and then `top`."""
+    """The module `top` and its dependencies in one, each in its own function, so that names do not clash;
+    before `top` comes `begin`."""
     parts = ["\nconst modules = {};\n"]
     *below, (last, text) = module_order(SOURCES / top, set())
     for path, module in below:
@@ -58,17 +58,17 @@ def embedded(value: object) -> str:
 
 
 def allowed(text: str) -> str:
-    """The digest of a text, which names allowed scripts and styles in a page's policy."""
+    """The digest by which a page's policy allows a script or style."""
     return f"'sha256-{base64.b64encode(hashlib.sha256(text.encode()).digest()).decode()}'"
 
 
 def page_of(transcript: Optional[str], judge: Optional[Mapping[str, object]], engine: Optional[str]) -> str:
-    """The page that plays a transcript, with its judge and the verdict, or with None and None the playground;
-    `engine` is the module as text, or None."""
+    """The page of a transcript with its judge and verdict, or with None and None the playground; `engine`
+    is the module as text, or None."""
     template = (VIEWER / "page.html").read_text(encoding="utf-8")
     style = "\n" + "".join((VIEWER / name).read_text(encoding="utf-8") for name in ["page.css", "playground.css"])
     script = joined_script("page")
-    # WebAssembly runs by it, also in the browsers of 2021 and 2022, which do not know 'wasm-unsafe-eval' yet
+    # for WebAssembly in the browsers of 2021 and 2022, which do not know 'wasm-unsafe-eval'
     runs = "" if engine is None else " 'unsafe-eval'"
     recorded = None
     if transcript is None:
@@ -82,14 +82,14 @@ def page_of(transcript: Optional[str], judge: Optional[Mapping[str, object]], en
         "judge": embedded(judge),
         "engine": embedded(engine),
         "recorded": embedded(recorded),
-        # the playground lies in the repository; the place of a transcript's page is unknown
+        # the playground lies in the repository; a transcript's page may lie anywhere
         "project": ' href="../README.md"' if transcript is None else "",
     }
     return re.sub(r"\{\{(\w+)\}\}", lambda place: parts[place.group(1)], template)
 
 
 def engine_of_release() -> Optional[str]:
-    """The engine of the playground in release/, as text; None if there is none."""
+    """As text; None if there is none."""
     try:
         found = ENGINE.search(RELEASED.read_text(encoding="utf-8"))
     except OSError:

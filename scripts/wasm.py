@@ -1,12 +1,12 @@
-"""The engine as a WebAssembly module: the LLVM module of the proved code, compiled and lowered to a 32-bit
-memory.
+"""The engine as a WebAssembly module: the LLVM module of the proved code, compiled and lowered
+to a 32-bit memory.
 
-The kit compiles no heap for that target, so this way is the repository's own: its result is tested, and
-not proved. The kit's build calls a compiler of its toolchain folder. Given a folder whose compiler keeps
-its input, it leaves the LLVM module of the functions that it has just proved. That is converted to the
-other target and linked with viewer/wasm/heap.c into the wide module: its memory has 64-bit addresses, like
-the layouts of the LLVM module. Debian's binaryen lowers it, so that browsers without such a memory run it:
-each address is cut to 32 bits when memory is read or written, and all calls keep their types.
+The kit compiles no heap for that target, so this way is the repository's own: its result is tested, and not
+proved. The kit's build calls a compiler of its toolchain folder. Given a compiler that keeps its input, it
+leaves the LLVM module of the functions just proved. That is converted to the other target and linked with
+viewer/wasm/heap.c into the wide module: its memory has 64-bit addresses, like the layouts of the LLVM module.
+Debian's binaryen lowers it for browsers without such a memory: each address is cut to 32 bits at reads and
+writes, and all calls keep their types.
 """
 
 from __future__ import annotations
@@ -27,7 +27,7 @@ HEAP = TOP / "viewer" / "wasm" / "heap.c"
 HEADER = TOP / "include" / "rudekpi.h"
 TARGET = "wasm64-unknown-unknown"
 LAYOUT = "e-m:e-p:64:64-p10:8:8-p20:8:8-i64:64-i128:128-n32:64-S128-ni:1:10:20"
-# attributes of the processor that the other target does not know
+# processor attributes that the other target does not know
 PROCESSOR = re.compile(r' "(?:probe-stack|stack-probe-size|target-cpu|target-features|tune-cpu)"(?:="[^"]*")?')
 CODE = [f"--target={TARGET}", "-mcpu=lime1", "-O3", "-no-canonical-prefixes", "--no-default-config"]
 WIDE = ["-mllvm", "-expand-div-rem-bits=64", "-mllvm", "-expand-fp-convert-bits=64", "-mllvm", "-trap-unreachable"]
@@ -41,11 +41,11 @@ LINK = [
     "--strip-all",
     "--threads=1",
 ]
-# the module has all calls of the header, and two of the heap
+# all calls of the header, and two of the heap
 CALL = re.compile(r"^(?:uint32_t|size_t|void) (rudekpi_\w+)\(", re.MULTILINE)
 OF_THE_HEAP = ["rudekpi_room", "rudekpi_give_back"]
 LOWERER, PACKAGE = "wasm-opt", "binaryen"
-# the features of browsers of the last five years; a module that needs more is refused
+# those of browsers of the last five years; a module that needs more is refused
 FEATURES = ["memory64", "bulk-memory", "mutable-globals", "sign-ext", "nontrapping-float-to-int"]
 # keeps the LLVM module that it compiles
 COMPILER = """#!/bin/sh
@@ -63,7 +63,7 @@ def run(*words: object, **how: Any) -> subprocess.CompletedProcess[bytes]:
 
 
 def keeping_toolchain(kit: str, folder: pathlib.Path, kept: pathlib.Path) -> pathlib.Path:
-    """The kit's toolchain folder, with a compiler that keeps its input."""
+    """The kit's, with a compiler that keeps its input."""
     theirs = pathlib.Path(kit, "toolchain")
     (folder / "bin").mkdir(parents=True)
     (folder / "lib").symlink_to(theirs / "lib")
@@ -77,8 +77,7 @@ def keeping_toolchain(kit: str, folder: pathlib.Path, kept: pathlib.Path) -> pat
 
 
 def is_wanting() -> bool:
-    """Whether the library for C or its LLVM module is missing, or was built before a change of a possible
-    source."""
+    """Whether the library for C or its LLVM module is missing, or older than a possible source."""
     if not BUILT.exists() or not KEPT.exists():
         return True
     parts = [path for part in ("src", "specs", "proofs") for path in TOP.glob(f"crates/*/{part}")]
@@ -89,8 +88,8 @@ def is_wanting() -> bool:
 
 
 def build(rtlib: types.ModuleType) -> None:
-    """Proves and builds the library for C on the libraries below it as they are, and keeps its LLVM module,
-    if either is missing."""
+    """Proves and builds the library for C on the libraries as they are, and keeps its LLVM module, if
+    either is missing."""
     if not is_wanting():
         return
     crate = next(it for it in rtlib.crates_below(str(TOP)) if it.name == CRATE.name)
@@ -119,12 +118,12 @@ def text_of(rtlib: types.ModuleType) -> str:
 
 
 def exports() -> list[str]:
-    """The names that the module exports: those of the header, and those that hand over memory."""
+    """Those of the header, and those that hand over memory."""
     return [*CALL.findall(HEADER.read_text(encoding="utf-8")), *OF_THE_HEAP]
 
 
 def wide_module(rtlib: types.ModuleType) -> bytes:
-    """The bytes of the WebAssembly module with a 64-bit memory, made of the kept LLVM module."""
+    """The module with a 64-bit memory, made of the kept LLVM module."""
     tools = pathlib.Path(rtlib.KIT, "toolchain", "bin")
     with tempfile.TemporaryDirectory() as made:
         shutil.copyfile(HEAP, f"{made}/heap.c")
@@ -137,7 +136,7 @@ def wide_module(rtlib: types.ModuleType) -> bytes:
 
 
 def lowerer() -> Optional[str]:
-    """The version of the tool that lowers a module; None if it is missing."""
+    """The tool's version; None if it is missing."""
     if shutil.which(LOWERER) is None:
         return None
     return run(LOWERER, "--version", stdout=subprocess.PIPE).stdout.decode().strip()

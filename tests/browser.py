@@ -1,5 +1,4 @@
-"""A headless browser driven through a pair of pipes (the DevTools protocol), with the standard library alone.
-"""
+"""A headless browser driven through pipes (the DevTools protocol), with the standard library alone."""
 from __future__ import annotations
 
 import json
@@ -56,8 +55,7 @@ def browser_path() -> str | None:
 
 
 class Browser:
-    """One browser with one page. Errors of the page and its fetches are kept in `complaints` and
-    `fetched`."""
+    """A browser with a page, whose errors and fetches are kept in `complaints` and `fetched`."""
 
     def __init__(self, path: str, wait: float = 60, width: int = 1280, height: int = 900) -> None:
         self.wait, self.left, self.number = wait, b"", 0
@@ -71,7 +69,7 @@ class Browser:
         self.replies, replies_in = os.pipe()
 
         def wire() -> None:
-            # first out of the way, since one of the four may be 3 or 4
+            # first out of the way, since one may be 3 or 4
             ends = [os.dup(commands_out), os.dup(replies_in)]
             os.dup2(ends[0], 3)
             os.dup2(ends[1], 4)
@@ -192,7 +190,7 @@ class Browser:
         self.call("Input.dispatchMouseEvent", type="mouseReleased", **words)
 
     def press(self, name: str) -> None:
-        """By its name, as `browser.KEYS` or a character has it."""
+        """By its name in `browser.KEYS`, or a character."""
         code, number, text = KEYS.get(name, ("", ord(name[0].upper()), name))
         self.key(name, code or f"Key{name.upper()}", number, text)
 
@@ -209,12 +207,11 @@ class Browser:
         self.call("Input.dispatchMouseEvent", type="mouseMoved", x=x, y=y)
 
     def touch(self, kind: str, *places: Sequence[float]) -> None:
-        """`Start`, `Move` or `End`, with the places of all touching fingers."""
+        """`Start`, `Move` or `End`, with the places of all fingers."""
         points = [{"x": x, "y": y, "id": number} for number, (x, y) in enumerate(places)]
         self.call("Input.dispatchTouchEvent", type=f"touch{kind}", touchPoints=points)
 
     def fingers(self, wanted: bool) -> None:
-        """Sets whether the window is a touch screen."""
         self.call("Emulation.setTouchEmulationEnabled", enabled=wanted, maxTouchPoints=2)
 
     def save_into(self, folder: str) -> None:
@@ -226,5 +223,5 @@ class Browser:
         self.call("Emulation.setEmulatedMedia", features=[scheme])
 
     def screenshot(self, whole: bool = False) -> str:
-        """The page as a PNG, in base64."""
+        """A PNG, in base64."""
         return str(self.call("Page.captureScreenshot", format="png", captureBeyondViewport=whole)["data"])

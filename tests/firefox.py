@@ -1,7 +1,4 @@
-"""A headless Firefox, driven through its Marionette port with the standard library alone.
-
-It has the calls of `browser.Browser` that random acts need.
-"""
+"""A headless Firefox, driven through its Marionette port with the standard library alone."""
 
 from __future__ import annotations
 
@@ -39,7 +36,7 @@ KEYS = {
     "ArrowRight": "\ue014",
     "ArrowDown": "\ue015",
 }
-# how an error of a page begins in Firefox's output
+# how a page's error begins in Firefox's output
 SIGNS = ("JavaScript error: file:", "JavaScript error: http:")
 
 
@@ -49,7 +46,7 @@ def firefox_path() -> str | None:
 
 
 class Firefox:
-    """One Firefox with one window. Raises `BrowserFault` if it ends, stays silent or refuses a call."""
+    """Raises `BrowserFault` if Firefox ends, stays silent or refuses a call."""
 
     def __init__(self, path: str, wait: float = 60, width: int = 1280, height: int = 900) -> None:
         self.wait, self.number, self.left = wait, 0, b""
@@ -102,7 +99,7 @@ class Firefox:
         self.remove_home()
 
     def message(self) -> Any:
-        """The next message: its length, a colon, and JSON."""
+        """Its length, a colon, and JSON."""
         while b":" not in self.left or len(self.left) < int(self.left.split(b":", 1)[0]) + self.left.index(b":") + 1:
             part = self.wire.recv(1 << 16)
             if not part:

@@ -1,7 +1,4 @@
-"""Random acts on the playground: clicks, drags, keys, fields, texts, reloads and addresses, by a seed.
-
-After every hundred the program must accept the transcript on the page, and the console must have no error.
-"""
+"""Random acts on the playground: clicks, drags, keys, fields, texts, reloads and addresses, by a seed."""
 
 from __future__ import annotations
 
@@ -67,8 +64,6 @@ ADDRESSES = [
 
 
 class Counts(Protocol):
-    """Counts checks, and names the program that judges."""
-
     program: str
 
     def expect(self, name: str, came: object, wanted: object) -> object:
@@ -105,7 +100,7 @@ class Acts:
             time.sleep(0.05)
 
     def one(self) -> None:
-        """One act; from a played transcript it sometimes goes back."""
+        """From a played transcript it sometimes goes back."""
         if self.browser.ask("count", "body.lab") == 0 and self.draw.random() < 0.3:
             self.browser.ask("press", "#to-lab")
             self.done.append("back to the playground")
@@ -117,7 +112,6 @@ class Acts:
         return self.draw.uniform(5, WINDOW[0] - 320), self.draw.uniform(60, WINDOW[1] - 160)
 
     def thing(self) -> tuple[float, float]:
-        """A place on some node or edge, or anywhere."""
         which = self.draw.choice([".graph .node:not(.absent) .body", ".graph [data-ends]:not(.absent)"])
         count = self.browser.ask("count", which)
         if count == 0:
@@ -201,7 +195,7 @@ class Acts:
 
 
 def use(pages: Counts, browser: AnyBrowser, name: str, page: str, seed: int, count: int) -> None:
-    """Makes acts; of the hundreds that end badly the first is printed with the acts before it."""
+    """Of the hundreds that end badly the first is printed with the acts before it."""
     acts = Acts(browser, pages.program, page, seed)
     acts.begin()
     for number in range(1, count + 1):

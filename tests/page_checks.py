@@ -1,5 +1,4 @@
-"""Compares the pages with the repository, apart from examples and links: their length, what PROMISES.md
-names, definitions and their names."""
+"""Compares the pages with the repository, apart from examples and links."""
 
 from __future__ import annotations
 
@@ -20,7 +19,7 @@ GHOST = re.compile(r"^\s*ghost (\w+)[:=, ]", re.M)
 TYPE = re.compile(r"^\s*pub (?:trait|struct|enum) (\w+)", re.M)
 FIELD = re.compile(r"^  pub (\w+) :", re.M)
 QUOTED = re.compile(r"`([^`]+)`")
-# A public name of specs/: a definition or a lemma.
+# A definition or a lemma of specs/.
 PUBLIC = re.compile(
     r"^(?: *(?:abbrev|record|data) pub| *(?:unfoldable )?pub (?:abbrev|record|data)|(?:unfoldable )?pub)"
     r" (?!(?:abbrev|record|data|mod|use) )([^\s:({]+)",
@@ -31,22 +30,20 @@ Told = tuple[bool, str]
 
 
 def rows(page: pathlib.Path) -> Iterator[tuple[int, list[str]]]:
-    """Each row with its line's number and its cells; not the line between head and body."""
+    """Each with its line's number and its cells, except the line below the head."""
     for number, line in enumerate(page.read_text().splitlines(), 1):
         if line.startswith("| ") and line.endswith(" |"):
             yield number, [cell.strip() for cell in line[1:-1].replace("\\|", "\0").split("|")]
 
 
 def lengths(top: pathlib.Path) -> Iterator[Told]:
-    """Checks that no page is too long."""
     for name, most in PAGES.items():
         count = len((top / name).read_text().splitlines())
         yield count <= most, f"{name} has {count} lines, and not {most} at most"
 
 
 def contracts(top: pathlib.Path) -> tuple[dict[str, set[str]], set[str], set[str]]:
-    """The clauses of each function by its name (an empty one is `=`), the laws of traits, and the names of
-    types."""
+    """Each function's clauses by its name (an empty one is `=`), the laws of traits, and the types."""
     clauses: dict[str, set[str]] = {}
     ghosts: set[str] = set()
     types: set[str] = set()
@@ -54,7 +51,7 @@ def contracts(top: pathlib.Path) -> tuple[dict[str, set[str]], set[str], set[str
         text = path.read_text()
         found = [*FUNCTION.finditer(text)]
         for here, after in zip(found, [*found[1:], None]):
-            # a contract ends where the next function begins; nothing between has an `ensures`
+            # a contract ends where the next function begins; nothing between has `ensures`
             part = text[here.end() : after.start() if after else len(text)]
             clauses.setdefault(here[1], set()).update(name or "=" for name in CLAUSE.findall(part))
         ghosts.update(GHOST.findall(text))
@@ -66,7 +63,7 @@ def contracts(top: pathlib.Path) -> tuple[dict[str, set[str]], set[str], set[str
 
 
 def calls(top: pathlib.Path) -> Iterator[Told]:
-    """Checks the calls of PROMISES.md: each exists, and each clause is one of a call before it."""
+    """The calls of PROMISES.md exist, and each clause is one of a call before it."""
     clauses, ghosts, types = contracts(top)
     page = top / "docs/PROMISES.md"
     for number, cells in rows(page):
@@ -83,13 +80,13 @@ def calls(top: pathlib.Path) -> Iterator[Told]:
 
 
 def spread(name: str) -> list[str]:
-    """The names that one with braces means: `a/{b,c}` for a/b and a/c."""
+    """What a name with braces means: `a/{b,c}` for a/b and a/c."""
     found = re.fullmatch(r"(.*)\{(.*)\}(.*)", name)
     return [found[1] + part + found[3] for part in found[2].split(",")] if found else [name]
 
 
 def definitions(top: pathlib.Path) -> Iterator[Told]:
-    """Checks that each file of definitions that PROMISES.md, DEFINITIONS.md and WORDS.md name exists."""
+    """The files of definitions named in PROMISES.md, DEFINITIONS.md and WORDS.md exist."""
     for page, column in ((top / "docs/PROMISES.md", 1), (top / "docs/DEFINITIONS.md", 2), (top / "docs/WORDS.md", 2)):
         for number, cells in rows(page):
             if len(cells) <= column or (column == 1 and len(cells) != 4) or cells[column] in ("defined in", "file"):
@@ -99,7 +96,7 @@ def definitions(top: pathlib.Path) -> Iterator[Told]:
                 there = any(
                     place.with_name(place.name + ending).exists() for place in places for ending in ("", ".antt", ".rt")
                 )
-                # a name in parentheses is a definition in the file before it
+                # a name in parentheses is in the file before it
                 yield there or f"(`{name}`)" in cells[column], f"{page.name}:{number}: no definitions in {name}"
 
 
@@ -119,7 +116,7 @@ def constants(top: pathlib.Path) -> dict[str, int]:
 
 
 def lines_in(top: pathlib.Path, folder: str) -> int:
-    """All crates but those of tests."""
+    """Of all crates but those of tests."""
     paths = [path for path in top.glob(f"crates/*/{folder}/**/*") if path.suffix in (".rt", ".antt")]
     return sum(
         len(path.read_bytes().splitlines()) for path in paths if not path.relative_to(top).parts[1].endswith("_tests")
@@ -127,7 +124,7 @@ def lines_in(top: pathlib.Path, folder: str) -> int:
 
 
 def figures(top: pathlib.Path) -> Iterator[Told]:
-    """Checks names and figures: the kit, the crates, the limits, the refusals, and the numbers of lines."""
+    """The kit, the crates, the limits, the refusals, and the numbers of lines."""
     readme, use, tree, costs = (
         (top / name).read_text() for name in ("README.md", "docs/USE.md", "docs/ARCHITECTURE.md", "docs/COSTS.md")
     )
@@ -159,7 +156,7 @@ def figures(top: pathlib.Path) -> Iterator[Told]:
 
 
 def help_lines(top: pathlib.Path) -> Iterator[Told]:
-    """Checks the help's texts: no line is wider than 80 columns, with clap's own words around them."""
+    """No line is wider than 80 columns, with clap's own words around it."""
     text = (top / "crates/cli_args/src/help.rt").read_text()
     around = {"RULES": 29, "WORKERS": 13, "ROAM": 13, "TURNS": 16}
     for name, value in re.findall(r'const (\w+): &str =\s+"((?:[^"\\]|\\.)*)";', text):
@@ -174,10 +171,8 @@ def help_lines(top: pathlib.Path) -> Iterator[Told]:
 
 
 def quotes(top: pathlib.Path) -> Iterator[Told]:
-    """Checks the mistake that README.md and PROMISES.md quote.
-
-    Its lines must be in the linked file, its clause in the source.
-    """
+    """The mistake in README.md and PROMISES.md: its lines are in the linked file, its clause in the
+    source."""
     sources = [path.read_text() for path in top.glob("crates/locked_net/src/*.rt")]
     for page in (top / "README.md", top / "docs/PROMISES.md"):
         text = page.read_text()
@@ -195,14 +190,13 @@ def quotes(top: pathlib.Path) -> Iterator[Told]:
 
 
 def points(top: pathlib.Path) -> Iterator[Told]:
-    """Checks that no point of DECISIONS.md has more than three lines."""
+    """No point of DECISIONS.md has more than three lines."""
     text = (top / "docs/DECISIONS.md").read_text()
     for point in re.findall(r"^- .*(?:\n  .*)*", text, re.M):
         yield point.count("\n") < 3, f"DECISIONS.md: more than three lines: {point[:60]}"
 
 
 def one_crate_a_name(top: pathlib.Path) -> Iterator[Told]:
-    """Checks that each public name of specs/ belongs to one crate."""
     crates: dict[str, set[str]] = {}
     for path in sorted(top.glob("crates/*/specs/**/*.antt")):
         for name in PUBLIC.findall(path.read_text()):

@@ -1,5 +1,4 @@
-"""Tests the playground and the module for JavaScript in the engines of all browsers: Chromium's, Firefox's
-and WebKit's, which is Safari's, in a window and at a phone's width."""
+"""Tests the playground and the JavaScript module in Chromium, Firefox and WebKit, wide and narrow."""
 
 from __future__ import annotations
 
@@ -23,7 +22,7 @@ AnyBrowser = Union[Browser, Firefox, WebKit]
 
 MODULE = os.path.join(os.path.dirname(PLAYGROUND), "rudekpi.mjs")
 MENDED = re.compile(r"is cut\. Mended in \d+ moves?; at most \d+ could have come\.$")
-# the commands for the module, and the equivalent lines of a script
+# the module's commands, and equivalent lines of a script
 COMMANDS = """\
 import {Network, audit, Damaged} from "./rudekpi.mjs";
 const net = new Network("manne", ["ann", "bob", "cleo", "dan"]);
@@ -87,8 +86,7 @@ def served(folder: str) -> Iterator[str]:
 
 
 def plays(pages: Pages, browser: AnyBrowser, name: str, width: Optional[int]) -> None:
-    """The page opens and settles, a link is cut and the network recovers: no error, no request, nothing wider
-    than the window."""
+    """The page settles, a link is cut and the network recovers: no error, no request, nothing too wide."""
     browser.open(PLAYGROUND)
     pages.expect(f"{name}: it opens", waited(browser, 1, "count", ".graph"), 1)
     pages.expect(f"{name}: it settles", waited(browser, True, "isStable", seconds=30), True)
@@ -117,13 +115,12 @@ def imports(pages: Pages, browser: AnyBrowser, name: str, address: str) -> None:
     entries = str(wanted.count("\n") - 1)
     told = [browser.ask("told", key) for key in ("entries", "damage", "partner")]
     pages.expect(f"{name}: its audit", told, [entries, "line 2: not a transcript line", "bob"])
-    # Chromium begins to count anew with each page
+    # Chromium counts anew with each page
     complaints = browser.complaints if isinstance(browser, Browser) else browser.complaints[before:]
     pages.expect(f"{name}: what it complains of", complaints, [])
 
 
 def visit(pages: Pages, name: str, begin: Callable[[], AnyBrowser], address: str, width: Optional[int]) -> None:
-    """One browser. If it breaks off, the others go on."""
     try:
         with begin() as browser:
             if isinstance(browser, Browser):
@@ -138,7 +135,6 @@ def visit(pages: Pages, name: str, begin: Callable[[], AnyBrowser], address: str
 
 
 def use(pages: Pages) -> None:
-    """All engines that are installed."""
     folder = os.path.join(pages.folder, "module")
     os.makedirs(folder, exist_ok=True)
     for file, text in (("index.html", HTML), ("commands.mjs", COMMANDS)):

@@ -1,8 +1,4 @@
-"""Tests what the playground shows of the theorems: reach, nodes that may still move, and the bar of the
-moves.
-
-The expected values are computed here from the drawn pairs and edges, by the table of docs/BOUNDS.md.
-"""
+"""Tests what the playground shows of the theorems, by values computed here from pairs and edges."""
 
 from __future__ import annotations
 
@@ -32,12 +28,12 @@ class Drawn:
         return {other for one in nodes for other in self.beside[one] if other not in self.partner}
 
     def parting(self, node: int) -> list[int]:
-        """The nodes reached if a node leaves its partner, or the link of the two is cut."""
+        """The nodes reached if a node leaves its partner, or their link is cut."""
         pair = (node, self.partner[node])
         return sorted({*pair, *self.single(*pair)})
 
     def restless(self) -> list[int]:
-        """The nodes not at rest under hh: unpaired, and pointing somewhere or with an unpaired neighbour."""
+        """Under hh: unpaired, and pointing somewhere or with an unpaired neighbour."""
         return sorted(
             name for name in self.beside if name not in self.partner and (name in self.points or self.single(name))
         )
@@ -56,7 +52,6 @@ def away(browser: Browser) -> None:
 
 
 def mouse(browser: Browser, what: str, at: Sequence[float]) -> None:
-    """A mouse whose button is held, or let go."""
     browser.call(
         "Input.dispatchMouseEvent", type=f"mouse{what}", x=at[0], y=at[1], button="left", buttons=1, clickCount=1
     )
@@ -69,8 +64,8 @@ def movers(text: str) -> set[int]:
 
 
 def cuts(pages: Any, browser: Browser) -> None:
-    """Over the link of a pair both ends and their unpaired neighbours have a halo. If it is cut, only they
-    may still move, whatever the schedule. Over any other link no node has one."""
+    """Over a pair's link both ends and their unpaired neighbours have a halo. If it is cut, only they may
+    still move, whatever the schedule. Over any other link no node has one."""
     fresh(browser, "disk", 15)
     seen = drawn(browser)
     pages.expect("a settled network: nobody may still move", browser.ask("ringed", "rest", GRAPH), [])
@@ -113,8 +108,8 @@ def cuts(pages: Any, browser: Browser) -> None:
 
 
 def tools(pages: Any, browser: Browser) -> None:
-    """Over a node the halo is that of its tool's act: the node leaves, its pointer is written, its flag
-    flipped. So it is over the buttons of its card, and while a line is drawn from it."""
+    """Over a node, and over the buttons of its card, the halo is that of the tool's act: the node leaves,
+    its pointer is written, its flag flipped. So it is while a line is drawn from it."""
     fresh(browser, "path", 7, "manne")
     which = "graph-manne"
     seen = drawn(browser, which)
@@ -160,7 +155,7 @@ def tools(pages: Any, browser: Browser) -> None:
 
 
 def keys(pages: Any, browser: Browser) -> None:
-    """A link that keys choose has its halo, too; under two rule sets each picture has its own."""
+    """A link chosen by keys has its halo; under two rule sets each picture has its own."""
     fresh(browser, "path", 6, "both")
     browser.ask("focus", ".graph")
     for _ in range(2):
@@ -174,14 +169,13 @@ def keys(pages: Any, browser: Browser) -> None:
 
 
 def bars(pages: Any, browser: Browser) -> None:
-    """The bar's length is the bound of the epoch: under hh at most n²/2 + n - 2, the half rounded down. The
-    moves spent and the moves that can come fill it, and never exceed it."""
+    """The bar's length is the epoch's bound: under hh at most n²/2 + n - 2, the half rounded down. The
+    moves spent and those that can come fill it, and never exceed it."""
     links = ";".join(f"link+{v}+{w}" for v in range(1, 7) for w in range(v + 1, 7))
     ring = ";".join(f"point+{v}+{v % 6 + 1}" for v in range(1, 7))
     abandons = ";".join(f"step+{v}" for v in range(1, 6))
     # six nodes, all linked: 2m + n is 36, and 36/2 + 6 - 2 is 22. All point round: the charge is 36. Then
-    # five of them abandon: 2 for each edge but the one along which 6 waits for 1, and 1 for that pointer, are
-    # 29
+    # five abandon: 2 for each edge but the one along which 6 waits for 1, and 1 for that pointer, are 29
     for script, spent in [(f"{links};{ring}", 0), (f"{links};{ring};{abandons}", 5)]:
         begin(browser, f"#script={script}&nodes=6&rules=hh")
         waited(browser, "own", "value", "#preset")
@@ -194,7 +188,6 @@ def bars(pages: Any, browser: Browser) -> None:
 
 
 def use(pages: Any, browser: Browser) -> None:
-    """All parts; if one breaks off, the others go on."""
     for part in [cuts, tools, keys, bars]:
         try:
             part(pages, browser)

@@ -1,5 +1,4 @@
-"""Tests gestures on a page that plays a transcript: pointing, tapping, typing, pinching, saving and going
-back, each in a browser."""
+"""Tests gestures on a page that plays a transcript, each in a browser."""
 
 from __future__ import annotations
 
@@ -36,7 +35,7 @@ edge 1 2
 823 step 2 = 2:marry>1
 """
 # the script elements of each page: four of data, and its code
-OWN_SCRIPTS = 5
+OWN_SCRIPTS = 6
 SVG = "{http://www.w3.org/2000/svg}"
 
 
@@ -54,7 +53,7 @@ class Asks(Protocol):
 
 
 def waited(browser: Asks, wanted: Any, probe: str, *words: Any, seconds: float = 10) -> Any:
-    """What a probe returns in the page, once it is the expected value or this many seconds have passed."""
+    """What a probe returns, once it is the expected value or these seconds have passed."""
     until = time.monotonic() + seconds
     while (came := browser.ask(probe, *words)) != wanted and time.monotonic() < until:
         time.sleep(0.05)
@@ -62,7 +61,7 @@ def waited(browser: Asks, wanted: Any, probe: str, *words: Any, seconds: float =
 
 
 def fills(pages: Pages, browser: Browser) -> None:
-    """A small network fills the drawing; one that is too large to draw leaves no empty box."""
+    """A small network fills the drawing; a too large one leaves no empty box."""
     browser.open(pages.write(RING))
     wide, high = browser.ask("shares")
     pages.expect("a ring of five fills the drawing", (high > 0.75, wide > 0.4), (True, True))
@@ -86,7 +85,7 @@ def fills(pages: Pages, browser: Browser) -> None:
 
 
 def titles(pages: Pages, browser: Browser) -> None:
-    """The title names what is played, and a base is shown with its number."""
+    """The title names what is played, a base with its number."""
     for text, title, entry in [
         (RING, "hh: 5 nodes, 8 entries", ["step 1>2", "1:seduce>2", "6"]),
         (b"matching manne 1\n1 show 1 = -\n", "manne: 1 node, 1 entry", ["the opening state", "no entry yet", "0"]),
@@ -103,7 +102,7 @@ def titles(pages: Pages, browser: Browser) -> None:
 
 
 def long_one(pages: Pages, browser: Browser) -> None:
-    """With many entries the plots are lines of means with a band, and digits are grouped in one way."""
+    """With many entries the plots are mean lines with a band; digits are grouped in one way."""
     script = "".join(f"link {v} {v % 60 + 1}\n" for v in range(1, 61)) + "".join(
         f"scramble {k} 7\ndrive {k} 900\n" for k in range(1, 1500)
     )
@@ -125,7 +124,7 @@ def long_one(pages: Pages, browser: Browser) -> None:
 
 
 def phone(pages: Pages, browser: Browser) -> None:
-    """On a phone the bar covers nothing of the entry and the figures, and all can be scrolled to."""
+    """The bar covers nothing of the entry and the figures, and all can be scrolled to."""
     path = pages.write(RING)
     for width, height in [(320, 568), (360, 640), (390, 844), (640, 360)]:
         browser.window(width, height, width == 390)
@@ -172,7 +171,7 @@ def addresses(pages: Pages, browser: Browser) -> None:
 
 
 def pinches(pages: Pages, browser: Browser) -> None:
-    """Two fingers zoom the drawing in at their place, and move it; one finger moves it then."""
+    """Two fingers zoom and move the drawing at their place; one finger moves it then."""
     browser.window(390, 844)
     browser.fingers(True)
     browser.open(pages.write(RING))
@@ -247,7 +246,7 @@ SUITED = {
 
 
 def tells(pages: Pages, browser: Browser) -> None:
-    """A node and an edge under the mouse, picked by a click, by keys or by number, show their content."""
+    """A node or edge under the mouse, clicked, or picked by keys or number, shows its content."""
     browser.open(pages.write(RING))
     browser.key("End", "End", 35)
     browser.move(*place(browser, "[data-node='3'] .body"))
@@ -322,8 +321,7 @@ def saved(folder: str, name: str, seconds: float = 20) -> bytes:
 
 
 def saves(pages: Pages, browser: Browser) -> None:
-    """The picture is saved as an SVG file that needs no page, with all names, and as a PNG finer than the
-    page."""
+    """As an SVG file that needs no page, with all names, and as a PNG finer than the page."""
     browser.save_into(pages.folder)
     browser.open(pages.write(RING))
     browser.key("End", "End", 35)
@@ -366,7 +364,7 @@ YES = """#!/usr/bin/env bash
 cat > /dev/null
 printf 'accepted: 1 entries, 1 epochs, 0 moves\\n'
 """
-# Texts that would run as scripts, or ask for much, each with its first wrong line.
+# Texts that would run as scripts or ask for much, each with its first wrong line.
 HOSTILE = [
     (b"</script><script>document.title = 'ran'</script>\n", 1),
     (b"matching hh 2\n1 show 1 = <img src=x onerror=\"document.title = 'ran'\">\n", 2),
@@ -378,7 +376,7 @@ HOSTILE = [
 
 
 def judges(pages: Pages, browser: Browser) -> None:
-    """The foot of a page names its judge. Text that a false judge lets in runs nothing, and is reported as no
+    """The foot of a page names its judge. What a false judge lets in runs nothing, and is reported as no
     transcript."""
     named = os.path.join(pages.folder, "judge")
     with open(named, "w", encoding="ascii") as file:
@@ -432,7 +430,6 @@ def judges(pages: Pages, browser: Browser) -> None:
 
 
 def use(pages: Pages, browser: Browser) -> None:
-    """All parts; if one breaks off, the others go on."""
     for part in [fills, titles, long_one, phone, addresses, pinches, tells, saves, judges]:
         try:
             part(pages, browser)

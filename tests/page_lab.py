@@ -1,5 +1,4 @@
-"""Tests gestures on the playground: each act in a browser, by mouse, finger and key, and its text by the
-program."""
+"""Tests gestures on the playground, by mouse, finger and key, and its text by the program."""
 
 from __future__ import annotations
 
@@ -21,7 +20,7 @@ WEIGHTS = {"hh": 1, "manne": 3}
 
 
 def begin(browser: Browser, address: str = "") -> None:
-    """Opens the playground as at a first visit."""
+    """As at a first visit."""
     browser.open(f"{TOP}/viewer/page.css")
     browser.ask("forgetAll")
     browser.open(PLAYGROUND + address)
@@ -29,13 +28,13 @@ def begin(browser: Browser, address: str = "") -> None:
 
 
 def place(browser: Browser, selector: str) -> Any:
-    """The middle of a selector's element, once it is in the window."""
+    """The middle of a selector's element, once in the window."""
     browser.ask("show", selector)
     return browser.ask("place", selector)
 
 
 def fresh(browser: Browser, kind: str = "ring", nodes: int = 6, rules: str = "hh", seed: int = 1) -> None:
-    """The playground with a network of a kind that has settled, and that waits."""
+    """With a network of a kind that has settled and waits."""
     begin(browser)
     browser.ask("choose", "#pace", "1000")
     for field, value in [("rules", rules), ("preset", kind), ("seed", str(seed)), ("size", str(nodes))]:
@@ -83,7 +82,6 @@ def last_act(browser: Browser, wanted: str) -> Any:
 
 
 def daemon_moved(browser: Browser) -> bool:
-    """Whether the last line of the script soon is a seeded daemon's move."""
     until = time.monotonic() + 3
     while not re.fullmatch(r"drive \d+ 1", browser.ask("lastLine")) and time.monotonic() < until:
         time.sleep(0.05)
@@ -96,8 +94,7 @@ def transcript(browser: Browser) -> bytes:
 
 
 def budget_of(told: dict[str, str], rules: str) -> tuple[int, int]:
-    """The moves that can come, and the bound of the epoch: under hh at most n²/2 + n - 2, the half rounded
-    down."""
+    """The moves that can come, and the epoch's bound."""
     nodes, charge = int(told["nodes"]), int(told["charge"])
     by_edges = 2 * int(told["edges"]) + WEIGHTS[rules] * nodes
     by_nodes = max(0, nodes * nodes // 2 + nodes - 2) if rules == "hh" else by_edges
@@ -105,7 +102,7 @@ def budget_of(told: dict[str, str], rules: str) -> tuple[int, int]:
 
 
 def agrees(pages: Pages, browser: Browser, name: str, rules: str = "hh") -> None:
-    """The transcript is accepted, the script makes it, and the drawing agrees with the program."""
+    """The transcript is accepted, the script makes it, and the drawing agrees."""
     written = transcript(browser)
     verdict = pages.run([pages.program, "audit"], written)
     pages.expect(f"{name}: the transcript is accepted", (verdict[0], verdict[1][:9]), (0, b"accepted:"))
@@ -122,8 +119,8 @@ def agrees(pages: Pages, browser: Browser, name: str, rules: str = "hh") -> None
 
 
 def opens(pages: Pages, browser: Browser) -> None:
-    """A first visitor sees a network that runs or has settled within a second, is told what to do, and sees
-    it recover."""
+    """Within a second the network runs or has settled; a first visitor is told what to do, and sees it
+    recover."""
     begin(browser)
     time.sleep(1)
     said = [
@@ -145,7 +142,7 @@ def opens(pages: Pages, browser: Browser) -> None:
 
 
 def acts(pages: Pages, browser: Browser) -> None:
-    """Each act by the mouse is a line of the script; all its effects agree with the program."""
+    """Each act by the mouse is a line of the script, and agrees with the program."""
     fresh(browser)
     before = browser.ask("attribute", "[data-node='2']", "transform")
     x, y = node(browser, 2)
@@ -185,7 +182,7 @@ def acts(pages: Pages, browser: Browser) -> None:
 
 
 def moves(pages: Pages, browser: Browser) -> None:
-    """The movers are chosen by a hand, by a seeded daemon, or are all enabled nodes."""
+    """By hand, by a seeded daemon, or all enabled nodes."""
     fresh(browser, rules="manne", nodes=8)
     tool(browser, "flag")
     browser.click(*node(browser, 3))
@@ -229,8 +226,7 @@ def moves(pages: Pages, browser: Browser) -> None:
 
 
 def networks(pages: Pages, browser: Browser) -> None:
-    """Each network begins, settles and agrees with the program's run of its script; two rule sets run side by
-    side, disturbed alike."""
+    """Each begins, settles and agrees with the program; two rule sets run side by side, disturbed alike."""
     for kind in ["ring", "path", "grid", "star", "disk", "random", "racks", "mesh"]:
         for nodes in (2, 23):
             fresh(browser, kind, nodes, "manne" if nodes == 23 else "hh")
@@ -273,8 +269,7 @@ def typed(browser: Browser, text: str) -> None:
 
 
 def texts(pages: Pages, browser: Browser) -> None:
-    """The script is edited and played, the transcript is edited and judged; both are saved, and the saved
-    files are accepted."""
+    """The script is edited and played, the transcript edited and judged; saved files are accepted."""
     browser.save_into(pages.folder)
     fresh(browser, "path", 4)
     typed(browser, "link 1 2\nlink 2 3\nstep 1\nlink 1 9\n")
@@ -431,7 +426,7 @@ def addresses(pages: Pages, browser: Browser) -> None:
 
 
 def fingers(pages: Pages, browser: Browser) -> None:
-    """On a phone, in dark mode: a finger cuts, drags and draws, and nothing is wider than the window."""
+    """On a phone, in dark mode, a finger cuts, drags and draws; nothing is too wide."""
     browser.window(390, 844, True)
     browser.fingers(True)
     fresh(browser, "ring", 6)
@@ -468,7 +463,6 @@ def fingers(pages: Pages, browser: Browser) -> None:
 
 
 def keys(pages: Pages, browser: Browser) -> None:
-    """Everything works by keys alone."""
     fresh(browser, "ring", 6)
     browser.ask("focus", ".graph")
     press: dict[str, tuple[Any, ...]] = {
@@ -518,8 +512,8 @@ def keys(pages: Pages, browser: Browser) -> None:
 
 
 def many(pages: Pages, browser: Browser) -> None:
-    """500 nodes run at 30 pictures a second at least, in the best of three tries. If other programs keep the
-    processors busy that is skipped; so are results above half of it, since a slower machine draws fewer."""
+    """500 nodes run at 30 pictures a second at least, in the best of three tries. If other programs keep
+    the processors busy that is skipped; so are results above half of it, as slower machines draw fewer."""
     best, shown = 0, 0
     for seed in (1, 2, 3):
         begin(browser)
@@ -543,8 +537,8 @@ def many(pages: Pages, browser: Browser) -> None:
 
 
 def without(pages: Pages, browser: Browser) -> None:
-    """A browser without WebAssembly, or one that refuses the module, plays a recorded transcript and opened
-    ones; it says why there is no network."""
+    """Without WebAssembly, or if it refuses the module, a browser plays recorded and opened transcripts;
+    it says why there is no network."""
     with open(f"{TOP}/examples/breaks_and_mends.transcript", "rb") as file:
         verdict = pages.run([pages.program, "audit"], file.read())[1].decode().strip()
     with open(f"{TOP}/examples/broken_ring.transcript", encoding="ascii") as lines:
@@ -573,7 +567,6 @@ def without(pages: Pages, browser: Browser) -> None:
 
 
 def use(pages: Pages, browser: Browser) -> None:
-    """All parts; if one breaks off, the others go on."""
     for part in [opens, acts, moves, networks, texts, drops, addresses, fingers, keys, many, without]:
         try:
             part(pages, browser)

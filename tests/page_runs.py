@@ -1,4 +1,4 @@
-"""Pages made by scripts/play, the program that they are compared with, and the count of agreements."""
+"""Pages made by scripts/play, and the program that they are compared with."""
 
 from __future__ import annotations
 
@@ -15,13 +15,11 @@ TOP = os.path.dirname(os.path.dirname(os.path.abspath(__file__)))
 PLAY = f"{TOP}/scripts/play"
 NODE = re.compile(r'^(\d+) \[label="\d+(?:\\n([a-z]+))?"(, style=filled)?\];$')
 EDGE = re.compile(r"^(\d+) -- (\d+)(?: \[(style=bold|dir=forward|dir=back)\])?;$")
-# The exit status, standard output and standard error of a program.
+# Exit status, standard output and standard error.
 Ended = tuple[int, bytes, bytes]
 
 
 class Pages(Tally):
-    """Counts checks of pages, and makes pages of transcripts."""
-
     def __init__(self, program: str, wait: float, folder: str, own: bool = False) -> None:
         super().__init__()
         self.program, self.wait, self.folder, self.own = program, wait, folder, own

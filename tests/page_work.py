@@ -1,5 +1,4 @@
-"""Tests what the playground opens, keeps and shows: files, pasted texts and addresses, reloads, and the
-message for each fault."""
+"""Tests what the playground opens, keeps, shows and refuses."""
 
 from __future__ import annotations
 
@@ -67,8 +66,7 @@ def write(pages: Pages, name: str, text: str) -> str:
 
 
 def addresses(pages: Pages, browser: Browser) -> None:
-    """A link that names an absent node still opens, and sets the selectors; the page writes such links
-    itself."""
+    """A link that names an absent node opens, and sets the selectors; the page writes such links."""
     begin(browser, "#script=link+1+2;link+2+9;drive+3+9&nodes=4&rules=manne")
     pages.expect("a link beyond the nodes", waited(browser, "✓ stable, 1 pair", "text", ".state"), "✓ stable, 1 pair")
     agrees(pages, browser, "a link beyond the nodes", "manne")
@@ -94,8 +92,7 @@ def addresses(pages: Pages, browser: Browser) -> None:
 
 
 def full(pages: Pages, browser: Browser) -> None:
-    """A script that would fill the log is refused at once, with its line, at its place; the state before
-    stays."""
+    """A script that would fill the log is refused at once, at its line; the state before stays."""
     lines = "".join(f"scramble {k} 1000000\n" for k in range(1, 18))
     fresh(browser, "path", 4)
     before = browser.ask("scriptNow")
@@ -118,7 +115,7 @@ def full(pages: Pages, browser: Browser) -> None:
 
 
 def keys(pages: Pages, browser: Browser) -> None:
-    """The key for links causes no error after a node left, or if none was chosen."""
+    """The key for links causes no error without a chosen node, or after one left."""
     fresh(browser, "ring", 6)
     browser.ask("focus", ".graph")
     browser.key(*E_KEY)
@@ -133,8 +130,7 @@ def keys(pages: Pages, browser: Browser) -> None:
 
 
 def looks(pages: Pages, browser: Browser) -> None:
-    """All is within a window of 200 pixels; all pictures have names; the page says its name and leads
-    to the project."""
+    """All fits 200 pixels; pictures have names; the page says its name and leads to the project."""
     browser.window(200, 500)
     begin(browser)
     pages.expect("what is wider than 200", browser.ask("widest"), 200)
@@ -170,7 +166,7 @@ def looks(pages: Pages, browser: Browser) -> None:
 
 
 def sizes(pages: Pages, browser: Browser) -> None:
-    """More nodes than the page can draw are refused, and a star of 500 is visible."""
+    """Too many nodes to draw are refused, and a star of 500 is visible."""
     begin(browser)
     browser.ask("choose", "#preset", "star")
     browser.ask("choose", "#size", "600")
@@ -200,8 +196,7 @@ def calm(pages: Pages, browser: Browser) -> None:
 
 
 def opens(pages: Pages, browser: Browser) -> None:
-    """The page opens what it saves: a script comes back to the same transcript; graph files become networks;
-    all others are refused."""
+    """A saved script comes back to the same transcript; graph files become networks; others are refused."""
     browser.save_into(pages.folder)
     fresh(browser, "ring", 6, "manne")
     tool(browser, "flag")
@@ -252,8 +247,7 @@ def opens(pages: Pages, browser: Browser) -> None:
 
 
 def reloads(pages: Pages, browser: Browser) -> None:
-    """A reload restores the state, a played transcript too; leaving more than a minute of unsaved work
-    asks."""
+    """A reload restores the state; leaving more than a minute of unsaved work asks."""
     fresh(browser, "ring", 8, "both", 5)
     browser.click(*edge(browser, 2, 3))
     browser.click(*place(browser, "#run"))
@@ -318,7 +312,7 @@ def reloads(pages: Pages, browser: Browser) -> None:
 
 
 def redoes(pages: Pages, browser: Browser) -> None:
-    """Undone acts are redone, line for line, until another act comes between."""
+    """Undone acts are redone, until another act comes between."""
     fresh(browser, "grid", 9)
     pages.expect("nothing to do again", browser.ask("isDisabled", "#redo"), True)
     browser.click(*edge(browser, 1, 2))
@@ -353,7 +347,7 @@ def redoes(pages: Pages, browser: Browser) -> None:
 
 
 def wrongs(pages: Pages, browser: Browser) -> None:
-    """A bad script is reported at its place, with its line marked; on a phone too."""
+    """A bad script is reported with its line marked; on a phone too."""
     for width, height in [(1280, 900), (360, 740)]:
         browser.window(width, height)
         fresh(browser, "path", 4)
@@ -375,7 +369,7 @@ def wrongs(pages: Pages, browser: Browser) -> None:
 
 
 def pictures(pages: Pages, browser: Browser) -> None:
-    """The playground's picture is saved as SVG and PNG, with all names and arrowheads."""
+    """Saved as SVG and PNG, with all names and arrowheads."""
     browser.save_into(pages.folder)
     fresh(browser, "path", 5)
     browser.click(*place(browser, "#lab-svg"))
@@ -391,7 +385,6 @@ def pictures(pages: Pages, browser: Browser) -> None:
 
 
 def use(pages: Pages, browser: Browser) -> None:
-    """All parts; if one breaks off, the others go on."""
     for part in [addresses, full, keys, looks, sizes, calm, opens, reloads, redoes, wrongs, pictures]:
         try:
             part(pages, browser)

@@ -1,4 +1,4 @@
-"""How plain the prose is: the sentences, lines, cells and words of pages, comments and docstrings."""
+"""How plain the prose of pages, comments and docstrings is."""
 
 from __future__ import annotations
 
@@ -8,11 +8,11 @@ import re
 import tokenize
 from typing import Iterable, Iterator
 
-# A sentence is counted in words, a line and a cell in characters.
+# In words for a sentence, in characters for a line and a cell.
 SENTENCE = 35
 LINE = 110
 CELL = 200
-# Words that plain English rarely needs, and how often all prose may have them: `where` is for a place.
+# Words that plain English rarely needs, with the most that all prose may have; `where` is for a place.
 MOST = {
     r"where": 99,
     r"(?:of|at|in|by|with|for|from|to|on|above|below) (?:which|whom)": 25,
@@ -40,18 +40,17 @@ PATTERNS = (
     "bench/*.py",
     "examples/**/*.py",
 )
-# A comment that fills its line, in Rust, C and JavaScript; what opens one of several lines and what goes on.
+# A comment that fills its line, in Rust, C and JavaScript; what opens one of several lines and goes on.
 COMMENT = re.compile(r"\s*(?://[/!]?|/\*\*?|\*(?!/))(?: (.*?))?(?:\s*\*/)?$")
 CODE = re.compile(r"`[^`]*`")
 END = re.compile(r"(?<=[.!?:;])\s+")
-# Whether something agrees, and what to print if it does not.
 Told = tuple[bool, str]
-# The number of a line, its text without the marks of a comment, and whether it is a row of a table.
+# A line's number, its text without comment marks, and whether it is a table's row.
 Line = tuple[int, str, bool]
 
 
 def of_page(text: str) -> Iterator[Line]:
-    """The lines of a page outside fenced code; a blank one ends a paragraph."""
+    """Without fenced code; a blank line ends a paragraph."""
     code = False
     for number, line in enumerate(text.splitlines(), 1):
         fence = line.lstrip().startswith("```")
@@ -68,7 +67,7 @@ def of_page(text: str) -> Iterator[Line]:
 
 
 def of_comments(text: str) -> Iterator[Line]:
-    """The lines of comments that fill their lines, without examples of code."""
+    """Those that fill their lines, without examples of code."""
     code = False
     for number, line in enumerate(text.splitlines(), 1):
         found = COMMENT.match(line)
@@ -80,7 +79,7 @@ def of_comments(text: str) -> Iterator[Line]:
 
 
 def of_python(text: str) -> Iterator[Line]:
-    """The lines of docstrings and of comments that fill their lines."""
+    """Docstrings, and comments that fill their lines."""
     for token in tokenize.generate_tokens(io.StringIO(text).readline):
         if token.type == tokenize.STRING and token.line.strip().startswith(('"""', 'r"""')):
             lines = token.string.strip('r"').splitlines()
@@ -101,7 +100,7 @@ def lines_of(path: pathlib.Path) -> Iterator[Line]:
 
 
 def sentences(lines: Iterable[Line]) -> Iterator[tuple[int, str]]:
-    """The sentences, each with the first line of its paragraph; code in backticks is one word."""
+    """Each with the first line of its paragraph; code in backticks is one word."""
     part: list[str] = []
     begun = 0
     for number, line, table in [*lines, (0, "", False)]:
@@ -119,7 +118,7 @@ def sources(top: pathlib.Path) -> list[pathlib.Path]:
 
 
 def plain_prose(top: pathlib.Path) -> Iterator[Told]:
-    """What is said of each file's sentences, lines and cells, and of the words in all files together."""
+    """What is said of each file's sentences, lines and cells, and of all words together."""
     counts = dict.fromkeys(MOST, 0)
     for path in sources(top):
         lines = [*lines_of(path)]

@@ -1,5 +1,4 @@
-"""The scripts whose transcripts are played in pages: the repository's examples, and networks of both rule
-sets."""
+"""Scripts whose transcripts are played in pages: the examples, and networks of both rule sets."""
 
 from __future__ import annotations
 
@@ -13,8 +12,8 @@ TOP = pathlib.Path(__file__).resolve().parent.parent
 
 @dataclasses.dataclass
 class Page:
-    """A script with its rules, its names, and how many of these are present at the start; or a storm of
-    several scripts. Its page plays the whole transcript, or the part from its first base on."""
+    """A script with its rules, its names, and how many are present at the start; or a storm of several
+    scripts. Its page plays all of the transcript, or from its first base on."""
 
     name: str
     rules: str
@@ -59,7 +58,7 @@ def mended(seed: int, faults: int = 6) -> list[str]:
 
 
 def stirred(nodes: int, seed: int, events: int) -> list[str]:
-    """Random edits, faults, steps and questions: many are refused."""
+    """Random edits, faults, steps and questions, many refused."""
     chance = random.Random(seed)
 
     def name() -> int:

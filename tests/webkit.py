@@ -1,9 +1,4 @@
-"""A WebKit, the engine of Safari and of all browsers on iPhones: a window of WebKitGTK on a screen of Xvfb,
-driven through WebKitWebDriver with the standard library alone.
-
-It has the calls of `browser.Browser` that short visits need. It needs Debian's packages webkit2gtk-driver,
-xvfb, python3-gi and gir1.2-webkit2-4.1.
-"""
+"""WebKit, the engine of Safari and of all browsers on iPhones, driven through WebKitWebDriver."""
 
 from __future__ import annotations
 
@@ -26,13 +21,13 @@ WINDOW = os.path.join(os.path.dirname(os.path.abspath(__file__)), "webkit_window
 
 
 def why_no_webkit() -> str:
-    """What is missing here to drive a WebKit, or nothing."""
+    """What is missing here, or nothing."""
     programs = [program for program in (DRIVER, SCREEN) if shutil.which(program) is None]
     return ", ".join(f"no {name}" for name in [*programs, *packages.missing_files()])
 
 
 class WebKit:
-    """One WebKit with one window. Raises `BrowserFault` if it ends, stays silent or refuses a call."""
+    """Raises `BrowserFault` if WebKit ends, stays silent or refuses a call."""
 
     def __init__(self, wait: float = 60, width: int = 1280, height: int = 900) -> None:
         self.wait = wait
@@ -70,7 +65,7 @@ class WebKit:
             "WEBKIT_DISABLE_COMPOSITING_MODE": "1",
             "NO_AT_BRIDGE": "1",
         }
-        # the driver takes a free port, and does not report which: one that was free a moment ago is taken
+        # the driver takes a port without reporting it: one that was free a moment ago is taken
         self.port = free_port()
         words = [DRIVER, f"--port={self.port}"]
         self.runs.append(subprocess.Popen(words, stdin=quiet, stdout=quiet, stderr=quiet, env=places))
@@ -131,7 +126,7 @@ class WebKit:
 
     @property
     def fetched(self) -> list[str]:
-        """The addresses that pages have asked for so far, their own among them."""
+        """What pages have asked for so far, their own addresses among them."""
         return self.noted("request")
 
     def open(self, path: str) -> None:

@@ -41,13 +41,11 @@ def handed_on(words: Sequence[str]) -> int:
 
 
 def told(text: object, status: int) -> int:
-    """Prints one line on standard error; returns the status."""
     print(f"! {text}", file=sys.stderr)
     return status
 
 
 def fault_of(error: OSError) -> str:
-    """The system's message, after the file's name if there is one."""
     return f"{error.filename}: {error.strerror}" if error.filename and error.strerror else error.strerror or str(error)
 
 
@@ -88,7 +86,6 @@ def begun(words: Sequence[str]) -> int:
 
 
 def main(words: Optional[Sequence[str]] = None) -> int:
-    """Carries out the words, by default the command line's; returns the exit status."""
     if words is None:
         streams.prepare()
     words = list(sys.argv[1:] if words is None else words)

@@ -21,7 +21,6 @@ Command = Callable[[str, Callable[[argparse.Namespace], int], str], argparse.Arg
 
 
 def run_again(given: argparse.Namespace) -> int:
-    """Writes the transcript of a row, and its page if asked."""
     with open(given.rows, newline="") as file:
         row = row_in(file, number_within(given.number, MOST_EXPERIMENTS, "the number of a row"))
     played = play_again(row, program=given.program, graph=graph_in(given, row.graph))

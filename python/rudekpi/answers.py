@@ -19,14 +19,13 @@ STEP = 2
 
 
 class Setting:
-    """What stays the same in a run: names, first lines of transcript and base, whether all text is kept."""
+    """What stays the same in a run."""
 
     def __init__(self, names: Names, header: bytes, base_head: bytes, keeps: bool) -> None:
         self.names, self.header, self.base_head, self.keeps = names, header, base_head, keeps
 
 
 def refusal(names: Names, event: bytes, text: bytes, entry: int) -> Refused:
-    """A refusal, with the caller's own names in the event."""
     number, _, why = text_of(text)[len("refused ") :].partition(" ")
     return Refused(names.told(event.decode()), int(number) if number.isdigit() else 0, why, entry)
 
@@ -85,7 +84,6 @@ class Answers:
         self.wrong: Optional[Garbled] = None
 
     def read_on(self, part: bytes) -> Answers:
-        """The state after the next part of the output."""
         new = self.copy()
         *lines, new.rest = (self.rest + part).split(b"\n")
         take = new.take
@@ -130,7 +128,6 @@ class Answers:
         return lines
 
     def take(self, line: bytes) -> None:
-        """Gives a line to the command that the line answers."""
         if self.wrong:
             return
         self.lines += 1

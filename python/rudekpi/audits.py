@@ -53,7 +53,6 @@ class Slice:
 
 
 def bytes_of(transcript: Text) -> bytes:
-    """The bytes of a transcript. Raises `TypeError` if it is neither text nor bytes."""
     if isinstance(transcript, str):
         return transcript.encode()
     if not isinstance(transcript, (bytes, bytearray, memoryview)):
@@ -77,7 +76,6 @@ def audit(transcript: Union[Text, Slice], *, program: Program = None, engine: Op
 
 
 def summary_read(said: str) -> Summary:
-    """The counts that the program prints for an accepted transcript."""
     return Summary(*numbers_in("audit", said, r"accepted: ([0-9]+) entries, ([0-9]+) epochs, ([0-9]+) moves\n")[0])
 
 
@@ -108,8 +106,8 @@ def judged_epochs(transcript: Text, program: Program = None) -> list[Epoch]:
 def bounded(epoch: Epoch, rules: str) -> Epoch:
     """An epoch with the smaller of its bounds.
 
-    An epoch cut by an opening base keeps the program's bound: the base states how many moves were spent, but
-    the transcript does not have these moves.
+    An epoch cut by an opening base keeps the program's bound: the transcript lacks the moves that the base
+    counts.
     """
     if epoch.start is None:
         return epoch
@@ -144,7 +142,6 @@ def picture(
 
 
 def judged(words: list[str], transcript: Union[Text, Slice], program: Program) -> str:
-    """What the program prints about a transcript that it accepts."""
     given = transcript if isinstance(transcript, (Slice, bytearray, memoryview)) else bytes_of(transcript)
     return said_by(*fed([found_program(program), *words], given))
 
@@ -170,7 +167,6 @@ def send(given: Union[bytes, bytearray, memoryview, Slice], pipe: int) -> None:
 
 
 def fed(words: list[str], given: Union[bytes, bytearray, memoryview, Slice]) -> tuple[int, bytes, bytes]:
-    """Runs a program on these bytes; returns its status, output and standard error."""
     with tempfile.TemporaryFile() as out, tempfile.TemporaryFile() as told:
         with subprocess.Popen(words, stdin=subprocess.PIPE, stdout=out, stderr=told, bufsize=0) as run:
             try:

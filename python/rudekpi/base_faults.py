@@ -82,7 +82,6 @@ def of_line(raw: bytes, number: int, lines: list[str], is_cut: bool) -> Optional
 
 
 def of_order(line: str, before: str, word: str) -> Optional[Fault]:
-    """What is wrong with a line's order."""
     count = 1 if word == "node" else 2
     ours, theirs = ([int(text) for text in it.split(" ")[1 : 1 + count]] for it in (line, before))
     if word == "edge" and ours[0] >= ours[1]:

@@ -64,7 +64,7 @@ class Pending(Generic[Reply_co]):
         return self._session.reply(self)
 
     def _reply(self, names: Names) -> Reply_co:
-        """The reply, read from its texts. Raises `ValueError` or `LookupError` if they are no reply."""
+        """Raises `ValueError` or `LookupError` if the texts are no reply."""
         raise NotImplementedError
 
 

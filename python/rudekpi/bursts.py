@@ -38,9 +38,9 @@ class Burst:
     under `manne`, two more for each pair gained and one for each node that left. `cost` and `bound` are None
     if `start` is.
 
-    `pairs_before` and `pairs_after` are numbers of pairs. `reached` lists the nodes that were in the reach of
-    a disturbance when that came, and `moved` the nodes that moved, both in order of number. If the burst
-    began in a silent network, no node outside `reached` moved.
+    `reached` lists the nodes that were in the reach of a disturbance when that came, and `moved` the nodes
+    that moved, both in order of number. If the burst began in a silent network, no node outside `reached`
+    moved.
     """
 
     start: Optional[int]
@@ -60,7 +60,7 @@ class Burst:
 def bound_of_costs(rules: str, cost: int, gained: int, left: int) -> int:
     """The most moves, from silence on, after disturbances of this total cost.
 
-    `gained` is the number of pairs gained, below 0 if pairs were lost; `left` is how many nodes left.
+    `gained` counts pairs, below 0 if pairs were lost; `left` counts the nodes that left.
     """
     return cost + 2 * max(0, gained) + left if rules == "manne" else cost
 
@@ -113,7 +113,6 @@ class BurstReader:
         self.reached |= reach(self.watch.state, word, *numbers)
 
     def rest(self) -> Iterator[Burst]:
-        """The burst that is under way at the end, if any."""
         if self.is_open:
             yield self.ended(self.last if self.watch.is_silent else None)
 
@@ -177,7 +176,6 @@ def row_of(burst: Burst) -> list[str]:
 
 
 def word_of(name: Name) -> str:
-    """A name as a word of a list."""
     text = str(name)
     is_word = text.isprintable() and text and not any(sign in text for sign in " \"'")
     return text if is_word else json.dumps(text)

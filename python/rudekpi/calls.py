@@ -66,7 +66,6 @@ class Rooms:
         self.free: list[ctypes.Array[ctypes.c_uint32]] = []
 
     def taken(self, count: int) -> ctypes.Array[ctypes.c_uint32]:
-        """A buffer of at least `count` numbers."""
         try:
             room = self.free.pop()
         except IndexError:
@@ -119,7 +118,6 @@ def status_of(names: Names, entry: int, counts: Sequence[int]) -> Status:
 
 
 def turns_of(names: Names, entry: int, read: Reader[Reply], lines: bytes, counts: Sequence[int]) -> Turns[Reply]:
-    """The turns of a `drive` or `scramble`, read from their lines, with the status after them."""
     turns = []
     for line in text_of(lines).splitlines():
         number, _, rest = line.partition(" ")
@@ -273,7 +271,6 @@ class DirectBatch(Batch):
         return self._listed(matching_of, "pairs", self._names.count // 2, lambda: "matching")
 
     def _standing(self) -> tuple[int, list[int]]:
-        """The entry of a `status`, and its counts."""
         session, desk = self._direct, taken_desk()
         with session.lock:
             status = session.library.status(session.at, desk.counts_at, desk.at)

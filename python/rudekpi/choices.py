@@ -32,7 +32,6 @@ def numbers_of(choice: Choice, number_of: Callable[[Name], int]) -> list[tuple[i
 
 
 def items_of(choice: Choice, number_of: Callable[[Name], int]) -> list[str]:
-    """The texts of a choice's items."""
     return [f"{number}>{wish}" if wish else str(number) for number, wish in numbers_of(choice, number_of)]
 
 

@@ -41,7 +41,6 @@ from .disturbances import REGISTERS, Disturbance
 from .sweeps import Row
 
 DONE, FAILED, BAD_WORDS, INTERRUPTED = 0, 1, 2, 130
-# how many seconds reaching a scheduler may take
 REACHED_SECONDS = 5
 IN_PLAN = (
     *(
@@ -75,7 +74,6 @@ def written(path: Optional[str], appends: bool = False) -> Iterator[TextIO]:
 
 
 def read(path: str) -> bytes:
-    """The bytes of a file; of standard input if the path is `-`."""
     if path == "-":
         return sys.stdin.buffer.read()
     with open(path, "rb") as file:
@@ -83,7 +81,6 @@ def read(path: str) -> bytes:
 
 
 def listed(text: str) -> list[str]:
-    """The words between commas, at least one."""
     words = [word for word in text.split(",") if word]
     if not words:
         raise argparse.ArgumentTypeError("no word is given")
@@ -128,7 +125,7 @@ def words_of_graph(parser: argparse.ArgumentParser) -> None:
 
 
 def read_graphs(given: argparse.Namespace) -> None:
-    """Turns the words of --graph into graphs, after all words of the command line are known."""
+    """Turns the words of --graph into graphs, once the whole command line is read."""
     if given.graph is None:
         if given.plan is None:
             given.parser.error("the following arguments are required: --graph, or a plan")
@@ -218,7 +215,6 @@ def words_of_links(parser: argparse.ArgumentParser) -> None:
 
 
 def length(text: str) -> float:
-    """A number from 0 on."""
     try:
         found = decimal(text)
     except ValueError:
@@ -229,7 +225,6 @@ def length(text: str) -> float:
 
 
 def disturbances_of(given: argparse.Namespace) -> list[Disturbance]:
-    """The disturbances of each network, one for each number of faults."""
     counts = (
         given.joins,
         given.leaves,
@@ -255,7 +250,6 @@ def reach(address: str) -> None:
 
 @contextlib.contextmanager
 def executor_of(given: argparse.Namespace) -> Iterator[Optional[Executor]]:
-    """The executor of a cluster, or None for processes of this machine."""
     if given.dask:
         try:
             import distributed
@@ -270,7 +264,6 @@ def executor_of(given: argparse.Namespace) -> Iterator[Optional[Executor]]:
 
 
 def words_to_play(given: argparse.Namespace) -> Words:
-    """What a sweep plays: its plan, or the values of its flags."""
     if given.plan is None:
         seeds = range(given.first_seed, given.first_seed + given.seeds)
         return given.graph, given.rules, given.daemon, seeds, disturbances_of(given)
@@ -285,7 +278,6 @@ def words_to_play(given: argparse.Namespace) -> Words:
 
 
 def usual_of(parser: argparse.ArgumentParser, name: str) -> object:
-    """The value of a flag that is not given."""
     [action] = (it for it in parser._actions if it.dest == name)
     return parser._get_value(action, action.default) if isinstance(action.default, str) else action.default
 
@@ -369,7 +361,6 @@ def run_worst(given: argparse.Namespace) -> int:
 
 
 def run_check(given: argparse.Namespace) -> int:
-    """Prints each line that is no command, and why."""
     script = read(given.script)
     count = 0
     for count, (number, why) in enumerate(script_words.faults_of(script), 1):

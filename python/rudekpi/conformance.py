@@ -31,7 +31,6 @@ from .state import State
 from .streams import Output
 
 UPDATE, ABANDON = RULES["update"], RULES["abandon"]
-# the rules that have a target
 CHOOSING = RULES["marry"], RULES["seduce"]
 # how many of the neighbours' last writes are tried as a node's stale copy
 MOST_TRIED = 64
@@ -169,7 +168,6 @@ class Named:
         return len(self.all)
 
     def number(self, line: int, name: Any) -> int:
-        """The number of a name. Raises `BadLine`."""
         kind = type(name)
         if kind is str or kind is int:
             found = self.numbers.get(name)
@@ -190,11 +188,7 @@ class Named:
 
 
 class LogJudge:
-    """Judges a log line by line, from its first line on.
-
-    `on_divergence` is called with each divergence as soon as it is found. With `resync` the judge then writes
-    the observed values as faults, and goes on.
-    """
+    """Judges a log line by line; `resync` and `on_divergence` are those of `conform`."""
 
     def __init__(
         self,
@@ -269,7 +263,6 @@ class LogJudge:
         return True
 
     def take_edge(self, number: int, found: re.Match[bytes]) -> bool:
-        """The same for a line that names an edge."""
         kind, *names = found.groups()
         a, b = map(self.raw.get, names)
         if not self.named or not a or not b:
@@ -278,7 +271,6 @@ class LogJudge:
         return True
 
     def begin(self, number: int, head: Any) -> None:
-        """Reads the first line."""
         named = Named(number, head)
         present = len(named.all)
         self.raw = named.raw
@@ -298,7 +290,6 @@ class LogJudge:
             self.edit(number, event, kind, named)
 
     def observed(self, number: int, event: Any, kind: str, named: Named) -> Observed:
-        """What a move or a fault wrote, and what the node held before. Raises `BadLine`."""
         node = named.number(number, event[kind])
         state = self.state
         old = new = state.pointers.get(node, 0)
@@ -315,7 +306,6 @@ class LogJudge:
         return observed(node, old, new, was, flag)
 
     def all_observed(self, number: int, moves: Any, named: Named) -> list[Observed]:
-        """The moves of a line that has several. Raises `BadLine`."""
         if not isinstance(moves, list) or not moves:
             raise BadLine(number, f"moves is a list of one move or more, and not {spelled(moves)}")
         if len(moves) > MOST_NODES:
@@ -331,7 +321,7 @@ class LogJudge:
         return found
 
     def edit(self, number: int, event: Any, kind: str, named: Named) -> None:
-        """Adds or removes a link or a node. Raises `BadLine` if the machine refuses it."""
+        """Raises `BadLine` if the machine refuses the edit."""
         given = event[kind]
         if kind in ("link", "unlink"):
             if not isinstance(given, list) or len(given) != 2:
@@ -353,7 +343,6 @@ class LogJudge:
         self.edits += 1
 
     def remember_cleared(self, number: int, kind: str, numbers: Sequence[int]) -> None:
-        """Keeps the pointers that an edit clears."""
         state = self.state
         ends = [(numbers[0], numbers[1]), (numbers[1], numbers[0])] if kind == "unlink" else []
         if kind == "leave":
@@ -363,7 +352,7 @@ class LogJudge:
                 self.remember(number, node, other, node in state.flags)
 
     def fault(self, number: int, seen: Observed, has_pointer: bool, has_flag: bool) -> None:
-        """Carries out a fault: writes registers. Raises `BadLine` if no fault can write them."""
+        """Writes registers. Raises `BadLine` if no fault can write them."""
         refusal = self.machine.edit("point", seen.node, seen.new) if has_pointer else 0
         if has_flag and not refusal:
             refusal = self.machine.edit("flag", seen.node, int(seen.flag))
@@ -373,7 +362,6 @@ class LogJudge:
         self.faults += 1
 
     def write(self, number: int, seen: Observed) -> None:
-        """Follows what a node has written."""
         node, old, new, was, flag, _, _ = seen
         if new != old:
             self.state.point(node, new)
@@ -383,7 +371,6 @@ class LogJudge:
         self.written[node] = (number, old, was), before[0] if before else None
 
     def remember(self, number: int, node: int, old: int, was: bool) -> None:
-        """Keeps what a node held before this line and before its previous write."""
         before = self.written.get(node)
         self.written[node] = (number, old, was), before[0] if before else None
 
@@ -400,7 +387,6 @@ class LogJudge:
         self.write(number, seen)
 
     def moves(self, number: int, line: Any, seen: Sequence[Observed]) -> None:
-        """The same for several moves at once."""
         is_central = not self.has_flags and len(seen) > 1
         odd = None if is_central else next((it for it in seen if not self.can_be_asked(it)), None)
         if odd:
@@ -491,7 +477,6 @@ class LogJudge:
         )
 
     def why(self, words: Reasons, bad: Observed) -> str:
-        """What the rules allowed the node, and why they did not allow what it wrote."""
         more: Optional[str] = None
         if bad.flag != bad.was and not words.has_flags:
             more = "there are no flags under hh"
@@ -543,7 +528,6 @@ class LogJudge:
         return self.named.all[number - 1] if self.named else number
 
     def taken(self) -> bytes:
-        """The transcript's text since the last call."""
         return self.machine.taken() if self.named else b""
 
     def finish(self) -> Conformance:
@@ -619,7 +603,6 @@ class Transcript:
             self.file.close()
 
     def write_names(self, names: Sequence[Name]) -> None:
-        """Writes the names into `PATH.names`, a JSON value a line: line N names node N."""
         if self.file and isinstance(self.target, (str, os.PathLike)) and os.path.isfile(self.target):
             write_names(f"{os.fspath(self.target)}.names", names)
 

@@ -11,7 +11,6 @@ from .state import State
 
 
 def unpaired(state: State, node: int) -> set[int]:
-    """The neighbours of a node that are in no pair."""
     return {other for other in state.neighbours[node] if state.partner(other) is None}
 
 

@@ -33,7 +33,7 @@ def numbers_of_edit(names: Names, word: str, given: Sequence[Name], asked: str =
 
 
 def why_refused(state: State, word: str, node: int, other: int = 0) -> str:
-    """The refusal of an edit or a fault by a network in this state; empty if the network carries it out."""
+    """The refusal of an edit or a fault by a network in this state; empty if there is none."""
     near = state.neighbours
     if word == "join":
         return "already-present" if node in near else "unknown-node" if node > state.count else ""
@@ -47,7 +47,6 @@ def why_refused(state: State, word: str, node: int, other: int = 0) -> str:
 
 
 def why_no_edge(state: State, word: str, a: int, b: int) -> str:
-    """The same for a `link` or `unlink` of present nodes."""
     if a == b:
         return "self-loop"
     is_linked = b in state.neighbours[a]

@@ -10,12 +10,10 @@ daemons in self-stabilization", 2011:
 - `Synchronous`: the synchronous daemon; only under `manne`, since Hsu and Huang's rules take one node at a
   time;
 - `ByName`: a central daemon with fixed priorities, which is unfair;
-- `ByAge`: a central round-robin daemon, which is fair: first the nodes that have not moved, then the one that
-  moved longest ago;
+- `ByAge`: a central round-robin daemon, which is fair;
 - `Seeded`: a randomised daemon, central under `hh` and distributed under `manne`: the program's own, `drive`;
-- `Greedy`: a central daemon that sees the whole state. `Greedy()` is an adversary: it chooses the enabled
-  node and the target whose move lowers the charge least. `Greedy(most=True)` is a helper: the move that it
-  chooses lowers the charge most.
+- `Greedy`: a central daemon that sees the whole state. `Greedy()` is an adversary, `Greedy(most=True)` a
+  helper.
 
 A function from the enabled nodes to those that move is a daemon too.
 """
@@ -121,7 +119,6 @@ class Greedy:
 
 
 AnyDaemon = Union[Synchronous, ByName, ByAge, Seeded, Greedy]
-# each daemon's word, and how it is made
 WORDS: dict[str, Callable[[int], AnyDaemon]] = {
     "synchronous": lambda seed: Synchronous(),
     "least": lambda seed: ByName(),

@@ -55,7 +55,6 @@ class Direct:
 
     @property
     def is_closed(self) -> bool:
-        """Whether the session takes no more commands."""
         return not self.slot.full
 
     def since(self, place: int) -> tuple[bytes, int]:
@@ -73,7 +72,6 @@ class Direct:
 
     @property
     def entries(self) -> int:
-        """How many entries there are."""
         with self.lock:
             return entries_in(self.text_kept.last())
 
@@ -144,11 +142,9 @@ class Direct:
         return found.value
 
     def cost_of(self, word: str, numbers: Sequence[int]) -> int:
-        """The cost of an edit or a fault if it came now; a refused one costs 0."""
         return self._number(f"cost_of_{word}", numbers)[1]
 
     def silent_cost_of(self, word: str, numbers: Sequence[int]) -> Optional[int]:
-        """The cost of an edit or a fault in a silent network; None if a rule is enabled."""
         status, cost = self._number(f"silent_cost_of_{word}", numbers)
         return None if status == NOT_SILENT else cost
 
@@ -163,7 +159,6 @@ class Direct:
         return status, found.value
 
     def reach(self, word: str, numbers: Sequence[int]) -> list[int]:
-        """The nodes that an edit or a fault would reach if it came now, ascending; none if it is refused."""
         count, room = ctypes.c_size_t(), REACH_ROOM
         call: Callable[..., int] = getattr(self.library, f"reach_of_{word}")
         with self.lock:
@@ -177,7 +172,6 @@ class Direct:
                 room = count.value
 
     def is_at_rest(self, number: int) -> bool:
-        """Whether a node is at rest; an absent one is."""
         found = ctypes.c_bool()
         with self.lock:
             status = self.library.is_at_rest(self.at, number, ctypes.byref(found))
@@ -186,7 +180,6 @@ class Direct:
         return found.value
 
     def moves_left(self) -> Optional[int]:
-        """How many moves can still come before the next disturbance."""
         found = ctypes.c_uint32()
         with self.lock:
             status = self.library.moves_left(self.at, ctypes.byref(found))

@@ -65,7 +65,6 @@ class Disturbance:
 
     @property
     def is_nothing(self) -> bool:
-        """Whether nothing hits the network; it then settles from the start."""
         return not (self.faults or self.joins or self.leaves or self.changes_links)
 
     @property
@@ -150,7 +149,6 @@ class Events:
                 yield [("flag", (node, int(drawn.random() < 0.5)))]
 
     def send(self, batch: Batch, event: Event) -> None:
-        """Adds the edits and faults of an item to a batch."""
         names = self.names
         for word, numbers in event:
             if word == "scramble":

@@ -17,14 +17,13 @@ from .names import Names
 from .program import Program, found_program, page_maker
 from .state import State
 
-# the most nodes in a drawing; the most with names; the drawing's size in pixels
+# the most nodes; the most with names; pixels
 MOST_DRAWN, MOST_NAMED, SIZE = 200, 40, 260
 # the element for names, in a page that shows the numbers
 NO_NAMES = b'<script type="application/json" id="names">null</script>'
 
 
 def places(nodes: list[int]) -> dict[int, tuple[float, float]]:
-    """A place on a ring for each node."""
     radius, turn = SIZE / 2 - 20, 2 * math.pi / max(1, len(nodes))
     return {
         node: (SIZE / 2 + radius * math.sin(at * turn), SIZE / 2 - radius * math.cos(at * turn))

@@ -27,7 +27,6 @@ from .state import State
 HEAD = b"matching2"
 # how many characters of a line are shown around the fault
 WIDTH = 100
-# how many nodes have their registers shown
 MOST_NODES_SHOWN = 3
 WITHOUT_REPLY = re.compile(r"[0-9]+ [^=]* = ")
 
@@ -55,7 +54,6 @@ class Explanation:
     def frame(self) -> Iterator[str]:
         """The line, with a mark below what is wrong."""
         wide = len(str(self.line))
-        # a long line is shown in part
         left = max(0, min(self.start - WIDTH // 2, len(self.text) - WIDTH))
         front, back = ".. " if left else "", " .." if len(self.text) > left + WIDTH else ""
         shown = f"{front}{self.text[left : left + WIDTH]}{back}"
@@ -156,7 +154,7 @@ def of_order(raw: bytes, expected: int) -> Fault:
 
 
 def replied(net: Network, line: str) -> str:
-    """The reply of the machine, in the state of a network, to the event of a line."""
+    """The machine's reply to the event of a line, in the state of a network."""
     event = line.partition(" ")[2].partition(" = ")[0]
     before = len(net.transcript())
     net._session.tell(event)
@@ -232,7 +230,6 @@ def of_moves(
 
 
 def notes_of(state: State, line: str, reply: str, node: Optional[int], name: Told) -> list[str]:
-    """The machine's reply, and what the nodes concerned hold and may do."""
     event = line.partition(" ")[2].partition(" = ")[0]
     words = Reasons(state, name)
     notes = [f"the machine's reply: {reply[:WIDTH]}{' ..' if len(reply) > WIDTH else ''}"]
@@ -283,7 +280,6 @@ def head_of(broken: Broken, program: Program, engine: Optional[str]) -> int:
 
 
 def of_first_base(broken: Broken, damaged: Damaged) -> Explanation:
-    """Explains an opening base."""
     lines = [text_of_line(line) for line in broken.text.split(b"\n")]
     fault = base_faults.of_line(broken.raw, broken.line, lines, broken.is_cut)
     notes: list[str] = []

@@ -37,7 +37,6 @@ def write_whole(path: Union[str, os.PathLike[str]], data: bytes) -> None:
 
 
 def mode_of(path: str) -> Optional[int]:
-    """The mode of the file at a path; None if there is none."""
     try:
         return os.stat(path).st_mode
     except FileNotFoundError:

@@ -122,8 +122,7 @@ def regular(n: int, degree: int, seed: int = 0) -> Graph:
 def joined(n: int, degree: int, drawn: random.Random) -> set[Edge]:
     """The edges of a regular graph whose degree is at most half of the possible neighbours.
 
-    A small graph is begun anew up to nine times before its edges are switched. A large graph is never begun
-    anew.
+    Before edges are switched, a small graph is begun anew up to nine times, a large one never.
     """
     for _ in range(SMALL_TRIES if n * degree <= SMALL_ENDS else 1):
         made = EndJoiner(n, degree, drawn)
@@ -208,7 +207,6 @@ def near_pairs(at: list[tuple[float, float]], radius: float) -> Iterator[Edge]:
 
 
 def pairs(n: int) -> Iterator[Edge]:
-    """All pairs of the nodes 1 to `n`, ascending."""
     return ((a, b) for a in range(1, n + 1) for b in range(a + 1, n + 1))
 
 

@@ -34,7 +34,6 @@ class GraphBuilder:
         self._weights: dict[int, float] = {}
 
     def error(self, at: Optional[int], why: str) -> ValueError:
-        """An error of the file, or of one position in it."""
         return ValueError(f"{self.path}: {why}" if at is None else f"{self.path}: {self.spot(at)}: {why}")
 
     @property

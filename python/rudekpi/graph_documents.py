@@ -148,7 +148,7 @@ def graphml(path: str, undirected: bool = False) -> Graph:
 
 
 def once(pairs: list[tuple[str, Any]]) -> dict[str, Any]:
-    """An object of JSON. Raises `ValueError` if it has a key twice."""
+    """Raises `ValueError` if the object has a key twice."""
     found = dict(pairs)
     if len(found) != len(pairs):
         names = [name for name, _ in pairs]
@@ -249,5 +249,4 @@ def name_of(given: Any) -> Optional[Name]:
 
 
 def node_link(path: str, undirected: bool = False) -> Graph:
-    """The graph of a node-link JSON file."""
     return NodeLinkReader(path, undirected).read()

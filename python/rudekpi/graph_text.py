@@ -101,7 +101,6 @@ class EdgeListReader:
         return line if begun < 0 else line[:begun]
 
     def check_words(self, at: int, words: list[str]) -> None:
-        """Raises `ValueError` for words that are no line of an edge list."""
         for word in words:
             found = FOREIGN.search(word)
             if found:

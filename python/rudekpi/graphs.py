@@ -82,7 +82,6 @@ def graph_of(words: str, *, undirected: bool = False) -> Graph:
     make, of, kinds = MADE[word]
     given = (rest.replace("x", ",") if word == "grid" else rest).split(",")
     try:
-        # a seed may be left out
         if not len(kinds) - ("SEED" in of) <= len(given) <= len(kinds):
             raise ValueError
         numbers = [kind(text) for kind, text in zip(kinds, given)]

@@ -40,7 +40,6 @@ def base_of(part: list[str], names: Names, rules: str) -> dict[str, object]:
 
 
 def entry_of(line: str, names: Names) -> dict[str, object]:
-    """The object of an entry: its number, the event's word, the words after it, and the reply."""
     head, _, reply = line.partition(" = ")
     entry, word, *rest = head.split(" ")
     made: dict[str, object] = {"entry": int(entry), "event": word}

@@ -32,7 +32,6 @@ def folder_of(rows: str) -> str:
 
 
 def path_of(rows: str, title: str) -> str:
-    """The path of a kept graph, by its title and the path of the rows."""
     name = quote(title, safe=" ,()+=@")
     if len(name) > LONGEST:
         name = f"{name[:LONGEST]}-{hashlib.sha256(title.encode('utf-8', 'surrogatepass')).hexdigest()[:16]}"
@@ -90,7 +89,7 @@ def keep_graphs(rows: str, graphs: Iterable[Graph], goes_on: bool = False) -> No
 
 
 def read_graph(path: str, title: str) -> Graph:
-    """The graph in a file. Raises `ValueError` if the file has no graph, and `OSError`."""
+    """Raises `ValueError` if the file has no graph, and `OSError`."""
     found = json_of(path)
     try:
         nodes = tuple(read_name(node["id"]) for node in found["nodes"])
@@ -107,7 +106,6 @@ def kept_graph(rows: str, title: str) -> Optional[Graph]:
 
 
 def keep_beside(file: TextIO, graphs: Iterable[Graph], goes_on: bool) -> None:
-    """Keeps graphs next to an open file of rows, if that has a path."""
     path = getattr(file, "name", None)
     if isinstance(path, str) and os.path.isfile(path):
         keep_graphs(path, graphs, goes_on)
@@ -126,5 +124,4 @@ class Rows(Generator[Item, None, None]):
         return self._rows.throw(*given)
 
     def close(self) -> None:
-        """Hands out nothing more, and ends the processes of the sweep."""
         self._rows.close()

@@ -74,10 +74,7 @@ class KeptText:
         return made
 
     def since(self, place: int) -> tuple[bytes, int]:
-        """The text from a place of the list on, and the place after it.
-
-        If not all is kept, text before the last base is left out.
-        """
+        """The text from a place of the list on, and the place after it."""
         self.collect()
         end = len(self.parts)
         text = b"".join([self.part(at) for at in range(max(place, self.low), end)])

@@ -37,13 +37,11 @@ def escaped(letter: str) -> str:
 
 
 def label(name: Name, most: int = MOST_SHOWN) -> str:
-    """The same, cut to `most` letters."""
     text = visible(name)
     return text if len(text) <= most else text[: most - 1] + CUT
 
 
 def in_markup(text: str) -> str:
-    """A text for SVG and HTML: `<`, `>`, `&` and quotes are escaped."""
     return html.escape(text)
 
 

@@ -17,7 +17,7 @@ from .replies import Summary
 DONE, BAD_LINE, LOG_FULL, NO_MEMORY, NO_SESSION, BAD_ARGUMENT, REFUSED = range(7)
 NOT_SILENT = 8
 ENGINES = ("library", "program")
-# the refusals, numbered from 1
+# numbered from 1
 REFUSALS = (
     "unknown-node",
     "self-loop",
@@ -154,7 +154,6 @@ class Library:
         return summary_of(verdict)
 
     def audit_bytes(self, text: bytes, start: int = 0, end: Optional[int] = None) -> Summary:
-        """The verdict on a range of bytes, without a copy."""
         at: int = ctypes.cast(ctypes.c_char_p(text), ctypes.c_void_p).value  # type: ignore[assignment]
         return self.audit(at + start, (len(text) if end is None else end) - start)
 
@@ -180,7 +179,6 @@ def loaded(path: str) -> Library:
 
 
 def paths() -> list[str]:
-    """The paths to try for the library: RUDEKPI_LIBRARY's, else the package's, then the repository's."""
     given = os.environ.get("RUDEKPI_LIBRARY")
     if given:
         return [os.path.abspath(given)]
@@ -205,9 +203,8 @@ def found_library() -> Optional[Library]:
 def chosen(engine: Optional[str], program: Program) -> Optional[Library]:
     """The library if it is the engine; None if the program is.
 
-    By default the engine is the value of RUDEKPI_ENGINE, else the library if it is found and no program is
-    given. Raises `ValueError` for an unknown engine, or for the library with a program, and `OSError` if the
-    library is required but not found.
+    The default is that of a `Network`. Raises `ValueError` for an unknown engine, or for the library with a
+    program, and `OSError` if the library is required but not found.
     """
     engine = engine or (None if program else os.environ.get("RUDEKPI_ENGINE") or None)
     if engine is None:

@@ -20,7 +20,6 @@ from .script_words import (
     why_not_plain,
 )
 
-# commands of a script that are no events
 NO_EVENTS = {"drive": "steps that it made", "scramble": "faults that it drew", "checkpoint": "lines of a base"}
 DISTURBANCES = "link", "unlink", "point", "flag", "join", "leave"
 COUNTS = "nodes", "edges", "pairs", "enabled", "charge", "spent"
@@ -54,7 +53,6 @@ def text_of_line(raw: bytes) -> str:
 
 
 def unprinted(raw: bytes) -> Optional[Fault]:
-    """A byte that no transcript has."""
     # a line of a transcript may be longer than one of a script
     why = why_not_plain(raw if len(raw) <= LONGEST_LINE else raw[: LONGEST_LINE - 1] + raw[-1:])
     if not why:
@@ -66,7 +64,6 @@ def unprinted(raw: bytes) -> Optional[Fault]:
 
 
 def of_header(raw: bytes, is_cut: bool) -> Fault:
-    """Why the first line is no header."""
     line = text_of_line(raw)
     if not raw and is_cut:
         return Fault(0, 1, "the text is empty: a transcript begins with a header, as `matching hh 5`")
@@ -120,7 +117,6 @@ def of_header_words(line: str, rest: list[str], is_base: bool) -> Optional[Fault
 
 
 def of_entry(raw: bytes, is_cut: bool, expected: int) -> Fault:
-    """Why a line is no entry."""
     line = text_of_line(raw)
     odd = unprinted(raw)
     if odd:
@@ -222,7 +218,6 @@ def of_counts(line: str, start: int, reply: str) -> Optional[Fault]:
     return at_word(line, len(COUNTS), "the line has a word too many", start) if len(words) > len(COUNTS) else None
 
 
-# the words of these replies, and their patterns
 ITEMS = {
     "step": ("a move, as `1:seduce>2` or `1:update`", r"(\d+):(?:update|abandon|(?:marry|seduce)>(\d+))"),
     "enabled": ("an enabled node with its rule, as `1:seduce`", rf"(\d+):(?:{'|'.join(MOVES[1:])})"),

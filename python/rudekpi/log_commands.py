@@ -35,7 +35,6 @@ def divergence_text(found: Divergence) -> str:
 
 
 def verdict_text(found: Conformance) -> str:
-    """A verdict, for a terminal: what was judged, and the network's status."""
     moves = ", ".join(f"{count} {rule}" for rule, count in found.moves.items())
     verdict = "accepted" if found else f"not accepted, {counted(found.divergences, 'divergence')}"
     events = (
@@ -59,7 +58,6 @@ def is_same_file(one: str, other: str) -> bool:
 
 
 def run_conform(given: argparse.Namespace) -> int:
-    """Judges a log; prints each divergence as it comes, then the verdict."""
     if given.output == "-":
         raise ValueError("a transcript goes to a file, since the verdict goes to standard output")
     if given.output is not None and is_same_file(given.output, given.log):
@@ -92,17 +90,14 @@ def read(path: str) -> bytes:
 
 
 def words_of_names(parser: argparse.ArgumentParser) -> None:
-    """Adds the option for names of nodes to a command that reads a transcript."""
     parser.add_argument("--names", help="a file of the nodes' names, of which line K is that of node K")
 
 
 def names_given(given: argparse.Namespace) -> Optional[list[Name]]:
-    """The names in the file that --names gives, or None. Raises `ValueError` and `OSError`."""
     return None if given.names is None else read_names(given.names)
 
 
 def run_explain(given: argparse.Namespace) -> int:
-    """Prints why a transcript is refused, or its counts."""
     transcript = read(given.transcript)
     found = explain(transcript, names=names_given(given), program=given.program)
     if found is None:

@@ -11,7 +11,6 @@ from typing import Any, BinaryIO, Iterable, Iterator, List, NoReturn, Tuple, Uni
 
 from .errors import BadLine
 
-# a log: the path of a file, a file open for bytes, its text, or its lines or objects one by one
 Log = Union["os.PathLike[str]", BinaryIO, str, bytes, Iterable[Any]]
 # lines or objects that came at once, with their numbers
 Block = List[Tuple[int, Any]]
@@ -53,7 +52,7 @@ def shown(name: object) -> str:
 
 
 def unique(pairs: list[tuple[str, Any]]) -> dict[str, Any]:
-    """The object of some pairs. Raises `ValueError` if it has a key twice."""
+    """Raises `ValueError` if the object has a key twice."""
     made = dict(pairs)
     if len(made) != len(pairs):
         keys = [key for key, _ in pairs]
@@ -70,7 +69,6 @@ STRICT = json.JSONDecoder(object_pairs_hook=unique, parse_constant=refuse_consta
 
 
 def why_no_json(line: bytes, error: Exception, is_cut: bool) -> str:
-    """Why a line is no JSON, in words for its writer."""
     if isinstance(error, UnicodeDecodeError):
         if line.startswith(UTF_16):
             return "the log is UTF-16: write it as UTF-8"

@@ -24,7 +24,6 @@ CONTROL = re.compile("[\x00-\x1f\x7f-\x9f\u2028\u2029]")
 
 
 def line_of(name: Name) -> str:
-    """A name as a file has it: a whole number, or the text of any other name."""
     if not isinstance(name, (bool, str)):
         try:
             return str(index(name))
@@ -70,7 +69,6 @@ def read_names(path: Path) -> list[Name]:
 
 
 def names_in(data: bytes, title: str) -> list[Name]:
-    """The names in the bytes of a file with this title."""
     lines = data.removeprefix(b"\xef\xbb\xbf").split(b"\n")
     if not lines[-1]:
         lines.pop()
@@ -91,7 +89,6 @@ def names_in(data: bytes, title: str) -> list[Name]:
 
 
 def name_in(line: str) -> Name:
-    """The name that a line has. Raises `ValueError`."""
     if WHOLE.fullmatch(line):
         return int(line)
     if CONTROL.search(line):

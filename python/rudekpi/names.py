@@ -107,7 +107,6 @@ class Names:
         return number
 
     def number_if_joined(self, name: Name) -> int:
-        """The number that `number_to_join` would return; the name does not get it yet."""
         if self.own is None or not self.is_new(name):
             return self.number_of(name)
         if None not in self.own:
@@ -121,7 +120,6 @@ class Names:
         )
 
     def known(self, number: int) -> Optional[Name]:
-        """The name of a number, None if the number has none."""
         if not 0 < number <= self.count:
             return None
         return number if self.own is None else self.own[number - 1]
@@ -145,7 +143,6 @@ class Names:
         return NUMBER.sub(lambda found: repr(self.name_of(int(found[0]))), event, count=most)
 
     def named(self, given: Optional[int]) -> Optional[Name]:
-        """The name of a number; None for None."""
         return None if given is None else self.name_of(given)
 
 

@@ -124,7 +124,6 @@ class Network:
         return f"<Network {self.rules}, {nodes}, {entries}{stands}>"
 
     def _repr_html_(self) -> str:
-        """A small drawing of the network, for notebooks."""
         return self._look(lambda state: drawings.html_of(repr(self), state, self._names))
 
     def close(self) -> None:
@@ -413,7 +412,6 @@ class Network:
         return graph
 
     def _add_to(self, graph: Any, state: State) -> None:
-        """Adds the present nodes and their edges to a `networkx.Graph`."""
         name_of = self.name_of
         for node in sorted(state.neighbours):
             graph.add_node(name_of(node), pointer=self._names.named(state.pointers.get(node)), flag=node in state.flags)
@@ -453,7 +451,6 @@ class Network:
         return self._follower.look(see)
 
     def _look_at(self, node: Name, see: Callable[[State, int], Seen]) -> Seen:
-        """The result of a function on the state at a present node."""
         number = self.number_of(node)
 
         def look(state: State) -> Seen:

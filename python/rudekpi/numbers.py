@@ -6,7 +6,6 @@ from operator import index
 from typing import SupportsIndex
 
 MOST_NODES, MOST_EDGES, MOST_TURNS, MOST_SEED = 65_535, 1_048_576, 1_000_000, 2**64 - 1
-# the most entries of a log
 MOST_ENTRIES = 16_777_216
 
 

@@ -16,7 +16,6 @@ Command = Callable[[str, Callable[[argparse.Namespace], int], str], argparse.Arg
 
 
 def run_page(given: argparse.Namespace) -> int:
-    """The page of a transcript, into a file or to standard output."""
     transcript, names = read(given.transcript), names_given(given)
     try:
         audits.audit(transcript, program=given.program)
@@ -29,7 +28,6 @@ def run_page(given: argparse.Namespace) -> int:
 
 
 def run_picture(given: argparse.Namespace) -> int:
-    """The picture of a transcript for Graphviz, as the program draws it, but with the names."""
     try:
         text = audits.picture(read(given.transcript), given.entry, names=names_given(given), program=given.program)
     except Damaged as damaged:
@@ -44,7 +42,6 @@ def run_picture(given: argparse.Namespace) -> int:
 
 
 def add_commands(command: Command) -> None:
-    """Adds both to the commands of the client."""
     page = command("page", run_page, "a page that plays a transcript in a browser")
     page.add_argument("transcript", nargs="?", default="-", help="a file (standard input)")
     page.add_argument("--output", required=True, help="a file for the page")

@@ -71,7 +71,6 @@ class Held:
         return b"".join(self.read(at, min(PIECE, end - at)) for at in range(start, end, PIECE))
 
     def lines_before(self, end: int) -> int:
-        """How many lines end before a place."""
         return sum(self.read(at, min(PIECE, end - at)).count(b"\n") for at in range(0, end, PIECE))
 
 
@@ -121,7 +120,6 @@ def audit_held(held: Held, executor: Optional[Executor], size: int, program: Pro
 def verdict_of(
     held: Held, parts: Iterator[Part], executor: Executor, program: Program, engine: Optional[str]
 ) -> Summary:
-    """The verdict on the whole: the parts' verdicts, joined in order."""
     judge = functools.partial(audit, program=program, engine=engine)
     handing: Handing[tuple[int, Part]] = Handing(
         enumerate(parts), lambda task: (judge, held.part(*task[1], executor)), executor

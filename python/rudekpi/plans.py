@@ -108,7 +108,6 @@ def number_of(given: dict[str, Any], key: str, usual: int, fewest: int) -> int:
 
 
 def disturbance_of(given: Any) -> Disturbance:
-    """The disturbance of an object, or of a number of faults."""
     if type(given) is int:
         return Disturbance(given)
     known = {it.name: it.type for it in fields(Disturbance)}

@@ -37,20 +37,17 @@ class Player:
         return moves
 
     def settle(self) -> None:
-        """Makes steps until the network is silent."""
         settled = self.net.settle(Seeded(self.seed) if self.is_seeded else self.choose)
         self.steps, self.moves = self.steps + settled.steps, self.moves + settled.moves
 
 
 def disturb_at_once(net: Network, events: Events, seed: int) -> None:
-    """All edits and faults at once, without waiting."""
     with net.batch() as batch:
         for event in events.all(seed):
             events.send(batch, event)
 
 
 def disturb_one_by_one(net: Network, events: Events, seed: int, player: Player) -> None:
-    """The edits and faults one by one; the daemon moves after each."""
     for event in events.all(seed):
         with net.batch() as batch:
             events.send(batch, event)

@@ -59,10 +59,7 @@ def check_panels(count: int) -> None:
 
 
 def panels_of(rows: Sequence[Row]) -> dict[Pair, dict[Pair, list[Row]]]:
-    """The rows by graph and disturbance, then by daemon and rules, in natural order.
-
-    Raises `ValueError` if there are no rows.
-    """
+    """The rows by graph and disturbance, then by daemon and rules, in natural order."""
     if not rows:
         raise ValueError("no rows, no plot")
     found: dict[Pair, dict[Pair, list[Row]]] = {}
@@ -72,7 +69,6 @@ def panels_of(rows: Sequence[Row]) -> dict[Pair, dict[Pair, list[Row]]]:
 
 
 def groups_of(panels: dict[Pair, dict[Pair, list[Row]]]) -> list[Pair]:
-    """The daemons and rules of all panels, in natural order."""
     return list(in_order({key: None for panel in panels.values() for key in panel}))
 
 
@@ -155,7 +151,7 @@ def draw_panel(axes: Any, panel: dict[Pair, list[Row]], groups: Sequence[Pair], 
 
 
 def draw_runs(axes: Any, place: float, group: Sequence[Row], width: float) -> None:
-    """A dot for each run and a line at the median, within a width around a place of the axis."""
+    """A dot for each run, and a line at the median."""
     at = sorted(row.moves for row in group)
     axes.scatter(
         [place + aside for aside in asides(at, width)], at, s=9, alpha=0.6, color=OF_RULES[group[0].rules], linewidths=0
@@ -227,7 +223,6 @@ def growth_figure(rows: Sequence[Row]) -> Any:
 
 
 def draw_group(axes: Any, place: float, group: Sequence[Row], width: float) -> None:
-    """The runs of one daemon and rules on one graph, with their bounds and the daemon's name below."""
     draw_runs(axes, place, group, width * 0.8)
     draw_bounds(axes, place, [row.bound for row in group], width)
     axes.annotate(

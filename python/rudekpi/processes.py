@@ -125,7 +125,6 @@ class Run:
         return b""
 
     def release(self) -> None:
-        """Closes the pipes and the file."""
         self.close()
         for file in self.files:
             file.close()

@@ -26,9 +26,9 @@ def repository_program() -> str:
 
 
 def found_program(program: Program = None) -> str:
-    """The path of the program: the given one, else RUDEKPI_CONSOLE's, the package's, or the repository's.
+    """The path of the program.
 
-    Raises `FileNotFoundError` if there is none of these, and `Ended` if the repository's can't be built.
+    Raises `FileNotFoundError` if there is none, and `Ended` if the repository's can't be built.
     """
     given = program or os.environ.get("RUDEKPI_CONSOLE")
     if given:

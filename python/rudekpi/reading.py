@@ -85,7 +85,6 @@ def numbers_of(found: re.Match[str]) -> tuple[Any, ...]:
 
 
 def numbers_of_line(pattern: re.Pattern[str], line: str) -> tuple[Any, ...]:
-    """The numbers in a line, which must match this pattern."""
     found = pattern.fullmatch(line)
     if not found:
         raise ValueError

@@ -24,7 +24,6 @@ class Reasons:
         return ", ".join(listed) + (f" and {more} more" if more > 0 else "")
 
     def pointer(self, node: int) -> str:
-        """Where a node points: a name, or null."""
         other = self.state.pointers.get(node)
         return "null" if other is None else self.name(other)
 
@@ -32,7 +31,6 @@ class Reasons:
         return "true" if node in self.state.flags else "false"
 
     def registers(self, node: int) -> str:
-        """The registers of a node."""
         if node not in self.state.neighbours:
             return f"{self.name(node)} is not present"
         held = f"{self.name(node)} points at {self.pointer(node)}"
@@ -60,7 +58,6 @@ class Reasons:
         return f"{name}'s pointer is null, and nobody points at {name}"
 
     def allowed(self, node: int) -> str:
-        """What the rules allow a node in this state, and why."""
         name = self.name(node)
         if node not in self.state.neighbours:
             return f"{name} is not present"
@@ -84,7 +81,6 @@ class Reasons:
         return ", flagged" if other in self.state.flags else f", not above {self.name(node)}"
 
     def why_silent(self, node: int) -> str:
-        """Why no rule is enabled at a present node."""
         state, name = self.state, self.name(node)
         other = state.pointers.get(node)
         if other is not None and state.pointers.get(other) == node:

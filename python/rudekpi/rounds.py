@@ -58,7 +58,6 @@ class Watch:
                 )
 
     def step(self, moves: Iterable[str]) -> None:
-        """Follows the moves of a step, as its reply lists them."""
         if not self.awaited:
             self.awaited = set(self.enabled)
         state, moved = self.state, []
@@ -107,7 +106,6 @@ class Watch:
         return found
 
     def look_again(self, nodes: Iterable[int]) -> None:
-        """Checks again which of some nodes are enabled."""
         state = self.state
         for node in nodes:
             if node in state.neighbours and rules.rule_at(state, node):
@@ -118,7 +116,6 @@ class Watch:
 
 
 def watch_after(transcript: str, entry: int) -> Watch:
-    """A network that is followed through an accepted transcript to an entry, and watched from there on."""
     lines = iter(transcript.splitlines())
     state = State()
     state.follow([next(lines)])

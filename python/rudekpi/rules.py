@@ -29,10 +29,7 @@ def dense_bound(nodes: int) -> int:
 
 
 def moves_left(rules: str, charge: int, nodes: int) -> int:
-    """The most moves before the next disturbance, from a state with this charge and number of nodes.
-
-    This is the charge, but under `hh` at most the bound by nodes alone.
-    """
+    """The most moves before the next disturbance: the charge, under `hh` at most `dense_bound`."""
     return min(charge, dense_bound(nodes)) if rules == "hh" else charge
 
 
@@ -47,7 +44,6 @@ def suitors(state: State, node: int) -> list[int]:
 
 
 def is_wooed(state: State, node: int) -> bool:
-    """Whether a neighbour points at a node."""
     return any(state.pointers.get(other) == node for other in state.neighbours[node])
 
 
@@ -82,7 +78,6 @@ def targets(state: State, node: int, rule: str) -> list[int]:
 
 
 def enabled(state: State) -> dict[int, str]:
-    """The enabled nodes with their rules, ascending."""
     found = ((node, rule_at(state, node)) for node in sorted(state.neighbours))
     return {node: rule for node, rule in found if rule}
 

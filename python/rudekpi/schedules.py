@@ -1,8 +1,7 @@
 """The longest schedules: the most moves that a daemon can make a network do, from any state.
 
 In a small network every state, choice and target is examined. Since each move lowers the charge, no state
-comes twice. So after its first step the longest schedule continues with the longest one of the next state. In
-a larger network the result is the best schedule that a search found, and is marked so.
+comes twice. So after its first step the longest schedule continues with the longest one of the next state.
 """
 
 from __future__ import annotations
@@ -104,7 +103,6 @@ class Search:
         return (self.pointers[node].index(pointer) * self.flags + flag) * self.weights[node]
 
     def set_to(self, code: int) -> None:
-        """Sets the state to that of a number."""
         for node, places in self.pointers.items():
             code, digit = divmod(code, len(places) * self.flags)
             self.state.point(node, places[digit // self.flags])
@@ -192,7 +190,6 @@ def longest(graph: Graph, rules: str, *, seconds: float = 10.0, seed: int = 0) -
 def told(
     search: Search, moves: int, is_proved: bool, states: int, steps: Sequence[Sequence[tuple[int, str, int]]]
 ) -> Longest:
-    """A schedule from the state of the search, by the graph's names."""
     graph, state = search.graph, search.state
     name: Callable[[int], Name] = lambda number: graph.nodes[number - 1]
     pointers = tuple((name(node), name(target)) for node, target in sorted(state.pointers.items()))

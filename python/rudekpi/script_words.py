@@ -10,7 +10,6 @@ from .numbers import MOST_NODES, MOST_SEED, MOST_TURNS
 
 LONGEST_LINE = 1_048_576
 NUMERAL = re.compile(r"0|[1-9][0-9]*")
-# the kinds of words after a command
 NODE, NULLABLE, BIT, SEED, TURNS, ITEM = (
     "a node",
     "a node or -",
@@ -79,7 +78,6 @@ def why_no_command(line: bytes) -> Optional[str]:
 
 
 def why_not_plain(line: bytes) -> Optional[str]:
-    """Why bytes of a line are in no command."""
     if len(line) > LONGEST_LINE:
         return f"the line has {len(line)} bytes, and {LONGEST_LINE} are the most"
     if line.startswith(b"\xef\xbb\xbf"):
@@ -103,7 +101,6 @@ def why_not_spaced(line: bytes) -> Optional[str]:
 
 
 def why_unknown(word: str) -> str:
-    """The command that an unknown word may mean."""
     if word.lower() in COMMANDS:
         return f"commands are written in small letters: `{word.lower()}`"
     near = difflib.get_close_matches(word.lower(), COMMANDS, 1)
@@ -119,7 +116,6 @@ def why_unknown(word: str) -> str:
 
 
 def why_no_word(text: str, kind: str) -> Optional[str]:
-    """Why a word is not of the kind that its place needs."""
     if kind == NULLABLE:
         return None if text == "-" else why_no_word(text, NODE)
     if kind == ITEM:

@@ -21,10 +21,9 @@ MOST_CAME = 8
 class Session:
     """The talk with a run. Each command is asked by one C call, so none is half asked.
 
-    The session never waits for one pipe while the other could go on, so no reply is too large. The program is
-    ended when nothing refers to the session. In the middle of each function here a signal's handler may ask a
-    question, which is answered first. What the interrupted function made from an older `Answers` or `Load` is
-    then dropped, since a later one is already there.
+    The session never waits for one pipe while the other could go on, so no reply is too large. If a signal's
+    handler asks a question in the middle of a function, the question is answered first. What that function
+    made from an older `Answers` or `Load` is then dropped, since a later one is already there.
     """
 
     def __init__(self, words: Sequence[str], setting: Setting) -> None:
@@ -45,7 +44,6 @@ class Session:
 
     @property
     def answers(self) -> Answers:
-        """The latest state of reading the answers."""
         answers = self.reached
         while answers.later:
             answers = answers.later[0]
@@ -54,11 +52,9 @@ class Session:
 
     @property
     def entries(self) -> int:
-        """How many entries were read."""
         return max(0, self.answers.entries)
 
     def trouble(self) -> Optional[RudekpiError]:
-        """What ended the run, other than a close."""
         ended = self.talk.ended
         return self.answers.wrong or (ended if not self.is_closed or isinstance(ended, Inherited) else None)
 
@@ -106,11 +102,9 @@ class Session:
         return NoSuchCommand(f"the program {what}: play the network by engine='library'")
 
     def moves_left(self) -> Optional[int]:
-        """None: the program has no such question."""
         return None
 
     def tell(self, line: str) -> None:
-        """Carries out a line of a script; asks for the status after a line that writes several entries."""
         is_ended_by_status = line.startswith(("drive ", "scramble "))
         self.ask(AskedTurns(self, line, read_accepted) if is_ended_by_status else Asked(self, line, read_accepted))
 

@@ -46,7 +46,6 @@ class Shell:
         return self.new_lines()
 
     def new_lines(self) -> str:
-        """The part of the transcript not yet shown."""
         said = self.net.transcript()
         new, self.shown = said[self.shown :], len(said)
         return new

@@ -53,7 +53,6 @@ class State:
         self.move(int(found[1]), found[2] or found[3], int(found[4]) if found[4] else None)
 
     def follow_head(self, words: list[str]) -> None:
-        """Follows a line of a header or a base."""
         if words[0] == "matching":
             self.__init__(words[1], int(words[2]), range(1, int(words[-1]) + 1))  # type: ignore[misc]
         elif words[0] == "matching2":
@@ -125,11 +124,7 @@ class Follower:
         self.followed: list[tuple[int, State]] = []
 
     def state(self) -> State:
-        """The network's state once all commands are carried out.
-
-        Raises `Garbled` if the program gave a wrong answer, and `Ended` in a child of the process that made
-        the network.
-        """
+        """The network's state once all commands are carried out. Raises what `since` raises."""
         return self.look(lambda state: state)
 
     def look(self, see: Callable[[State], Seen]) -> Seen:

@@ -12,7 +12,6 @@ from .numbers import MOST_NODES, MOST_TURNS, number_within
 from .program import Program, found_program
 
 MOST_SCRIPTS = MOST_WORKERS = 64
-# a path; or the lines of a script, as one text or one by one
 Script = Union[str, "os.PathLike[str]", Iterable[str]]
 
 

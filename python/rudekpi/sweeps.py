@@ -36,10 +36,8 @@ from .replies import Name, Status
 from .rounds import watch_after
 from .workers import Handing, count_of
 
-# a daemon, a function that is a daemon, or the word of a daemon
 AnyDaemon = Union[daemons.AnyDaemon, Daemon, str]
 MOST_EXPERIMENTS = 1_000_000
-# about how many seconds a task takes
 TASK_SECONDS = 1.0
 
 
@@ -62,10 +60,9 @@ class Row:
     """The results of an experiment: its sizes, counts, bounds and time.
 
     `charge` is the charge at the beginning, `pairs` the number of pairs at the end. `bound` is that of the
-    last `Epoch`: 2m + n (`hh`) or 2m + 3n (`manne`), and under `hh` at most n²/2 + n - 2. If disturbances
-    come one by one, `charge` also includes the sum of their costs, and `bound` is that of a `Burst`. The
-    moves exceed neither charge nor bound. The rounds are measured; no bound on them is proved: see
-    `rudekpi.rounds`. `seconds` is the time for the whole experiment.
+    last `Epoch`. If disturbances come one by one, `charge` also includes the sum of their costs, and `bound`
+    is that of a `Burst`. The moves exceed neither charge nor bound. The rounds are measured; no bound on them
+    is proved: see `rudekpi.rounds`. `seconds` is the time for the whole experiment.
     """
 
     graph: str
@@ -332,7 +329,6 @@ class Tasks:
         return [self.todo.popleft() for _ in range(size)]
 
     def size(self) -> int:
-        """How many experiments take about a second."""
         return max(1, int(TASK_SECONDS * self.count / self.seconds)) if self.seconds else 1
 
     def add(self, rows: list[Row]) -> None:
@@ -340,7 +336,6 @@ class Tasks:
 
 
 def rows_of(todo: list[Experiment], given: Union[Executor, int]) -> Generator[Row, None, None]:
-    """The rows of experiments, each as soon as an executor, or one of this many processes, finishes it."""
     tasks, lost = Tasks(todo, count_of(given)), []
     handing: Handing[list[Experiment]] = Handing(tasks, lambda task: (run_all, task), given)
     with contextlib.closing(handing.done()) as done:

@@ -41,7 +41,6 @@ def resampled_median(known: Sequence[float], drawn: random.Random) -> float:
 
 
 def groups_of(rows: Sequence[Row]) -> list[tuple[tuple[str, ...], list[Row]]]:
-    """The rows of each graph, disturbance, daemon and rules, in natural order."""
     groups: dict[tuple[str, ...], list[Row]] = {}
     for row in rows:
         groups.setdefault((row.graph, row.disturbance, row.daemon, row.rules), []).append(row)
@@ -81,7 +80,6 @@ def table_of(rows: Sequence[Row], is_markdown: bool = False) -> list[str]:
 
 
 def markdown_of(lines: Sequence[Sequence[str]]) -> list[str]:
-    """The lines of the table in Markdown, with figures aligned right."""
     rule = ["---" if at < WORDS else "---:" for at in range(len(HEAD))]
     escaped = [[text.replace("\\", "\\\\").replace("|", "\\|") for text in line] for line in lines]
     return [f"| {' | '.join(line)} |" for line in (escaped[0], rule, *escaped[1:])]

@@ -3,8 +3,7 @@
 A signal's handler may raise an error, as `KeyboardInterrupt`, after any instruction: also between the return
 of a `write` and the store of its result. In the middle of any function here a handler may itself ask the
 program a question, which is answered first. So each transfer of bytes, or of an exit status, is one C call.
-That call finds the position, moves the bytes, and records the move before the next handler runs. A lock or a
-thread would cost more than the answer itself. Blocking signals would not help if another thread takes them.
+That call finds the position, moves the bytes, and records the move before the next handler runs.
 """
 
 from __future__ import annotations
@@ -130,7 +129,6 @@ class Talk:
                 raise
 
     def close_input(self) -> None:
-        """Ends the program's script."""
         self.run.to.close()
 
     def end(self) -> None:

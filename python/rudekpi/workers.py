@@ -102,7 +102,6 @@ def called(token: str, call: Callable[..., Any], *words: Any) -> Any:
 
 
 def is_death(error: BaseException) -> bool:
-    """Whether an error means that a worker died, here or on a cluster."""
     if isinstance(error, (BrokenExecutor, CancelledError)) or type(error).__name__ in (
         "KilledWorker",
         "CommClosedError",
@@ -130,8 +129,7 @@ class Handing(Generic[Task]):
 
     `call_of` gives the call for each task. If a task's worker dies, or a cluster loses the task's result, the
     task is tried once more with nothing else under way, so that a second death shows the task at fault. Dead
-    processes started here are replaced. A given executor that breaks is not replaced: it raises its own
-    error, a `BrokenExecutor`.
+    processes started here are replaced, a given executor is not.
     """
 
     def __init__(self, tasks: Iterator[Task], call_of: Callable[[Task], Call], given: Union[Executor, int]) -> None:

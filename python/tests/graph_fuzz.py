@@ -4,9 +4,9 @@
 usage: python/tests/graph_fuzz.py [--count N] [--seed S] [FORMAT ..]
 
 N files of each format are read (10,000 by default). A file passes if a `ValueError` that begins with its path
-refuses it, or if it is read as the graph that networkx reads. networkx has no readers for DIMACS and METIS;
-these are compared with a reading that looks only for edges. Each line names a format, the number of files
-refused and read, and the seconds. A file that fails is printed, and the exit status is 1. Needs networkx.
+refuses it, or if networkx reads the same graph. networkx has no readers for DIMACS and METIS; these are
+compared with a reading that looks only for edges. Each line names a format, the number of files refused and
+read, and the seconds. A file that fails is printed, and the exit status is 1. Needs networkx.
 """
 
 from __future__ import annotations
@@ -45,7 +45,6 @@ GRAPHML = """<?xml version='1.0' encoding='utf-8'?>
   </graph>
 </graphml>
 """
-# whole files of each format, by file extension
 SAMPLES: dict[str, list[str]] = {
     ".txt": [
         "# a ring and a tail\n" + "".join(f"{a} {b}\n" for a, b in EDGES) + "7\n",
@@ -105,7 +104,6 @@ def mutated(drawn: random.Random, text: str) -> bytes:
 
 
 def of_words(drawn: random.Random, text: str) -> str:
-    """Replaces, removes or doubles a word."""
     words = SPLIT.split(text)
     place = drawn.randrange(len(words))
     words[place] = drawn.choice((drawn.choice(WORDS), "", words[place] * 2, drawn.choice(words)))
@@ -113,7 +111,6 @@ def of_words(drawn: random.Random, text: str) -> str:
 
 
 def of_lines(drawn: random.Random, text: str) -> str:
-    """Removes, doubles or moves a line, cuts the text off there, or puts in a line of another format."""
     lines = text.splitlines(keepends=True) or [""]
     place, other = drawn.randrange(len(lines)), drawn.randrange(len(lines))
     way = drawn.randrange(5)
@@ -131,7 +128,6 @@ def of_lines(drawn: random.Random, text: str) -> str:
 
 
 def of_characters(drawn: random.Random, text: str) -> str:
-    """Removes, inserts or replaces a character."""
     place = drawn.randrange(len(text) + 1)
     new = drawn.choice(
         (chr(drawn.randrange(32, 127)), drawn.choice("0123456789"), drawn.choice("\n\t ,.#-\u00b2\u00a0"))
@@ -140,10 +136,9 @@ def of_characters(drawn: random.Random, text: str) -> str:
 
 
 def of_graph(graph: Any) -> Reading:
-    """The graph that networkx read."""
     ends = [edge[:2] for edge in graph.edges]
     edges = {frozenset(map(str, edge)) for edge in ends}
-    # in a directed graph an edge may be there once in each direction
+    # in a directed graph an edge may be there in each direction
     is_multiple = graph.is_multigraph() and len(set(ends) if graph.is_directed() else edges) < len(ends)
     return Reading(set(map(str, graph.nodes)), edges, graph.is_directed(), is_multiple)
 
@@ -176,7 +171,7 @@ def of_metis(text: str) -> Reading:
 
 
 def of_graphml(text: bytes) -> Reading:
-    """The reading of networkx; if it fails, as for data with an unknown key, that of the elements alone."""
+    """networkx's reading; if it fails, as for unknown keys, that of the elements alone."""
     import networkx
 
     elements = list(ElementTree.parse(io.BytesIO(text)).iter())
@@ -217,7 +212,7 @@ READINGS: dict[str, Callable[[bytes], Reading]] = {
 
 
 def fault_of(path: pathlib.Path, text: bytes, undirected: bool) -> tuple[str, str]:
-    """Whether a file was `refused` or `read`, and what is wrong with that, if anything."""
+    """`refused` or `read`, and what is wrong with that, if anything."""
     path.write_bytes(text)
     with warnings.catch_warnings():
         warnings.simplefilter("ignore")
@@ -240,7 +235,7 @@ def fault_of(path: pathlib.Path, text: bytes, undirected: bool) -> tuple[str, st
 
 
 def fuzz(end: str, count: int, seed: int, folder: str) -> tuple[collections.Counter[str], list[str]]:
-    """How many files of a format were refused and read, and what is wrong, each with its file."""
+    """How many files were refused and read, and what is wrong, each with its file."""
     drawn, counts, wrong = random.Random(f"{end} {seed}"), collections.Counter[str](), []
     for number in range(count):
         text = mutated(drawn, drawn.choice(SAMPLES[end]))

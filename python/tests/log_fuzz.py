@@ -34,7 +34,7 @@ Verdict = tuple[str, int]
 
 
 def log_of(transcript: str, names: Any = "abcdefghijklmnopqrstuvwxyz") -> list[str]:
-    """The log of a transcript whose nodes 1, 2, .. have these names."""
+    """The log of a transcript whose nodes have these names."""
     header, *lines = transcript.splitlines()
     words = header.split(" ")
     count, present = int(words[2]), int(words[-1])
@@ -68,7 +68,7 @@ def log_of(transcript: str, names: Any = "abcdefghijklmnopqrstuvwxyz") -> list[s
 
 
 def samples() -> list[tuple[str, list[str]]]:
-    """Whole logs with their rules, from the examples with few nodes."""
+    """Logs with their rules, from the examples with few nodes."""
     found = []
     for path in sorted(EXAMPLES.glob("*.transcript")):
         text = path.read_text()
@@ -84,7 +84,7 @@ def once(pairs: list[tuple[str, Any]]) -> dict[str, Any]:
 
 
 class Claims:
-    """The second reading: a transcript of all that a log claims."""
+    """The second reading."""
 
     def __init__(self, rules: str, head: Any) -> None:
         assert isinstance(head, dict) and set(head) <= {"nodes", "capacity", "time"}
@@ -195,7 +195,6 @@ class Claims:
 
 
 def second_verdict(log: bytes, rules: str, engine: str) -> Verdict:
-    """The auditor's verdict on all that a log claims."""
     claims: Optional[Claims] = None
     last: Verdict = ("accepted", 0)
     number = 0
@@ -254,7 +253,6 @@ def damaged_value(value: Any, chance: random.Random) -> Any:
 
 
 def damaged_line(line: str, lines: list[str], chance: random.Random) -> str:
-    """A line with one change."""
     event = json.loads(line)
     key = chance.choice([*event])
     act = chance.randrange(6)
@@ -275,7 +273,6 @@ def damaged_line(line: str, lines: list[str], chance: random.Random) -> str:
 
 
 def damaged_log(lines: list[str], chance: random.Random) -> bytes:
-    """A log with one or two changes."""
     lines = lines[:]
     for _ in range(chance.randrange(1, 3)):
         at, act = chance.randrange(len(lines)), chance.randrange(8)
@@ -306,7 +303,6 @@ def damaged_log(lines: list[str], chance: random.Random) -> bytes:
 
 
 def fuzz(count: int, seed: int, engine: str = "library") -> tuple[collections.Counter[str], Iterator[str]]:
-    """How many logs had which verdict, and which failed."""
     chance, known = random.Random(seed), samples()
     counts: collections.Counter[str] = collections.Counter()
     wrong: list[str] = []

@@ -1,4 +1,4 @@
-"""Shared by the client's tests: time limits, the tests' own programs, commands and replies as texts."""
+"""Shared by the client's tests: time limits, programs, commands and replies as texts."""
 
 from __future__ import annotations
 
@@ -29,10 +29,7 @@ TOP = os.path.dirname(os.path.dirname(os.path.dirname(os.path.abspath(__file__))
 
 
 class Timed(unittest.TestCase):
-    """A test that fails if it takes longer than its seconds, so that a deadlock is a failure.
-
-    tests/client makes one class of each for each of its engines.
-    """
+    """Fails if it takes too long; tests/client makes a class of it for each of its engines."""
 
     seconds = 60
     engines: tuple[str, ...] = ("program", "library")
@@ -48,7 +45,7 @@ class Timed(unittest.TestCase):
 
         before = signal.signal(signal.SIGALRM, stop)
         self.addCleanup(signal.signal, signal.SIGALRM, before)
-        # and again each second, since other subtests follow one that is stopped
+        # again each second, since other subtests follow one that is stopped
         signal.setitimer(signal.ITIMER_REAL, self.seconds, 1)
         self.addCleanup(signal.setitimer, signal.ITIMER_REAL, 0)
 
@@ -58,7 +55,7 @@ class Timed(unittest.TestCase):
         return made.name
 
     def program(self, text: str, name: str = "program") -> str:
-        """A program of the test's own: a shell script, or a Python one if it begins with `import`."""
+        """A shell script, or a Python one if it begins with `import`."""
         path = os.path.join(self.folder(), name)
         first = f"#!{sys.executable}\n" if text.startswith("import ") else "#!/bin/sh\n"
         with open(path, "w") as file:
@@ -67,9 +64,9 @@ class Timed(unittest.TestCase):
         return path
 
     def expect_end_by_interrupt(self, script: str, marks: str, count: int) -> str:
-        """Runs a Python script until it has made `count` files that match `marks`, then ends it by Ctrl-C.
+        """Runs a Python script until `count` files match `marks`, then ends all its processes by Ctrl-C.
 
-        All its processes get that, as from a terminal, and end. Returns its standard error.
+        Returns its standard error.
         """
         folder = self.folder()
         with open(os.path.join(folder, "script.py"), "w") as file:
@@ -86,20 +83,19 @@ class Timed(unittest.TestCase):
         if run.poll() is None:
             os.killpg(run.pid, signal.SIGINT)
         said = run.communicate()[1].decode()
-        # what multiprocessing started ends a moment after its process; else this test fails by its time limit
+        # processes of multiprocessing end a moment later; else this test fails by its time limit
         while is_group(run.pid):
             time.sleep(0.01)
         return said
 
 
 def children() -> list[int]:
-    """The processes that this thread started, with ended ones that were not waited for."""
+    """This thread's processes, with ended ones that were not waited for."""
     with open(f"/proc/self/task/{threading.get_native_id()}/children") as file:
         return [int(word) for word in file.read().split()]
 
 
 def is_group(group: int) -> bool:
-    """Whether a process of this group exists."""
     try:
         os.killpg(group, 0)
     except ProcessLookupError:
@@ -115,7 +111,7 @@ def end_group(group: int) -> None:
 class Losing(concurrent.futures.Executor):
     """Does each task at once, and loses the results whose numbers, from 1, are in `lost`.
 
-    Distributed loses one so if a worker dies while it hands a result over.
+    Distributed does so if a worker dies while it hands a result over.
     """
 
     def __init__(self, lost: Container[int] = (1,)) -> None:
@@ -145,7 +141,6 @@ class Losing(concurrent.futures.Executor):
 
 
 def session_of(net: Network) -> Session:
-    """The session of a network that a program plays."""
     assert isinstance(net._session, Session)
     return net._session
 
@@ -159,7 +154,7 @@ def has_ended(net: Network) -> bool:
 
 
 def play(player: Union[Network, Batch], line: str, name: Callable[[str], Name] = int) -> Any:
-    """Gives a network or a batch the command of a script's line; `name` turns a number's text into a name."""
+    """Gives the command of a script's line; `name` turns a number's text into a name."""
     word, *rest = line.split(" ")
     if word in ("link", "unlink"):
         return getattr(player, word)(name(rest[0]), name(rest[1]))

@@ -1,7 +1,4 @@
-"""Wrong names, choices, daemons, entries, transcripts and files are explained, and lose nothing.
-
-Also networks that are used in a child of their process.
-"""
+"""Wrong names, choices, daemons, entries, transcripts and files are explained, and lose nothing."""
 
 from __future__ import annotations
 
@@ -27,7 +24,6 @@ TEXT = "matching hh 2\n1 link 1 2 = ok\n2 enabled = 1:seduce 2:seduce\n3 step 1 
 
 
 def fed(judge: Audit, text: memoryview) -> Summary:
-    """The verdict on a text fed as one piece."""
     judge.feed(text)
     return judge.finish()
 
@@ -157,12 +153,9 @@ class Given(Timed):
 
 
 class Children(Timed):
-    """A child of the process that made a network uses it."""
-
     engines = ("program", "library")
 
     def calls(self, net: Network) -> dict[str, Callable[[], Any]]:
-        """Each way to ask a network."""
         batch = net.batch()
         return {
             "link": lambda: net.link(1, 2),
@@ -228,8 +221,6 @@ class Children(Timed):
 
 
 class ShortOfMemory(Timed):
-    """Memory runs out for a reply, by either engine."""
-
     engines = ("program", "library")
 
     def test_it_is_told_which_entry_was_carried_out(self) -> None:
@@ -251,13 +242,11 @@ class ShortOfMemory(Timed):
 
 
 class Creation(Timed):
-    """What is left if the creation of a network is cut short."""
-
     engines = ("program", "library")
     seconds = 120
 
     def cut_at_random_times(self, make: Callable[[], Any], times: int = 200) -> None:
-        """Makes something `times` times, while a thread sends signals whose handler raises."""
+        """Makes something `times` times, while signals come whose handler raises."""
         main, drawn, cut = threading.get_ident(), random.Random(9), 0
         is_armed, is_sent = [False], threading.Event()
 
@@ -277,7 +266,6 @@ class Creation(Timed):
                 is_sent.wait()
 
         self.addCleanup(signal.signal, signal.SIGUSR1, signal.signal(signal.SIGUSR1, handler))
-        # an interrupt in a finalizer is reported there, and not raised
         self.addCleanup(setattr, sys, "unraisablehook", sys.unraisablehook)
         sys.unraisablehook = lambda told: self.assertIs(told.exc_type, Cut)
         sender = threading.Thread(target=send, daemon=True)
@@ -285,7 +273,7 @@ class Creation(Timed):
         while sender.is_alive():
             try:
                 while sender.is_alive():
-                    # again, since one that is raised in a finalizer is not seen here
+                    # again, since one that is raised in a finalizer is only reported
                     is_armed[0] = True
                     make()
                 is_armed[0] = False

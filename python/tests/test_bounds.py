@@ -1,4 +1,4 @@
-"""How many moves can still come, and the bounds of epochs; numbers worked out by hand."""
+"""How many moves can still come, and the bounds of epochs; worked out by hand."""
 
 from __future__ import annotations
 
@@ -10,7 +10,7 @@ from support import Timed
 
 
 def linked(rules: str, graph: graphs.Graph, pointers: Iterable[tuple[int, int]] = ()) -> Network:
-    """A network of a graph, with pointers as written by faults."""
+    """With pointers as written by faults."""
     net = Network(rules, graph.nodes)
     for a, b in graph.edges:
         net.link(a, b)

@@ -16,8 +16,7 @@ from rudekpi.rounds import Watch
 from rudekpi.state import State
 from support import TOP, Timed
 
-# 1-2 is linked and settles; 2-3 and 3-4 come at once; 2 is turned away; 1-2 is cut, and the network stays
-# silent
+# 1-2 settles; 2-3 and 3-4 come at once; 2 is turned away; 1-2 is cut, and the network stays silent
 ROW = """\
 matching hh 4
 1 link 1 2 = ok
@@ -32,8 +31,7 @@ matching hh 4
 10 step 2 = 2:marry>1
 11 unlink 1 2 = ok
 """
-# under manne all enabled nodes move at once: 1 seduces 2 and 2 seduces 3; 1 abandons; 3 marries; both flags
-# are set
+# under manne all enabled nodes move at once: 1 and 2 seduce; 1 abandons; 3 marries; both flags are set
 AT_ONCE = """\
 matching manne 3
 1 link 1 2 = ok
@@ -54,7 +52,7 @@ def rudekpi(*words: str, given: str = "") -> subprocess.CompletedProcess[str]:
 
 
 def watched(lines: list[str]) -> Watch:
-    """A network that was followed through these lines, the first of which is the header."""
+    """A network that followed these lines, from the header on."""
     state = State()
     state.follow(lines[:1])
     watch = Watch(state)
@@ -68,10 +66,10 @@ class Rounds(Timed):
     engines = ("program",)
 
     def test_by_hand(self) -> None:
-        # 1 and 2 are enabled at first: the first round waits for both, as 2 is enabled until it marries
+        # 1 and 2 are enabled at first: the first round waits for both
         lines = ROW.splitlines()
         self.assertEqual([watched(lines[: at + 1]).rounds for at in range(4)], [0, 0, 0, 1])
-        # 2 abandons, which ends the round, since 1 is disabled by it; the next one waits for 2 alone
+        # 2 abandons, which disables 1 and ends the round; the next one waits for 2 alone
         self.assertEqual([watched(lines[: at + 1]).rounds - 2 for at in (8, 9, 10)], [0, 1, 2])
         watch = watched(lines)
         self.assertEqual((watch.steps, watch.pairs, watch.enabled), (6, 1, set()))
@@ -84,8 +82,7 @@ class Rounds(Timed):
         self.assertEqual(watched(lines).moves, {"update": 2, "marry": 1, "seduce": 2, "abandon": 1})
 
     def test_an_edit_ends_a_round(self) -> None:
-        # 1-2 and 3-4 are linked, all are enabled, and 1 moves; 2, 3 and 4 are awaited, until their edges are
-        # cut
+        # 1-2 and 3-4 are linked, and 1 moves; 2, 3 and 4 are awaited, until their edges are cut
         lines = "matching hh 4|1 link 1 2 = ok|2 link 3 4 = ok|3 step 1 = 1:seduce>2|4 unlink 1 2 = ok".split("|")
         watch = watched(lines)
         self.assertEqual((watch.rounds, watch.awaited, watch.enabled), (0, {3, 4}, {3, 4}))
@@ -115,7 +112,7 @@ class Rounds(Timed):
                     self.assertLessEqual(burst.steps, burst.moves)
 
     def act(self, net: Network, chance: random.Random) -> None:
-        """A random edit or fault, or a few steps; it may be refused."""
+        """A random edit or fault, or a few steps; perhaps refused."""
         a, b = chance.randint(1, 7), chance.randint(1, 7)
         with net.batch(raises=False) as batch:
             what = chance.randrange(9)
@@ -131,7 +128,7 @@ class Rounds(Timed):
                 batch.drive(chance.randrange(99), what - 3)
 
     def expect_enabled(self, transcript: str) -> None:
-        """The followed enabled nodes and pairs are the machine's, at each `enabled` of a transcript."""
+        """They are the machine's, at each `enabled` of a transcript."""
         lines, seen = transcript.splitlines(), 0
         state = State()
         state.follow(lines[:1])
@@ -178,7 +175,7 @@ class Bursts(Timed):
 
     def test_those_that_come_at_once_are_one(self) -> None:
         begun = "matching hh 3 1\n"
-        # two nodes join: no node is enabled, and what comes next ends the burst, as an entry or not
+        # two nodes join, none is enabled: what comes next ends the burst, as an entry or not
         at_once = "1 join 2 = ok\n2 join 3 = ok\n"
         rest = "3 status = nodes=3 edges=0 pairs=0 enabled=0 charge=0 spent=0\n4 link 1 2 = ok\n"
         for text, ends in (

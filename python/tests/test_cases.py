@@ -1,4 +1,4 @@
-"""The cases of tests/*.cases through the client: each reply, read and spelled again, is theirs."""
+"""The cases of tests/*.cases through the client, which reads each reply and spells it again."""
 
 from __future__ import annotations
 
@@ -21,7 +21,6 @@ if TYPE_CHECKING:
 
 
 def case_files() -> types.ModuleType:
-    """tests/run, which reads case files."""
     loader = importlib.machinery.SourceFileLoader("case_files", os.path.join(TOP, "tests", "run"))
     found = importlib.util.spec_from_loader("case_files", loader)
     assert found is not None
@@ -31,7 +30,7 @@ def case_files() -> types.ModuleType:
 
 
 def cases_of(name: str, word: str) -> list[Case]:
-    """The cases of a file for this command of the program whose whole output is given."""
+    """Those for this command whose whole output is given."""
     found = case_files().read_cases(pathlib.Path(TOP, "tests", name))
     found = [case for case in found if not case.table and case.words[0] == word.encode()]
     return [case for case in found if not case.broken and case.out.is_exact()]
@@ -42,7 +41,7 @@ def text_of(blocks: Iterable[tuple[int, bytes]]) -> str:
 
 
 def entries_of(transcript: str) -> list[tuple[str, str]]:
-    """The events and replies below a transcript's header; a base's lines are the reply to `checkpoint`."""
+    """The events and replies below a header; a base's lines are the reply to `checkpoint`."""
     entries: list[tuple[str, str]] = []
     for line in transcript.splitlines()[1:]:
         if line.startswith("base "):
@@ -56,8 +55,6 @@ def entries_of(transcript: str) -> list[tuple[str, str]]:
 
 
 class Rows(Timed):
-    """The worked examples, and the turns of daemons and injectors."""
-
     def setUp(self) -> None:
         super().setUp()
         worked, turns, joins = (cases_of(f"{name}.cases", "run") for name in ("worked_examples", "turns", "joins"))
@@ -76,7 +73,6 @@ class Rows(Timed):
     def expect(
         self, lines: Sequence[str], replies: Iterable[object], wanted: str, number: Callable[[Name], str] = str
     ) -> None:
-        """Expects the replies to a script's lines to be those of the transcript."""
         left = entries_of(wanted)
         for line, reply in zip(lines, replies):
             if isinstance(reply, Turns):
@@ -151,8 +147,6 @@ def by_nodes(text: str, table: str) -> str:
 
 
 class Judged(Timed):
-    """Transcripts, correct and damaged."""
-
     def test_verdicts(self) -> None:
         kinds = set()
         for case in cases_of("verdicts.cases", "audit"):

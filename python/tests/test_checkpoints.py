@@ -1,4 +1,4 @@
-"""Checkpoints through the client: bases by name, in batches, in pieces, garbled, and continued."""
+"""Checkpoints through the client: bases by name, in batches, in pieces, garbled, continued."""
 
 from __future__ import annotations
 
@@ -35,7 +35,6 @@ NOWHERE = Registers(None, False)
 
 
 def stirred(net: Network, seed: int) -> None:
-    """Random edits, faults, moves and checkpoints."""
     drawn = random.Random(seed)
     nodes = net.nodes
     with net.batch(raises=False) as batch:
@@ -55,7 +54,6 @@ def stirred(net: Network, seed: int) -> None:
 
 
 def from_bases(transcript: str) -> list[str]:
-    """The transcripts that begin with the bases of this one."""
     lines = transcript.splitlines(keepends=True)
     return ["".join(lines[at:]) for at, line in enumerate(lines) if line.startswith("matching2 ")]
 
@@ -153,10 +151,8 @@ class Bases(Timed):
 
 
 class Pieces(Timed):
-    """Programs of the test's own."""
-
     def writes(self, *texts: str) -> str:
-        """A program that writes its header, and then one of these texts for each line read, byte by byte."""
+        """A program that writes its header, then one of these texts for each line read, byte by byte."""
         return self.program(
             f"""import sys
 def put(text):

@@ -1,7 +1,4 @@
-"""Sweeps and audits on a cluster: a Dask scheduler and two workers on this machine, one killed.
-
-Skipped if distributed is missing.
-"""
+"""Sweeps and audits on a Dask cluster of two local workers, one of them killed."""
 
 from __future__ import annotations
 
@@ -21,8 +18,7 @@ from rudekpi.parts import audit_parts
 from rudekpi.sweeps import Row, sweep
 from support import TOP, Timed
 
-# so that a dead worker is not waited for as long as a distant one; set before distributed reads it, here and
-# in the processes
+# so that a dead worker is not waited for as long as a distant one; set before distributed reads it
 os.environ["DASK_DISTRIBUTED__COMM__TIMEOUTS__CONNECT"] = "5s"
 HAS_DISTRIBUTED = importlib.util.find_spec("distributed") is not None
 
@@ -48,7 +44,6 @@ class Cluster(Timed):
         super().setUp()
         import distributed
 
-        # these tests are about lost workers
         logging.getLogger("distributed").setLevel(logging.CRITICAL)
         logging.getLogger("distributed.client").setLevel(logging.CRITICAL)
         self.file = os.path.join(self.folder(), "scheduler.json")
@@ -107,7 +102,7 @@ class Cluster(Timed):
         self.assertEqual(audit_parts(text, executor, size=500), audit(text))
 
     def test_a_file_that_has_changed_is_judged_again(self) -> None:
-        # distributed answers equal calls with the answer it has, while it is referenced
+        # distributed answers equal calls with its earlier answer, while that is referenced
         path, executor = pathlib.Path(self.folder(), "transcript"), self.client.get_executor()
         path.write_text("matching hh 2\n1 link 1 2 = no\n")
         try:

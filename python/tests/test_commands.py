@@ -42,7 +42,6 @@ def rudekpi(*words: str, given: str = "") -> subprocess.CompletedProcess[str]:
 
 
 def said(*words: str, given: str = "") -> str:
-    """The standard output of the command line; raises if it fails."""
     done = rudekpi(*words, given=given)
     if done.returncode:
         raise AssertionError(f"{words}: {done.returncode}: {done.stderr}")
@@ -50,7 +49,6 @@ def said(*words: str, given: str = "") -> str:
 
 
 def rudekpi_version() -> str:
-    """The version of the release, as the program prints it."""
     told = subprocess.run([os.environ["RUDEKPI_CONSOLE"], "--version"], capture_output=True, text=True, check=True)
     return told.stdout.split()[1]
 
@@ -84,7 +82,7 @@ class HandedOn(Timed):
         self.assertEqual(said("--version"), f"rudekpi {rudekpi_version()}\n")
         done = rudekpi("foo")
         known = (
-            "sweep, compare, worst, check, shell, json, conform, explain, bursts, again, "
+            "sweep, compare, worst, check, shell, json, conform, explain, bursts, again, page, "
             "run, audit, picture, epochs, storm"
         )
         self.assertEqual((done.returncode, done.stdout), (2, ""))
@@ -110,10 +108,10 @@ class HandedOn(Timed):
 
 
 class Streams(Timed):
-    """Streams and files that can't be read or written: one line on standard error names what fails."""
+    """One line on standard error names the stream or file that can't be read or written."""
 
     def told(self, words: str, status: int = 3) -> str:
-        """The standard error, given the shell's streams; expects no other output, and this status."""
+        """The standard error; expects no other output, and this status."""
         path = os.path.join(self.folder(), "script")
         pathlib.Path(path).write_text(PAIR)
         line = f"{sys.executable} -m rudekpi {words}".replace("SCRIPT", path)
@@ -482,8 +480,7 @@ class Lines(Timed):
             wanted = time.monotonic() + 20
             while not shown.endswith(b"> ") and time.monotonic() < wanted and select.select([end], [], [], 20)[0]:
                 shown += os.read(end, 4096)
-            # readline waits for keys only a moment after its prompt is shown; a signal before that has no
-            # effect
+            # readline waits for keys a moment after its prompt; a signal before that has no effect
             time.sleep(0.3)
             os.write(end, typed)
             shown += b"|"

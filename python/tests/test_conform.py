@@ -1,7 +1,4 @@
-"""The judge of logs: verdicts by hand, divergences, bad lines, streams, damaged logs, and own_nodes.
-
-`python/tests/log_fuzz.py --count 10000` damages logs at length.
-"""
+"""The judge of logs: verdicts by hand, divergences, bad lines, streams, damaged logs, own_nodes."""
 
 from __future__ import annotations
 
@@ -226,7 +223,7 @@ class Verdicts(Timed):
         self.assertEqual(pickle.loads(pickle.dumps(bad)).args, bad.args)
 
     def test_a_full_log(self) -> None:
-        """The log is full at once: this library's calls, or the program, report it after the first edit."""
+        """This library's calls, or the program, report it after the first edit."""
         transcript = io.BytesIO()
         if self.engine == "library":
             library = found_library()
@@ -478,7 +475,7 @@ class Damaged(Timed):
 
 
 class OwnNodes(Timed):
-    """The example, whose nodes know nothing of this package."""
+    """Its nodes know nothing of this package."""
 
     engines = ("program",)
     seconds = 240
@@ -486,7 +483,6 @@ class OwnNodes(Timed):
     engine_of_example = "library" if found_library() else "program"
 
     def verdict(self, *words: str) -> tuple[Conformance, str]:
-        """The verdict on the example's log, and its own output."""
         path = pathlib.Path(self.folder(), "log")
         example = [sys.executable, os.path.join(TOP, "examples", "own_nodes.py"), "--log", str(path), *words]
         done = subprocess.run(example, capture_output=True, text=True)

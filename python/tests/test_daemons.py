@@ -1,4 +1,4 @@
-"""Daemons by name, and the rules that they look ahead by: the program does what these predict."""
+"""Daemons by name, and the rules that they look ahead by."""
 
 from __future__ import annotations
 
@@ -15,7 +15,6 @@ from support import Timed
 
 
 def stirred(rule_set: str, graph: Graph, seed: int) -> Network:
-    """A network of a graph, with random registers."""
     net = Network(rule_set, graph.nodes)
     with net.batch() as batch:
         for a, b in graph.edges:
@@ -65,7 +64,6 @@ class Daemons(Timed):
                 audit(said[0])
 
     def steps_of(self, daemon: AnyDaemon, rule_set: str, graph: Graph) -> list[tuple[list[int], list[int]]]:
-        """The nodes that were enabled and those that moved, for each step."""
         with stirred(rule_set, graph, 3) as net:
             net.settle(daemon)
             lines = [
@@ -111,7 +109,7 @@ class Daemons(Timed):
                     follower, greedy = net.follower(), daemons.Greedy(most).begin(net)
 
                     def looked(enabled: Enabled) -> Choice:
-                        # each move tried by itself, and the whole charge counted
+                        # each move tried by itself
                         state = follower.state()
                         before, falls = rules.charge(state), []
                         for node, rule in enabled.items():

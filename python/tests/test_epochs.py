@@ -1,7 +1,4 @@
-"""The reach of each epoch's edit or fault: by hand from docs/BOUNDS.md, and in random runs.
-
-There it is compared with what tests/lib finds from the entries alone.
-"""
+"""The reach of each epoch's edit or fault: by hand, and compared with tests/lib in random runs."""
 
 from __future__ import annotations
 
@@ -16,7 +13,7 @@ from lib.random_scripts import script
 from rudekpi import Epoch, Garbled, Network, epochs
 from support import Timed, play
 
-# 1 and 2 are a pair; 3 points at 1 and 7 at 5, without an answer; 8 is absent, and no flag is set
+# 1 and 2 are a pair; 3 points at 1 and 7 at 5, unanswered; 8 is absent; no flag is set
 BEGUN = """base 40 spent=0 nodes=7 edges=6
 node 1 2 0
 node 2 1 0
@@ -52,7 +49,7 @@ ROWS = {
     "join 8": 0,
 }
 FLAG_ROWS = {"flag 1 0": 1, "flag 1 1": 0, "flag 4 0": 0, "flag 4 1": 1}
-# a run with the size of the reach after each line that begins an epoch
+# a run with the reach's size after each line that begins an epoch
 RUN: tuple[tuple[str, Optional[int]], ...] = (
     ("link 1 2", 2),
     ("link 1 2", None),
@@ -60,7 +57,6 @@ RUN: tuple[tuple[str, Optional[int]], ...] = (
     ("step 1", None),
     ("link 2 3", 2),
     ("step 2", None),
-    # 1 and 2 are a pair
     ("link 1 3", 0),
     ("link 3 4", 2),
     ("checkpoint", None),
@@ -79,7 +75,7 @@ def reached(transcript: str) -> list[Optional[int]]:
 
 
 def known(rules: str, nodes: int, present: int, transcript: str) -> list[tuple[int, str, int]]:
-    """The entry, word and size of reach of each accepted edit and fault, as tests/lib finds them."""
+    """Each accepted edit and fault: its entry, word and size of reach by tests/lib."""
     net, found = cost_tables.Network(nodes, set(range(1, present + 1))), []
     for line in transcript.splitlines():
         event, _, reply = line.partition(" = ")

@@ -1,4 +1,4 @@
-"""The Python examples: their output is judged by its claims, with networks that the tests build."""
+"""The Python examples: their output is judged by its claims."""
 
 from __future__ import annotations
 
@@ -26,14 +26,14 @@ def link_of(text: str) -> frozenset[str]:
 
 class Examples(Timed):
     def expect_maximal(self, pairs: Collection[frozenset[str]], links: AbstractSet[frozenset[str]], at: str) -> None:
-        """Expects links as pairs, no two with a common host; each link shares a host with a pair."""
+        """Links are pairs without common hosts; each link shares a host with a pair."""
         self.assertLessEqual(set(pairs), links, at)
         hosts = [host for pair in pairs for host in pair]
         self.assertEqual(len(hosts), len(set(hosts)), at)
         self.assertEqual([set(link) for link in links if not link & set(hosts)], [], at)
 
     def expect_bounded(self, text: str, links: AbstractSet[frozenset[str]], nodes: int) -> int:
-        """Expects the moves to be within the charge, and that within 2m + 3n."""
+        """The moves are within the charge, and that within 2m + 3n."""
         found = re.search(r"(\d+) moves of (\d+) at most", text)
         assert found is not None, text
         moves, charge = map(int, found.groups())

@@ -1,4 +1,4 @@
-"""docs/EXPERIMENTS.md: its commands, code, table and the scripts of its picture, on small sizes."""
+"""The commands, code, table and picture of docs/EXPERIMENTS.md, on small sizes."""
 
 from __future__ import annotations
 

@@ -1,7 +1,4 @@
-"""Why transcripts are refused: the wrong word and the machine's reply, by hand; damaged transcripts.
-
-`python/tests/transcript_fuzz.py --count 10000` damages transcripts at length.
-"""
+"""Why transcripts are refused: the wrong word and the machine's reply; damaged transcripts."""
 
 from __future__ import annotations
 
@@ -27,7 +24,7 @@ matching hh 2
 6 matching = 1-2
 7 status = nodes=2 edges=1 pairs=1 enabled=0 charge=0 spent=2
 """
-# a path of three after a move of 1, with its base and what follows
+# a path of three after a move of 1
 BASE = """\
 matching2 hh 3
 base 3 spent=1 nodes=3 edges=2
@@ -50,7 +47,7 @@ def rudekpi(*words: str, given: str = "") -> subprocess.CompletedProcess[str]:
 
 class Reasons(Timed):
     def found(self, text: str, line: int, marked: str, why: str) -> Explanation:
-        """The explanation of a transcript, at this line and word, with these words in its reason."""
+        """At this line and word, with these words in its reason."""
         made = explain(text)
         assert made is not None, text
         self.assertEqual((made.line, made.text[made.start : made.end]), (line, marked), str(made))

@@ -39,7 +39,7 @@ class Read(Timed):
         return graph.nodes, graph.edges
 
     def expect_refused(self, name: str, text: Union[str, bytes], why: str, **how: bool) -> None:
-        """A file is refused with its path, followed by exactly this text."""
+        """A file is refused with its path, then exactly this text."""
         path = self.path(name, text)
         with self.subTest(name=name, text=text[:60]):
             with self.assertRaises(ValueError) as caught:

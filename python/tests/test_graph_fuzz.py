@@ -1,7 +1,4 @@
-"""Damaged graph files are refused, or read as an independent reader reads them.
-
-Skipped if networkx is missing. `python/tests/graph_fuzz.py --count 10000` does this at length.
-"""
+"""Damaged graph files are refused, or read as an independent reader reads them."""
 
 from __future__ import annotations
 
@@ -43,7 +40,6 @@ class Damaged(Timed):
             self.assertIn("KeyError", graph_fuzz.fault_of(path, b"1 2\n", False)[1])
 
     def test_files_named_as_another_format(self) -> None:
-        """A file is refused, or read as its own graph, whatever its extension."""
         for own, samples in graph_fuzz.SAMPLES.items():
             for text in samples:
                 wanted = self.edges_of(own, text)
@@ -52,7 +48,7 @@ class Damaged(Timed):
                         self.assertIn(self.edges_of(end, text), (None, wanted))
 
     def edges_of(self, end: str, text: str) -> Optional[tuple[set[str], set[frozenset[str]]]]:
-        """The nodes and edges read under a name with this extension, as texts; None if refused."""
+        """Read under a name with this extension, as texts; None if refused."""
         path = pathlib.Path(self.folder(), f"a{end}")
         path.write_text(text)
         with warnings.catch_warnings():

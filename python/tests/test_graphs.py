@@ -27,7 +27,7 @@ def degrees(graph: Graph) -> list[int]:
 
 
 def is_ring(graph: Graph) -> bool:
-    """Whether a graph whose nodes have two neighbours each is one ring."""
+    """Whether a graph of degree two is one ring."""
     reached = {graph.nodes[0]}
     for _ in graph.nodes:
         reached |= {node for edge in graph.edges if reached & set(edge) for node in edge}
@@ -155,7 +155,7 @@ class Made(Timed):
                 begun = time.process_time()
                 self.assertRaisesRegex(ValueError, why, graphs.graph_of, words)
                 self.assertLess(time.process_time() - begun, 1)
-        # in KB; one list of the nodes would take more
+        # KB; one list of the nodes would take more
         self.assertLess(resource.getrusage(resource.RUSAGE_SELF).ru_maxrss - before, 20_000)
 
     def test_large_graphs(self) -> None:

@@ -1,7 +1,4 @@
-"""Interrupts at each instruction of the client, at random times, and by Ctrl-C at a terminal.
-
-Also networks that are never closed, and children of this process.
-"""
+"""Interrupts at each instruction of the client, at random times, and by Ctrl-C at a terminal."""
 
 from __future__ import annotations
 
@@ -69,7 +66,7 @@ class EachInstruction(Timed):
     ) -> int:
         """Cuts a call short before each `step`th instruction until it ends, and checks what is left.
 
-        Returns the number of the first instruction that did not cut the call.
+        Returns the number of the first instruction that did not cut it.
         """
         for number in range(0, 1_000_000, step):
             net = made()
@@ -96,7 +93,7 @@ class EachInstruction(Timed):
             made=lambda: net,
         )
         if not cuts and sys.version_info >= (3, 12):
-            # this Python's `sys.settrace` reports no instruction of a frame without a loop
+            # `sys.settrace` reports no instruction here of a frame without a loop
             self.skipTest("this Python traces no instructions here")
         shown = net.transcript().count("show 2 = -\n")
         net.close()

@@ -1,4 +1,4 @@
-"""Graphs that a sweep got from Python: they are kept with its rows, so that each row plays again."""
+"""Graphs that a sweep got from Python are kept with its rows, so that each row plays again."""
 
 from __future__ import annotations
 
@@ -20,7 +20,7 @@ from rudekpi.plans import play_again
 from rudekpi.simple_graph import Graph
 from support import TOP, Timed
 
-# names of three kinds, one of them linked with nobody, and edges in no order
+# names of three kinds, one without links, and edges in no order
 MIXED = Graph("mine/ä", ("zoe", 7, ("a", (1, "b")), "7"), ((7, "zoe"), (("a", (1, "b")), "zoe")))
 
 
@@ -31,7 +31,7 @@ def rudekpi(*words: str, folder: Optional[str] = None) -> subprocess.CompletedPr
 
 
 class Networkx:
-    """What `from_networkx` asks of a graph of networkx, which need not be there."""
+    """What `from_networkx` asks of a graph."""
 
     name = ""
 

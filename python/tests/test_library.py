@@ -1,4 +1,4 @@
-"""The library as an engine: its path, the program's replies, threads, interrupts, children, leaks."""
+"""The library as an engine: path, replies, threads, interrupts, children, leaks."""
 
 from __future__ import annotations
 
@@ -185,10 +185,10 @@ class Same(Timed):
 
 
 class CostsTold(Timed):
-    """The costs of edits and faults, from the table in docs/BOUNDS.md, worked out by hand."""
+    """The table in docs/BOUNDS.md, worked out by hand."""
 
     engines = ("library",)
-    # ann and bob are a pair with two other edges each; cleo points at ann, who does not answer; gus is absent
+    # ann and bob are a pair with two other edges each; cleo points at ann, unanswered; gus is absent
     names = ("ann", "bob", "cleo", "dan", "eve", "fay", "gus")
     # a call, and its cost under `hh` and `manne`, or why it is refused
     rows: tuple[tuple[tuple[Any, ...], Union[int, str], Union[int, str]], ...] = (
@@ -283,9 +283,9 @@ class CostsTold(Timed):
 
 
 class SilentCosts(Timed):
-    """Ann and bob are a pair, bob and cy are linked, and cy points nowhere: no rule is enabled."""
+    """Ann and bob are a pair, bob and cy are linked, cy points nowhere: no rule is enabled."""
 
-    # each event with its costs under hh and under manne; none if it would be refused
+    # each event with its costs under hh and under manne; none if refused
     rows: list[tuple[Any, ...]] = [
         (("link", "ann", "cy"), 0, 0),
         (("link", "cy", "dan"), 2, 4),
@@ -331,7 +331,7 @@ class SilentCosts(Timed):
 
 
 class Partners(Timed):
-    """With the library a node's partner is its answer: the client does not derive it from a transcript."""
+    """The library's answers, not derived from a transcript by the client."""
 
     def test_the_proved_answer_counts(self) -> None:
         with Network("hh", ["ann", "bob", "cleo", "dan"], present=3) as net:
@@ -343,7 +343,7 @@ class Partners(Timed):
             self.assertEqual([net.partner(it) for it in ("ann", "bob", "cleo")], ["bob", "ann", None])
             self.assertRaisesRegex(ValueError, "node 'dan' is not present", net.partner, "dan")
             self.assertRaisesRegex(ValueError, "no node has the name 'zoe'", net.partner, "zoe")
-            # a wrong state is not believed if the library answers that there is none
+            # a wrong state is not believed if the library answers that none is there
             with mock.patch.object(State, "partner", lambda *_: 2):
                 self.assertEqual(net.partner("cleo"), None if net.engine == "library" else "bob")
         self.assertEqual(
@@ -352,7 +352,7 @@ class Partners(Timed):
 
 
 class Pieces(Timed):
-    """Audits fed a transcript as it comes; their verdict is that of `audit` on the whole."""
+    """Their verdict is that of `audit` on the whole."""
 
     text = "matching hh 2\n1 link 1 2 = ok\n2 enabled = 1:seduce 2:seduce\n3 step 1 = 1:seduce>2\n"
 
@@ -421,7 +421,7 @@ class Threads(Timed):
     engines = ("library",)
 
     def in_threads(self, call: Callable[[int], object], count: int = 4) -> None:
-        """Runs a call in several threads, each with its number; raises what one of them raises."""
+        """Runs a call with each thread's number; raises what one of them raises."""
         raised: list[BaseException] = []
 
         def called(number: int) -> None:
@@ -511,7 +511,7 @@ class Threads(Timed):
         self.assertEqual((cut, net.audit().entries), (300, net.transcript().count(" = ")))
 
 
-# plays a network of many nodes, whose replies are large, in less and less memory; counts the outcomes
+# large replies in less and less memory; counts the outcomes
 SHORT_OF_MEMORY = """
 import resource, rudekpi
 from collections import Counter
@@ -582,7 +582,7 @@ class Memory(Timed):
             del net
             gc.collect() if _ % 2 else None
             self.assertIsNone(session())
-        # a network of this many names takes some 3 MB
+        # a network of so many names takes some 3 MB
         self.assertLess(resource.getrusage(resource.RUSAGE_SELF).ru_maxrss - before, 100_000)
 
     def test_a_session_of_weeks(self) -> None:

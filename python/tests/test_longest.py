@@ -29,7 +29,7 @@ def allowed(
     flags: dict[Name, bool],
     node: Name,
 ) -> list[Held]:
-    """The moves of a node, from the tables of the rules: the new values of its pointer and flag."""
+    """By the tables of the rules: the new values of a node's pointer and flag."""
 
     def suits(other: Name) -> bool:
         return bool(pointers[other] == node)
@@ -54,7 +54,7 @@ def allowed(
 
 
 def longest_by_recursion(graph: Graph, rules: str) -> int:
-    """The most moves from any state, by trying each choice in turn, without the package."""
+    """From any state, by trying each choice in turn, without the package."""
     near = {node: sorted(b if a == node else a for a, b in graph.edges if node in (a, b)) for node in graph.nodes}
     known: dict[Helds, int] = {}
 
@@ -82,7 +82,7 @@ def longest_by_recursion(graph: Graph, rules: str) -> int:
 
 
 def greedy_anew(search: schedules.Search, code: int, drawn: random.Random) -> list[tuple[int, str, int]]:
-    """A greedy schedule that checks all nodes before each move."""
+    """Checks all nodes before each move."""
     search.set_to(code)
     state = search.state
     steps: list[tuple[int, str, int]] = []
@@ -137,7 +137,7 @@ class Longest(Timed):
         self.assertEqual(epochs(found.play())[-1].moves, 20)
 
     def test_how_many_graphs_there_are(self) -> None:
-        # the numbers of connected graphs of n nodes, unlabelled and labelled: A001349 and A001187 of the OEIS
+        # connected graphs of n nodes, unlabelled and labelled: A001349 and A001187 of the OEIS
         self.assertEqual([len(list(connected_graphs(n))) for n in range(1, 6)], [1, 1, 2, 6, 21])
         self.assertEqual(
             [sum(len(list(renamed(graph))) for graph in connected_graphs(n)) for n in range(1, 6)], [1, 1, 4, 38, 728]

@@ -1,4 +1,4 @@
-"""The client's manual, and the completions of shells, have the client's own words."""
+"""The client's manual and shell completions have the client's own words."""
 
 from __future__ import annotations
 
@@ -18,7 +18,6 @@ MANUAL = os.path.join(TOP, "docs", "rudekpi.1")
 
 
 def of_parser() -> dict[str, list[str]]:
-    """The client's own commands with their flags."""
     parser = commands.parser_of()
     (found,) = [it for it in parser._actions if isinstance(it, argparse._SubParsersAction)]
     return {

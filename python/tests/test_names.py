@@ -1,4 +1,4 @@
-"""The caller's own names: in files, of nodes that join under new ones, in pictures, pages and commands."""
+"""The caller's names: in files, of nodes that join, in pictures, pages and commands."""
 
 from __future__ import annotations
 
@@ -44,7 +44,7 @@ class Capacity(Timed):
             self.assertEqual((net.number_of("zoe"), net.number_of(("x", 1))), (3, 4))
             self.assertEqual(net.present, ["ann", "bob", "zoe", ("x", 1)])
             self.assertEqual(net.edges, [("ann", "bob"), ("ann", ("x", 1))])
-            # the least enabled node first, at its least neighbour: ann seduces bob, who marries her
+            # the least enabled node first: ann seduces bob, who marries her
             self.assertEqual(net.settle("least").moves, 2)
             self.assertEqual(net.matching().pairs, (("ann", "bob"),))
             said = net.transcript()
@@ -85,7 +85,7 @@ class Capacity(Timed):
             self.assertRaisesRegex(ValueError, "node 2 has no name yet", net.name_of, 2)
             self.assertRaisesRegex(ValueError, "no node has the number 4", net.name_of, 4)
             if self.engine == "library":
-                # under manne a node that comes has a flag to write: what it costs, without that it comes
+                # under manne a node that comes has a flag to write
                 self.assertEqual(net.cost_of("join", "zoe"), net.cost_of("join", "yan"))
                 self.assertEqual(net.reach("join", "ann"), set())
             else:

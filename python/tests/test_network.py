@@ -1,4 +1,4 @@
-"""Networks through the client: names, arguments, refusals, batches, daemons, and replays."""
+"""Networks through the client: names, arguments, refusals, batches, daemons, replays."""
 
 from __future__ import annotations
 

@@ -1,4 +1,4 @@
-"""Networks from and to networkx, which judges their matchings. Skipped if networkx is missing."""
+"""Networks from and to networkx, which judges their matchings."""
 
 from __future__ import annotations
 
@@ -19,17 +19,17 @@ except ImportError:
 
 
 def one(drawn: random.Random) -> Daemon:
-    """A random daemon that moves one node."""
+    """Moves one node at random."""
     return lambda enabled: [drawn.choice(list(enabled))]
 
 
 def some(drawn: random.Random) -> Daemon:
-    """A random daemon that moves any nodes, at least one."""
+    """Moves any nodes, at least one."""
     return lambda enabled: [node for node in enabled if drawn.random() < 0.5] or [drawn.choice(list(enabled))]
 
 
 def bare(graph: Any) -> Any:
-    """The nodes and edges of a graph, without their attributes."""
+    """Without attributes."""
     return networkx.from_dict_of_lists(networkx.to_dict_of_lists(graph))
 
 
@@ -115,7 +115,7 @@ class Graphs(Timed):
             net.link("bob", "cleo")
             net.settle(list)
             graph = net.to_networkx()
-        # by hand: 1 and 2 seduce, 3 marries 2, 2 and 3 update, and 1 abandons
+        # by hand, as in test_examples
         held = {"ann": (None, False), "bob": ("cleo", True), "cleo": ("bob", True)}
         self.assertEqual({node: (it["pointer"], it["flag"]) for node, it in graph.nodes(data=True)}, held)
         self.assertEqual(

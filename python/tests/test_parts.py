@@ -21,7 +21,7 @@ from support import Losing, Timed
 
 
 def transcript(seed: int, turns: int = 12, nodes: int = 12) -> str:
-    """A run with a base after some of its turns."""
+    """With a base after some of its turns."""
     drawn = random.Random(seed)
     with Network(drawn.choice(["hh", "manne"]), nodes, present=nodes - 2) as net:
         with net.batch(raises=False) as batch:
@@ -149,7 +149,7 @@ class Parts(Timed):
 
 
 class Joining(Timed):
-    """The joint verdict of parts: by the library's call, or by the same sums if there is no library."""
+    """By the library's call, or without a library by the same sums."""
 
     def tried(self) -> None:
         fine = Summary(7, 3, 40)
@@ -192,12 +192,9 @@ class Joining(Timed):
 
 
 class Deaths(Timed):
-    """Parts whose workers die, or whose verdicts are lost."""
-
     seconds = 120
 
     def in_parts(self, count: int) -> tuple[bytes, list[tuple[int, int]]]:
-        """A transcript, and where its parts begin and end."""
         text = transcript(7, turns=count - 1).encode()
         found = list(parts.parts_of(Held(text), 1))
         self.assertEqual(len(found), count)
@@ -221,7 +218,7 @@ class Deaths(Timed):
     def test_a_verdict_that_is_lost_twice(self) -> None:
         for count, at in ((3, 0), (3, 1), (64, 40)):
             text, found = self.in_parts(count)
-            # at first all of them are handed out, in order
+            # at first all are handed out, in order
             with self.subTest(count=count, at=at), self.assertRaises(LostPart) as caught:
                 audit_parts(text, Losing((at + 1, count + 1)), size=1)
             lost, line = caught.exception, text[: found[at][0]].count(b"\n") + 1
@@ -232,7 +229,7 @@ class Deaths(Timed):
 
     def test_the_first_that_is_wrong_is_told(self) -> None:
         text, found = self.in_parts(64)
-        # another last figure in the last line of a part, before the next one's base
+        # another last figure in a part's last line, before the next base
         damaged = {at: text[: found[at + 1][0] - 2] + b"?" + text[found[at + 1][0] - 1 :] for at in (10, 30)}
         twice = (20 + 1, 64 + 1)
         self.assertEqual(verdict(audit_parts, damaged[10], Losing(twice), size=1), verdict(audit, damaged[10]))

@@ -144,7 +144,7 @@ class Again(Timed):
         whole = path.read_bytes()
         lines = whole.splitlines(keepends=True)
         self.assertEqual(len(lines), 7)
-        # three rows are there, and the fourth is cut in the middle
+        # three rows, and the fourth is cut in the middle
         path.write_bytes(b"".join(lines[:4]) + lines[4][:9])
         done = rudekpi(*words, folder=folder)
         self.assertEqual((done.returncode, done.stdout, done.stderr), (0, "", ""))

@@ -1,4 +1,4 @@
-"""The plots of sweeps: each run is in its place, and each bound is with the runs that it holds for."""
+"""Plots of sweeps: each run is in its place, each bound with the runs that it holds for."""
 
 from __future__ import annotations
 
@@ -36,7 +36,7 @@ def named(figure: Any) -> dict[str, Any]:
 
 
 def runs_of(axes: Any) -> list[tuple[float, ...]]:
-    """Each drawn run, as its place on the axis and its moves."""
+    """The place on the axis, and the moves."""
     return [tuple(map(float, point)) for dots in axes.collections[:] if is_dots(dots) for point in dots.get_offsets()]
 
 
@@ -45,7 +45,7 @@ def is_dots(drawn: object) -> bool:
 
 
 def bounds_of(axes: Any) -> list[tuple[float, ...]]:
-    """Each line of a bound: its ends and its height."""
+    """Each bound's ends and height."""
     lines = [line for line in axes.get_lines() if line.get_color() == plots.BOUND]
     return sorted((*map(float, line.get_xdata()), float(line.get_ydata()[0])) for line in lines)
 
@@ -91,7 +91,7 @@ class Panels(Timed):
         rows = [row("ring:9", moves=8, bound=27), row("ring:9", "manne", moves=9, bound=45)]
         rows += [row("ring:8", n=8, moves=7, bound=24), row("ring:8", "manne", n=8, moves=9, bound=40, seed=1)]
         rows += [row("ring:8", "manne", n=8, moves=9, bound=36, seed=2)]
-        # more than four times the moves of one panel: no panel draws them
+        # more than four times the moves of a panel: none draws them
         panels = named(plots.panels_figure(rows))
         self.assertEqual([bounds_of(axes) for axes in panels.values()], [[], []])
         self.assertEqual(notes_of(panels["ring:9\n5 faults"]), ["bound\n\u2191 27", "bound\n\u2191 45"])
@@ -154,7 +154,7 @@ class Panels(Timed):
         self.assertEqual(
             {title: text.replace("\n", "") for title, text in two.items()}, {it: plots.plain(it) for it in two}
         )
-        # a title that matplotlib would take for a formula
+        # matplotlib would take this title for a formula
         plots.of_rows([row("$\\frac{$")], os.path.join(self.folder(), "a.png"))
 
 

@@ -1,4 +1,4 @@
-"""The talk with the program: large replies, many commands, early ends, wrong answers, and its path."""
+"""The talk with the program: large replies, many commands, early ends, wrong answers, its path."""
 
 from __future__ import annotations
 
@@ -21,7 +21,7 @@ JUDGES: tuple[Callable[..., object], ...] = (audit, epochs)
 HEADER = "echo 'matching hh 3'\n"
 # answers the first line, and ends at the second
 STOPS = HEADER + "read -r line; echo \"1 $line = ok\"; read -r line; echo one >&2; echo '! out of memory' >&2; exit 4\n"
-# answers each `matching` with a line of 600,000 bytes, and anything else with `ok`
+# answers each `matching` with 600,000 bytes, anything else with `ok`
 LARGE = """import sys
 print("matching hh 3", flush=True)
 for number, line in enumerate(sys.stdin, 1):
@@ -183,8 +183,6 @@ for program in programs:
 
 
 class Answers(Timed):
-    """Programs that give wrong answers."""
-
     engines = ("program",)
     seconds = 60
 
@@ -229,8 +227,6 @@ class Answers(Timed):
 
 
 class Found(Timed):
-    """Which program is used."""
-
     engines = ("program",)
 
     def test_by_the_argument_and_the_environment(self) -> None:
@@ -253,7 +249,7 @@ class Found(Timed):
                 self.assertIn(program, str(caught.exception))
 
     def of_a_repository(self, console: Optional[str]) -> subprocess.CompletedProcess[str]:
-        """The output and standard error of a client in a repository with this console."""
+        """A client in a repository with this console: its output and standard error."""
         folder = self.folder()
         shutil.copytree(os.path.dirname(rudekpi.__file__), os.path.join(folder, "python", "rudekpi"))
         if console:

@@ -16,7 +16,7 @@ def lone(net: Network, node: Name) -> set[Name]:
 
 
 def rests(net: Network, node: Name) -> bool:
-    """Whether a present node is at rest, by the definition of docs/BOUNDS.md."""
+    """By the definition of docs/BOUNDS.md, for present nodes."""
     held, partner = net.registers(node), net.partner(node)
     if net.rules == "manne" and held.flag != (partner is not None):
         return False
@@ -24,7 +24,6 @@ def rests(net: Network, node: Name) -> bool:
 
 
 def of_point(net: Network, node: Name, target: Optional[Name]) -> set[Name]:
-    """The reach of a written pointer."""
     partner, pointer = net.partner(node), net.registers(node).pointer
     if partner is None:
         return set() if target in (None, pointer) else {node}
@@ -32,7 +31,7 @@ def of_point(net: Network, node: Name, target: Optional[Name]) -> set[Name]:
 
 
 def wanted(net: Network, word: str, node: Name, other: Optional[Name] = None) -> set[Name]:
-    """The reach of an edit or a fault of present nodes, by the table of docs/BOUNDS.md."""
+    """For present nodes, by the table of docs/BOUNDS.md."""
     near, partner = net.neighbours(node), net.partner(node)
     if word == "link" and other is not None:
         return {node, other} if other not in (node, *near) and not partner and not net.partner(other) else set()
@@ -46,10 +45,10 @@ def wanted(net: Network, word: str, node: Name, other: Optional[Name] = None) ->
 
 
 class ReachTold(Timed):
-    """Worked rows, found by hand, in the network of tests/c/reach.c."""
+    """By hand, in the network of tests/c/reach.c."""
 
     engines: tuple[str, ...] = ("library",)
-    # ann and bob are a pair; cleo points at ann and gus at eve, without an answer; hal is absent
+    # ann and bob are a pair; cleo points at ann and gus at eve, unanswered; hal is absent
     names = ("ann", "bob", "cleo", "dan", "eve", "fay", "gus", "hal")
     rows: tuple[tuple[tuple[Any, ...], str], ...] = (
         (("link", "cleo", "dan"), "cleo dan"),
@@ -128,7 +127,7 @@ class ReachTold(Timed):
             self.assertEqual(net.link("cleo", "dan").entry, 11)
 
     def test_many_in_reach(self) -> None:
-        """More than the first question has room for: a pair with 200 other neighbours."""
+        """A pair with 200 other neighbours: more than the first question has room for."""
         with Network("manne", 202, engine="library") as net:
             for leaf in range(3, 203):
                 net.link(1 + leaf % 2, leaf)
@@ -140,12 +139,12 @@ class ReachTold(Timed):
 
 
 class ReachDrawn(Timed):
-    """Random networks: the reach is that found here, and only restless or reached nodes move."""
+    """The reach is that found here, and only restless or reached nodes move."""
 
     engines: tuple[str, ...] = ("library",)
 
     def disturb(self, net: Network, chance: random.Random) -> set[Name]:
-        """Makes an edit or a fault, after comparing its reach. Returns the nodes restless or in reach."""
+        """Makes an edit or a fault, comparing its reach. Returns the nodes restless or reached."""
         word, node, other = chance.choice(["link", "link", "unlink", "point", "flag"]), *chance.sample(net.present, 2)
         rest = {
             "flag": chance.random() < 0.5,

@@ -1,4 +1,4 @@
-"""A network's other results: pickled replies, questions without an entry, drawings, pages, and storms."""
+"""Pickled replies, questions without an entry, drawings, pages, and storms."""
 
 from __future__ import annotations
 
@@ -34,7 +34,6 @@ PAIR = "matching hh 2\n1 link 1 2 = ok\n2 step 1 = 1:seduce>2\n3 step 2 = 2:marr
 
 
 def every_result() -> list[object]:
-    """A result of every kind, with errors."""
     with Network("manne", ["ann", ("bob", 2), 3.5]) as net:
         made = [
             net.link("ann", ("bob", 2)),
@@ -142,7 +141,7 @@ class Questions(Timed):
             net.link("ann", "bob")
             net.settle(list)
             asked = net.status().entry
-            # by hand: 1 and 2 seduce, 3 marries 2, 2 and 3 update, and 1 abandons
+            # by hand, as in test_examples
             self.assertEqual((net.present, net.edges), (["ann", "bob", "cleo"], [("ann", "bob"), ("bob", "cleo")]))
             self.assertEqual((net.neighbours("bob"), net.neighbours("cleo")), (["ann", "cleo"], ["bob"]))
             self.assertEqual(

@@ -1,8 +1,4 @@
-"""Signal handlers that ask the network in the middle of a call.
-
-Each answer, the handler's and the call's, is that of the transcript, which is whole. RUDEKPI_SIGNALS is how
-many signals of each kind come.
-"""
+"""Signal handlers ask in the middle of a call; RUDEKPI_SIGNALS is how many signals of each kind come."""
 
 from __future__ import annotations
 
@@ -24,7 +20,7 @@ from support import Timed, play, spelled, told
 PACKAGE = os.path.dirname(rudekpi.__file__)
 SIGNALS = int(os.environ.get("RUDEKPI_SIGNALS", "60"))
 NODES = 12
-# the questions, each a line of a script; the network is so small that each is sometimes refused
+# questions, each a line of a script; in so small a network each is sometimes refused
 LINES = (
     "show 9",
     "enabled",
@@ -45,8 +41,6 @@ BASE_HEAD = re.compile(r"base [0-9]+ spent=.*")
 
 
 class Recorded:
-    """A network that records each answer with its entry."""
-
     def __init__(self, net: Network) -> None:
         self.net = net
         self.answers: list[tuple[int, str]] = []
@@ -89,8 +83,6 @@ class AskAt:
 
 
 class Asking(Timed):
-    """Shared by these tests."""
-
     engines = ("program", "library")
     seconds = 600
 
@@ -103,7 +95,7 @@ class Asking(Timed):
         return net
 
     def expect_all_told(self, recorded: Recorded, first: int) -> None:
-        """Expects each entry from `first` on to be reported once, as the transcript has it."""
+        """Each entry from `first` on is reported once, as the transcript has it."""
         said = recorded.net.transcript()
         self.assertEqual(audit(said, engine="program").entries, said.count(" = "))
         lines = [line.partition(" = ") for line in said.splitlines() if " = " in line]
@@ -123,8 +115,6 @@ class Asking(Timed):
 
 
 class EachInstruction(Asking):
-    """Asks the network before each instruction of a call in turn."""
-
     def ask_everywhere(self, outer: str, inner: str, step: int, **words: Any) -> None:
         with self.network(**words) as net:
             recorded, first = Recorded(net), net.status().entry + 1
@@ -181,10 +171,8 @@ class EachInstruction(Asking):
 
 
 class Handlers(Asking):
-    """The playing thread gets signals at random times; their handler asks."""
-
     def signalled(self, count: int, handler: Callable[[], None], play_on: Callable[[], None]) -> None:
-        """Plays on until the handler was called `count` times, by signals from another thread."""
+        """Plays until signals from another thread called the handler `count` times."""
         main, drawn = threading.get_ident(), random.Random(count)
         handled, failed = [0], []
 

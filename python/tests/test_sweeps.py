@@ -32,7 +32,6 @@ def without_time(rows: Iterable[Row]) -> list[str]:
 
 
 def greatest(enabled: Enabled) -> list[Name]:
-    """A daemon of the caller's own."""
     return [max(enabled)]
 
 
@@ -41,7 +40,7 @@ def wrong(enabled: Enabled) -> list[Name]:
 
 
 def dies_once(enabled: Enabled) -> list[Name]:
-    """Kills its process the first time that it is asked, marked by a file that it leaves."""
+    """Kills its process the first time, marked by a file that it leaves."""
     try:
         os.close(os.open(os.environ["RUDEKPI_TEST_DEATH"], os.O_CREAT | os.O_EXCL))
     except FileExistsError:
@@ -285,7 +284,7 @@ class Workers(Timed):
     def test_an_interrupt_ends_experiments_that_take_long(self) -> None:
         for processes, count in ((None, min(os.cpu_count() or 1, 9)), (2, 2)):
             with self.subTest(processes=processes):
-                # if all of them play, none is still starting, and Ctrl-C would end that with another message
+                # once all play, none is starting, when Ctrl-C would end it with another message
                 said = self.expect_end_by_interrupt(ENDLESS.replace("PROCESSES", str(processes)), "plays-*", count)
                 self.assertEqual((said.splitlines()[-1], said.count("Traceback")), ("KeyboardInterrupt", 1), said)
 
@@ -300,8 +299,7 @@ class Workers(Timed):
         self.expect_no_process()
 
     def expect_no_process(self) -> None:
-        # from Python 3.14 on killed processes are not waited for; if they do not end, this test fails by its
-        # time limit
+        # Python 3.14 and later do not wait for killed processes; if they stay, the time limit fails this test
         while multiprocessing.active_children():
             time.sleep(0.01)
 

@@ -29,7 +29,7 @@ def rudekpi(*words: str) -> subprocess.CompletedProcess[str]:
 
 
 class Stood:
-    """A graph with the attributes of one of networkx."""
+    """With the attributes of a graph of networkx."""
 
     def __init__(self, name: str = "", is_directed: bool = False) -> None:
         self.name, self.nodes, self.edges = name, ["ann", "bob", "cleo"], [("cleo", "ann")]
@@ -63,7 +63,7 @@ class Topologies(Timed):
 
     def test_walks_by_hand(self) -> None:
         self.assertEqual([folded(place) for place in (0.25, 1.25, -0.25, 2.25)], [0.25, 0.75, 0.25, 0.25])
-        # all walk to the right: 3 turns back at the side, and ends 0.25 from 2
+        # all walk to the right: 3 turns back, and ends 0.25 from 2
         disk = Disk(0.25, ((0.125, 0.5), (0.375, 0.5), (0.875, 0.5)))
         to_the_right = mock.Mock(random=lambda: 0.0)
         walk = Walk(disk, Topology([1, 2, 3], [(1, 2)]), to_the_right)
@@ -102,11 +102,11 @@ class Disturbances(Timed):
 
 class Rows(Timed):
     def test_by_hand(self) -> None:
-        # a path of two is a pair; its link is cut: no move follows, and a new link makes them a pair again
+        # a pair whose link is cut: no move follows, and a new link makes them a pair again
         [row] = sweep([graphs.path(2)], ["hh"], ["least"], faults=[Disturbance(cut=1)])
         self.assertEqual((row.m, row.moves, row.charge, row.pairs), (0, 0, 0, 0))
         [row] = sweep([graphs.path(2)], ["hh"], ["least"], faults=[Disturbance(cut=1, add=1, every=1)])
-        # the cut costs 0, as there is no other edge, and the new link 2
+        # the cut costs 0 without other edges, and the new link 2
         self.assertEqual((row.m, row.moves, row.rounds, row.charge, row.bound, row.pairs), (1, 2, 1, 2, 2, 1))
         # under manne: 4 and 2, and 2 for the pair that forms again; both flags are updated twice
         [row] = sweep([graphs.path(2)], ["manne"], ["least"], faults=[Disturbance(cut=1, add=1, every=9)])

@@ -1,4 +1,4 @@
-"""Tasks that are handed out: workers that die, a stop in the middle, and the caller's own pools."""
+"""Tasks that are handed out: dying workers, a stop in the middle, and the caller's own pools."""
 
 from __future__ import annotations
 
@@ -18,7 +18,7 @@ from rudekpi import workers
 from rudekpi.workers import Handing
 from support import Timed
 
-# more than a pipe holds: what is sent of it to a dying worker stays there
+# more than a pipe holds: what a dying worker was sent stays there
 MUCH = bytes(1 << 20)
 
 
@@ -27,7 +27,6 @@ def given_back(number: int, much: bytes) -> int:
 
 
 def dies_once(number: int, much: bytes, mark: str) -> Optional[int]:
-    """Kills its process if it makes the file."""
     try:
         os.close(os.open(mark, os.O_CREAT | os.O_EXCL))
     except FileExistsError:
@@ -46,7 +45,6 @@ def never_ends(number: int, much: bytes) -> None:
 
 
 def ended(handing: Handing[int]) -> tuple[dict[int, Any], list[int]]:
-    """The tasks with their results, and the lost tasks."""
     results: dict[int, Any] = {}
     lost: list[int] = []
     for task, future in handing.done():
@@ -58,7 +56,7 @@ def ended(handing: Handing[int]) -> tuple[dict[int, Any], list[int]]:
 
 
 class OnlyPublic:
-    """A pool of a later Python, with only its public part known."""
+    """A pool of a later Python, whose public part alone is known."""
 
     def __init__(self) -> None:
         self.asked: list[object] = []
@@ -73,8 +71,6 @@ class KillsWorkers(OnlyPublic):
 
 
 class Pools(Timed):
-    """Processes that are started for the tasks."""
-
     seconds = 120
     engines = ("program",)
 
@@ -83,8 +79,7 @@ class Pools(Timed):
         self.threads = threading.active_count()
 
     def expect_nothing_left(self) -> None:
-        # from Python 3.14 on killed processes are not waited for; if they do not end, this test fails by its
-        # time limit
+        # Python 3.14 and later do not wait for killed processes; if they stay, the time limit fails this test
         while multiprocessing.active_children() or threading.active_count() > self.threads:
             time.sleep(0.01)
 
@@ -129,8 +124,6 @@ class Pools(Timed):
 
 
 class Given(Timed):
-    """The caller's own executors."""
-
     engines = ("program",)
 
     def test_a_pool_that_breaks_is_not_replaced(self) -> None:

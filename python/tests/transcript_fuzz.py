@@ -29,7 +29,7 @@ REPLIES = ["ok", "refused 11 not-enabled", "refused 12 bad-target", "refused 3 a
 
 
 def samples() -> list[str]:
-    """Examples of few nodes, and runs with bases, some of which begin with one."""
+    """Examples of few nodes, and runs with bases."""
     found = [path.read_text() for path in sorted(EXAMPLES.glob("*.transcript"))]
     for rules in ("hh", "manne"):
         with Network(rules, 6, present=5) as net:
@@ -53,7 +53,6 @@ def samples() -> list[str]:
 
 
 def damaged_words(line: str, lines: list[str], chance: random.Random) -> str:
-    """A line with one word changed, removed or inserted."""
     words = line.split(" ")
     at, other = chance.randrange(len(words)), chance.choice(chance.choice(lines).split(" "))
     act = chance.randrange(6)
@@ -73,7 +72,7 @@ def damaged_words(line: str, lines: list[str], chance: random.Random) -> str:
 
 
 def damaged_reply(line: str, lines: list[str], chance: random.Random) -> str:
-    """An entry with another reply, mostly of the form of its kind."""
+    """Mostly another one of the form of its kind."""
     head, sign, reply = line.partition(" = ")
     act = chance.randrange(4)
     if act == 0:
@@ -91,7 +90,6 @@ def damaged_reply(line: str, lines: list[str], chance: random.Random) -> str:
 
 
 def damaged(text: str, chance: random.Random) -> bytes:
-    """A transcript with one or two changes."""
     lines = text.split("\n")
     for _ in range(chance.randrange(1, 3)):
         at, act = chance.randrange(len(lines)), chance.randrange(10)
@@ -116,7 +114,7 @@ def damaged(text: str, chance: random.Random) -> bytes:
 
 
 def fault_of(text: bytes, engine: str) -> tuple[str, str]:
-    """The verdict on a transcript, and what is wrong with its explanation, if anything."""
+    """The verdict, and what is wrong with the explanation, if anything."""
     verdict: Optional[Damaged] = None
     try:
         audit(text, engine=engine)
@@ -137,7 +135,6 @@ def fault_of(text: bytes, engine: str) -> tuple[str, str]:
 
 
 def fuzz(count: int, seed: int, engine: str = "library") -> tuple[collections.Counter[str], list[str]]:
-    """How many transcripts had which verdict, and which failed."""
     chance, known = random.Random(seed), samples()
     counts: collections.Counter[str] = collections.Counter()
     wrong = []

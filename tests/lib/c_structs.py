@@ -1,4 +1,4 @@
-"""The structs of include/rudekpi.h: those that the Python client defines, and the others."""
+"""The structs of include/rudekpi.h."""
 
 from __future__ import annotations
 

@@ -30,8 +30,6 @@ Block = tuple[int, bytes]
 
 
 class Malformed(Exception):
-    """A case file is malformed at a line."""
-
     def __init__(self, line: int, why: str) -> None:
         super().__init__(why)
         self.line = line
@@ -39,8 +37,7 @@ class Malformed(Exception):
 
 @dataclasses.dataclass
 class Wanted:
-    """The expectations of a case for an output stream. Blocks are pairs: how often bytes come, and the
-    bytes."""
+    """Expectations of an output stream."""
 
     blocks: list[Block] = dataclasses.field(default_factory=list)
     parts: list[bytes] = dataclasses.field(default_factory=list)
@@ -227,7 +224,7 @@ def read_cases(path: pathlib.Path) -> list[Case]:
 
 
 def runs_of(case: Case) -> Iterator[Case]:
-    """The runs of a case: the case itself, or a run for each line of its table; and its audit."""
+    """The case itself, or a run for each line of its table; and its audit."""
     if not case.table:
         yield case
     for number, text in case.entries:

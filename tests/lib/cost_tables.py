@@ -1,4 +1,4 @@
-"""The costs of edits and faults by the tables of docs/BOUNDS.md, in a network kept from its entries alone."""
+"""The costs of edits and faults by the tables of docs/BOUNDS.md, kept from entries alone."""
 
 from __future__ import annotations
 
@@ -9,8 +9,6 @@ from typing import Callable, Iterable, Optional
 
 @dataclasses.dataclass
 class Network:
-    """The network after the entries so far."""
-
     names: int
     present: set[int]
     near: dict[int, set[int]] = dataclasses.field(default_factory=lambda: collections.defaultdict(set))
@@ -43,7 +41,7 @@ class Network:
                 del self.pointers[node]
 
     def take(self, kind: str, node: int, other: Optional[int] = None) -> None:
-        """An accepted edit or fault; `None` is null."""
+        """`None` is null."""
         if kind == "point":
             self.pointers[node] = other
         elif kind == "flag":

@@ -1,4 +1,4 @@
-"""Runs the program with failing calls, by a preloaded library built from tests/faults/refusing_calls.c."""
+"""Runs the program with failing calls, by a library built from tests/faults/refusing_calls.c."""
 
 from __future__ import annotations
 
@@ -15,17 +15,17 @@ from typing import IO, Mapping, Optional, Sequence, Union
 from .places import TOP
 from .runner import Checks
 
-# How a call fails: the error number, or 0 for a write that takes no byte.
+# The error number, or 0 for a write that takes no byte.
 FAILS, INTERRUPTED, TAKES_NONE = errno.EIO, errno.EINTR, 0
 SOURCE = TOP / "tests" / "faults" / "refusing_calls.c"
-# The result of a run: its status, its output, and its standard error. Without an end the status is `None`.
+# A run's status (`None` without an end), its output, and its standard error.
 Answer = tuple[Optional[int], bytes, Optional[bytes]]
 
 
 @dataclasses.dataclass(frozen=True)
 class Ended:
-    """How a run ended, and which failures its calls met, a letter each as refusing_calls.c has them; `l` if a
-    thread was left."""
+    """How a run ended, and which failures its calls met, by letters of refusing_calls.c; `l` if a thread
+    was left."""
 
     status: Optional[int]
     out: bytes
@@ -37,7 +37,7 @@ class Ended:
 
 
 class Faulty:
-    """A program with failing calls. `folder` is for the built library and its reports; a run may take `wait`
+    """A program with failing calls. `folder` is for the built library and reports; a run may take `wait`
     seconds."""
 
     def __init__(self, program: str, folder: str, wait: float) -> None:
@@ -45,7 +45,7 @@ class Faulty:
         self.library: Optional[str] = None
 
     def prepare(self) -> Optional[str]:
-        """Builds the library. Returns what is missing if that can't be done."""
+        """Returns what is missing if the library can't be built."""
         compiler = shutil.which("cc")
         if compiler is None:
             return "cc"
@@ -76,7 +76,7 @@ class Faulty:
         environment: Optional[Mapping[str, str]],
         err: Union[int, IO[bytes]] = subprocess.PIPE,
     ) -> Answer:
-        """The status is `None` if it took too long. Standard error goes to `err`, and is `None` if that is a
+        """The status is `None` if it took too long. Standard error goes to `err`; it is `None` if that is a
         file."""
         try:
             made = subprocess.run(
@@ -96,7 +96,7 @@ class Faulty:
 
 
 class Plain(Checks):
-    """Checks of a program without failing calls; the tests of a class share its folder."""
+    """Without failing calls; the tests of a class share a folder."""
 
     program: Faulty
     folder: str
@@ -116,7 +116,7 @@ class Plain(Checks):
 
 
 class Failing(Plain):
-    """Checks of a program with failing calls. All of them are skipped if there is no compiler."""
+    """With failing calls; all are skipped without a compiler."""
 
     @classmethod
     def setUpClass(cls) -> None:

@@ -1,4 +1,4 @@
-"""Compares verdicts of a transcript's parts, joined by the library, with its verdict on the whole."""
+"""Compares the joined verdicts of a transcript's parts with its verdict on the whole."""
 
 from __future__ import annotations
 
@@ -13,14 +13,14 @@ ACCEPTED, DAMAGED_LINE, UNJUDGED = 0, 2, 6
 BASE = re.compile(rb"^matching2 [^\n]*\nbase \d+ spent=\d+ nodes=(\d+) edges=(\d+)\n", re.M)
 FIELDS = ("kind", "entries", "epochs", "moves", "line")
 Numbers = Tuple[int, ...]
-# the library's call, which joins the second verdict, of a text after this many lines, to the first
+# the library's call: joins the second verdict, of a text after this many lines, to the first
 Join = Callable[[Verdict, ctypes.c_uint64, Verdict], int]
-# a part's verdict, and how many lines precede the part
+# a part's verdict, and how many lines precede it
 Told = Tuple[Numbers, int]
 
 
 def seams(text: bytes) -> Iterator[tuple[int, int]]:
-    """The start and end of each base after the first line, if the text has as many lines there as its numbers
+    """The start and end of each base after the first line, if as many lines are there as its numbers
     require."""
     for found in BASE.finditer(text, 1):
         lines = int(found[1]) + int(found[2])
@@ -45,7 +45,7 @@ def joined(join: Join, verdicts: Sequence[Told]) -> Numbers:
 
 
 def joined_backwards(join: Join, verdicts: Sequence[Told]) -> Numbers:
-    """The same, with the last two joined first, then the one before them."""
+    """The last two first, then the one before them."""
     *others, (whole, before) = verdicts
     for verdict, lines in reversed(others):
         first = Verdict(*verdict)
@@ -57,8 +57,7 @@ def joined_backwards(join: Join, verdicts: Sequence[Told]) -> Numbers:
 
 
 def differs(join: Join, judge: Callable[[bytes], Numbers], text: bytes) -> Union[str, int]:
-    """What is wrong with the joined verdicts of a text's parts, cut at each of its bases; or how many parts
-    there were."""
+    """What is wrong with the joined verdicts of parts, cut at each base; or how many parts there were."""
     cuts = list(seams(text))
     starts, ends = [0, *(start for start, _ in cuts)], [*(end for _, end in cuts), len(text)]
     verdicts = [(judge(text[start:end]), text.count(b"\n", 0, start)) for start, end in zip(starts, ends)]
@@ -71,7 +70,7 @@ def differs(join: Join, judge: Callable[[bytes], Numbers], text: bytes) -> Union
 
 
 def at_limits(join: Join) -> Optional[str]:
-    """What is wrong with joins of bad verdicts, too great sums and unjudged texts; or None."""
+    """What is wrong with joins of bad verdicts, of too great sums and of unjudged texts; or None."""
     fine, far, unsaid = (ACCEPTED, 1, 1, 1, 0), (DAMAGED_LINE, 0, 0, 0, 9), (UNJUDGED, 0, 0, 0, 0)
     for first, lines, second, status, wanted in (
         (fine, 5, (ACCEPTED, 2, 3, 4, 0), DONE, (ACCEPTED, 3, 3, 5, 0)),

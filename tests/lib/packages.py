@@ -1,4 +1,4 @@
-"""The programs and Python libraries that some tests need, and Debian's packages that have them."""
+"""Programs and Python libraries that some tests need, and Debian's packages that have them."""
 
 from __future__ import annotations
 
@@ -6,7 +6,7 @@ import glob
 import shutil
 import sys
 
-# By the name of the program, or of the library of Python.
+# By program, or library of Python.
 PACKAGES = {
     "aarch64-linux-gnu-gcc": "gcc-aarch64-linux-gnu libc6-dev-arm64-cross",
     "black": "black",
@@ -48,8 +48,7 @@ PACKAGES = {
     "WebKitWebDriver": "webkit2gtk-driver",
     "Xvfb": "xvfb",
 }
-# The programs that `.ci/tools` installs for the gate; the libraries are those that `tests/client --lacks`
-# prints.
+# Installed by `.ci/tools` for the gate; `tests/client --lacks` prints the libraries.
 OF_THE_GATE = (
     *("chromium", "dot", "firefox-esr", "gcc", "man", "mandoc", "node", "wasm-opt", "WebKitWebDriver", "Xvfb"),
     *("black", "clang", "clang-format", "flake8", "mypy", "shellcheck", "tsc"),
@@ -63,7 +62,6 @@ FILES = {
 
 
 def missing_files() -> list[str]:
-    """Debian's packages of the gate's missing files."""
     return [package for package, path in FILES.items() if not glob.glob(path)]
 
 

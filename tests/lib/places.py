@@ -13,7 +13,7 @@ BUILT = TOP / "crates" / "console" / "out" / "console"
 
 
 class Missing(Exception):
-    """Something that the tests need is missing; the text names it in one line."""
+    """Something that the tests need is missing, named in one line."""
 
 
 def program_at(path: Union[str, os.PathLike[str]]) -> pathlib.Path:
@@ -25,8 +25,7 @@ def program_at(path: Union[str, os.PathLike[str]]) -> pathlib.Path:
 
 
 def built_program() -> pathlib.Path:
-    """The program that `./console` runs, taken from release/ or built if need be. Raises `Missing` if there
-    is none."""
+    """What `./console` runs, taken from release/ or built if need be. Raises `Missing` if there is none."""
     try:
         ran = subprocess.run([TOP / "console", "--version"], stdin=subprocess.DEVNULL, stdout=subprocess.DEVNULL)
     except OSError as error:
@@ -37,7 +36,7 @@ def built_program() -> pathlib.Path:
 
 
 def program_of(given: Optional[str]) -> pathlib.Path:
-    """The named program, or else the one that `./console` runs. Raises `Missing` if there is none."""
+    """The named one, or what `./console` runs. Raises `Missing` if there is none."""
     return built_program() if given is None else program_at(given)
 
 
@@ -49,7 +48,7 @@ def library_in(folder: Union[str, os.PathLike[str]]) -> pathlib.Path:
 
 
 def is_as_released() -> bool:
-    """Whether the program in release/ was made from the sources."""
+    """Whether release/ was made from the sources."""
     try:
         digest = subprocess.run([TOP / "scripts" / "digest"], capture_output=True, text=True, check=True).stdout
         told = (RELEASE / "MADE_FROM").read_text(encoding="ascii").splitlines()

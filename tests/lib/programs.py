@@ -1,5 +1,4 @@
-"""Checks of the program that the words name: its runs, and files in a folder that the tests of a class share.
-"""
+"""Checks of the named program: its runs, and files in a folder that a class of tests shares."""
 
 from __future__ import annotations
 
@@ -26,7 +25,6 @@ def pipe_of_text(end: Optional[IO[str]]) -> IO[str]:
 
 class ProgramChecks(Checks):
     folder: str
-    # the most seconds that a run may take
     seconds = 600
 
     @classmethod
@@ -36,7 +34,7 @@ class ProgramChecks(Checks):
         cls.folder = made.name
 
     def run_program(self, words: Sequence[str], text: bytes = b"") -> tuple[int, bytes, bytes]:
-        """The status of a run, its output, and its standard error."""
+        """Its status, output, and standard error."""
         made = subprocess.run([self.given.program, *words], input=text, capture_output=True, timeout=self.seconds)
         return made.returncode, made.stdout, made.stderr
 

@@ -1,4 +1,4 @@
-"""Random scripts: edits, faults, steps, questions and checkpoints, refused ones too; and random damages."""
+"""Random scripts: edits, faults, steps, questions and checkpoints, refused ones too; and damages."""
 
 from __future__ import annotations
 

@@ -1,5 +1,4 @@
-"""The nodes at rest, and those that edits and faults reach, by docs/BOUNDS.md; a network is that of
-tests/lib/cost_tables.py."""
+"""The nodes at rest, and those that edits and faults reach, by docs/BOUNDS.md."""
 
 from __future__ import annotations
 
@@ -13,7 +12,7 @@ def lone(net: Network, node: int) -> set[int]:
 
 
 def is_at_rest(net: Network, rules: str, node: int) -> bool:
-    """Whether a node is at rest; an absent one is."""
+    """An absent one is."""
     paired = net.partner(node) is not None
     if rules == "manne" and net.flags.get(node, False) != paired:
         return False
@@ -28,7 +27,7 @@ def point_reach(net: Network, node: int, target: Optional[int]) -> set[int]:
 
 
 def reach(net: Network, kind: str, node: int, other: Optional[int] = None) -> set[int]:
-    """The nodes that an accepted edit or fault reaches, with None for null."""
+    """By an accepted edit or fault, with None for null."""
     partner = net.partner(node)
     if kind == "link" and other is not None:
         return {node, other} if partner is None and net.partner(other) is None else set()

@@ -1,5 +1,4 @@
-"""Runs the tests of a script: `--help`, a program to test, names to choose, each check counted, and one last
-line."""
+"""Runs a script's tests: its words, each check counted, and one last line."""
 
 from __future__ import annotations
 
@@ -21,27 +20,24 @@ TALLY = Tally()
 
 
 class Checks(unittest.TestCase):
-    """A test that counts its checks one by one; a failed one is printed, and the test goes on.
+    """Counts its checks one by one; a failed one is printed, and the test goes on.
 
-    `given` has the words of the command line, `tally` the counts. A test of this kind without a check has
-    failed; one of `unittest.TestCase` alone counts as one check.
+    `given` has the words of the command line, `tally` the counts. Such a test without a check has failed; one
+    of `unittest.TestCase` alone counts as one check.
     """
 
     given = argparse.Namespace()
     tally = TALLY
 
     def expect(self, name: str, came: object, wanted: object) -> bool:
-        """Counts whether a value is the expected one, and returns it."""
         return self.tally.expect(name, came, wanted)
 
     def require(self, name: str, holds: object, told: object = "it does not hold") -> bool:
-        """Counts whether something holds, and returns it. `told` is printed with the name if it does not."""
         return self.tally.require(name, holds, told)
 
 
 class Counting(unittest.TestResult):
-    """Reports the result of a run to a tally. A test with several wrong subtests counts as one that
-    failed."""
+    """Reports results to a tally. A test with several wrong subtests counts as one that failed."""
 
     def __init__(self, tally: Tally) -> None:
         super().__init__()
@@ -61,7 +57,7 @@ class Counting(unittest.TestResult):
                 self.note(test, "it made no check")
             else:
                 self.tally.passed += 1
-        # what follows belongs to no test: the beginning or the end of a class
+        # no test follows: the beginning or the end of a class
         self.wrong = False
 
     def note(self, test: unittest.TestCase, told: str) -> None:
@@ -93,8 +89,7 @@ def tests_of(cases: Iterable[Type[unittest.TestCase]]) -> Iterator[unittest.Test
 
 
 def name_of(test: unittest.TestCase) -> str:
-    """A test's name without the script's, or the name of a class whose beginning failed or skipped its
-    tests."""
+    """Without the script's name; or the class whose beginning failed or skipped its tests."""
     name = test.id()
     if name.startswith("setUpClass (") and name.endswith(")"):
         name = name[len("setUpClass (") : -1]
@@ -102,7 +97,7 @@ def name_of(test: unittest.TestCase) -> str:
 
 
 def fits(test: unittest.TestCase, names: Sequence[str]) -> bool:
-    """A name is a part of the test's name, or a pattern. No names fit all."""
+    """A name is a part of the test's, or a pattern. No names fit all."""
     own = name_of(test)
     return not names or any(name in own or fnmatch.fnmatchcase(own.rsplit(".", 1)[-1], name) for name in names)
 
@@ -113,7 +108,7 @@ def run_tests(tests: Iterable[unittest.TestCase], tally: Tally = TALLY) -> Tally
 
 
 def parser_of(doc: str) -> argparse.ArgumentParser:
-    """A parser whose help is a script's own docstring, with its usage in the second paragraph."""
+    """Its help is a script's own docstring, with the usage in the second paragraph."""
     name = f"tests/{os.path.basename(sys.argv[0])}"
     parser = argparse.ArgumentParser(prog=name, description=doc, usage=argparse.SUPPRESS)
     parser.formatter_class = argparse.RawDescriptionHelpFormatter
@@ -145,10 +140,10 @@ Options = Callable[[argparse.ArgumentParser], Any]
 
 
 def main(doc: str, cases: Sequence[Type[unittest.TestCase]], *options: Options) -> int:
-    """Reads the words, runs the tests that they choose, and returns the exit status.
+    """Runs the tests chosen by the words, and returns the exit status.
 
-    0: some checks passed and none failed; 1: one failed, or none passed; 2: wrong words, or no program at
-    the path."""
+    0: some checks passed and none failed; 1: one failed, or none passed; 2: wrong words, or no program at the
+    path."""
     parser = parser_of(doc)
     for option in options:
         option(parser)

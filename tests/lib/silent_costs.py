@@ -1,4 +1,4 @@
-"""The costs of edits and faults in a silent network, by docs/BOUNDS.md; networks are those of cost_tables.py."""
+"""The costs of edits and faults in a silent network, by docs/BOUNDS.md."""
 
 from __future__ import annotations
 
@@ -9,7 +9,7 @@ from .cost_tables import Network
 
 
 def is_silent(net: Network, rules: str) -> bool:
-    """Whether no rule is enabled: every node is at rest."""
+    """No rule is enabled: every node is at rest."""
     return all(reaches.is_at_rest(net, rules, node) for node in net.present)
 
 
@@ -19,7 +19,7 @@ def near(net: Network, *nodes: int) -> int:
 
 
 def point_cost(net: Network, rules: str, node: int, target: Optional[int]) -> int:
-    """The row of a written pointer, with `None` for null."""
+    """Of a written pointer, with `None` for null."""
     partner = net.partner(node)
     if partner is None:
         return 0 if target is None else 1

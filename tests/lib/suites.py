@@ -1,4 +1,4 @@
-"""Runs several scripts of tests one after another, and adds up their counts."""
+"""Runs several scripts of tests, and adds up their counts."""
 
 from __future__ import annotations
 
@@ -12,7 +12,7 @@ from typing import Callable, Iterable, Optional, TextIO
 from .packages import PACKAGES
 
 ENDED = re.compile(r"^(\d+) passed, (\d+) failed(?:, (\d+) skipped)?$")
-# The last lines of `node --test`, for people and in the Test Anything Protocol.
+# As `node --test` prints them, for people and in the Test Anything Protocol.
 ENDED_BY_NODE = re.compile(r"^(?:#|ℹ) (pass|fail|skipped) (\d+)$", re.MULTILINE)
 SKIPPED = "skipped: "
 LACKED = re.compile(r"\bno ([\w.-]+)")
@@ -21,8 +21,7 @@ INDENT = "    "
 
 @dataclasses.dataclass(frozen=True)
 class Suite:
-    """A script of tests: its subject, its words, and those of the short run, or `None` if that leaves it
-    out."""
+    """A script of tests: its subject, its words, and those of the short run, or `None` to leave it out."""
 
     name: str
     about: str
@@ -34,15 +33,13 @@ class Suite:
     lacks: Callable[[], str] = str
 
     def missing(self) -> str:
-        """Why the suite can't run, as one line; empty if it can."""
+        """In one line; empty if the suite can run."""
         absent = [need for need in self.needs if shutil.which(need) is None]
         return ", ".join(f"no {need}" for need in absent) or self.lacks()
 
 
 @dataclasses.dataclass
 class Result:
-    """Counts, lines on skipped checks, the whole output, and seconds."""
-
     passed: int = 0
     failed: int = 0
     skipped: list[str] = dataclasses.field(default_factory=list)
@@ -54,8 +51,7 @@ class Result:
 
 
 def counts_in(text: str) -> Optional[tuple[int, int]]:
-    """The checks that passed and failed by a suite's last line, or by the last lines of `node --test`; `None`
-    without such."""
+    """By the last line of a suite, or the last lines of `node --test`; `None` without such."""
     lines = text.splitlines()
     found = ENDED.match(lines[-1]) if lines else None
     if found:
@@ -65,11 +61,10 @@ def counts_in(text: str) -> Optional[tuple[int, int]]:
 
 
 def judged(text: str, status: Optional[int]) -> Result:
-    """The result from a suite's text and exit status. The status is `None` if it was ended for taking too
-    long.
+    """From a suite's text and exit status, which is `None` if it took too long.
 
-    A suite that fails without a count of failures counts as one failure: it ended by a signal, or printed
-    no counts, or its status and its counts disagree. One that ends well with only skipped checks is no
+    A suite that fails without a count of failures counts as one failure: it ended by a signal, printed no
+    counts, or its status and its counts disagree. One that ends well with only skipped checks is no
     failure."""
     skipped = [line[len(SKIPPED) :] for line in text.splitlines() if line.startswith(SKIPPED)]
     counts = counts_in(text)
@@ -112,7 +107,7 @@ def run_suite(words: Iterable[str], seconds: float) -> Result:
 
 
 def package_of(reason: str) -> Optional[str]:
-    """Debian's package for a skipped check, or `None` if the line names none."""
+    """Debian's package for a skipped check, or `None`."""
     return next((PACKAGES[name] for name in LACKED.findall(reason) if name in PACKAGES), None)
 
 
@@ -124,7 +119,7 @@ class Report:
         print(text, file=self.out, flush=True)
 
     def add(self, name: str, result: Result) -> None:
-        """Prints a suite's line, its skipped checks, and if it failed its output."""
+        """Prints its line, its skipped checks, and if it failed its output."""
         self.total.passed += result.passed
         self.total.failed += result.failed
         self.total.skipped += result.skipped
@@ -135,7 +130,7 @@ class Report:
             self.print("".join(f"{INDENT}{line}\n" for line in result.text.splitlines()).rstrip("\n"))
 
     def end(self) -> int:
-        """Prints what to install for the skipped checks, and the last line. Returns the exit status."""
+        """Prints what to install, and the last line. Returns the exit status."""
         packages = sorted({package for reason in self.total.skipped if (package := package_of(reason))})
         if packages:
             self.print(f"to skip less, on Debian: apt-get install {' '.join(packages)}")

@@ -1,11 +1,11 @@
-"""Counts how many checks passed, failed and were skipped, and prints the last line."""
+"""Counts checks that passed, failed and were skipped, and prints the last line."""
 
 from __future__ import annotations
 
 import sys
 from typing import Sequence, TextIO
 
-# A longer value is cut when it is printed.
+# A longer value is cut in print.
 SHOWN = 600
 INDENT = "    "
 
@@ -16,7 +16,7 @@ def shown(value: object) -> str:
 
 
 class Tally:
-    """Counts checks. Prints each that fails, and names each that is skipped."""
+    """Prints each check that fails, and names each that is skipped."""
 
     def __init__(self, out: TextIO = sys.stdout) -> None:
         self.out = out
@@ -30,8 +30,8 @@ class Tally:
         return self.require(name, came == wanted, lambda: f"{shown(came)}, and not {shown(wanted)}")
 
     def require(self, name: str, holds: object, told: object = "it does not hold") -> bool:
-        """Counts whether something holds, and returns it. `told` is printed with the name if it does not; a
-        function is called."""
+        """Counts whether something holds, and returns it. `told`, a text or a function, is printed if it does
+        not."""
         if holds:
             self.passed += 1
         else:
@@ -46,7 +46,7 @@ class Tally:
         )
 
     def same(self, name: str, differs: Sequence[str]) -> None:
-        """Counts a comparison, which passes if nothing differs. Prints differences below the name."""
+        """Passes if nothing differs. Prints differences below the name."""
         if differs:
             self.failed += 1
             self.print("\n".join([name, *(INDENT + line for line in differs)]))
@@ -58,6 +58,6 @@ class Tally:
         self.print(f"skipped: {name}: {why}")
 
     def end(self) -> int:
-        """Prints the last line, and returns the exit status: 0 if some passed and none failed."""
+        """Returns the exit status: 0 if some passed and none failed."""
         self.print(f"{self.passed} passed, {self.failed} failed, {self.skipped} skipped")
         return 1 if self.failed or not self.passed else 0

@@ -11,7 +11,7 @@ from .c_structs import COUNTS, Counts, Item, Row, Told
 DONE, REFUSED, NOT_SILENT = 0, 6, 8
 RULES = {"update": 1, "marry": 2, "seduce": 3, "abandon": 4}
 EDITS = {"link": 2, "unlink": 2, "join": 1, "leave": 1, "point": 2, "flag": 2}
-# The calls of the library by their names after `rudekpi_`.
+# By their names after `rudekpi_`.
 Calls = dict[str, Any]
 
 
@@ -64,7 +64,7 @@ def typed(library: ctypes.CDLL, slot: Any) -> Calls:
 
 
 def made(calls: Calls, slot: Any, line: str, told: Told) -> tuple[int, Optional[list[int]]]:
-    """The status of the call for a line, and the counts that it reports."""
+    """The call's status for a line, and the counts that it reports."""
     word, *names = line.split(" ")
     numbers = [int(name) if name != "-" else 0 for name in names] if word != "step" else []
     if word == "step":
@@ -97,7 +97,7 @@ def row_of(word: str) -> tuple[int, int, int]:
 
 
 def expected(line: str, entries: list[str], base: int) -> tuple[object, ...]:
-    """The call's expected result by a line's entries: the status, the numbers, the rows, and the counts."""
+    """By a line's entries: the status, the numbers, the rows, and the counts."""
     word = line.split(" ")[0]
     if word in ("drive", "scramble", "checkpoint"):
         return DONE, (base if not entries else int(entries[-1].split(" ")[0]), 0, 0, 0), [], None
@@ -113,7 +113,7 @@ def expected(line: str, entries: list[str], base: int) -> tuple[object, ...]:
 
 
 def differs(calls: Calls, slot: Any, line: str, text: bytes, last: int) -> Optional[str]:
-    """What is wrong with the call for a line with this text, after this many entries, or None."""
+    """What is wrong with the call for a line with this text after these entries, or None."""
     entries = [it for it in text.decode().splitlines() if re.match(r"\d", it)]
     told = Told(9, 9, 9, 9)
     status, counts = made(calls, slot, line, told)
@@ -173,6 +173,5 @@ def left(calls: Calls, slot: Any) -> int:
 
 
 def most_left(rules: int, charge: int, nodes: int) -> int:
-    """The smaller of the charge and, under the rules 0, n²/2 + n - 2 with the half rounded down; never below
-    0."""
+    """The smaller of the charge and, under the rules 0, n²/2 + n - 2 rounded down; at least 0."""
     return min(charge, max(0, nodes * nodes // 2 + nodes - 2)) if rules == 0 else charge
