@@ -8,8 +8,9 @@ export const RADIUS = 12;
 const DENSE = 8;
 const ARROW_GAP = 3;
 const MARK_DISTANCE = 16;
-// the size of an own name below a node
+// the size of an own name below a node, and its distance, which clears the halo
 const OWN_SIZE = 9;
+const OWN_GAP = 6;
 // angles: how far two marks lie from the middle of a wide gap, and how wide such a gap is
 const ASIDE = 0.5;
 const WIDE = 1.8;
@@ -168,7 +169,7 @@ export class Drawing {
     const label = labelOf(v);
     if (label !== null) {
       add(group, "title", {}, wholeOf(v));
-      add(group, "text", { class: "own", "font-size": OWN_SIZE, y: RADIUS + OWN_SIZE }, label);
+      add(group, "text", { class: "own", "font-size": OWN_SIZE, y: RADIUS + OWN_GAP + OWN_SIZE }, label);
     }
     return { group, classes: "node", mark: null, letter: null, flag: null };
   }
