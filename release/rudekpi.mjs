@@ -5,13 +5,11 @@
 const modules = {};
 
 modules["rudekpi/errors"] = (() => {
-// The errors that the module throws. For an argument out of range it throws `RangeError`, for one of another
-// type `TypeError`.
+// The errors that the module throws, besides `RangeError` and `TypeError`. rudekpi.d.ts documents them.
 
 const STATUSES =
   ["done", "not a command", "the log is full", "memory was refused", "there is no session", "out of range"];
 
-/** The base class of all other errors of this module. */
 class RudekpiError extends Error {
   /** @param {string} said */
   constructor(said) {
@@ -20,7 +18,6 @@ class RudekpiError extends Error {
   }
 }
 
-/** The network refused an event and is unchanged. */
 class Refused extends RudekpiError {
   /**
    * @param {string} event
@@ -37,10 +34,6 @@ class Refused extends RudekpiError {
   }
 }
 
-/**
- * The log is full, which ended the network. The status and last line are those that the program would have
- * ended with.
- */
 class Ended extends RudekpiError {
   /**
    * @param {number} status
@@ -53,10 +46,8 @@ class Ended extends RudekpiError {
   }
 }
 
-/** Memory ran out: nothing was carried out, and the network is unchanged. */
 class MemoryError extends RudekpiError {}
 
-/** The command was carried out, but memory ran out for the reply. The transcript has it, up to `entry`. */
 class NoReply extends MemoryError {
   /**
    * @param {number} entry
@@ -68,7 +59,6 @@ class NoReply extends MemoryError {
   }
 }
 
-/** A text is no transcript: the number of the first wrong line, and why that line is wrong. */
 class Damaged extends RudekpiError {
   /**
    * @param {number} line
@@ -139,7 +129,6 @@ const PROBE = Uint8Array.of(
   0, 97, 115, 109, 1, 0, 0, 0, 1, 4, 1, 96, 0, 0, 3, 2, 1, 0, 5, 3, 1, 0, 1, 10, 27, 1, 25, 0, 68, 0, 0, 0, 0, 0, 0, 0,
   0, 252, 2, 192, 26, 65, 0, 65, 0, 65, 0, 252, 10, 0, 0, 11);
 
-/** Whether this browser has the features that the engine needs. */
 function canRun() {
   return typeof WebAssembly === "object" && WebAssembly.validate(PROBE);
 }
@@ -181,7 +170,6 @@ class Engine {
     this.memory = memory;
     this.given = new Room(this);
     this.taken = new Room(this);
-    /** Receives what calls report, and the counts of a status. */
     this.told = this.roomFor(DESK_WORDS * WORD_BYTES);
     this.counts = this.told + BigInt(COUNTS * WORD_BYTES);
     this.desk = Number(this.told) / WORD_BYTES;
@@ -432,7 +420,7 @@ class Session {
   }
 
   /**
-   * The nodes that an edit or a fault would reach, ascending; none if it would be refused. Changes nothing.
+   * None if the event would be refused.
    * @param {string} line of a script
    */
   reachOf(line) {
@@ -554,7 +542,6 @@ class Names {
   }
 
   /**
-   * Throws the error for a value that is no name.
    * @param {any} name
    * @returns {number}
    */
@@ -598,8 +585,7 @@ return { MOST_NODES, MOST_TURNS, shown, numberWithin, seedOf, Names };
 })();
 
 modules["rudekpi/audits"] = (() => {
-// Judges transcripts: the engine's audit accepts exactly the texts of runs, and names the first wrong line of
-// every other text.
+// Judges transcripts by the engine's audit. rudekpi.d.ts documents the calls.
 const {DONE, Engine, inUse, NO_SESSION} = modules["rudekpi/engine"];
 const {Damaged, MemoryError} = modules["rudekpi/errors"];
 const {shown} = modules["rudekpi/names"];
@@ -610,10 +596,7 @@ const PIECE = 1 << 20;
 const ACCEPTED = 0;
 const WHYS = ["", "bad header", "not a transcript line", "out of order", "not the machine's reply", "bad base"];
 
-/**
- * The counts of an accepted transcript.
- * @typedef {{ entries: number, epochs: number, moves: number }} Summary
- */
+/** @typedef {{ entries: number, epochs: number, moves: number }} Summary */
 
 /**
  * @param {any} text
@@ -635,7 +618,7 @@ function bytesOf(text) {
 /**
  * Reads a verdict. Throws `Damaged` or `MemoryError`.
  * @param {Engine} engine
- * @param {bigint} at its address
+ * @param {bigint} at
  * @returns {Summary}
  */
 function read(engine, at) {
@@ -668,10 +651,7 @@ function summaryOf(engine, text) {
   }
 }
 
-/**
- * Judges a transcript and returns its counts. Throws `Damaged` if the text is no transcript.
- * @param {string | ArrayBuffer | ArrayBufferView} text
- */
+/** @param {string | ArrayBuffer | ArrayBufferView} text */
 function audit(text) {
   return summaryOf(inUse.engine, typeof text === "string" ? text : bytesOf(text));
 }
@@ -682,7 +662,6 @@ const FORGOTTEN = new FinalizationRegistry(({ engine, slot }) => {
   engine.calls.rudekpi_give_back(slot);
 });
 
-/** Judges a transcript that comes in pieces, cut anywhere. Keeps only an incomplete line or base. */
 class Audit {
   /** @type {Engine} */
   #engine;
@@ -705,11 +684,7 @@ class Audit {
     FORGOTTEN.register(this, { engine, slot: this.#slot }, this);
   }
 
-  /**
-   * Feeds the next piece. Throws `Damaged` once the pieces so far begin no transcript, whatever follows, and
-   * at each later call.
-   * @param {string | ArrayBuffer | ArrayBufferView} piece
-   */
+  /** @param {string | ArrayBuffer | ArrayBufferView} piece */
   feed(piece) {
     const bytes = bytesOf(piece);
     const engine = this.#engine;
@@ -722,7 +697,6 @@ class Audit {
     }
   }
 
-  /** The counts of the transcript. May be called again. No piece can be fed afterwards. */
   finish() {
     if (this.#verdict === null && this.#slot !== this.#engine.nowhere) {
       this.#verdict = this.#end();
@@ -737,7 +711,6 @@ class Audit {
     return this.#verdict.summary;
   }
 
-  /** Ends the audit. If `finish` was not called before, there is no verdict. */
   close() {
     const engine = this.#engine;
     if (this.#slot !== engine.nowhere) {
@@ -799,7 +772,7 @@ class TranscriptFault extends Error {
 }
 
 /**
- * One line of a transcript, such as `3 step 1 = 1:seduce>2`.
+ * Such as `3 step 1 = 1:seduce>2`.
  * @param {string} line
  */
 function readEntry(line) {
@@ -822,7 +795,7 @@ function wordsOf(entry) {
 }
 
 /**
- * The moves in a step's reply: each node, its rule, and its target (0 if the rule takes none).
+ * The moves in a step's reply; a target is 0 if the rule takes none.
  * @param {Entry} entry
  */
 function movesOf(entry) {
@@ -885,8 +858,7 @@ function numbersOf(words, most, text, at) {
 }
 
 /**
- * The base whose lines begin at a place: its numbers, its state in the form that a machine loads, and its
- * end.
+ * The base that begins at a place: its numbers, its state for a machine, and its end.
  * @param {string} text
  * @param {number} at
  */
@@ -936,18 +908,12 @@ class Transcript {
     this.text = text;
     /** @type {number[]} */
     this.starts = [];
-    /**
-     * The lines of bases, by the entry before each.
-     * @type {Map<number, string>}
-     */
+    /** @type {Map<number, string>} */
     this.bases = new Map();
     /** @type {RuleName} */
     this.rules = "hh";
     this.nodes = this.present = this.first = this.spent = 0;
-    /**
-     * The state of the base that begins the transcript, or null.
-     * @type {MachineState | null}
-     */
+    /** @type {MachineState | null} */
     this.state = null;
     this.opening = "";
     let at = text.startsWith("matching2 ") ? this.openAtBase() : this.openAtHeader();
@@ -1108,7 +1074,8 @@ return { COSTED, numbersOfEdit, whyRefused };
 })();
 
 modules["rudekpi/replies"] = (() => {
-// The replies of a network, and the texts of turns and bases parsed into them.
+// The replies of a network, and the texts of turns and bases parsed into them. rudekpi.d.ts documents the
+// replies.
 const {movesOf, readBase, readEntry} = modules["transcript"];
 
 /** @typedef {import("./names.mjs").Names} Names */
@@ -1122,7 +1089,6 @@ const REFUSALS = [
   "empty-choice", "not-central", "chosen-twice", "not-enabled", "bad-target", "already-present"
 ];
 
-/** An item of a choice: the node that is to move, and the target that it is to point at. */
 class Wish {
   /**
    * @param {Name} node
@@ -1134,7 +1100,6 @@ class Wish {
   }
 }
 
-/** The pairs of nodes that point at each other, each with the node of the lower number first. */
 class Matching {
   /**
    * @param {number} entry
@@ -1147,7 +1112,6 @@ class Matching {
   }
 
   /**
-   * The partner of a node, or null.
    * @param {Name} node
    * @returns {Name | null}
    */
@@ -1157,7 +1121,6 @@ class Matching {
 }
 
 /**
- * A list with further properties.
  * @template {object} List
  * @template {object} Beside
  * @param {List} list
@@ -1344,9 +1307,8 @@ class Network {
 
   /**
    * @param {RuleName} rules
-   * @param {number | Iterable<Name>} nodes how many there are, or their names
-   * @param {{ present?: number, keep?: boolean }} options how many are present at the start,
-   *   and whether the transcript before the last checkpoint is kept
+   * @param {number | Iterable<Name>} nodes
+   * @param {{ present?: number, keep?: boolean }} options
    */
   constructor(rules = "manne", nodes = 0, { present, keep = true } = {}) {
     if (!RULE_SET_NAMES.includes(rules)) {
@@ -1365,10 +1327,6 @@ class Network {
     FORGOTTEN.register(this, this.#session, this);
   }
 
-  /**
-   * Ends the network and frees its memory; the transcript stays. If there is no memory for the transcript's
-   * last part, that part is lost and `MemoryError` is thrown.
-   */
   close() {
     if (this.#slot !== this.#engine.nowhere) {
       try {
@@ -1537,10 +1495,7 @@ class Network {
     return baseOf(this.#names, text);
   }
 
-  /**
-   * The partner of a node, or null, also if the node is not present. Adds no entry.
-   * @param {Name} node
-   */
+  /** @param {Name} node */
   partner(node) {
     this.#asked(this.#calls.rudekpi_partner(this.#slot, this.#names.numberOf(node), this.#told));
     return this.#names.named(this.#engine.entry);
@@ -1571,7 +1526,7 @@ class Network {
   }
 
   /**
-   * Returns the cost that the last call wrote. Throws a `RangeError` if the event would be refused.
+   * Throws a `RangeError` if the event would be refused.
    * @param {string} word
    * @param {Name[]} given
    * @param {number[]} numbers
@@ -1639,27 +1594,19 @@ class Network {
     return near.sort((a, b) => a - b).map((other) => this.nameOf(other));
   }
 
-  /**
-   * The registers of a present node.
-   * @param {Name} node
-   */
+  /** @param {Name} node */
   registers(node) {
     const number = this.#presentNumber(node);
     const { pointers, flags } = this.#look();
     return { pointer: this.#names.named(pointers[number]), flag: flags[number] === 1 };
   }
 
-  /**
-   * Returns exactly what `console run` writes for the same commands; without `keep`, only from the last
-   * checkpoint on.
-   */
   transcript() {
     this.#collect();
     this.#parts = [this.#parts.join("")];
     return this.#parts[0];
   }
 
-  /** The audit's summary of the transcript. */
   audit() {
     return summaryOf(this.#engine, this.transcript());
   }
@@ -1692,7 +1639,6 @@ class Network {
   }
 
   /**
-   * Throws the error of a status that is not done.
    * @param {number} status
    * @param {string} event
    * @returns {never}
@@ -1717,10 +1663,7 @@ class Network {
     throw new RangeError(`${event}: the engine takes no such numbers`);
   }
 
-  /**
-   * Throws the error of a question's status that is not done.
-   * @param {number} status
-   */
+  /** @param {number} status */
   #asked(status) {
     if (status !== DONE) {
       this.#fail(status, "");
@@ -1728,7 +1671,6 @@ class Network {
   }
 
   /**
-   * Returns the answer to a question, or throws the error of its status.
    * @template Answer
    * @param {() => Answer} question
    */
@@ -1810,10 +1752,7 @@ class Network {
     return listWith(lines.map(read), { status: this.status() });
   }
 
-  /**
-   * The state of the network, read from a base that the engine writes. That base is no entry, and is left out
-   * of the transcript.
-   */
+  /** Read from a base that the engine writes, which is left out of the transcript. */
   #look() {
     if (this.#state === null) {
       this.#collect();
@@ -1843,7 +1782,6 @@ modules["rudekpi/version"] = (() => {
 // The version of the engine in use.
 const {inUse} = modules["rudekpi/engine"];
 
-/** Returns the version of the engine, as `1.0.0`. */
 function version() {
   const number = inUse.engine.calls.rudekpi_version();
   return [number / 1_000_000, (number / 1000) % 1000, number % 1000].map(Math.floor).join(".");

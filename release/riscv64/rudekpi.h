@@ -49,8 +49,8 @@ struct rudekpi_slot {
 };
 #define RUDEKPI_NONE {0, false}
 
-/* Returns the version of the library as one number: 1,000,000 times the major, plus 1,000 times the minor,
- * plus the patch number. A program compares it with RUDEKPI_VERSION_NUMBER. */
+/* The version of the library as one number: 1,000,000 times the major, plus 1,000 times the minor, plus the
+ * patch number. A program compares it with RUDEKPI_VERSION_NUMBER. */
 uint32_t rudekpi_version(void);
 
 /* Begins a session of a new network and replaces what the slot held. The names are 1 to `nodes`, at most
@@ -72,7 +72,7 @@ uint32_t rudekpi_session_new(uint32_t rules, uint32_t nodes, uint32_t present, s
  * look at all names and edges. */
 uint32_t rudekpi_session_feed(struct rudekpi_slot *slot, const uint8_t *line, size_t length, uint64_t *number);
 
-/* Returns how many bytes of text are unread; 0 without a session. */
+/* How many bytes of text are unread; 0 without a session. */
 size_t rudekpi_session_length(struct rudekpi_slot *slot);
 
 /* If `out` has room for all unread text, copies that text to the start of `out` and forgets it; otherwise
@@ -152,7 +152,6 @@ uint32_t rudekpi_enabled(struct rudekpi_slot *slot, struct rudekpi_told *told);
 /* `matching`: lists the pairs of nodes that point at each other. The rows are the pairs. Looks at each name. */
 uint32_t rudekpi_pairs(struct rudekpi_slot *slot, struct rudekpi_told *told);
 
-/* The counts of a network. */
 struct rudekpi_counts {
     uint32_t nodes;   /* the nodes that are present */
     uint32_t edges;
@@ -165,7 +164,6 @@ struct rudekpi_counts {
 /* `status`: counts. Writes every field of `counts`; all are 0 if the call does not return DONE. */
 uint32_t rudekpi_status(struct rudekpi_slot *slot, struct rudekpi_counts *counts, struct rudekpi_told *told);
 
-/* One row of an answer. */
 struct rudekpi_row {
     uint32_t node;  /* the node that moved or may move; in a pair, the lower name */
     uint32_t rule;  /* the node's rule; in a pair, 0 */
@@ -197,16 +195,19 @@ uint32_t rudekpi_checkpoint(struct rudekpi_slot *slot, struct rudekpi_told *told
  * DONE; NO_SESSION. */
 uint32_t rudekpi_transcript(struct rudekpi_slot *slot, bool keeps);
 
-/* Writes a node's partner, or 0 if the node has none or is not present. Reads two registers and adds no entry.
- * DONE; NO_SESSION; BAD_ARGUMENT for a name that is 0 or above 65,535. `partner` is written in each case. */
+/* The calls from here to rudekpi_moves_left only ask: they change nothing in the network and add no entry.
+ * They return BAD_ARGUMENT for a name that is 0 or above 65,535; only a target may be 0, for null. The result
+ * is written in each case: 0 or false if the status is not DONE.
+ *
+ * Writes a node's partner, or 0 if the node has none or is not present. Reads two registers.
+ * DONE; NO_SESSION; BAD_ARGUMENT. */
 uint32_t rudekpi_partner(struct rudekpi_slot *slot, uint32_t node, uint32_t *partner);
 
 /* Writes the cost of an edit or a fault, in moves. If the event came at this moment, it could raise the charge,
  * and so the number of moves that may follow, by at most its cost. The cost is 0 if the machine would refuse
  * the event. The cost is computed from the registers and degrees of the nodes that the event touches (table in
- * docs/BOUNDS.md), whatever the size of the network. Changes nothing, adds no entry.
- * DONE; NO_SESSION; BAD_ARGUMENT for a name that is 0 or above 65,535; only a target may be 0, for null.
- * `cost` is written in each case, 0 if the status is not DONE. */
+ * docs/BOUNDS.md), whatever the size of the network.
+ * DONE; NO_SESSION; BAD_ARGUMENT. */
 uint32_t rudekpi_cost_of_link(struct rudekpi_slot *slot, uint32_t a, uint32_t b, uint32_t *cost);
 uint32_t rudekpi_cost_of_unlink(struct rudekpi_slot *slot, uint32_t a, uint32_t b, uint32_t *cost);
 uint32_t rudekpi_cost_of_join(struct rudekpi_slot *slot, uint32_t node, uint32_t *cost);
@@ -218,9 +219,8 @@ uint32_t rudekpi_cost_of_flag(struct rudekpi_slot *slot, uint32_t node, bool val
  * this many moves follow before the next edit or fault, whatever the daemon chooses. Only unmarried neighbours
  * count. Under RUDEKPI_HSU_HUANG the silent cost is at most the cost above. Under RUDEKPI_MANNE it is at most
  * that cost plus 2 if a new pair may form, plus 1 for rudekpi_silent_cost_of_leave. The silent cost is 0 if the
- * machine would refuse the event. Looks at the neighbours of at most two nodes. Changes nothing, adds no entry.
- * DONE; NOT_SILENT if a rule is enabled; NO_SESSION; BAD_ARGUMENT for a name that is 0 or above 65,535; only a
- * target may be 0, for null. `cost` is written in each case, 0 if the status is not DONE. */
+ * machine would refuse the event. Looks at the neighbours of at most two nodes.
+ * DONE; NOT_SILENT if a rule is enabled; NO_SESSION; BAD_ARGUMENT. */
 uint32_t rudekpi_silent_cost_of_link(struct rudekpi_slot *slot, uint32_t a, uint32_t b, uint32_t *cost);
 uint32_t rudekpi_silent_cost_of_unlink(struct rudekpi_slot *slot, uint32_t a, uint32_t b, uint32_t *cost);
 uint32_t rudekpi_silent_cost_of_join(struct rudekpi_slot *slot, uint32_t node, uint32_t *cost);
@@ -231,9 +231,8 @@ uint32_t rudekpi_silent_cost_of_flag(struct rudekpi_slot *slot, uint32_t node, b
 /* Writes whether a node is at rest: it is paired, or it points nowhere while all its neighbours are paired; and
  * its flag is right if the rules use flags. Whatever the daemon chooses, a node at rest does not move until an
  * edit or a fault reaches it. An absent node is at rest. Looks at the node's neighbours only if the node points
- * nowhere; adds no entry.
- * DONE; NO_SESSION; BAD_ARGUMENT for a name that is 0 or above 65,535. `rests` is written in each case, false
- * if the status is not DONE. */
+ * nowhere.
+ * DONE; NO_SESSION; BAD_ARGUMENT. */
 uint32_t rudekpi_is_at_rest(struct rudekpi_slot *slot, uint32_t node, bool *rests);
 
 /* Lists the nodes that an edit or a fault would reach if the event came at this moment: every other node at
@@ -241,9 +240,8 @@ uint32_t rudekpi_is_at_rest(struct rudekpi_slot *slot, uint32_t node, bool *rest
  * for all; otherwise `out` is unchanged. Writes how many they are to `count`; their names were copied if
  * `count` is at most `room`. The list is empty if the machine would refuse the event. Costs one pass through
  * the neighbours of the nodes that the event names, and of their partners (table with limits in
- * docs/BOUNDS.md). Changes nothing, adds no entry.
- * DONE; NO_MEMORY; NO_SESSION; BAD_ARGUMENT for a name that is 0 or above 65,535; only a target may be 0, for
- * null. `count` is written in each case; if the status is not DONE it is 0 and `out` is unchanged. */
+ * docs/BOUNDS.md).
+ * DONE; NO_MEMORY; NO_SESSION; BAD_ARGUMENT. If the status is not DONE, `out` is unchanged. */
 uint32_t rudekpi_reach_of_link(struct rudekpi_slot *slot, uint32_t a, uint32_t b, uint32_t *out, size_t room, size_t *count);
 uint32_t rudekpi_reach_of_unlink(struct rudekpi_slot *slot, uint32_t a, uint32_t b, uint32_t *out, size_t room, size_t *count);
 uint32_t rudekpi_reach_of_join(struct rudekpi_slot *slot, uint32_t node, uint32_t *out, size_t room, size_t *count);
@@ -253,8 +251,8 @@ uint32_t rudekpi_reach_of_flag(struct rudekpi_slot *slot, uint32_t node, bool va
 
 /* Writes how many moves can still come before the next accepted edit or fault, whatever the daemon chooses:
  * at most the charge, and under RUDEKPI_HSU_HUANG also at most n*n/2 + n - 2 among n nodes, the half rounded
- * down. Looks at what has changed since the last such call or `status`; adds no entry.
- * DONE; NO_SESSION, with `moves` 0. */
+ * down. Looks at what has changed since the last such call or `status`.
+ * DONE; NO_SESSION. */
 uint32_t rudekpi_moves_left(struct rudekpi_slot *slot, uint32_t *moves);
 
 /* The verdict of an audit. */
@@ -313,11 +311,10 @@ uint32_t rudekpi_audit_feed(struct rudekpi_audit_slot *slot, const uint8_t *byte
  * before. */
 uint32_t rudekpi_audit_finish(struct rudekpi_audit_slot *slot, struct rudekpi_verdict *verdict);
 
-/* Ends the audit without a verdict and frees its memory. The slot may be empty before, and is empty
- * afterwards. */
+/* Ends the audit without a verdict and frees its memory. The slot may be empty before, and is so after. */
 void rudekpi_audit_free(struct rudekpi_audit_slot *slot);
 
-/* Returns the text of a status, in ASCII; "unknown" for an unknown number. */
+/* The text of a status, in ASCII; "unknown" for an unknown number. */
 static inline const char *rudekpi_status_text(uint32_t status) {
     static const char *const texts[] = {"done",       "not a command", "the log is full", "memory was refused",
                                         "no session", "bad argument",  "refused",         "no transcript",
@@ -325,7 +322,7 @@ static inline const char *rudekpi_status_text(uint32_t status) {
     return status < sizeof texts / sizeof *texts ? texts[status] : "unknown";
 }
 
-/* Returns the word for a refusal in a transcript; "unknown" for an unknown number. */
+/* The word for a refusal in a transcript; "unknown" for an unknown number. */
 static inline const char *rudekpi_refusal_text(uint32_t refusal) {
     static const char *const texts[] = {"unknown",      "unknown-node",   "self-loop",    "already-linked",
                                         "not-linked",   "too-many-edges", "not-neighbour", "no-flag",
@@ -334,13 +331,13 @@ static inline const char *rudekpi_refusal_text(uint32_t refusal) {
     return refusal < sizeof texts / sizeof *texts ? texts[refusal] : "unknown";
 }
 
-/* Returns the word for a rule in a transcript; "unknown" for an unknown number. */
+/* The word for a rule in a transcript; "unknown" for an unknown number. */
 static inline const char *rudekpi_rule_text(uint32_t rule) {
     static const char *const texts[] = {"unknown", "update", "marry", "seduce", "abandon"};
     return rule < sizeof texts / sizeof *texts ? texts[rule] : "unknown";
 }
 
-/* Returns a verdict in the words of the program's `audit`; "unknown" for an unknown number. */
+/* A verdict in the words of the program's `audit`; "unknown" for an unknown number. */
 static inline const char *rudekpi_verdict_text(uint32_t kind) {
     static const char *const texts[] = {"accepted",
                                         "bad header",
