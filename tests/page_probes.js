@@ -108,6 +108,7 @@ const probes = (() => {
 
     /** The parts of the entry and the figures that something else covers. */
     covered: () => all("#entry p, #figures dd")
+                     .filter((part) => part.getClientRects().length > 0)
                      .filter((part) => document.elementFromPoint(...middleOf(part)) !== part)
                      .map((part) => part.id),
 
