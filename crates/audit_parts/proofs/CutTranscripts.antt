@@ -1,19 +1,5 @@
 -- At a base in a transcript, the parts before it are a transcript, and so are those after it.
-use Rattle.std.proofs.Common.{◌≡◌, ℕ, ◌+◌, ◌≤◌, List, [], ◌∷◌, ◌++◌, length, refl, sym, ap, subst, ◌∙◌, append_assoc, append-nil, length-append, arith}
-use Rattle.std.specs.List.{AllByRecursion}
-use Rattle.rule_machine.specs.declared.base.Base.{Base}
-use Rattle.rule_machine.specs.declared.rules.RuleSet.{RuleSet}
-use Rattle.rule_machine.specs.Base.{LogPart, EntryPart, BasePart, NumberedMoment, Passes, base_of}
-use Rattle.rule_machine.specs.Tables.{table_of}
-use Rattle.line_text.specs.EntryText.{entry_text, header_text}
-use Rattle.line_text.specs.BaseText.{base_text}
-use Rattle.entry_grammar.specs.Spelling.{SpellsEntry, max_entries}
-use Rattle.auditor.specs.Parts.{Opening, Named, Based, Opens, StepsTo, opening_text, part_text, parts_text, size_of}
-use Rattle.auditor.specs.Transcript.{IsLogPart, IsTranscript}
-use Rattle.auditor.proofs.Chains.{entry_line_is, entry_other, other_no_base}
-use Rattle.auditor.proofs.Feedless.{entry_free, header_free}
-use Rattle.auditor.proofs.Steps.{passes_first, passes_onto, passes_rise, step_count}
-use Rattle.audit_parts.specs.Seams.{EndsLine}
+use Rattle.audit_parts.proofs.Prelude.{◌≡◌, ℕ, ◌+◌, ◌≤◌, List, [], ◌∷◌, ◌++◌, length, refl, sym, ap, subst, ◌∙◌, append_assoc, append-nil, length-append, arith, AllByRecursion, Base, RuleSet, LogPart, EntryPart, BasePart, NumberedMoment, Passes, base_of, table_of, entry_text, header_text, base_text, SpellsEntry, max_entries, Opening, Named, Based, Opens, StepsTo, opening_text, part_text, parts_text, size_of, IsLogPart, IsTranscript, entry_line_is, entry_other, other_no_base, entry_free, header_free, passes_first, passes_onto, passes_rise, step_count, EndsLine}
 use Rattle.audit_parts.proofs.Lines.{skip_base, skip_other}
 use Rattle.audit_parts.proofs.SeamRuns.{reopens}
 

@@ -1,41 +1,16 @@
 -- The damage of a text is that of a longer one that meets another text; after a transcript it moves on by its
 -- lines.
-use Rattle.std.proofs.Common.{◌≡◌, ◌≢◌, ℕ, ◌+◌, ◌<◌, ◌≤◌, ◌⊎◌, inl, inr, List, [], ◌∷◌, ◌++◌, Option, None, Some, length, refl, sym, ap, subst, ◌∙◌, append_assoc, append-nil, length-append, ⊎_elim, arith}
-use Rattle.std.specs.List.{AllByRecursion}
-use Rattle.std.proofs.lemmas.Bool.{cases_lt}
-use Rattle.rule_machine.specs.declared.base.Base.{Base}
-use Rattle.rule_machine.specs.declared.rules.RuleSet.{RuleSet}
-use Rattle.rule_machine.specs.Base.{LogPart, NumberedMoment, base_of}
-use Rattle.rule_machine.specs.Run.{Entry}
-use Rattle.rule_machine.specs.Answer.{Answers}
-use Rattle.rule_machine.specs.Tables.{table_of}
-use Rattle.line_text.specs.Words.{lines_with_ends}
-use Rattle.line_text.specs.BaseText.{base_counts, base_head}
-use Rattle.byte_streams.specs.Lines.{first_line}
-use Rattle.byte_streams.proofs.FirstLines.{first_line-splits, no_first_line}
-use Rattle.entry_grammar.specs.declared.base_line.BaseLine.{BaseLine}
-use Rattle.entry_grammar.specs.declared.base_line.BaseLine.TheVariants.{Base as Numbers, Head}
-use Rattle.entry_grammar.specs.BaseLines.{LacksLines, MayFollow, base_lines}
-use Rattle.entry_grammar.specs.Spelling.{IsBaseLine, base_line_text}
-use Rattle.entry_grammar.proofs.Free.{cons_parts, mark_once}
-use Rattle.entry_grammar.proofs.FirstLines.{line_free}
-use Rattle.auditor.specs.declared.damage.Damage.{Damage}
-use Rattle.auditor.specs.declared.damage.Damage.TheVariants.{BadHeader, NotALine, OutOfOrder, NotTheMachines, BadBase}
-use Rattle.auditor.specs.declared.summary.Summary.{Summary}
-use Rattle.auditor.specs.AcceptedRuns.{IsAccepted}
-use Rattle.auditor.specs.Damage.{TranscriptPrefix, HasImpossibleBase, HasBrokenBase, EntryComes, BeginsWithTranscript, HasBadHeader, HasBadStart, HasNoEntry, IsDamage, IsLineBehind, CommonPrefix, line_feeds}
-use Rattle.auditor.specs.Parts.{Based, Opening, opening_text, parts_text, size_of}
-use Rattle.auditor.specs.Transcript.{IsTranscript}
-use Rattle.auditor.proofs.TextEnds.{Fails, FailsBehind, FailsFirst, Split, damage_fails, fails_some, first_good, split_of}
-use Rattle.auditor.proofs.Windows.{begins_less, begins_more, breaks_more, feeds_append, feeds_broken, first_line-more}
-use Rattle.audit_parts.specs.Seams.{EndsLine, IsSeam, further}
+use Rattle.audit_parts.proofs.Prelude.{◌≡◌, ◌≢◌, ℕ, ◌+◌, ◌<◌, ◌≤◌, ◌⊎◌, inl, inr, List, [], ◌∷◌, ◌++◌, Option, None, Some, length, refl, sym, ap, subst, ◌∙◌, append_assoc, append-nil, length-append, ⊎_elim, arith, AllByRecursion, cases_lt, Base, RuleSet, LogPart, NumberedMoment, base_of, Entry, Answers, table_of, lines_with_ends, base_counts, base_head, first_line, first_line-splits, no_first_line, BaseLine, Head, LacksLines, MayFollow, base_lines, IsBaseLine, base_line_text, cons_parts, mark_once, line_free, AuditFault, BadHeader, NotALine, OutOfOrder, NotTheMachines, BadBase, Read, Memory, Summary, IsAccepted, TranscriptPrefix, HasImpossibleBase, HasBrokenBase, EntryComes, BeginsWithTranscript, HasBadHeader, HasBadStart, HasNoEntry, IsDamage, IsLineBehind, CommonPrefix, line_feeds, Based, Opening, opening_text, parts_text, size_of, IsTranscript, Fails, FailsBehind, FailsFirst, Split, damage_fails, fails_some, first_good, split_of, begins_less, begins_more, breaks_more, feeds_append, feeds_broken, first_line-more, EndsLine, IsSeam, further}
+use Rattle.entry_grammar.specs.declared.base_line.BaseLine.TheVariants.{Base as Numbers}
 use Rattle.audit_parts.proofs.CutTranscripts.{cut_reopens, cut_transcript, reopens_end, text_at}
 use Rattle.audit_parts.proofs.Lines.{ends_behind, ends_both, ends_free, follow_inner, skip_base, skip_line, skip_lines}
 use Rattle.audit_parts.proofs.MeetingTexts.{join_follows, seam_other, seam_transcript}
 use Rattle.audit_parts.proofs.SeamRuns.{ended_lines, no_feeds, seam_behind, seam_ends, seam_first}
 
-behind_damage : (bytes : List ℕ) (at : TranscriptPrefix bytes) (d : Damage) → Fails (split_of bytes at) d → IsDamage bytes d
+behind_damage : (bytes : List ℕ) (at : TranscriptPrefix bytes) (d : AuditFault) → Fails (split_of bytes at) d → IsDamage bytes d
 behind_damage bytes at BadHeader x = absurd x
+behind_damage bytes at Read x = absurd x
+behind_damage bytes at Memory x = absurd x
 behind_damage bytes at (NotALine line) x = record { at = at; line_is = x.0; other = x.1; damage = x.2 }
 behind_damage bytes at (OutOfOrder line) (line_is, (number, entry, comes, damage)) =
     record { at = at; line_is = line_is; number = number; entry = entry; comes = comes; damage = damage }
@@ -44,15 +19,17 @@ behind_damage bytes at (NotTheMachines line) (line_is, (entry, comes, damage)) =
 behind_damage bytes at (BadBase line) (begins, (parting, line_is)) =
     inr (record { at = at; begins = begins; parting = parting; line_is = line_is })
 
-fails_damage : (bytes : List ℕ) (d : Damage) → FailsBehind bytes d → IsDamage bytes d
+fails_damage : (bytes : List ℕ) (d : AuditFault) → FailsBehind bytes d → IsDamage bytes d
 fails_damage bytes d x = behind_damage bytes x.at d x.fails
 
-first_damage : (bytes : List ℕ) (d : Damage) → FailsFirst bytes d → IsDamage bytes d
+first_damage : (bytes : List ℕ) (d : AuditFault) → FailsFirst bytes d → IsDamage bytes d
 first_damage bytes BadHeader x = x
 first_damage bytes (NotALine line) x = absurd x
 first_damage bytes (OutOfOrder line) x = absurd x
 first_damage bytes (NotTheMachines line) x = absurd x
 first_damage bytes (BadBase line) x = inl x
+first_damage bytes Read x = absurd x
+first_damage bytes Memory x = absurd x
 
 -- ---- whole lines have a first one
 
@@ -160,12 +137,14 @@ module _ (own seam : List ℕ) (lines : EndsLine own) (seamed : IsSeam seam) whe
           (λ (whole : x.number ≤ line_feeds bad.rest). inl (record { number = x.number; breaks = breaks_more bad.rest more x.number x.breaks whole; line_is = x.line_is }))
           (cases_lt (line_feeds bad.rest) x.number)
 
-  first_more : (more : List ℕ) (d : Damage) → FailsFirst (own ++ seam) d → FailsFirst ((own ++ seam) ++ more) d
+  first_more : (more : List ℕ) (d : AuditFault) → FailsFirst (own ++ seam) d → FailsFirst ((own ++ seam) ++ more) d
   first_more more BadHeader bad = header_more more bad
   first_more more (NotALine line) bad = bad
   first_more more (OutOfOrder line) bad = bad
   first_more more (NotTheMachines line) bad = bad
   first_more more (BadBase line) bad = start_more more line bad
+  first_more more Read bad = bad
+  first_more more Memory bad = bad
 
   -- ---- behind a transcript
 
@@ -240,8 +219,10 @@ module _ (own seam : List ℕ) (lines : EndsLine own) (seamed : IsSeam seam) whe
   abbrev longer : Split → List ℕ → Split
   longer at more = record at { rest = at.rest ++ more }
 
-  fails_more : (more : List ℕ) (at : Split) (d : Damage) → IsTranscript at.good at.rules at.opening at.log at.end → own ++ seam ≡ at.good ++ at.rest → Fails at d → Fails (longer at more) d
+  fails_more : (more : List ℕ) (at : Split) (d : AuditFault) → IsTranscript at.good at.rules at.opening at.log at.end → own ++ seam ≡ at.good ++ at.rest → Fails at d → Fails (longer at more) d
   fails_more more at BadHeader is splits x = x
+  fails_more more at Read is splits x = x
+  fails_more more at Memory is splits x = x
   fails_more more at (NotALine line) is splits x =
       let found = some_line at.rest (rest_ends at.good at.rest splits) (fails_some at (NotALine line) x) in
       let none = subst (HasNoEntry at.rest) found.2 x.2 in
@@ -255,7 +236,7 @@ module _ (own seam : List ℕ) (lines : EndsLine own) (seamed : IsSeam seam) whe
       let q = parting_more (text_at at.rules (size_of at.opening) at.end) at.rest more p some in
       (begins_more at.rest more begins, (q.0, subst (λ (c : List ℕ). IsLineBehind line (at.good ++ c)) q.1 line_is))
 
-  behind_more : (more : List ℕ) (d : Damage) → FailsBehind (own ++ seam) d → FailsBehind ((own ++ seam) ++ more) d
+  behind_more : (more : List ℕ) (d : AuditFault) → FailsBehind (own ++ seam) d → FailsBehind ((own ++ seam) ++ more) d
   behind_more more d x =
       let at = x.at in
       let f = at.follows in
@@ -270,7 +251,7 @@ module _ (own seam : List ℕ) (lines : EndsLine own) (seamed : IsSeam seam) whe
         fails = fails_more more (split_of (own ++ seam) at) d f.transcript f.splits x.fails;
       }
 
-  pub first_is_the_wholes : (behind : List ℕ) (d : Damage) → IsDamage (own ++ seam) d → IsDamage (own ++ (seam ++ behind)) d
+  pub first_is_the_wholes : (behind : List ℕ) (d : AuditFault) → IsDamage (own ++ seam) d → IsDamage (own ++ (seam ++ behind)) d
   first_is_the_wholes behind d x =
       subst (λ (l : List ℕ). IsDamage l d) (append_assoc own seam behind) (by (damage_fails (own ++ seam) d x))
     where
@@ -286,8 +267,10 @@ module _ (own seam : List ℕ) (lines : EndsLine own) (seamed : IsSeam seam) whe
   abbrev moved : Split → RuleSet → Opening → List LogPart → Split
   moved at rules o log = record { rules = rules; opening = o; good = own ++ at.good; log = log; end = at.end; rest = at.rest }
 
-  fails_further : (at : Split) (rules : RuleSet) (o : Opening) (log : List LogPart) (d : Damage) → at.rules ≡ rules → size_of at.opening ≡ size_of o → Fails at d → Fails (moved at rules o log) (further (line_feeds own) d)
+  fails_further : (at : Split) (rules : RuleSet) (o : Opening) (log : List LogPart) (d : AuditFault) → at.rules ≡ rules → size_of at.opening ≡ size_of o → Fails at d → Fails (moved at rules o log) (further (line_feeds own) d)
   fails_further at rules o log BadHeader same size x = x
+  fails_further at rules o log Read same size x = x
+  fails_further at rules o log Memory same size x = x
   fails_further at rules o log (NotALine line) same size x = (line_further line at.good x.0, x.1, x.2)
   fails_further at rules o log (OutOfOrder line) same size x = (line_further line at.good x.0, x.1)
   fails_further at rules o log (NotTheMachines line) same size (line_is, (entry, comes, damage)) =
@@ -297,7 +280,7 @@ module _ (own seam : List ℕ) (lines : EndsLine own) (seamed : IsSeam seam) whe
       let q : CommonPrefix (text_at rules (size_of o) at.end) at.rest = record { common = p.common; missing = p.missing; more = p.more; wanted = sym text ∙ p.wanted; had = p.had; some = p.some; apart = p.apart } in
       (begins, (q, subst (IsLineBehind (line_feeds own + line)) (sym (append_assoc own at.good p.common)) (line_further line (at.good ++ p.common) line_is)))
 
-  pub second_is_the_wholes : (behind : List ℕ) (c : Summary) (d : Damage) → IsAccepted (own ++ seam) c → IsDamage (seam ++ behind) d → IsDamage (own ++ (seam ++ behind)) (further (line_feeds own) d)
+  pub second_is_the_wholes : (behind : List ℕ) (c : Summary) (d : AuditFault) → IsAccepted (own ++ seam) c → IsDamage (seam ++ behind) d → IsDamage (own ++ (seam ++ behind)) (further (line_feeds own) d)
   second_is_the_wholes behind c d y x = by (damage_fails (seam ++ behind) d x)
     where
       by : FailsFirst (seam ++ behind) d ⊎ FailsBehind (seam ++ behind) d → IsDamage (own ++ (seam ++ behind)) (further (line_feeds own) d)

@@ -1,20 +1,7 @@
 -- Whole lines at the beginning of a text.
-use Rattle.std.proofs.Common.{◌≡◌, ◌≢◌, ℕ, ◌≤◌, zero, suc, List, [], ◌∷◌, ◌++◌, get_or, map, refl, sym, ap, subst, ◌∙◌, append_assoc, arith}
-use Rattle.std.specs.List.{AllByRecursion}
+use Rattle.audit_parts.proofs.Prelude.{◌≡◌, ◌≢◌, ℕ, ◌≤◌, zero, suc, List, [], ◌∷◌, ◌++◌, get_or, map, refl, sym, ap, subst, ◌∙◌, append_assoc, arith, AllByRecursion, RuleSet, lines_with_ends, base_head, base_text, BaseLine, Head, Place, Link, IsFree, IsBaseLine, base_line_text, IsShaped, base_lines, place_line, lines_of_base, EdgesFollow, NodesFollow, MayFollow, cons_parts, line_free, fit_both, fit_edges, fit_places, base_text_is, lines_follow, lines_text, EndsLine}
 use Rattle.rule_machine.specs.declared.base.Base.{Base as BaseKept}
-use Rattle.rule_machine.specs.declared.rules.RuleSet.{RuleSet}
-use Rattle.line_text.specs.Words.{lines_with_ends}
-use Rattle.line_text.specs.BaseText.{base_head, base_text}
-use Rattle.entry_grammar.specs.declared.base_line.BaseLine.{BaseLine}
-use Rattle.entry_grammar.specs.declared.base_line.BaseLine.TheVariants.{Head, Base, Place, Link}
-use Rattle.entry_grammar.specs.Parsing.{IsFree}
-use Rattle.entry_grammar.specs.Spelling.{IsBaseLine, base_line_text}
-use Rattle.entry_grammar.specs.BaseLines.{IsShaped, base_lines, place_line, lines_of_base, EdgesFollow, NodesFollow, MayFollow}
-use Rattle.entry_grammar.proofs.Free.{cons_parts}
-use Rattle.entry_grammar.proofs.FirstLines.{line_free}
-use Rattle.entry_grammar.proofs.BaseBreaks.{fit_both, fit_edges, fit_places}
-use Rattle.entry_grammar.proofs.BaseOnce.{base_text_is, lines_follow, lines_text}
-use Rattle.audit_parts.specs.Seams.{EndsLine}
+use Rattle.entry_grammar.specs.declared.base_line.BaseLine.TheVariants.{Base}
 
 -- ---- whole lines
 

@@ -1,23 +1,5 @@
 -- Two texts that meet, and the joined one.
-use Rattle.std.proofs.Common.{◌≡◌, ℕ, ◌+◌, List, [], ◌∷◌, ◌++◌, get_or, length, refl, sym, ap, subst, ◌∙◌, append_assoc, append-nil, length-append, arith}
-use Rattle.std.specs.List.{AllByRecursion}
-use Rattle.std.proofs.lemmas.List.Sums.{sum_by-append}
-use Rattle.rule_machine.specs.declared.rules.RuleSet.{RuleSet}
-use Rattle.rule_machine.specs.RuleTable.{RuleTable}
-use Rattle.rule_machine.specs.Base.{LogPart, EntryPart, BasePart, NumberedMoment, Passes, base_of, entries_in}
-use Rattle.rule_machine.specs.Run.{Entry}
-use Rattle.rule_machine.specs.Tables.{table_of}
-use Rattle.line_text.specs.EntryText.{entry_text}
-use Rattle.line_text.specs.BaseText.{base_text}
-use Rattle.auditor.specs.declared.summary.Summary.{Summary}
-use Rattle.auditor.specs.AcceptedRuns.{Counts, IsAccepted}
-use Rattle.auditor.specs.Damage.{BeginsWithTranscript}
-use Rattle.auditor.specs.Parts.{Opening, Based, count_after, opening_text, part_text, parts_text, size_of}
-use Rattle.auditor.specs.Transcript.{IsLogPart, IsTranscript, disturbances_in, epoch_count, move_count, reply_moves}
-use Rattle.auditor.proofs.TextEnds.{followed, transcript_ends, whole}
-use Rattle.auditor.proofs.Openings.{follows_text, opening_once, parts_behind}
-use Rattle.auditor.proofs.Steps.{passes_first, passes_onto, passes_rise, step_count}
-use Rattle.audit_parts.specs.Seams.{EndsLine, IsSeam, counted_both}
+use Rattle.audit_parts.proofs.Prelude.{◌≡◌, ℕ, ◌+◌, List, [], ◌∷◌, ◌++◌, get_or, length, refl, sym, ap, subst, ◌∙◌, append_assoc, append-nil, length-append, arith, AllByRecursion, sum_by-append, RuleSet, RuleTable, LogPart, EntryPart, BasePart, NumberedMoment, Passes, base_of, entries_in, Entry, table_of, entry_text, base_text, Summary, Counts, IsAccepted, BeginsWithTranscript, Opening, Based, count_after, opening_text, part_text, parts_text, size_of, IsLogPart, IsTranscript, disturbances_in, epoch_count, move_count, reply_moves, followed, transcript_ends, whole, follows_text, opening_once, parts_behind, passes_first, passes_onto, passes_rise, step_count, EndsLine, IsSeam, counted_both}
 use Rattle.audit_parts.proofs.CutTranscripts.{IsNoHeader, cut_transcript, reopens_end, text_at}
 use Rattle.audit_parts.proofs.SeamRuns.{reopens, seam_behind, seam_first, seam_is}
 

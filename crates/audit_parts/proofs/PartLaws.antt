@@ -1,19 +1,6 @@
 -- The laws of specs/Laws.
-use Rattle.std.proofs.Common.{◌≡◌, ℕ, List, [], ◌∷◌, ◌++◌, Ok, Err, Option, None, Some, IfSome, length, refl, sym, ap, subst, ◌∙◌, append_assoc, append-nil, arith}
-use Rattle.line_text.specs.Words.{lines_with_ends}
-use Rattle.line_text.specs.BaseText.{base_head, base_text, link_text, numbers_line, node_record_text}
-use Rattle.entry_grammar.specs.declared.base_line.BaseLine.TheVariants.{Base as Numbers, Head}
-use Rattle.entry_grammar.specs.Parsing.{AreCounts}
-use Rattle.entry_grammar.specs.BaseLines.{base_lines}
-use Rattle.entry_grammar.proofs.BaseLines.{spells_base_line_once}
-use Rattle.entry_grammar.proofs.FirstLines.{line_free}
-use Rattle.auditor.specs.declared.damage.JudgeFault.TheVariants.{Damaged, Memory}
-use Rattle.auditor.specs.AcceptedRuns.{IsAccepted}
-use Rattle.auditor.specs.Damage.{IsDamage, line_feeds}
-use Rattle.auditor.specs.Verdict.{IsJudged}
-use Rattle.audit_parts.specs.FieldRanges.{AreLinesBefore}
-use Rattle.audit_parts.specs.Laws.{AllPartsAreAccepted, AreParts, BasesAreSeams, FirstDamageStays, HasVerdict, IsAcceptedText, JoinedIsAccepted, PartsAreAccepted, PartsAreJudged, SecondDamageMoves}
-use Rattle.audit_parts.specs.Seams.{Meets, Verdict, counted_both, further, joined_verdict}
+use Rattle.audit_parts.proofs.Prelude.{◌≡◌, ℕ, List, [], ◌∷◌, ◌++◌, Ok, Err, Option, None, Some, IfSome, length, refl, sym, ap, subst, ◌∙◌, append_assoc, append-nil, arith, lines_with_ends, base_head, base_text, link_text, numbers_line, node_record_text, Head, AreCounts, base_lines, spells_base_line_once, line_free, Read, Memory, IsAccepted, IsDamage, line_feeds, IsJudged, AreLinesBefore, AllPartsAreAccepted, AreParts, BasesAreSeams, FirstDamageStays, HasVerdict, IsAcceptedText, JoinedIsAccepted, PartsAreAccepted, PartsAreJudged, SecondDamageMoves, Meets, Verdict, counted_both, further, joined_verdict}
+use Rattle.entry_grammar.specs.declared.base_line.BaseLine.TheVariants.{Base as Numbers}
 use Rattle.audit_parts.proofs.Damages.{first_is_the_wholes, second_is_the_wholes}
 use Rattle.audit_parts.proofs.Lines.{base_behind}
 use Rattle.audit_parts.proofs.MeetingTexts.{parts_accepted, whole_accepted}
@@ -48,10 +35,10 @@ second_damage_moves first second m c d x y =
 
 pub judged_both : (first second : List ℕ) (m : Meets first second) (v w : Verdict) → IsJudged first v → IsJudged second w → IsJudged (m.own ++ second) (joined_verdict v (line_feeds m.own) w)
 judged_both first second m (Ok c) (Ok d) x y = joined_is_accepted first second m c d x y
-judged_both first second m (Ok c) (Err (Damaged d)) x y = second_damage_moves first second m c d x y
 judged_both first second m (Ok c) (Err Memory) x y = tt
-judged_both first second m (Err (Damaged d)) w x y = first_damage_stays first second m d x
+judged_both first second m (Ok c) (Err d) x y = second_damage_moves first second m c d x y
 judged_both first second m (Err Memory) w x y = tt
+judged_both first second m (Err d) w x y = first_damage_stays first second m d x
 
 -- the lines before the seam count only if they matter
 pub joined_judged : (v w : Verdict) (lines : ℕ) (found : Option Verdict) → IfSome found (λ all. all ≡ joined_verdict v lines w) → (first second : List ℕ) (m : Meets first second) → AreLinesBefore lines m.own v w → IsJudged first v → IsJudged second w → IfSome found (IsJudged (m.own ++ second))
@@ -61,8 +48,9 @@ joined_judged v w lines (Some all) is first second m before x y =
   where
     same : (v w : Verdict) → AreLinesBefore lines m.own v w → joined_verdict v (line_feeds m.own) w ≡ joined_verdict v lines w
     same (Ok c) (Ok d) before = refl
-    same (Ok c) (Err (Damaged d)) before = ap (λ (n : ℕ). joined_verdict (Ok c) n (Err (Damaged d))) (sym before)
+    same (Ok c) (Err Read) before = refl
     same (Ok c) (Err Memory) before = refl
+    same (Ok c) (Err d) before = ap (λ (n : ℕ). joined_verdict (Ok c) n (Err d)) (sym before)
     same (Err fault) w before = refl
 
 -- ---- any number

@@ -1,40 +1,9 @@
 -- A run may begin again at the base of its state; and a base in a text is a seam.
-use Rattle.std.proofs.Common.{◌≡◌, ℕ, ◌+◌, ◌*◌, ◌≤◌, List, [], ◌∷◌, ◌++◌, length, refl, sym, ap, subst, ◌∙◌, append_assoc, append-nil, arith}
-use Rattle.std.specs.List.{AllByRecursion}
+use Rattle.audit_parts.proofs.Prelude.{◌≡◌, ℕ, ◌+◌, ◌*◌, ◌≤◌, List, [], ◌∷◌, ◌++◌, length, refl, sym, ap, subst, ◌∙◌, append_assoc, append-nil, arith, AllByRecursion, append_cancel_left, Base, RuleSet, Hh, Manne, edge_count, node_count, pair_cmp, LogPart, NumberedMoment, Passes, base_of, entries_in, Moment, table_of, weight_of, passes_run, edges_len, lines_with_ends, base_head, base_text, link_text, numbers_line, node_record_text, Head, Place, Link, AreCounts, IsFree, IsPlace, IsShaped, base_lines, IsOrderedPair, max_entries, cons_parts, mark_once, line_free, line_feeds, Opening, Named, Based, IsOpening, Opens, base_in, present_of, size_of, feed, feeds_first, feeds_append, free_feeds, EndsLine, IsSeam, begins_again, light}
 use Rattle.std.specs.FinMap as finmap
-use Rattle.std.proofs.lemmas.List.{append_cancel_left}
-use Rattle.rule_machine.specs.declared.base.Base.{Base}
-use Rattle.rule_machine.specs.declared.rules.RuleSet.{RuleSet}
-use Rattle.rule_machine.specs.declared.rules.RuleSet.TheVariants.{Hh, Manne}
-use Rattle.rule_machine.specs.Network.{edge_count, node_count, pair_cmp}
-use Rattle.rule_machine.specs.Base.{LogPart, NumberedMoment, Passes, base_of, entries_in}
-use Rattle.rule_machine.specs.Run.{Moment}
-use Rattle.rule_machine.specs.Tables.{table_of, weight_of}
-use Rattle.machine_laws.specs.Bases.{passes_run}
-use Rattle.machine_laws.specs.UnusedFlags.{IsFlagless}
-use Rattle.charge_laws.specs.RunsFromBases.{may_begin_again}
-use Rattle.charge_laws.specs.Members.{edges_len}
-use Rattle.charge_laws.specs.Tables.{hsu_huang_flagless, manne_flagless}
-use Rattle.line_text.specs.Words.{lines_with_ends}
-use Rattle.line_text.specs.BaseText.{base_head, base_text, link_text, numbers_line, node_record_text}
-use Rattle.entry_grammar.specs.declared.base_line.BaseLine.TheVariants.{Base as Numbers, Head, Place, Link}
-use Rattle.entry_grammar.specs.Parsing.{AreCounts, IsFree}
-use Rattle.entry_grammar.specs.BaseLines.{IsPlace, IsShaped, base_lines}
-use Rattle.entry_grammar.specs.Spelling.{IsOrderedPair, max_entries}
-use Rattle.entry_grammar.proofs.Free.{cons_parts, mark_once}
-use Rattle.entry_grammar.proofs.FirstLines.{line_free}
-use Rattle.auditor.specs.Damage.{line_feeds}
-use Rattle.auditor.specs.Parts.{Opening, Named, Based, IsOpening, Opens, base_in, present_of, size_of}
-use Rattle.auditor.proofs.LineCounts.{feed, feeds_first}
-use Rattle.auditor.proofs.Spent.{is_charged, is_table}
-use Rattle.auditor.proofs.Windows.{feeds_append, free_feeds}
-use Rattle.audit_parts.specs.Seams.{EndsLine, IsSeam}
+use Rattle.entry_grammar.specs.declared.base_line.BaseLine.TheVariants.{Base as Numbers}
 use Rattle.audit_parts.proofs.Lines.{base_behind, ends_both, ends_line, ends_tail}
 use Rattle.audit_parts.proofs.Shape.{base_shaped, runs_few}
-
-is_flagless : (rules : RuleSet) → IsFlagless (table_of rules)
-is_flagless Hh = hsu_huang_flagless
-is_flagless Manne = manne_flagless
 
 opening_small : (o : Opening) → IsOpening o → size_of o ≤ 65535
 opening_small (Named size count) is = is.few
@@ -51,16 +20,12 @@ opening_few rules (Based size base) start opens =
     let few = opens.fits.edges in
     omega (arith, same, all, few)
 
-light : (rules : RuleSet) (spent charge edges nodes : ℕ) → spent + charge ≤ 2 * edges + weight_of rules * nodes → spent ≤ 2 * edges + 3 * nodes
-light Hh spent charge edges nodes within = omega (arith, within)
-light Manne spent charge edges nodes within = omega (arith, within)
-
 -- a run may begin at any state that a run has reached
 pub reopens : (rules : RuleSet) (o : Opening) (start end : NumberedMoment) (log : List LogPart) → Opens rules o start → Passes (table_of rules) start log end → end.count ≤ max_entries → Opens rules (Based (size_of o) (base_of end.count end.moment)) end
 reopens rules o start end log opens passes few =
     let t = table_of rules in
     let run = (passes_run t start end log passes).0 in
-    let begun = may_begin_again t (weight_of rules) (is_table rules) (is_charged rules) (is_flagless rules) (size_of o) (present_of o) end.count (base_in o) start.moment opens.begins (entries_in log) end.moment run in
+    let begun = begins_again rules o start end log opens passes in
     let small = opening_small o opens.fits in
     let edges = runs_few t start.moment (entries_in log) end.moment (opening_few rules o start opens) run in
     let net = end.moment.state.network in

@@ -1,38 +1,9 @@
 -- A transcript may begin with the base of any state that a run has reached.
-use Rattle.std.proofs.Common.{◌≡◌, ℕ, zero, suc, ◌+◌, ◌*◌, ◌<◌, ◌≤◌, Bool, true, false, cond, not, T, List, [], ◌∷◌, filter, length, map, Option, None, Some, IfSome, IsTrue, nat_eq, nat_le, refl, sym, subst, ◌∙◌, ◌-◌, inl, inr, arith}
-use Rattle.std.specs.List.{AllByRecursion, range_with_len}
+use Rattle.audit_parts.proofs.Prelude.{◌≡◌, ℕ, zero, suc, ◌+◌, ◌*◌, ◌<◌, ◌≤◌, Bool, true, false, cond, not, T, List, [], ◌∷◌, filter, length, map, Option, None, Some, IfSome, IsTrue, nat_eq, nat_le, refl, sym, subst, ◌∙◌, ◌-◌, inl, inr, arith, AllByRecursion, range_with_len, ranked, is_sorted, below_all, is_lt, nat_cmp, ordering_then, Ordering, Less, Equal, Greater, and_parts, leb-false, length-map, count_by-le-length, length-filter, Event, Unlink, Point, Flag, Step, Show, Enabled, Matching, Status, Join, Leave, Refusal, UnknownNode, SelfLoop, AlreadyLinked, TooManyEdges, Reply, Accepted, Moves, Shown, EnabledAre, Pairs, Network, pair_cmp, edge, edge_count, edge_list, is_end, linked, names, node_count, present, State, IsState, pointer, RuleTable, both_present, max_edges, refusal_of, AnswersBy, Does, spent_after, base_of, node_record_at, Entry, Moment, Run, cond_none, left_was, pair_total, linked_back, linked_present, present_range, pointer_linked, IsIn, count_all, count_into, edges_without_repeats, edges_contain, edges_len, in_edges, IsName, EdgesRise, IsEdgeAbove, IsPlace, IsShaped, NodesRise}
 use Rattle.std.specs.FinMap as finmap
-use Rattle.std.specs.Cmp.{ranked}
-use Rattle.std.specs.FinMap.Entries.{is_sorted, below_all}
-use Rattle.std.specs.Ordering.{is_lt, nat_cmp, ordering_then}
-use Rattle.std.specs.declared.cmp.Ordering.{Ordering}
-use Rattle.std.specs.declared.cmp.Ordering.TheVariants.{Less, Equal, Greater}
-use Rattle.std.proofs.lemmas.Bool.{and_parts, leb-false}
-use Rattle.std.proofs.lemmas.List.{length-map}
-use Rattle.std.proofs.lemmas.List.Sums.{count_by-le-length, length-filter}
-use Rattle.rule_machine.specs.declared.event.Event.{Event}
-use Rattle.rule_machine.specs.declared.event.Event.TheVariants.{Link, Unlink, Point, Flag, Step, Show, Enabled, Matching, Status, Join, Leave}
-use Rattle.rule_machine.specs.declared.refusal.Refusal.{Refusal}
-use Rattle.rule_machine.specs.declared.refusal.Refusal.TheVariants.{UnknownNode, SelfLoop, AlreadyLinked, TooManyEdges}
-use Rattle.rule_machine.specs.declared.reply.Reply.{Reply}
-use Rattle.rule_machine.specs.declared.reply.Reply.TheVariants.{Accepted, Moves, Shown, EnabledAre, Pairs, Counts}
-use Rattle.rule_machine.specs.Network.{Network, pair_cmp, edge, edge_count, edge_list, is_end, linked, names, node_count, present}
-use Rattle.rule_machine.specs.State.{State, IsState, pointer}
-use Rattle.rule_machine.specs.RuleTable.{RuleTable}
-use Rattle.rule_machine.specs.Refuse.{both_present, max_edges, refusal_of}
-use Rattle.rule_machine.specs.Answer.{AnswersBy, Does, spent_after}
-use Rattle.rule_machine.specs.Base.{base_of, node_record_at}
-use Rattle.rule_machine.specs.Run.{Entry, Moment, Run}
-use Rattle.machine_laws.specs.AcceptedEvents.{cond_none}
-use Rattle.machine_laws.specs.Edges.{left_was, pair_total}
-use Rattle.machine_laws.specs.Neighbours.{linked_back, linked_present, present_range}
-use Rattle.machine_laws.specs.Pointers.{pointer_linked}
-use Rattle.charge_laws.specs.ListCounts.{IsIn, count_all, count_into}
-use Rattle.charge_laws.specs.EdgesByNodes.{edges_without_repeats}
-use Rattle.charge_laws.specs.Members.{edges_contain, edges_len, in_edges}
-use Rattle.line_text.specs.Words.{IsName}
+use Rattle.rule_machine.specs.declared.event.Event.TheVariants.{Link}
+use Rattle.rule_machine.specs.declared.reply.Reply.TheVariants.{Counts}
 use Rattle.line_text.specs.ReplyText.{IsOrderedPair}
-use Rattle.entry_grammar.specs.BaseLines.{EdgesRise, IsEdgeAbove, IsPlace, IsShaped, NodesRise}
 
 -- ---- no run has more edges than there may be
 

@@ -5,14 +5,14 @@ use Rattle.rule_machine.specs.declared.base.Base.{Base}
 use Rattle.rule_machine.specs.declared.rules.RuleSet.{RuleSet}
 use Rattle.line_text.specs.BaseText.{base_text}
 use Rattle.entry_grammar.specs.BaseLines.{IsShaped}
-use Rattle.auditor.specs.declared.damage.Damage.{Damage}
+use Rattle.auditor.specs.declared.fault.AuditFault.{AuditFault}
 use Rattle.auditor.specs.declared.summary.Summary.{Summary}
 use Rattle.auditor.specs.AcceptedRuns.{IsAccepted}
 use Rattle.auditor.specs.Damage.{IsDamage, line_feeds}
 use Rattle.auditor.specs.Verdict.{IsJudged}
 use Rattle.audit_parts.specs.Seams.{IsSeam, Meets, Verdict, counted_both, further, joined_verdict}
 
--- ---- two texts that meet
+-- ---- two texts that meet: `accepted_in_two` and `damaged_in_two` prove these laws
 
 -- If both texts are accepted, so is the joined text: entries and moves add up, and so do epochs, less one.
 abbrev pub JoinedIsAccepted : Type 0
@@ -29,15 +29,15 @@ PartsAreAccepted = (first second : List ℕ) (m : Meets first second) → IsAcce
 
 -- The damage of the first text is the damage of the joined text.
 abbrev pub FirstDamageStays : Type 0
-FirstDamageStays = (first second : List ℕ) (m : Meets first second) (d : Damage) → IsDamage first d → IsDamage (m.own ++ second) d
+FirstDamageStays = (first second : List ℕ) (m : Meets first second) (d : AuditFault) → IsDamage first d → IsDamage (m.own ++ second) d
 
 -- If the first text is accepted and the second is damaged, the joined text has the second's damage, whose
 -- line grows by the number of lines of the first text before the seam.
 abbrev pub SecondDamageMoves : Type 0
 SecondDamageMoves =
-    (first second : List ℕ) (m : Meets first second) (c : Summary) (d : Damage) → IsAccepted first c → IsDamage second d → IsDamage (m.own ++ second) (further (line_feeds m.own) d)
+    (first second : List ℕ) (m : Meets first second) (c : Summary) (d : AuditFault) → IsAccepted first c → IsDamage second d → IsDamage (m.own ++ second) (further (line_feeds m.own) d)
 
--- ---- any number of texts, each of which meets the next
+-- ---- any number of texts, each of which meets the next: `judged_in_parts` proves these laws
 
 -- the whole text, which contains each seam once
 abbrev pub AreParts : List ℕ → List (List ℕ) → List ℕ → Type 0

@@ -3,10 +3,8 @@ use Rattle.std.specs.Prelude.{◌≡◌, ℕ, ◌+◌, ◌-◌, List, [], ◌∷
 use Rattle.byte_streams.specs.Lines.{IsLine}
 use Rattle.line_text.specs.BaseText.{base_counts}
 use Rattle.entry_grammar.specs.Parsing.{AreCounts}
-use Rattle.auditor.specs.declared.damage.Damage.{Damage}
-use Rattle.auditor.specs.declared.damage.Damage.TheVariants.{BadHeader, NotALine, OutOfOrder, NotTheMachines, BadBase}
-use Rattle.auditor.specs.declared.damage.JudgeFault.{JudgeFault}
-use Rattle.auditor.specs.declared.damage.JudgeFault.TheVariants.{Damaged, Memory}
+use Rattle.auditor.specs.declared.fault.AuditFault.{AuditFault}
+use Rattle.auditor.specs.declared.fault.AuditFault.TheVariants.{BadHeader, NotALine, OutOfOrder, NotTheMachines, BadBase, Read, Memory}
 use Rattle.auditor.specs.declared.summary.Summary.{Summary}
 use Rattle.auditor.specs.Damage.{BeginsBase, line_feeds}
 
@@ -44,23 +42,24 @@ pub record Meets (first second : List ℕ) : Type 0 where
 -- ---- verdicts
 
 abbrev pub Verdict : Type 0
-Verdict = Result Summary JudgeFault
+Verdict = Result Summary AuditFault
 
 -- the counts of both texts: the second begins in the last epoch of the first
 abbrev pub counted_both : Summary → Summary → Summary
 counted_both c d = record { entries = c.entries + d.entries; epochs = c.epochs + d.epochs - 1; moves = c.moves + d.moves }
 
--- the damage, its line increased by this many lines
-abbrev pub further : ℕ → Damage → Damage
+-- the damage, its line increased by this many lines; other faults name no line
+abbrev pub further : ℕ → AuditFault → AuditFault
 further lines BadHeader = BadHeader
 further lines (NotALine line) = NotALine (lines + line)
 further lines (OutOfOrder line) = OutOfOrder (lines + line)
 further lines (NotTheMachines line) = NotTheMachines (lines + line)
 further lines (BadBase line) = BadBase (lines + line)
+further lines Read = Read
+further lines Memory = Memory
 
 -- the verdict of two texts as one, if the first text has this many lines before the seam
 abbrev pub joined_verdict : Verdict → ℕ → Verdict → Verdict
 joined_verdict (Err fault) lines second = Err fault
 joined_verdict (Ok c) lines (Ok d) = Ok (counted_both c d)
-joined_verdict (Ok c) lines (Err (Damaged d)) = Err (Damaged (further lines d))
-joined_verdict (Ok c) lines (Err Memory) = Err Memory
+joined_verdict (Ok c) lines (Err fault) = Err (further lines fault)

@@ -1,12 +1,11 @@
 //! Joining the verdicts of two texts that meet.
 
 ghost use Rattle.std.specs.Prelude.{◌≡◌, ◌++◌, ℕ, List, IfSome, IsNone, Ok, Err};
-ghost use Rattle.auditor.specs.declared.damage.JudgeFault.TheVariants.{Damaged};
 ghost use Rattle.auditor.specs.Verdict.{IsJudged};
 ghost use Rattle.audit_parts.specs.Seams.{Meets, counted_both, further, joined_verdict};
 ghost use Rattle.audit_parts.specs.FieldRanges.{AreLinesBefore, FitsFields};
 
-use auditor::{Damage, JudgeFault, Summary};
+use auditor::{AuditFault, Summary};
 
 fn count_both(first: Summary, second: Summary) -> Option<Summary>
     ensures both { IfSome result (λ both. both ≡ counted_both first second) }
@@ -20,42 +19,38 @@ fn count_both(first: Summary, second: Summary) -> Option<Summary>
     })
 }
 
-fn move_on(lines: u64, damage: Damage) -> Option<Damage>
-    ensures moved { IfSome result (λ moved. moved ≡ further lines damage) }
-    ensures fits { IsNone result → FitsFields (Err (Damaged (further lines damage))) → ⊥ }
+fn move_on(lines: u64, fault: AuditFault) -> Option<AuditFault>
+    ensures moved { IfSome result (λ moved. moved ≡ further lines fault) }
+    ensures fits { IsNone result → FitsFields (Err (further lines fault)) → ⊥ }
 {
-    match damage {
-        Damage::BadHeader => Some(Damage::BadHeader),
-        Damage::NotALine { line } => Some(Damage::NotALine {
+    match fault {
+        AuditFault::BadHeader | AuditFault::Read | AuditFault::Memory => Some(fault),
+        AuditFault::NotALine { line } => Some(AuditFault::NotALine {
             line: lines.checked_add(line)?,
         }),
-        Damage::OutOfOrder { line } => Some(Damage::OutOfOrder {
+        AuditFault::OutOfOrder { line } => Some(AuditFault::OutOfOrder {
             line: lines.checked_add(line)?,
         }),
-        Damage::NotTheMachines { line } => Some(Damage::NotTheMachines {
+        AuditFault::NotTheMachines { line } => Some(AuditFault::NotTheMachines {
             line: lines.checked_add(line)?,
         }),
-        Damage::BadBase { line } => Some(Damage::BadBase {
+        AuditFault::BadBase { line } => Some(AuditFault::BadBase {
             line: lines.checked_add(line)?,
         }),
     }
 }
 
 fn join_numbers(
-    first: Result<Summary, JudgeFault>,
+    first: Result<Summary, AuditFault>,
     lines: u64,
-    second: Result<Summary, JudgeFault>,
-) -> Option<Result<Summary, JudgeFault>>
+    second: Result<Summary, AuditFault>,
+) -> Option<Result<Summary, AuditFault>>
     ensures joined { IfSome result (λ whole. whole ≡ joined_verdict first lines second) }
     ensures fits { IsNone result → FitsFields (joined_verdict first lines second) → ⊥ }
 {
     match (first, second) {
         (Ok(counted), Ok(more)) => Some(Ok(count_both(counted, more)?)),
-        (Ok(_), Err(JudgeFault::Damaged(damage))) => {
-            let moved = move_on(lines, damage)?;
-            Some(Err(JudgeFault::Damaged(moved)))
-        }
-        (Ok(_), Err(JudgeFault::Memory)) => Some(Err(JudgeFault::Memory)),
+        (Ok(_), Err(fault)) => Some(Err(move_on(lines, fault)?)),
         (Err(fault), _) => Some(Err(fault)),
     }
 }
@@ -68,10 +63,10 @@ fn join_numbers(
 /// that one, with a damage's line increased by `lines`. Else the result is the sums, less one epoch. `None`
 /// if a number of the result does not fit its field. Takes no memory.
 pub fn join(
-    first: Result<Summary, JudgeFault>,
+    first: Result<Summary, AuditFault>,
     lines: u64,
-    second: Result<Summary, JudgeFault>,
-) -> Option<Result<Summary, JudgeFault>>
+    second: Result<Summary, AuditFault>,
+) -> Option<Result<Summary, AuditFault>>
     ensures judged { (former latter : List ℕ) (m : Meets former latter) → AreLinesBefore lines m.own first second → IsJudged former first → IsJudged latter second
         → IfSome result (IsJudged (m.own ++ latter)) }
     ensures joined { IfSome result (λ whole. whole ≡ joined_verdict first lines second) }

@@ -1,30 +1,5 @@
 -- How far an audit is, part by part.
-use Rattle.std.proofs.Common.{◌≡◌, ℕ, ◌+◌, ◌≤◌, inr, List, [], ◌∷◌, ◌++◌, Option, Some, Err, take, sum_by, refl, sym, ap, subst, ◌∙◌, append_assoc, append-nil, arith}
-use Rattle.std.proofs.lemmas.List.{length-append}
-use Rattle.std.proofs.lemmas.List.Sums.{sum_by-append}
-use Rattle.rule_machine.specs.declared.base.Base.{Base}
-use Rattle.rule_machine.specs.declared.rules.RuleSet.{RuleSet}
-use Rattle.rule_machine.specs.State.{State}
-use Rattle.rule_machine.specs.Base.{LogPart, EntryPart, BasePart, NumberedMoment, base_of, entries_in}
-use Rattle.rule_machine.specs.Run.{Entry}
-use Rattle.rule_machine.specs.Tables.{table_of}
-use Rattle.line_text.specs.BaseText.{base_head, base_text}
-use Rattle.line_text.specs.EntryText.{header_text, header_line, entry_text}
-use Rattle.byte_streams.specs.Lines.{first_line}
-use Rattle.entry_grammar.specs.Spelling.{SpellsHeader}
-use Rattle.entry_grammar.specs.BaseLines.{base_lines}
-use Rattle.entry_grammar.proofs.BaseOnce.{base_text_is}
-use Rattle.byte_streams.proofs.FirstLines.{first_line-splits}
-use Rattle.auditor.specs.declared.damage.Damage.TheVariants.{BadHeader, NotALine, OutOfOrder, NotTheMachines, BadBase}
-use Rattle.auditor.specs.declared.damage.JudgeFault.{JudgeFault}
-use Rattle.auditor.specs.declared.damage.JudgeFault.TheVariants.{Damaged, Memory}
-use Rattle.auditor.specs.declared.summary.Summary.{Summary}
-use Rattle.auditor.specs.Parts.{Opening, Opens, opening_text, size_of}
-use Rattle.auditor.specs.Transcript.{IsTranscript, NextPart, disturbances_in, reply_moves}
-use Rattle.auditor.specs.Damage.{BeginsWithTranscript, TranscriptPrefix, BeginsBase, IsLineBehind, HasNoEntry}
-use Rattle.auditor.specs.Position.{Position, stand_of, position_at, counted_more, counted_part, GoodLine, BadNumber, BadReply, LineJudged, IsFurther}
-use Rattle.auditor.specs.AcceptedRuns.{Counts, IsAccepted, IsPositionAfter}
-use Rattle.auditor.specs.EntryWindows.{IsMetBehind}
+use Rattle.auditor.proofs.Prelude.{◌≡◌, ℕ, ◌+◌, ◌≤◌, inr, List, [], ◌∷◌, ◌++◌, Option, Some, Err, take, sum_by, refl, sym, ap, subst, ◌∙◌, append_assoc, append-nil, arith, length-append, sum_by-append, Base, RuleSet, State, LogPart, EntryPart, BasePart, NumberedMoment, base_of, entries_in, Entry, table_of, base_head, base_text, header_text, header_line, entry_text, first_line, SpellsHeader, base_lines, base_text_is, first_line-splits, BadHeader, NotALine, OutOfOrder, NotTheMachines, BadBase, Read, Memory, AuditFault, Summary, Opening, Opens, opening_text, size_of, IsTranscript, NextPart, disturbances_in, reply_moves, BeginsWithTranscript, TranscriptPrefix, BeginsBase, IsLineBehind, HasNoEntry, Position, stand_of, position_at, counted_more, counted_part, GoodLine, BadNumber, BadReply, LineJudged, IsFurther, Counts, IsAccepted, IsPositionAfter, IsMetBehind}
 use Rattle.auditor.proofs.LineCounts.{PartAt}
 use Rattle.auditor.proofs.Steps.{follows_more}
 
@@ -162,7 +137,7 @@ reached_end bytes rules size p rest r none = record {
 abbrev beginning : (bytes : List ℕ) (rules : RuleSet) (size : ℕ) (p : Position) (rest : List ℕ) → IsPositionAfter bytes rules size p rest → TranscriptPrefix bytes
 beginning bytes rules size p rest r = record { rules = rules; log = r.log; end = stand_of p; rest = rest; follows = r.follows }
 
-pub damaged_line : (bytes : List ℕ) (rules : RuleSet) (size : ℕ) (p : Position) (rest : List ℕ) (line : ℕ) → IsPositionAfter bytes rules size p rest → ((good : List ℕ) → bytes ≡ good ++ rest → IsLineBehind line good) → (BeginsBase rest → ⊥) → HasNoEntry rest (first_line rest) → IsMetBehind bytes p.number (Damaged (NotALine line))
+pub damaged_line : (bytes : List ℕ) (rules : RuleSet) (size : ℕ) (p : Position) (rest : List ℕ) (line : ℕ) → IsPositionAfter bytes rules size p rest → ((good : List ℕ) → bytes ≡ good ++ rest → IsLineBehind line good) → (BeginsBase rest → ⊥) → HasNoEntry rest (first_line rest) → IsMetBehind bytes p.number (NotALine line)
 damaged_line bytes rules size p rest line r line_is other damage last before =
     record {
       is = record {
@@ -174,7 +149,7 @@ damaged_line bytes rules size p rest line r line_is other damage last before =
       looked_at = before;
     }
 
-damaged_number : (bytes text behind : List ℕ) (rules : RuleSet) (size : ℕ) (p : Position) (rest : List ℕ) (line : ℕ) → IsPositionAfter bytes rules size p rest → ((good : List ℕ) → bytes ≡ good ++ rest → IsLineBehind line good) → first_line rest ≡ Some (text, behind) → BadNumber text p → IsMetBehind bytes p.number (Damaged (OutOfOrder line))
+damaged_number : (bytes text behind : List ℕ) (rules : RuleSet) (size : ℕ) (p : Position) (rest : List ℕ) (line : ℕ) → IsPositionAfter bytes rules size p rest → ((good : List ℕ) → bytes ≡ good ++ rest → IsLineBehind line good) → first_line rest ≡ Some (text, behind) → BadNumber text p → IsMetBehind bytes p.number (OutOfOrder line)
 damaged_number bytes text behind rules size p rest line r line_is cut bad last before =
     record {
       is = record {
@@ -188,7 +163,7 @@ damaged_number bytes text behind rules size p rest line r line_is cut bad last b
       looked_at = before;
     }
 
-damaged_reply : (bytes text behind : List ℕ) (rules : RuleSet) (size : ℕ) (p : Position) (rest : List ℕ) (line : ℕ) → IsPositionAfter bytes rules size p rest → ((good : List ℕ) → bytes ≡ good ++ rest → IsLineBehind line good) → first_line rest ≡ Some (text, behind) → BadReply (table_of rules) text p → IsMetBehind bytes p.number (Damaged (NotTheMachines line))
+damaged_reply : (bytes text behind : List ℕ) (rules : RuleSet) (size : ℕ) (p : Position) (rest : List ℕ) (line : ℕ) → IsPositionAfter bytes rules size p rest → ((good : List ℕ) → bytes ≡ good ++ rest → IsLineBehind line good) → first_line rest ≡ Some (text, behind) → BadReply (table_of rules) text p → IsMetBehind bytes p.number (NotTheMachines line)
 damaged_reply bytes text behind rules size p rest line r line_is cut bad last before =
     record {
       is = record {
@@ -202,19 +177,20 @@ damaged_reply bytes text behind rules size p rest line r line_is cut bad last be
     }
 
 -- what the check of a line finds is the damage of the bytes
-pub damaged : (bytes text behind : List ℕ) (rules : RuleSet) (size : ℕ) (p q : Position) (rest : List ℕ) (found : JudgeFault) (line : ℕ) → IsPositionAfter bytes rules size p rest → ((good : List ℕ) → bytes ≡ good ++ rest → IsLineBehind line good) → (BeginsBase rest → ⊥) → first_line rest ≡ Some (text, behind) → LineJudged (table_of rules) text line p q (Err found) → IsMetBehind bytes p.number found
-damaged bytes text behind rules size p q rest (Damaged (NotALine at)) line r line_is other cut (same, none) =
+pub damaged : (bytes text behind : List ℕ) (rules : RuleSet) (size : ℕ) (p q : Position) (rest : List ℕ) (found : AuditFault) (line : ℕ) → IsPositionAfter bytes rules size p rest → ((good : List ℕ) → bytes ≡ good ++ rest → IsLineBehind line good) → (BeginsBase rest → ⊥) → first_line rest ≡ Some (text, behind) → LineJudged (table_of rules) text line p q (Err found) → IsMetBehind bytes p.number found
+damaged bytes text behind rules size p q rest (NotALine at) line r line_is other cut (same, none) =
     damaged_line bytes rules size p rest at r (λ good e. same ∙ line_is good e) other (subst (λ (found : Option (List ℕ × List ℕ)). HasNoEntry rest found) (sym cut) none)
-damaged bytes text behind rules size p q rest (Damaged (OutOfOrder at)) line r line_is other cut (same, bad) =
+damaged bytes text behind rules size p q rest (OutOfOrder at) line r line_is other cut (same, bad) =
     damaged_number bytes text behind rules size p rest at r (λ good e. same ∙ line_is good e) cut bad
-damaged bytes text behind rules size p q rest (Damaged (NotTheMachines at)) line r line_is other cut (same, bad) =
+damaged bytes text behind rules size p q rest (NotTheMachines at) line r line_is other cut (same, bad) =
     damaged_reply bytes text behind rules size p rest at r (λ good e. same ∙ line_is good e) cut bad
-damaged bytes text behind rules size p q rest (Damaged BadHeader) line r line_is other cut judged = absurd judged
-damaged bytes text behind rules size p q rest (Damaged (BadBase at)) line r line_is other cut judged = absurd judged
+damaged bytes text behind rules size p q rest BadHeader line r line_is other cut judged = absurd judged
+damaged bytes text behind rules size p q rest (BadBase at) line r line_is other cut judged = absurd judged
+damaged bytes text behind rules size p q rest Read line r line_is other cut judged = absurd judged
 damaged bytes text behind rules size p q rest Memory line r line_is other cut judged = tt
 
 -- and a base that is not that of the run's state
-pub damaged_base : (bytes : List ℕ) (rules : RuleSet) (size : ℕ) (p : Position) (rest wanted : List ℕ) (base : Base) (line len : ℕ) → IsPositionAfter bytes rules size p rest → BeginsBase rest → base ≡ base_of p.number (stand_of p).moment → wanted ≡ base_text rules size base → PartAt wanted rest len → ((good : List ℕ) → bytes ≡ good ++ rest → IsLineBehind line (good ++ take len rest)) → IsMetBehind bytes p.number (Damaged (BadBase line))
+pub damaged_base : (bytes : List ℕ) (rules : RuleSet) (size : ℕ) (p : Position) (rest wanted : List ℕ) (base : Base) (line len : ℕ) → IsPositionAfter bytes rules size p rest → BeginsBase rest → base ≡ base_of p.number (stand_of p).moment → wanted ≡ base_text rules size base → PartAt wanted rest len → ((good : List ℕ) → bytes ≡ good ++ rest → IsLineBehind line (good ++ take len rest)) → IsMetBehind bytes p.number (BadBase line)
 damaged_base bytes rules size p rest wanted base line len r begins is text parted line_is last before =
     let whole : wanted ≡ base_text rules (size_of r.follows.opening) (base_of p.number (stand_of p).moment) =
     text ∙ ap (λ (n : ℕ). base_text rules n base) (sym r.size_is) ∙ ap (base_text rules (size_of r.follows.opening)) is in

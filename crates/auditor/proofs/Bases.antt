@@ -1,15 +1,5 @@
 -- Bytes begin with the lines of a base, or these break off at some line.
-use Rattle.std.proofs.Common.{◌≡◌, ℕ, zero, suc, ◌+◌, ◌<◌, List, [], ◌∷◌, ◌++◌, length, refl, sym, ap, ap₂, subst, ◌∙◌, append_assoc, arith}
-use Rattle.rule_machine.specs.declared.base.NodeRecord.{NodeRecord}
-use Rattle.rule_machine.specs.declared.base.Base.{Base}
-use Rattle.line_text.specs.Words.{lines_with_ends}
-use Rattle.line_text.specs.BaseText.{base_counts, node_record_text, link_text}
-use Rattle.entry_grammar.specs.Spelling.{IsOrderedPair}
-use Rattle.entry_grammar.specs.Parsing.{AreCounts, Starts}
-use Rattle.entry_grammar.specs.BaseLines.{IsEdgeAbove, IsPlace, IsShaped, BreaksAt, base_lines}
-use Rattle.entry_grammar.specs.BaseParts.{numbers_text, NodesRead}
-use Rattle.entry_grammar.proofs.BaseLists.{NodesSoFar, EdgesSoFar, no_nodes, one_node_more, nodes_break, no_edges, one_edge_more, edges_break}
-use Rattle.entry_grammar.proofs.BaseBreaks.{first_breaks, node_breaks, edge_breaks}
+use Rattle.auditor.proofs.Prelude.{◌≡◌, ℕ, zero, suc, ◌+◌, ◌<◌, List, [], ◌∷◌, ◌++◌, length, refl, sym, ap, ap₂, subst, ◌∙◌, append_assoc, arith, NodeRecord, Base, lines_with_ends, base_counts, node_record_text, link_text, IsOrderedPair, AreCounts, Starts, IsEdgeAbove, IsPlace, IsShaped, BreaksAt, base_lines, numbers_text, NodesRead, NodesSoFar, EdgesSoFar, lines_break, no_lines, one_more, first_breaks, node_breaks, edge_breaks}
 
 abbrev pub Four : Type 0
 Four = ℕ × ℕ × ℕ × ℕ
@@ -57,22 +47,22 @@ walk_edges zero bytes q rest places left edges behind count last neither starts 
 walk_edges (suc fuel) bytes q rest places left edges behind count last neither starts read all so_far e =
     let few : count < q.3 = omega (arith, e) in
     let none : (edge : ℕ × ℕ) (more : List ℕ) → IsEdgeAbove last edge → Starts IsOrderedPair link_text behind edge more → ⊥ = λ edge more above found.
-    walk_edges fuel bytes q rest places left (edges ++ edge ∷ []) more (count + 1) edge neither starts read all (one_edge_more left edges behind count last edge more so_far above found) (omega (arith, e)) in
+    walk_edges fuel bytes q rest places left (edges ++ edge ∷ []) more (count + 1) edge neither starts read all (one_more so_far edge more above found) (omega (arith, e)) in
     let k = q.2 + 2 + count in
-    neither.unbroken k (edge_breaks bytes q rest places left k starts read all (edges_break left edges behind count last q.3 (q.2 + 2) k so_far few refl none))
+    neither.unbroken k (edge_breaks bytes q rest places left k starts read all (lines_break so_far q.3 (q.2 + 2) k few refl none))
 
 walk_nodes : (fuel : ℕ) (bytes : List ℕ) (q : Four) (rest : List ℕ) (places : List NodeRecord) (left : List ℕ) (count last : ℕ) → Neither bytes → Starts AreCounts numbers_text bytes q rest → NodesSoFar rest places left count last → count + fuel ≡ q.2 → ⊥
 walk_nodes zero bytes q rest places left count last neither starts so_far e =
     let all : length places ≡ q.2 = omega (arith, e, so_far.count_is) in
-    walk_edges q.3 bytes q rest places left [] left 0 (0, 0) neither starts so_far.read all (no_edges left) (omega arith)
+    walk_edges q.3 bytes q rest places left [] left 0 (0, 0) neither starts so_far.read all (no_lines left) (omega arith)
 walk_nodes (suc fuel) bytes q rest places left count last neither starts so_far e =
     let few : count < q.2 = omega (arith, e) in
     let none : (place : NodeRecord) (more : List ℕ) → last < place.node → Starts IsPlace node_record_text left place more → ⊥ = λ place more above found.
-    walk_nodes fuel bytes q rest (places ++ place ∷ []) more (count + 1) place.node neither starts (one_node_more rest places left count last place more so_far above found) (omega (arith, e)) in
-    let k = count + 2 in
-    neither.unbroken k (node_breaks bytes q rest k starts (nodes_break rest places left count last q.2 k so_far few refl none))
+    walk_nodes fuel bytes q rest (places ++ place ∷ []) more (count + 1) place.node neither starts (one_more so_far place more above found) (omega (arith, e)) in
+    let k = 2 + count in
+    neither.unbroken k (node_breaks bytes q rest k starts (lines_break so_far q.2 2 k few refl none))
 
 pub base_or_breaks : (bytes : List ℕ) → ((base : Base) (more : List ℕ) → IsShaped base → bytes ≡ base_lines base ++ more → ⊥) → ((k : ℕ) → BreaksAt bytes k → ⊥) → ⊥
 base_or_breaks bytes no_base unbroken =
     let neither : Neither bytes = record { no_base = no_base; unbroken = unbroken } in
-    unbroken 1 (first_breaks bytes (λ q rest starts. walk_nodes q.2 bytes q rest [] rest 0 0 neither starts (no_nodes rest) (omega arith)))
+    unbroken 1 (first_breaks bytes (λ q rest starts. walk_nodes q.2 bytes q rest [] rest 0 0 neither starts (no_lines rest) (omega arith)))

@@ -1,27 +1,6 @@
 -- The parts that follow are determined by the text.
-use Rattle.std.proofs.Common.{◌≡◌, ◌≢◌, ℕ, ◌+◌, ◌<◌, ◌≤◌, List, [], ◌∷◌, ◌++◌, length, refl, sym, ap, subst, ◌∙◌, append_assoc, length-append, arith}
-use Rattle.std.specs.Prelude.{codes}
-use Rattle.std.specs.List.{AllByRecursion}
-use Rattle.std.proofs.lemmas.List.{append_cancel_left}
-use Rattle.rule_machine.specs.declared.base.Base.{Base}
-use Rattle.rule_machine.specs.declared.rules.RuleSet.{RuleSet}
-use Rattle.rule_machine.specs.State.{State}
-use Rattle.rule_machine.specs.Base.{LogPart, EntryPart, BasePart, NumberedMoment, Passes}
-use Rattle.rule_machine.specs.Run.{Entry}
-use Rattle.rule_machine.specs.Answer.{Answers, spent_after}
-use Rattle.rule_machine.specs.Tables.{table_of}
-use Rattle.machine_laws.specs.Determinism.{answers_once}
-use Rattle.line_text.specs.Words.{number_text}
-use Rattle.line_text.specs.EventText.{event_text}
-use Rattle.line_text.specs.ReplyText.{reply_text}
-use Rattle.line_text.specs.EntryText.{entry_text, entry_line}
-use Rattle.line_text.specs.BaseText.{base_text}
-use Rattle.entry_grammar.specs.Spelling.{SpellsEntry, max_entries}
-use Rattle.entry_grammar.specs.Parsing.{IsFree}
-use Rattle.entry_grammar.proofs.Free.{free_number, mark_once}
-use Rattle.entry_grammar.proofs.Entries.{spells_entry_once}
-use Rattle.auditor.specs.Parts.{count_after, part_text, parts_text}
-use Rattle.auditor.specs.Transcript.{NextPart, IsLogPart}
+use Rattle.auditor.proofs.Prelude.{◌≡◌, ◌≢◌, ℕ, ◌+◌, ◌<◌, ◌≤◌, List, [], ◌∷◌, ◌++◌, length, refl, sym, ap, subst, ◌∙◌, append_assoc, arith, codes, AllByRecursion, append_cancel_left, Base, RuleSet, State, LogPart, EntryPart, BasePart, NumberedMoment, Passes, Entry, Answers, spent_after, table_of, answers_once, number_text, event_text, reply_text, entry_text, entry_line, base_text, SpellsEntry, max_entries, IsFree, free_number, mark_once, spells_entry_once, count_after, part_text, parts_text, NextPart, IsLogPart}
+use Rattle.std.proofs.Common.{length-append}
 use Rattle.auditor.proofs.Feedless.{entry_free}
 use Rattle.auditor.proofs.Steps.{passes_first, passes_rise, step_count, count_rises}
 

@@ -1,22 +1,6 @@
 -- How far a replay of the first entries is, and its result at the end.
-use Rattle.std.proofs.Common.{◌≡◌, ℕ, ◌+◌, ◌<◌, ◌≤◌, ◌⊎◌, true, false, List, [], Option, None, Some, Result, Ok, Err, refl, sym, ap, subst, ◌∙◌, ⊎_elim, arith, rules}
-use Rattle.std.specs.Prelude.{IfOk, IfErr}
-use Rattle.std.proofs.lemmas.Bool.{true≢false}
-use Rattle.rule_machine.specs.declared.base.EpochStart.{EpochStart}
-use Rattle.rule_machine.specs.declared.rules.RuleSet.{RuleSet}
-use Rattle.rule_machine.specs.Base.{LogPart, EntryPart, BasePart}
-use Rattle.rule_machine.specs.Tables.{table_of}
-use Rattle.auditor.specs.declared.damage.JudgeFault.{JudgeFault}
-use Rattle.auditor.specs.declared.damage.JudgeFault.TheVariants.{Damaged, Memory}
-use Rattle.auditor.specs.declared.reach.ReplayedRun.{ReplayedRun}
-use Rattle.auditor.specs.declared.reach.ReplayFault.{ReplayFault}
-use Rattle.auditor.specs.declared.reach.ReplayFault.TheVariants.{Judged, TooFew, Forgotten}
-use Rattle.auditor.specs.declared.replay.TranscriptCursor.{TranscriptCursor}
-use Rattle.auditor.specs.Parts.{count_after}
-use Rattle.auditor.specs.Position.{Position, stand_of}
-use Rattle.auditor.specs.AcceptedRuns.{IsPositionAfter}
-use Rattle.auditor.specs.EntryWindows.{EndsAt, IsStateAfter, HasTooFew, IsReplayFault, IsAskedBeyond, IsMetBehind, IsMetFirst, IsOpened, IsAskedWithin, IsLongEnough, falls_short}
-use Rattle.auditor.specs.TranscriptCursors.{IsPassed}
+use Rattle.auditor.proofs.Prelude.{◌≡◌, ℕ, ◌+◌, ◌<◌, ◌≤◌, ◌⊎◌, true, false, List, [], Option, None, Some, Result, Ok, Err, refl, sym, ap, subst, ◌∙◌, ⊎_elim, arith, rules, IfOk, true≢false, EpochStart, RuleSet, LogPart, EntryPart, BasePart, table_of, AuditFault, Memory, ReplayedRun, ReplayFault, Judged, TooFew, Forgotten, TranscriptCursor, count_after, Position, stand_of, IsPositionAfter, EndsAt, IsStateAfter, HasTooFew, IsReplayFault, IsAskedBeyond, IsMetBehind, IsMetFirst, IsOpened, IsAskedWithin, IsLongEnough, falls_short, IsPassed}
+use Rattle.std.specs.Prelude.{IfErr}
 use Rattle.auditor.proofs.AuditPositions.{all_good}
 use Rattle.auditor.proofs.Steps.{step_count}
 
@@ -38,17 +22,17 @@ further_within old new rest behind last short p =
 
 -- ---- faults
 
-pub first_fault : (bytes : List ℕ) (last : Option ℕ) (fault : JudgeFault) → IsMetFirst bytes fault → IsReplayFault bytes last (Judged fault)
-first_fault bytes last (Damaged damage) met = met last
+pub first_fault : (bytes : List ℕ) (last : Option ℕ) (fault : AuditFault) → IsMetFirst bytes fault → IsReplayFault bytes last (Judged fault)
 first_fault bytes last Memory met = tt
+first_fault bytes last damage met = met last
 
 comes_before : (last : Option ℕ) (entries : ℕ) → falls_short last entries ≡ true → IsAskedBeyond last entries
 comes_before None entries short = tt
 comes_before (Some n) entries short = let below : entries < n = search rules in below
 
-pub part_fault : (bytes : List ℕ) (count : ℕ) (last : Option ℕ) (fault : JudgeFault) → falls_short last count ≡ true → IsMetBehind bytes count fault → IsReplayFault bytes last (Judged fault)
-part_fault bytes count last (Damaged damage) short met = met last (comes_before last count short)
+pub part_fault : (bytes : List ℕ) (count : ℕ) (last : Option ℕ) (fault : AuditFault) → falls_short last count ≡ true → IsMetBehind bytes count fault → IsReplayFault bytes last (Judged fault)
 part_fault bytes count last Memory short met = tt
+part_fault bytes count last damage short met = met last (comes_before last count short)
 
 pub forgotten_fault : (bytes : List ℕ) (rules : RuleSet) (size : ℕ) (begun : EpochStart) (p : Position) (rest : List ℕ) (last : Option ℕ) (asked : ℕ) → IsOpened bytes rules size begun p rest → last ≡ Some asked → asked < p.number → IsReplayFault bytes last (Forgotten asked p.number)
 forgotten_fault bytes rules size begun p rest last asked o is fewer = record {

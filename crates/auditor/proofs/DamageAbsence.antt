@@ -1,24 +1,5 @@
 -- A text without a damage cannot fail to be a transcript.
-use Rattle.std.proofs.Common.{◌≡◌, ◌≢◌, ℕ, zero, suc, ◌+◌, ◌≤◌, ◌==◌, Bool, true, false, ◌⊎◌, inl, inr, List, [], ◌∷◌, ◌++◌, Option, None, Some, length, refl, sym, ap, subst, ◌∙◌, arith, eqb-true}
-use Rattle.std.proofs.lemmas.List.{nil_from_length}
-use Rattle.rule_machine.specs.declared.rules.RuleSet.{RuleSet}
-use Rattle.rule_machine.specs.State.{State}
-use Rattle.rule_machine.specs.Base.{LogPart, EntryPart, BasePart, NumberedMoment, base_of, entries_in}
-use Rattle.rule_machine.specs.Run.{Entry, beginning_with}
-use Rattle.rule_machine.specs.Answer.{Answers, spent_after}
-use Rattle.rule_machine.specs.Tables.{table_of}
-use Rattle.line_text.specs.BaseText.{base_head, base_text}
-use Rattle.byte_streams.specs.Lines.{first_line}
-use Rattle.entry_grammar.specs.Spelling.{SpellsEntry, SpellsHeader}
-use Rattle.byte_streams.proofs.FirstLines.{first_line-splits}
-use Rattle.entry_grammar.proofs.Free.{cons_parts}
-use Rattle.auditor.specs.declared.damage.Damage.{Damage}
-use Rattle.auditor.specs.declared.damage.Damage.TheVariants.{BadHeader, NotALine, OutOfOrder, NotTheMachines, BadBase}
-use Rattle.auditor.specs.declared.summary.Summary.{Summary}
-use Rattle.auditor.specs.Parts.{Named, Based, Opens, size_of}
-use Rattle.auditor.specs.Transcript.{NextPart, epoch_count, move_count}
-use Rattle.auditor.specs.Damage.{TranscriptPrefix, BeginsBase, HasBadHeader, HasNoEntry, IsDamage, CommonPrefix, SpellsNoHead, SpellsNoHeader, line_feeds}
-use Rattle.auditor.specs.AcceptedRuns.{IsAccepted}
+use Rattle.auditor.proofs.Prelude.{◌≡◌, ◌≢◌, ℕ, zero, suc, ◌+◌, ◌≤◌, ◌==◌, Bool, true, false, ◌⊎◌, inl, inr, List, [], ◌∷◌, ◌++◌, Option, None, Some, length, refl, sym, ap, subst, ◌∙◌, arith, eqb-true, nil_from_length, RuleSet, State, LogPart, EntryPart, BasePart, NumberedMoment, base_of, entries_in, Entry, beginning_with, Answers, spent_after, table_of, base_head, base_text, first_line, SpellsEntry, SpellsHeader, first_line-splits, cons_parts, AuditFault, BadHeader, NotALine, OutOfOrder, NotTheMachines, BadBase, Summary, Named, Based, Opens, size_of, NextPart, epoch_count, move_count, TranscriptPrefix, BeginsBase, HasBadHeader, HasNoEntry, IsDamage, CommonPrefix, SpellsNoHead, SpellsNoHeader, line_feeds, IsAccepted}
 use Rattle.auditor.proofs.Steps.{follows_more}
 use Rattle.auditor.proofs.Chains.{comes_shorter, entry_line_is}
 use Rattle.auditor.proofs.Bases.{base_or_breaks}
@@ -84,7 +65,7 @@ begins_or_parts (b ∷ text) (c ∷ bytes) = one_more b c text bytes (b == c) re
 -- ---- neither a transcript nor damaged
 
 record Neither (bytes : List ℕ) : Type 0 where
-  undamaged : (d : Damage) → IsDamage bytes d → ⊥
+  undamaged : (d : AuditFault) → IsDamage bytes d → ⊥
   refused : (c : Summary) → IsAccepted bytes c → ⊥
 
 -- something is left, since what there is would be a transcript
@@ -212,5 +193,5 @@ begins bytes neither (Some (line, rest)) cut =
     let none : SpellsNoHead line = λ rules size few head. no_head bytes line rest rules size neither cut few head in
     neither.undamaged BadHeader (subst HasBadHeader (sym cut) (bad, none))
 
-pub undamaged_accepted : (bytes : List ℕ) → ((d : Damage) → IsDamage bytes d → ⊥) → ((c : Summary) → IsAccepted bytes c → ⊥) → ⊥
+pub undamaged_accepted : (bytes : List ℕ) → ((d : AuditFault) → IsDamage bytes d → ⊥) → ((c : Summary) → IsAccepted bytes c → ⊥) → ⊥
 undamaged_accepted bytes undamaged refused = begins bytes (record { undamaged = undamaged; refused = refused }) (first_line bytes) refl

@@ -1,21 +1,5 @@
 -- The costs of a run's epochs, and the charge left at its beginning, pay for all moves.
-use Rattle.std.proofs.Common.{◌≡◌, ℕ, ◌+◌, ◌≤◌, List, [], ◌∷◌, sum_by, None, refl, ap, ◌∙◌, arith}
-use Rattle.std.proofs.lemmas.List.Sums.{sum_by-append, sum_by-cons}
-use Rattle.rule_machine.specs.declared.event.Event.{Event}
-use Rattle.rule_machine.specs.declared.reply.Reply.{Reply}
-use Rattle.rule_machine.specs.declared.reply.Reply.TheVariants.{Accepted}
-use Rattle.rule_machine.specs.declared.rules.RuleSet.{RuleSet}
-use Rattle.rule_machine.specs.declared.rules.RuleSet.TheVariants.{Hh, Manne}
-use Rattle.rule_machine.specs.State.{State, IsState}
-use Rattle.rule_machine.specs.Run.{Entry, Epoch, Moment, epochs_by, epochs_from}
-use Rattle.rule_machine.specs.Tables.{table_of}
-use Rattle.charge_laws.specs.ChargeWords.{moves_in, moves_of}
-use Rattle.charge_laws.specs.Costs.{answer_cost, path_cost, path_entries}
-use Rattle.charge_laws.specs.CostsOfRuns.{hsu_huang_path_costs, manne_path_costs}
-use Rattle.charge_laws.specs.Epochs.{IsPath}
-use Rattle.reply_checker.specs.ReplyVerdicts.{cost_by}
-use Rattle.auditor.specs.declared.epoch.CostedEpoch.{CostedEpoch}
-use Rattle.auditor.specs.Epochs.{AreCostedEpochs, ArePaid, costs_along, costs_by, first_epoch, paid_by}
+use Rattle.auditor.proofs.Prelude.{◌≡◌, ℕ, ◌+◌, ◌≤◌, List, [], ◌∷◌, sum_by, None, refl, ap, ◌∙◌, arith, sum_by-append, sum_by-cons, Event, Reply, Accepted, RuleSet, Hh, Manne, State, IsState, Entry, Epoch, Moment, epochs_by, epochs_from, table_of, moves_in, moves_of, answer_cost, path_cost, path_entries, hsu_huang_path_costs, manne_path_costs, IsPath, cost_by, CostedEpoch, AreCostedEpochs, ArePaid, costs_along, costs_by, first_epoch, paid_by}
 use Rattle.auditor.proofs.Spent.{opens_in_state}
 
 -- ---- the moves

@@ -1,29 +1,5 @@
 -- The epochs of the entries so far, entry by entry.
-use Rattle.std.proofs.Common.{◌≡◌, ℕ, ◌+◌, List, [], ◌∷◌, ◌++◌, Option, None, Some, All, length, map, refl, sym, ap, ap₂, subst, ◌∙◌, append_assoc, append-nil, arith}
-use Rattle.std.proofs.lemmas.List.{length-map, map-append}
-use Rattle.rule_machine.specs.declared.base.Base.{Base}
-use Rattle.rule_machine.specs.declared.base.EpochStart.{EpochStart}
-use Rattle.rule_machine.specs.declared.event.Event.{Event}
-use Rattle.rule_machine.specs.declared.reply.Reply.{Reply}
-use Rattle.rule_machine.specs.declared.reply.Reply.TheVariants.{Accepted}
-use Rattle.rule_machine.specs.declared.rules.RuleSet.{RuleSet}
-use Rattle.rule_machine.specs.State.{State}
-use Rattle.rule_machine.specs.RuleTable.{RuleTable}
-use Rattle.rule_machine.specs.Base.{LogPart, EntryPart, BasePart, NumberedMoment, entries_in}
-use Rattle.rule_machine.specs.Run.{Entry, Moment, Epoch, epoch_at, epochs_by, epochs_from, open_at}
-use Rattle.rule_machine.specs.Answer.{Answers, spent_after}
-use Rattle.rule_machine.specs.Tables.{table_of, weight_of}
-use Rattle.machine_laws.specs.Bases.{passes_run}
-use Rattle.charge_laws.specs.Epochs.{IsPath, epochs_are_bounded}
-use Rattle.reply_checker.specs.ReplyVerdicts.{cost_by}
-use Rattle.auditor.specs.declared.epoch.CostedEpoch.{CostedEpoch}
-use Rattle.auditor.specs.declared.replay.TranscriptCursor.{TranscriptCursor}
-use Rattle.auditor.specs.Transcript.{NextPart}
-use Rattle.auditor.specs.Position.{Position, IsFurther, counted_part, position_at, stand_of}
-use Rattle.auditor.specs.AcceptedRuns.{IsPositionAfter}
-use Rattle.auditor.specs.EntryWindows.{IsOpened}
-use Rattle.auditor.specs.TranscriptCursors.{IsPassed}
-use Rattle.auditor.specs.Epochs.{AreCostedEpochs, IsNextCost, IsWithinItsBound, costs_along, costs_by, costs_in, epochs_in, first_epoch, rows_at, rows_by}
+use Rattle.auditor.proofs.Prelude.{◌≡◌, ℕ, ◌+◌, List, [], ◌∷◌, ◌++◌, Option, None, Some, All, length, map, refl, sym, ap, ap₂, subst, ◌∙◌, append_assoc, append-nil, arith, length-map, map-append, Base, EpochStart, Event, Reply, Accepted, RuleSet, State, RuleTable, LogPart, EntryPart, BasePart, NumberedMoment, entries_in, Entry, Moment, Epoch, epoch_at, epochs_by, epochs_from, open_at, Answers, spent_after, table_of, weight_of, passes_run, IsPath, epochs_are_bounded, cost_by, CostedEpoch, TranscriptCursor, NextPart, Position, IsFurther, counted_part, position_at, stand_of, IsPositionAfter, IsOpened, IsPassed, AreCostedEpochs, IsNextCost, IsWithinItsBound, costs_along, costs_by, costs_in, epochs_in, first_epoch, rows_at, rows_by}
 use Rattle.auditor.proofs.TextEnds.{told_comes}
 use Rattle.auditor.proofs.AuditPositions.{entries_add, reached_more}
 use Rattle.auditor.proofs.Spent.{is_table, is_charged, opens_in_state, opens_within}

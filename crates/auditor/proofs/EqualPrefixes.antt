@@ -1,21 +1,5 @@
 -- Of as many entries of one text there is one run, through one state after another.
-use Rattle.std.proofs.Common.{◌≡◌, ℕ, ◌+◌, List, [], ◌∷◌, Option, None, Some, drop, map, get_or, refl, sym, ap, ap₂, subst, ◌∙◌}
-use Rattle.rule_machine.specs.declared.reply.Reply.{Reply}
-use Rattle.rule_machine.specs.declared.rules.RuleSet.{RuleSet}
-use Rattle.rule_machine.specs.State.{State}
-use Rattle.rule_machine.specs.RuleTable.{RuleTable}
-use Rattle.rule_machine.specs.Base.{LogPart, NumberedMoment, entries_in}
-use Rattle.rule_machine.specs.Run.{Entry, Moment, Epoch, epochs_from}
-use Rattle.rule_machine.specs.Answer.{Answers, spent_after}
-use Rattle.rule_machine.specs.Tables.{table_of}
-use Rattle.charge_laws.specs.Epochs.{IsPath}
-use Rattle.machine_laws.specs.Determinism.{answers_once}
-use Rattle.reply_checker.specs.ReplyVerdicts.{cost_by}
-use Rattle.auditor.specs.declared.epoch.CostedEpoch.{CostedEpoch}
-use Rattle.auditor.specs.Parts.{Opening, size_of}
-use Rattle.auditor.specs.Damage.{BeginsWithTranscript}
-use Rattle.auditor.specs.EntryWindows.{EndsAt, IsStateAfter}
-use Rattle.auditor.specs.Epochs.{AreCostedEpochs, costs_along, costs_in, epochs_in, first_epoch}
+use Rattle.auditor.proofs.Prelude.{◌≡◌, ℕ, ◌+◌, List, [], ◌∷◌, Option, None, Some, drop, map, get_or, refl, sym, ap, ap₂, subst, ◌∙◌, Reply, RuleSet, State, RuleTable, LogPart, NumberedMoment, entries_in, Entry, Moment, Epoch, epochs_from, Answers, spent_after, table_of, IsPath, answers_once, cost_by, CostedEpoch, Opening, size_of, BeginsWithTranscript, EndsAt, IsStateAfter, AreCostedEpochs, costs_along, costs_in, epochs_in, first_epoch}
 use Rattle.auditor.proofs.Chains.{Stops, chain_level, nothing_stops}
 use Rattle.auditor.proofs.Openings.{parts_behind}
 use Rattle.auditor.proofs.TextEnds.{Split, Ended, begun, chain_behind, chain_same, ended_once, ends_here, followed, run_once, split_at, transcript_ends, whole}

@@ -1,29 +1,7 @@
 -- No line's text has a line feed.
-use Rattle.std.proofs.Common.{ℕ, ◌≤◌, Bool, true, false, cond, drop, List, [], ◌∷◌, ◌++◌, refl, arith}
-use Rattle.std.specs.Prelude.{codes, nat_lt}
-use Rattle.std.specs.List.{AllByRecursion}
-use Rattle.rule_machine.specs.declared.act.Act.{Act}
-use Rattle.rule_machine.specs.declared.act.Act.TheVariants.{Update}
+use Rattle.auditor.proofs.Prelude.{ℕ, ◌≤◌, Bool, true, false, cond, drop, List, [], ◌∷◌, ◌++◌, refl, arith, codes, nat_lt, AllByRecursion, Act, Update, Moved, Event, Refusal, UnknownNode, Reply, Accepted, Refused, Moves, Shown, EnabledAre, Pairs, RuleSet, rules_word, refusal_number, refusal_text, number_text, marked_text, joined_or, event_text, act_word, enabled_text, move_text, mutual_text, refusal_words, field_text, fields_of, counts_text, reply_text, IsCounts, sizes_text, header_text, entry_text, IsMoved, IsEnabled, IsOrderedPair, IsReply, SpellsEntry, IsFree, IsField, field_free, rules_free, free_by, feed, apart_lack, both_lack, event_lacks, joined_lack, marked_lacks, name_lacks, number_lacks, target_lacks, refusal_small}
 use Rattle.rule_machine.specs.declared.counts.Counts.{Counts as Counted}
-use Rattle.rule_machine.specs.declared.act.Moved.{Moved}
-use Rattle.rule_machine.specs.declared.event.Event.{Event}
-use Rattle.rule_machine.specs.declared.refusal.Refusal.{Refusal}
-use Rattle.rule_machine.specs.declared.refusal.Refusal.TheVariants.{UnknownNode}
-use Rattle.rule_machine.specs.declared.reply.Reply.{Reply}
-use Rattle.rule_machine.specs.declared.reply.Reply.TheVariants.{Accepted, Refused, Moves, Shown, EnabledAre, Pairs, Counts}
-use Rattle.rule_machine.specs.declared.rules.RuleSet.{RuleSet}
-use Rattle.rule_machine.specs.Tables.{rules_word}
-use Rattle.rule_machine.specs.Refuse.{refusal_number, refusal_text}
-use Rattle.line_text.specs.Words.{number_text, marked_text, joined_or}
-use Rattle.line_text.specs.EventText.{event_text}
-use Rattle.line_text.specs.ReplyText.{act_word, enabled_text, move_text, mutual_text, refusal_words, field_text, fields_of, counts_text, reply_text, IsCounts}
-use Rattle.line_text.specs.EntryText.{sizes_text, header_text, entry_text}
-use Rattle.entry_grammar.specs.Spelling.{IsMoved, IsEnabled, IsOrderedPair, IsReply, SpellsEntry}
-use Rattle.entry_grammar.specs.Parsing.{IsFree}
-use Rattle.entry_grammar.proofs.FirstLines.{IsField, field_free, rules_free}
-use Rattle.entry_grammar.proofs.Free.{free_by}
-use Rattle.entry_grammar.proofs.Marks.{feed, apart_lack, both_lack, event_lacks, joined_lack, marked_lacks, name_lacks, number_lacks, target_lacks}
-use Rattle.entry_grammar.proofs.RefusalsOnce.{refusal_small}
+use Rattle.rule_machine.specs.declared.reply.Reply.TheVariants.{Counts}
 
 joined_or_free : {X : Type 0} (word : List ℕ) (fits : X → Type 0) (text : X → List ℕ) → IsFree 10 word → ((x : X) → fits x → IsFree 10 (text x)) → (xs : List X) → AllByRecursion fits xs → IsFree 10 (joined_or word text xs)
 joined_or_free word fits text w free [] f = w

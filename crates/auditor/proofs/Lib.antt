@@ -1,3 +1,4 @@
+pub mod Prelude
 pub mod Steps
 pub mod Feedless
 pub mod Chains
@@ -20,4 +21,5 @@ pub mod CursorPositions
 pub mod EpochSteps
 mod NextCosts
 mod EpochCosts
+pub mod TranscriptEnds
 pub mod IncrementalAudits

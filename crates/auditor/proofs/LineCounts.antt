@@ -1,7 +1,5 @@
 -- Lines of a text, counted by their line feeds; and how far two texts are the same.
-use Rattle.std.proofs.Common.{◌≡◌, ◌≢◌, ℕ, ◌+◌, ◌<◌, ◌≤◌, ◌==◌, Bool, true, false, if◌then◌else◌, List, [], ◌∷◌, ◌++◌, length, take, drop, get_or, refl, sym, ap, ◌∙◌, arith}
-use Rattle.std.proofs.lemmas.List.{take-append-drop, drop_more}
-use Rattle.auditor.specs.Damage.{CommonPrefix, line_feeds}
+use Rattle.auditor.proofs.Prelude.{◌≡◌, ◌≢◌, ℕ, ◌+◌, ◌<◌, ◌≤◌, ◌==◌, Bool, true, false, if◌then◌else◌, List, [], ◌∷◌, ◌++◌, length, take, drop, get_or, refl, sym, ap, ◌∙◌, arith, take-append-drop, drop_more, CommonPrefix, line_feeds}
 
 -- one more if the byte is a line feed
 abbrev pub feed : ℕ → ℕ

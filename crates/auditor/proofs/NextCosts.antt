@@ -1,12 +1,5 @@
 -- What the disturbance costs that the next line accepts.
-use Rattle.std.proofs.Common.{◌≡◌, ℕ, List, Some, ap, ◌∙◌}
-use Rattle.rule_machine.specs.declared.rules.RuleSet.{RuleSet}
-use Rattle.rule_machine.specs.State.{State}
-use Rattle.rule_machine.specs.Run.{Entry}
-use Rattle.byte_streams.specs.Lines.{first_line}
-use Rattle.entry_grammar.specs.Spelling.{SpellsEntry}
-use Rattle.reply_checker.specs.ReplyVerdicts.{cost_by}
-use Rattle.auditor.specs.Epochs.{IsNextCost}
+use Rattle.auditor.proofs.Prelude.{◌≡◌, ℕ, List, Some, ap, ◌∙◌, RuleSet, State, Entry, first_line, SpellsEntry, cost_by, IsNextCost}
 use Rattle.auditor.proofs.TextEnds.{entry_once}
 
 -- no other entry comes than the one that the first line spells

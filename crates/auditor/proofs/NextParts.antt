@@ -1,24 +1,5 @@
 -- The next entry or base, of which only some bytes may be known.
-use Rattle.std.proofs.Common.{◌≡◌, ◌≢◌, ℕ, ◌+◌, ◌<◌, ◌≤◌, ◌⊎◌, inl, inr, List, [], ◌∷◌, ◌++◌, Option, None, Some, Err, length, take, drop, refl, sym, ap, subst, ◌∙◌, append_assoc, append-nil, arith}
-use Rattle.std.proofs.Math.Logic.{∥∥₁_elim}
-use Rattle.std.proofs.Props.{props}
-use Rattle.std.proofs.lemmas.List.{append_cancel_right, take-append-le, take_all}
-use Rattle.rule_machine.specs.declared.base.Base.{Base}
-use Rattle.rule_machine.specs.declared.rules.RuleSet.{RuleSet}
-use Rattle.rule_machine.specs.Base.{NumberedMoment, base_of}
-use Rattle.rule_machine.specs.Tables.{table_of}
-use Rattle.line_text.specs.BaseText.{base_head, base_text}
-use Rattle.byte_streams.specs.Lines.{first_line}
-use Rattle.entry_grammar.specs.BaseLines.{BreaksAt, IsShaped, base_lines}
-use Rattle.auditor.specs.declared.damage.Damage.TheVariants.{BadHeader, BadBase, NotALine}
-use Rattle.auditor.specs.declared.damage.JudgeFault.{JudgeFault}
-use Rattle.auditor.specs.declared.damage.JudgeFault.TheVariants.{Damaged}
-use Rattle.auditor.specs.declared.replay.TranscriptCursor.{TranscriptCursor}
-use Rattle.auditor.specs.Damage.{BeginsBase, HasBadHeader, HasNoEntry, SpellsNoHead, SpellsNoHeader, line_feeds}
-use Rattle.auditor.specs.Parts.{Based, Opens}
-use Rattle.auditor.specs.Position.{GoodLine, IsFurther, LineJudged, Position, stand_of}
-use Rattle.auditor.specs.EntryWindows.{IsMetBehind, IsMetFirst}
-use Rattle.auditor.specs.TranscriptCursors.{AreSameUpTo, ArePartedAt, HasCutStart, IsCursorAt, IsCompared, IsMetAt, IsPassed, IsUnended, StaysInPlace, AwaitsBase, base_wanted}
+use Rattle.auditor.proofs.Prelude.{◌≡◌, ◌≢◌, ℕ, ◌+◌, ◌<◌, ◌≤◌, ◌⊎◌, inl, inr, List, [], ◌∷◌, ◌++◌, Option, None, Some, Err, length, take, drop, refl, sym, ap, subst, ◌∙◌, append_assoc, append-nil, arith, ∥∥₁_elim, props, append_cancel_right, take-append-le, take_all, Base, RuleSet, NumberedMoment, base_of, table_of, base_head, base_text, first_line, BreaksAt, IsShaped, base_lines, BadHeader, BadBase, NotALine, AuditFault, TranscriptCursor, BeginsBase, HasBadHeader, HasNoEntry, SpellsNoHead, SpellsNoHeader, line_feeds, Based, Opens, GoodLine, IsFurther, LineJudged, Position, stand_of, IsMetBehind, IsMetFirst, AreSameUpTo, ArePartedAt, HasCutStart, IsCursorAt, IsCompared, IsMetAt, IsPassed, IsUnended, StaysInPlace, AwaitsBase, base_wanted}
 use Rattle.auditor.proofs.ReadOpenings.{broken, nowhere}
 use Rattle.auditor.proofs.AuditPositions.{base_further, damaged, damaged_base, damaged_line, entry_further}
 use Rattle.auditor.proofs.Windows.{begins_less, begins_more, breaks_last, breaks_more, feeds_append, feeds_behind, first_line-more, no_line_no_feed, one_feed, part_more, same_end, same_none, same_whole}
@@ -26,19 +7,19 @@ use Rattle.auditor.proofs.Windows.{begins_less, begins_more, breaks_last, breaks
 -- ---- the beginning
 
 -- a first line that is neither a header nor the first of a base
-pub bad_first : (text line rest more : List ℕ) → first_line text ≡ Some (line, rest) → SpellsNoHeader line → SpellsNoHead line → IsMetFirst (text ++ more) (Damaged BadHeader)
+pub bad_first : (text line rest more : List ℕ) → first_line text ≡ Some (line, rest) → SpellsNoHeader line → SpellsNoHead line → IsMetFirst (text ++ more) BadHeader
 bad_first text line rest more cut header head last = record {
   is = subst HasBadHeader (sym (first_line-more text more line rest cut)) (header, head);
   looked_at = tt;
 }
 
 -- a bad line of a base that is whole
-pub broken_more : (text rest more : List ℕ) (rules : RuleSet) (size number : ℕ) → size ≤ 65535 → first_line text ≡ Some (base_head rules size, rest) → BreaksAt rest number → number ≤ line_feeds rest → IsMetFirst (text ++ more) (Damaged (BadBase (number + 1)))
+pub broken_more : (text rest more : List ℕ) (rules : RuleSet) (size number : ℕ) → size ≤ 65535 → first_line text ≡ Some (base_head rules size, rest) → BreaksAt rest number → number ≤ line_feeds rest → IsMetFirst (text ++ more) (BadBase (number + 1))
 broken_more text rest more rules size number few cut breaks whole =
     broken (text ++ more) (rest ++ more) rules size number few (first_line-more text more (base_head rules size) rest cut) (breaks_more rest more number breaks whole)
 
 -- a base from which no run begins
-pub nowhere_more : (text rest behind : List ℕ) (rules : RuleSet) (size : ℕ) (base : Base) → size ≤ 65535 → first_line text ≡ Some (base_head rules size, rest) → IsShaped base → rest ≡ base_lines base ++ behind → ((start : NumberedMoment) → Opens rules (Based size base) start → ⊥) → (more : List ℕ) → IsMetFirst (text ++ more) (Damaged (BadBase 2))
+pub nowhere_more : (text rest behind : List ℕ) (rules : RuleSet) (size : ℕ) (base : Base) → size ≤ 65535 → first_line text ≡ Some (base_head rules size, rest) → IsShaped base → rest ≡ base_lines base ++ behind → ((start : NumberedMoment) → Opens rules (Based size base) start → ⊥) → (more : List ℕ) → IsMetFirst (text ++ more) (BadBase 2)
 nowhere_more text rest behind rules size base few cut shaped is none more =
     nowhere (text ++ more) (rest ++ more) (behind ++ more) rules size base few (first_line-more text more (base_head rules size) rest cut) shaped
     (ap (λ (l : List ℕ). l ++ more) is ∙ append_assoc (base_lines base) behind more) none
@@ -49,20 +30,20 @@ cut_base_start text rest rules size number few cut breaks short =
     inr (record { rules = rules; size = size; rest = rest; few = few; first = cut; breaks = breaks_last rest number breaks short })
 
 -- a text that ends before that
-pub cut_header : (text : List ℕ) → HasCutStart text → line_feeds text ≡ 0 → IsMetFirst text (Damaged BadHeader)
+pub cut_header : (text : List ℕ) → HasCutStart text → line_feeds text ≡ 0 → IsMetFirst text BadHeader
 cut_header text (inl none) feeds last = record { is = subst HasBadHeader (sym none) tt; looked_at = tt }
 cut_header text (inr base) feeds last =
     let one = feeds_behind text (base_head base.rules base.size) base.rest base.first in
     absurd (omega (arith, one, feeds))
 
-pub cut_base : (text : List ℕ) (line : ℕ) → HasCutStart text → line ≡ line_feeds text + 1 → (line ≡ 1 → ⊥) → IsMetFirst text (Damaged (BadBase line))
+pub cut_base : (text : List ℕ) (line : ℕ) → HasCutStart text → line ≡ line_feeds text + 1 → (line ≡ 1 → ⊥) → IsMetFirst text (BadBase line)
 cut_base text line (inl none) is other =
     let feeds = no_line_no_feed text none in
     absurd (other (omega (arith, feeds, is)))
 cut_base text line (inr base) is other =
     let one = feeds_behind text (base_head base.rules base.size) base.rest base.first in
     let same : line_feeds base.rest + 1 + 1 ≡ line = omega (arith, one, is) in
-    subst (λ (n : ℕ). IsMetFirst text (Damaged (BadBase n))) same (broken text base.rest base.rules base.size (line_feeds base.rest + 1) base.few base.first base.breaks)
+    subst (λ (n : ℕ). IsMetFirst text (BadBase n)) same (broken text base.rest base.rules base.size (line_feeds base.rest + 1) base.few base.first base.breaks)
 
 -- ---- an entry
 
@@ -95,7 +76,7 @@ compared_alike replay rest compared = record {
 }
 
 -- what the check of a line finds is the damage, whatever follows it
-pub entry_damaged : (old : TranscriptCursor) (q : Position) (line rest behind : List ℕ) (found : JudgeFault) (at : ℕ) → at ≡ old.lines + 1 → (BeginsBase rest → ⊥) → first_line rest ≡ Some (line, behind) → LineJudged (table_of old.rules) line at old.audit q (Err found) → IsMetAt old rest found
+pub entry_damaged : (old : TranscriptCursor) (q : Position) (line rest behind : List ℕ) (found : AuditFault) (at : ℕ) → at ≡ old.lines + 1 → (BeginsBase rest → ⊥) → first_line rest ≡ Some (line, behind) → LineJudged (table_of old.rules) line at old.audit q (Err found) → IsMetAt old rest found
 entry_damaged old q line rest behind found at is other cut judged bytes more here =
     damaged bytes line (behind ++ more) old.rules old.size old.audit q (rest ++ more) found at here.reached
     (λ good e. is ∙ ap (λ (n : ℕ). n + 1) (here.counted good e)) (λ begins. other (begins_less rest more line behind cut begins)) (first_line-more rest more line behind cut) judged
@@ -170,7 +151,7 @@ base_waits old new rest same rules size audit lines begins is at alike short all
         short (omega (arith, all, l))
 
 -- another byte came
-pub base_damaged : (old : TranscriptCursor) (wanted rest : List ℕ) (same line : ℕ) → BeginsBase rest → wanted ≡ base_wanted old → AreSameUpTo wanted rest same → ArePartedAt wanted rest same → (same ≡ length wanted → ⊥) → (same ≡ length rest → ⊥) → line ≡ old.lines + line_feeds (take same rest) + 1 → IsMetAt old rest (Damaged (BadBase line))
+pub base_damaged : (old : TranscriptCursor) (wanted rest : List ℕ) (same line : ℕ) → BeginsBase rest → wanted ≡ base_wanted old → AreSameUpTo wanted rest same → ArePartedAt wanted rest same → (same ≡ length wanted → ⊥) → (same ≡ length rest → ⊥) → line ≡ old.lines + line_feeds (take same rest) + 1 → IsMetAt old rest (BadBase line)
 base_damaged old wanted rest same line begins is alike apart short more_is at bytes more here =
     let within = alike.within in
     let inside = alike.inside in
@@ -184,7 +165,7 @@ base_damaged old wanted rest same line begins is alike apart short more_is at by
 
 -- ---- a text that ends within a part
 
-pub cut_line : (replay : TranscriptCursor) (rest : List ℕ) (line : ℕ) → (BeginsBase rest → ⊥) → rest ≢ [] → IsUnended replay rest → line ≡ replay.lines + line_feeds rest + 1 → (bytes : List ℕ) → IsCursorAt bytes replay rest → IsMetBehind bytes replay.audit.number (Damaged (NotALine line))
+pub cut_line : (replay : TranscriptCursor) (rest : List ℕ) (line : ℕ) → (BeginsBase rest → ⊥) → rest ≢ [] → IsUnended replay rest → line ≡ replay.lines + line_feeds rest + 1 → (bytes : List ℕ) → IsCursorAt bytes replay rest → IsMetBehind bytes replay.audit.number (NotALine line)
 cut_line replay rest line other some (inr begun) is bytes at = absurd (other begun.begins)
 cut_line replay rest line other some (inl (none, unlike)) is bytes at =
     let feeds = no_line_no_feed rest none in
@@ -193,7 +174,7 @@ cut_line replay rest line other some (inl (none, unlike)) is bytes at =
     damaged_line bytes replay.rules replay.size replay.audit rest line at.reached (λ good e. one ∙ ap (λ (n : ℕ). n + 1) (at.counted good e)) other
     (subst (λ (found : Option (List ℕ × List ℕ)). HasNoEntry rest found) (sym none) damage)
 
-pub cut_wanted : (replay : TranscriptCursor) (rest : List ℕ) (line : ℕ) → BeginsBase rest → IsUnended replay rest → line ≡ replay.lines + line_feeds rest + 1 → (bytes : List ℕ) → IsCursorAt bytes replay rest → IsMetBehind bytes replay.audit.number (Damaged (BadBase line))
+pub cut_wanted : (replay : TranscriptCursor) (rest : List ℕ) (line : ℕ) → BeginsBase rest → IsUnended replay rest → line ≡ replay.lines + line_feeds rest + 1 → (bytes : List ℕ) → IsCursorAt bytes replay rest → IsMetBehind bytes replay.audit.number (BadBase line)
 cut_wanted replay rest line begins (inl (none, unlike)) is bytes at = absurd (unlike begins)
 cut_wanted replay rest line begins (inr begun) is bytes at =
     damaged_base bytes replay.rules replay.size replay.audit rest (base_wanted replay) (base_of replay.audit.number (stand_of replay.audit).moment) line (length rest) at.reached begins refl refl

@@ -1,25 +1,5 @@
 -- The opening of a transcript, and the beginning of its run, are determined by the text.
-use Rattle.std.proofs.Common.{◌≡◌, ℕ, ◌+◌, ◌≤◌, ◌⊎◌, inl, inr, List, [], ◌∷◌, ◌++◌, Some, get_or, refl, sym, ap, ap₂, subst, ◌∙◌, append_assoc, arith}
-use Rattle.std.proofs.lemmas.Option.{same_Some}
-use Rattle.rule_machine.specs.declared.base.Base.{Base}
-use Rattle.rule_machine.specs.declared.rules.RuleSet.{RuleSet}
-use Rattle.rule_machine.specs.Run.{Moment}
-use Rattle.rule_machine.specs.Base.{LogPart, NumberedMoment}
-use Rattle.rule_machine.specs.Tables.{table_of, weight_of}
-use Rattle.charge_laws.specs.RunsFromBases.{begins_once}
-use Rattle.charge_laws.specs.ChargeWords.{charge_bound}
-use Rattle.line_text.specs.EntryText.{header_text}
-use Rattle.line_text.specs.BaseText.{base_head}
-use Rattle.entry_grammar.specs.declared.base_line.BaseLine.TheVariants.{Head}
-use Rattle.byte_streams.specs.Lines.{first_line}
-use Rattle.entry_grammar.specs.BaseLines.{base_lines}
-use Rattle.byte_streams.proofs.FirstLines.{first_line-ended}
-use Rattle.entry_grammar.proofs.Headers.{spells_header_once}
-use Rattle.entry_grammar.proofs.BaseLines.{spells_base_line_once}
-use Rattle.entry_grammar.proofs.FirstLines.{line_free}
-use Rattle.entry_grammar.proofs.BaseOnce.{base_text_is, base_once, base_unbroken, breaks_once}
-use Rattle.auditor.specs.Parts.{Opening, Named, Based, IsOpening, Opens, size_of, present_of, base_in, opening_text, parts_text}
-use Rattle.auditor.specs.Damage.{BeginsWithTranscript, HasBadHeader, HasBadStart, HasBrokenBase, HasImpossibleBase}
+use Rattle.auditor.proofs.Prelude.{◌≡◌, ℕ, ◌+◌, ◌≤◌, ◌⊎◌, inl, inr, List, [], ◌∷◌, ◌++◌, Some, get_or, refl, sym, ap, ap₂, subst, ◌∙◌, append_assoc, arith, same_Some, Base, RuleSet, Moment, LogPart, NumberedMoment, table_of, weight_of, begins_once, charge_bound, header_text, base_head, Head, first_line, base_lines, first_line-ended, spells_header_once, spells_base_line_once, line_free, base_text_is, base_once, base_unbroken, breaks_once, Opening, Named, Based, IsOpening, Opens, size_of, present_of, base_in, opening_text, parts_text, BeginsWithTranscript, HasBadHeader, HasBadStart, HasBrokenBase, HasImpossibleBase}
 use Rattle.auditor.proofs.Feedless.{header_free}
 
 -- ---- the first line

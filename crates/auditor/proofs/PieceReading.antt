@@ -1,18 +1,5 @@
 -- A transcript that is read piece by piece.
-use Rattle.std.proofs.Common.{◌≡◌, ℕ, ◌+◌, ◌-◌, ◌<◌, ◌^◌, ◌⊎◌, inl, inr, List, [], ◌++◌, Option, None, Some, IfSome, Result, Ok, Err, IfErr, OnOk, length, take, drop, refl, sym, ap, ap₂, subst, ◌∙◌, append_assoc, append-nil, arith}
-use Rattle.std.specs.Prelude.{MatchOption}
-use Rattle.std.specs.Io.KnownBytes.{Consumes}
-use Rattle.std.proofs.lemmas.List.{append_cancel_right, length-append, take-append-drop}
-use Rattle.std.proofs.Math.Seq.{drop-append_seam, take-append_seam}
-use Rattle.std.proofs.KnownBytes.{Consumes-trans}
-use Rattle.std.proofs.Math.Logic.{∥∥₁_elim, ∥∥₁_map, ∥∥₁_prop}
-use Rattle.auditor.specs.declared.damage.JudgeFault.{JudgeFault}
-use Rattle.auditor.specs.declared.judging.IncrementalAudit.{IncrementalAudit}
-use Rattle.auditor.specs.declared.replay.TranscriptCursor.{TranscriptCursor}
-use Rattle.auditor.specs.Damage.{BeginsBase}
-use Rattle.auditor.specs.Parts.{part_text}
-use Rattle.auditor.specs.TranscriptCursors.{IsCursorAfter, EndsIn, HasCutStart, IsCursorAt, IsCompared, IsMetAt, IsPassed, IsRead, IsReadOf, IsReachable, IsUnderway, StaysInPlace, base_wanted}
-use Rattle.auditor.specs.Verdict.{IsJudged}
+use Rattle.auditor.proofs.Prelude.{◌≡◌, ℕ, ◌+◌, ◌-◌, ◌<◌, ◌^◌, ◌⊎◌, inl, inr, List, [], ◌++◌, Option, None, Some, IfSome, Result, Ok, Err, IfErr, OnOk, length, take, drop, refl, sym, ap, ap₂, subst, ◌∙◌, append_assoc, append-nil, arith, MatchOption, Consumes, append_cancel_right, length-append, take-append-drop, drop-append_seam, take-append_seam, Consumes-trans, ∥∥₁_elim, ∥∥₁_map, ∥∥₁_prop, AuditFault, IncrementalAudit, TranscriptCursor, BeginsBase, part_text, IsCursorAfter, EndsIn, HasCutStart, IsCursorAt, IsCompared, IsMetAt, IsPassed, IsRead, IsReadOf, IsReachable, IsUnderway, StaysInPlace, base_wanted, IsJudged}
 use Rattle.auditor.proofs.WholeTranscripts.{behind_judged}
 use Rattle.auditor.proofs.Windows.{begins_more, same_more}
 
@@ -70,7 +57,7 @@ pub somewhere_on : (more : List ℕ) (old new : TranscriptCursor) (rest all behi
 somewhere_on more old new rest all behind is on somewhere =
     ∥∥₁_map somewhere (λ s. record { bytes = s.bytes; few = s.few; at = at_on s.bytes more old new rest all behind is on s.at })
 
-pub fault_less : (bytes more later : List ℕ) (replay : TranscriptCursor) (rest all : List ℕ) (fault : JudgeFault) → all ≡ rest ++ more → ((read later : List ℕ) → IsCursorAt read replay rest → IsJudged (read ++ later) (Err fault)) → IsCursorAt bytes replay all → IsJudged (bytes ++ later) (Err fault)
+pub fault_less : (bytes more later : List ℕ) (replay : TranscriptCursor) (rest all : List ℕ) (fault : AuditFault) → all ≡ rest ++ more → ((read later : List ℕ) → IsCursorAt read replay rest → IsJudged (read ++ later) (Err fault)) → IsCursorAt bytes replay all → IsJudged (bytes ++ later) (Err fault)
 fault_less bytes more later replay rest all fault is judged at =
     let less = at_less bytes more replay rest all is at in
     subst (λ (l : List ℕ). IsJudged l (Err fault)) (sym (append_assoc less.0 more later) ∙ ap (λ (l : List ℕ). l ++ later) (sym less.1)) (judged less.0 (more ++ later) less.2)
@@ -132,7 +119,7 @@ ends_further old new held rest behind (front, is) p =
     let text = part_text old.rules old.size old.audit.number p.further.part in
     (front ++ text, is ∙ ap (λ (l : List ℕ). front ++ l) p.further.comes.is ∙ sym (append_assoc front text behind))
 
-pub parts_fault : (bytes more : List ℕ) (replay : TranscriptCursor) (rest : List ℕ) (fault : JudgeFault) → IsMetAt replay rest fault → IsCursorAt bytes replay rest → IsJudged (bytes ++ more) (Err fault)
+pub parts_fault : (bytes more : List ℕ) (replay : TranscriptCursor) (rest : List ℕ) (fault : AuditFault) → IsMetAt replay rest fault → IsCursorAt bytes replay rest → IsJudged (bytes ++ more) (Err fault)
 parts_fault bytes more replay rest fault met at = behind_judged (bytes ++ more) replay.audit.number fault (met (bytes ++ more) more (at_more bytes more replay rest at))
 
 -- ---- what is dropped

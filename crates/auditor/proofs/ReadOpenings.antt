@@ -1,34 +1,9 @@
 -- What a transcript begins with, as it was read.
-use Rattle.std.proofs.Common.{◌≡◌, ℕ, ◌+◌, ◌<◌, ◌≤◌, ◌⊎◌, inl, inr, cond, List, [], ◌∷◌, ◌++◌, Option, Some, length, refl, sym, ap, subst, ◌∙◌, nat_eq, nat_lt, arith}
+use Rattle.auditor.proofs.Prelude.{◌≡◌, ℕ, ◌+◌, ◌<◌, ◌≤◌, ◌⊎◌, inl, inr, cond, List, [], ◌∷◌, ◌++◌, Option, Some, length, refl, sym, ap, subst, ◌∙◌, nat_eq, arith, nat_cmp, ordering_then, Less, Equal, Greater, lt-ltb, eq-eqb, false_from_ne_true, ltb-true, length-append, Base, NodeRecord, At, RuleSet, IsBaseMoment, NumberedMoment, pair_cmp, beginning_with, State, opening_with, table_of, weight_of, charge_bound, base_head, lines_with_ends, BaseLine, Head, first_line, SpellsBaseLine, SpellsHeader, base_line_text, IsEdgeAbove, NodesRise, EdgesRise, IsShaped, BreaksAt, base_lines, BadBase, HasImpossibleBase, HasBrokenBase, SpellsNoHead, Named, Based, Opens, Position, position_at, IsMetFirst, IsOpened}
+use Rattle.std.proofs.Common.{nat_lt}
 use Rattle.std.specs.Prelude.{IfSome}
-use Rattle.std.specs.Ordering.{nat_cmp, ordering_then}
-use Rattle.std.specs.declared.cmp.Ordering.TheVariants.{Less, Equal, Greater}
-use Rattle.std.proofs.lemmas.Bool.{lt-ltb, eq-eqb, false_from_ne_true, ltb-true}
-use Rattle.std.proofs.lemmas.List.{length-append}
-use Rattle.rule_machine.specs.declared.base.Base.{Base}
-use Rattle.rule_machine.specs.declared.base.NodeRecord.{NodeRecord}
-use Rattle.rule_machine.specs.declared.base.EpochStart.TheVariants.{At, Forgotten}
-use Rattle.rule_machine.specs.declared.rules.RuleSet.{RuleSet}
-use Rattle.rule_machine.specs.Base.{IsBaseMoment, NumberedMoment}
-use Rattle.rule_machine.specs.Network.{pair_cmp}
-use Rattle.rule_machine.specs.Run.{beginning_with}
-use Rattle.rule_machine.specs.State.{State, opening_with}
-use Rattle.rule_machine.specs.Tables.{table_of, weight_of}
-use Rattle.charge_laws.specs.ChargeWords.{charge_bound}
+use Rattle.rule_machine.specs.declared.base.EpochStart.TheVariants.{Forgotten}
 use Rattle.reply_checker.specs.Bases as judge
-use Rattle.line_text.specs.BaseText.{base_head}
-use Rattle.line_text.specs.Words.{lines_with_ends}
-use Rattle.entry_grammar.specs.declared.base_line.BaseLine.{BaseLine}
-use Rattle.entry_grammar.specs.declared.base_line.BaseLine.TheVariants.{Head}
-use Rattle.byte_streams.specs.Lines.{first_line}
-use Rattle.entry_grammar.specs.Spelling.{SpellsBaseLine, SpellsHeader, base_line_text}
-use Rattle.entry_grammar.specs.BaseLines.{IsEdgeAbove, NodesRise, EdgesRise, IsShaped, BreaksAt, base_lines}
-use Rattle.auditor.specs.declared.damage.Damage.TheVariants.{BadBase}
-use Rattle.auditor.specs.declared.damage.JudgeFault.TheVariants.{Damaged}
-use Rattle.auditor.specs.Damage.{HasImpossibleBase, HasBrokenBase, SpellsNoHead}
-use Rattle.auditor.specs.Parts.{Named, Based, Opens}
-use Rattle.auditor.specs.Position.{Position, position_at}
-use Rattle.auditor.specs.EntryWindows.{IsMetFirst, IsOpened}
 use Rattle.auditor.proofs.AuditPositions.{opened_follows, header_splits, base_splits}
 
 -- ---- the two orders of a base's lines are one
@@ -91,17 +66,17 @@ base_opened text rest behind rules size base s found p few cut is shaped number 
     }
 
 -- the lines after the first of a base are no base's, or no run may begin there
-bad_start : (text rest : List ℕ) (rules : RuleSet) (size line : ℕ) → size ≤ 65535 → first_line text ≡ Some (base_head rules size, rest) → HasBrokenBase rest line ⊎ HasImpossibleBase rules size rest line → IsMetFirst text (Damaged (BadBase line))
+bad_start : (text rest : List ℕ) (rules : RuleSet) (size line : ℕ) → size ≤ 65535 → first_line text ≡ Some (base_head rules size, rest) → HasBrokenBase rest line ⊎ HasImpossibleBase rules size rest line → IsMetFirst text (BadBase line)
 bad_start text rest rules size line few cut bad last = record {
   is = inl (record { rules = rules; size = size; rest = rest; few = few; first = cut; bad = bad });
   looked_at = tt;
 }
 
-pub nowhere : (text rest behind : List ℕ) (rules : RuleSet) (size : ℕ) (base : Base) → size ≤ 65535 → first_line text ≡ Some (base_head rules size, rest) → IsShaped base → rest ≡ base_lines base ++ behind → ((start : NumberedMoment) → Opens rules (Based size base) start → ⊥) → IsMetFirst text (Damaged (BadBase 2))
+pub nowhere : (text rest behind : List ℕ) (rules : RuleSet) (size : ℕ) (base : Base) → size ≤ 65535 → first_line text ≡ Some (base_head rules size, rest) → IsShaped base → rest ≡ base_lines base ++ behind → ((start : NumberedMoment) → Opens rules (Based size base) start → ⊥) → IsMetFirst text (BadBase 2)
 nowhere text rest behind rules size base few cut shaped is none =
     bad_start text rest rules size 2 few cut (inr (record { base = base; more = behind; shaped = shaped; is = is; nowhere = none; line_is = refl }))
 
-pub broken : (text rest : List ℕ) (rules : RuleSet) (size number : ℕ) → size ≤ 65535 → first_line text ≡ Some (base_head rules size, rest) → BreaksAt rest number → IsMetFirst text (Damaged (BadBase (number + 1)))
+pub broken : (text rest : List ℕ) (rules : RuleSet) (size number : ℕ) → size ≤ 65535 → first_line text ≡ Some (base_head rules size, rest) → BreaksAt rest number → IsMetFirst text (BadBase (number + 1))
 broken text rest rules size number few cut breaks =
     bad_start text rest rules size (number + 1) few cut (inl (record { number = number; breaks = breaks; line_is = refl }))
 

@@ -1,15 +1,5 @@
 -- Of the lines up to an entry there is one verdict: they are good, or damaged, or too few, or forgotten.
-use Rattle.std.proofs.Common.{◌≡◌, ◌≢◌, ℕ, ◌<◌, ◌⊎◌, inl, inr, List, [], Option, None, Some, sym, ap, subst, ◌∙◌, arith}
-use Rattle.std.proofs.lemmas.Option.{same_Some}
-use Rattle.rule_machine.specs.declared.rules.RuleSet.{RuleSet}
-use Rattle.rule_machine.specs.State.{State}
-use Rattle.rule_machine.specs.Base.{LogPart, NumberedMoment}
-use Rattle.rule_machine.specs.Tables.{table_of}
-use Rattle.auditor.specs.declared.damage.Damage.{Damage}
-use Rattle.auditor.specs.declared.damage.Damage.TheVariants.{BadHeader, NotALine, OutOfOrder, NotTheMachines, BadBase}
-use Rattle.auditor.specs.Parts.{size_of}
-use Rattle.auditor.specs.Damage.{BeginsWithTranscript, IsDamage}
-use Rattle.auditor.specs.EntryWindows.{EndsAt, HasDroppedEntry, HasTooFew, IsAskedBeyond, IsDamageWithin, IsMetDamage, IsStateAfter}
+use Rattle.auditor.proofs.Prelude.{◌≡◌, ◌≢◌, ℕ, ◌<◌, ◌⊎◌, inl, inr, List, [], Option, None, Some, sym, ap, subst, ◌∙◌, arith, same_Some, RuleSet, State, LogPart, NumberedMoment, table_of, AuditFault, BadHeader, NotALine, OutOfOrder, NotTheMachines, BadBase, Read, Memory, size_of, BeginsWithTranscript, IsDamage, EndsAt, HasDroppedEntry, HasTooFew, IsAskedBeyond, IsDamageWithin, IsMetDamage, IsStateAfter}
 use Rattle.auditor.proofs.Steps.{passes_rise}
 use Rattle.auditor.proofs.Chains.{chain_beyond}
 use Rattle.auditor.proofs.Openings.{parts_behind}
@@ -36,23 +26,25 @@ apart bytes (Some k) r log end rest b f ends e some before = not_beyond bytes r 
 -- ---- a damage that is met
 
 -- it is at the start, or after fewer entries than were asked for
-pub record MetBehind (bytes : List ℕ) (stop : Option ℕ) (d : Damage) : Type 0 where
+pub record MetBehind (bytes : List ℕ) (stop : Option ℕ) (d : AuditFault) : Type 0 where
   pub behind : FailsBehind bytes d
   pub before : IsAskedBeyond stop behind.at.end.count
 
-met : (bytes : List ℕ) (stop : Option ℕ) (d : Damage) (x : FailsBehind bytes d) → IsAskedBeyond stop x.at.end.count → FailsFirst bytes d ⊎ MetBehind bytes stop d
+met : (bytes : List ℕ) (stop : Option ℕ) (d : AuditFault) (x : FailsBehind bytes d) → IsAskedBeyond stop x.at.end.count → FailsFirst bytes d ⊎ MetBehind bytes stop d
 met bytes stop d x before = inr (record { behind = x; before = before })
 
-pub met_fails : (bytes : List ℕ) (stop : Option ℕ) (d : Damage) (damage : IsDamage bytes d) → IsDamageWithin bytes stop d damage → FailsFirst bytes d ⊎ MetBehind bytes stop d
+pub met_fails : (bytes : List ℕ) (stop : Option ℕ) (d : AuditFault) (damage : IsDamage bytes d) → IsDamageWithin bytes stop d damage → FailsFirst bytes d ⊎ MetBehind bytes stop d
 met_fails bytes stop BadHeader x looked = inl x
 met_fails bytes stop (NotALine line) x looked = met bytes stop (NotALine line) (record { at = x.at; fails = (x.line_is, x.other, x.damage) }) looked
 met_fails bytes stop (OutOfOrder line) x looked = met bytes stop (OutOfOrder line) (record { at = x.at; fails = (x.line_is, (x.number, x.entry, x.comes, x.damage)) }) looked
 met_fails bytes stop (NotTheMachines line) x looked = met bytes stop (NotTheMachines line) (record { at = x.at; fails = (x.line_is, (x.entry, x.comes, x.damage)) }) looked
 met_fails bytes stop (BadBase line) (inl x) looked = inl x
 met_fails bytes stop (BadBase line) (inr x) looked = met bytes stop (BadBase line) (base_fails bytes line x) looked
+met_fails bytes stop Read x looked = absurd x
+met_fails bytes stop Memory x looked = absurd x
 
 -- good lines have no damage
-pub good_no_damage : (bytes : List ℕ) (stop : Option ℕ) (rules : RuleSet) (s : State) (d : Damage) → IsStateAfter bytes stop rules s → IsMetDamage bytes stop d → ⊥
+pub good_no_damage : (bytes : List ℕ) (stop : Option ℕ) (rules : RuleSet) (s : State) (d : AuditFault) → IsStateAfter bytes stop rules s → IsMetDamage bytes stop d → ⊥
 good_no_damage bytes stop rules s d x met = by (met_fails bytes stop d met.is met.looked_at)
   where
     by : FailsFirst bytes d ⊎ MetBehind bytes stop d → ⊥
@@ -76,7 +68,7 @@ few_once bytes stop asked wanted entries count x y =
     let once = run_once bytes x.rules y.rules x.opening y.opening x.log y.log x.end y.end x.transcript y.transcript in
     (same_Some asked wanted (sym x.last_is ∙ y.last_is), x.entries_are ∙ ap (λ (z : NumberedMoment). z.count) once.ends ∙ sym y.entries_are)
 
-pub few_no_damage : (bytes : List ℕ) (stop : Option ℕ) (asked entries : ℕ) (d : Damage) → HasTooFew bytes stop asked entries → IsDamage bytes d → ⊥
+pub few_no_damage : (bytes : List ℕ) (stop : Option ℕ) (asked entries : ℕ) (d : AuditFault) → HasTooFew bytes stop asked entries → IsDamage bytes d → ⊥
 few_no_damage bytes stop asked entries d x damage = no_damage bytes x.rules x.opening x.log x.end d x.transcript damage
 
 -- ---- forgotten
@@ -110,7 +102,7 @@ few_not_forgotten bytes stop asked entries wanted base x forgotten =
     let below = forgotten_below bytes stop wanted base x.rules x.log x.end [] forgotten f in
     omega (arith, same, below, x.entries_are, x.fewer)
 
-pub forgotten_no_damage : (bytes : List ℕ) (stop : Option ℕ) (asked base : ℕ) (d : Damage) → HasDroppedEntry bytes stop asked base → IsMetDamage bytes stop d → ⊥
+pub forgotten_no_damage : (bytes : List ℕ) (stop : Option ℕ) (asked base : ℕ) (d : AuditFault) → HasDroppedEntry bytes stop asked base → IsMetDamage bytes stop d → ⊥
 forgotten_no_damage bytes stop asked base d x met = by (met_fails bytes stop d met.is met.looked_at)
   where
     by : FailsFirst bytes d ⊎ MetBehind bytes stop d → ⊥

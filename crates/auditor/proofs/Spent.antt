@@ -1,25 +1,6 @@
 -- What is spent in a transcript's run is within the bound of its network.
-use Rattle.std.proofs.Common.{◌≡◌, ℕ, ◌+◌, ◌*◌, ◌<◌, ◌≤◌, List, length, ap, sym, ◌∙◌, arith}
+use Rattle.auditor.proofs.Prelude.{◌≡◌, ℕ, ◌+◌, ◌*◌, ◌<◌, ◌≤◌, List, length, ap, sym, ◌∙◌, arith, length-map, Base, RuleSet, Hh, Manne, edge_count, names, node_count, IsState, NumberedMoment, base_of, entries_in, node_record_at, Moment, table_of, weight_of, passes_run, IsTable, IsFlagless, IsBaseMoment, Passes, LogPart, begins_in_state, begins_within, may_begin_again, hsu_huang_flagless, manne_flagless, IsCharged, IsWithinBound, charge_bound, hsu_huang_charged, manne_charged, hsu_huang_table, manne_table, IsPositionAfter, Opens, Opening, base_in, present_of, size_of, Position, stand_of}
 use Rattle.std.specs.FinMap as finmap
-use Rattle.std.proofs.lemmas.List.{length-map}
-use Rattle.rule_machine.specs.declared.base.Base.{Base}
-use Rattle.rule_machine.specs.declared.rules.RuleSet.{RuleSet}
-use Rattle.rule_machine.specs.declared.rules.RuleSet.TheVariants.{Hh, Manne}
-use Rattle.rule_machine.specs.Network.{edge_count, names, node_count}
-use Rattle.rule_machine.specs.State.{IsState}
-use Rattle.rule_machine.specs.Base.{NumberedMoment, base_of, entries_in, node_record_at}
-use Rattle.rule_machine.specs.Run.{Moment}
-use Rattle.rule_machine.specs.Tables.{table_of, weight_of}
-use Rattle.machine_laws.specs.Bases.{passes_run}
-use Rattle.machine_laws.specs.LeastMoves.{IsTable}
-use Rattle.charge_laws.specs.RunsFromBases.{begins_in_state, begins_within}
-use Rattle.charge_laws.specs.ChargeWords.{IsCharged, IsWithinBound, charge_bound}
-use Rattle.charge_laws.specs.Laws.{hsu_huang_charged, manne_charged}
-use Rattle.charge_laws.specs.Runs.{run_within}
-use Rattle.charge_laws.specs.Tables.{hsu_huang_table, manne_table}
-use Rattle.auditor.specs.AcceptedRuns.{IsPositionAfter}
-use Rattle.auditor.specs.Parts.{Opens, Opening, base_in, present_of, size_of}
-use Rattle.auditor.specs.Position.{Position, stand_of}
 
 pub is_table : (rules : RuleSet) → IsTable (table_of rules)
 is_table Hh = hsu_huang_table
@@ -37,7 +18,16 @@ pub opens_within : (rules : RuleSet) (o : Opening) (start : NumberedMoment) → 
 opens_within rules o start opens =
     begins_within (table_of rules) (weight_of rules) (is_charged rules) (size_of o) (present_of o) (base_in o) start.moment opens.begins
 
-light : (rules : RuleSet) (spent charge edges nodes : ℕ) → spent + charge ≤ 2 * edges + weight_of rules * nodes → spent ≤ 2 * edges + 3 * nodes
+pub is_flagless : (rules : RuleSet) → IsFlagless (table_of rules)
+is_flagless Hh = hsu_huang_flagless
+is_flagless Manne = manne_flagless
+
+-- a run may begin again where one has come to
+pub begins_again : (rules : RuleSet) (o : Opening) (start end : NumberedMoment) (log : List LogPart) → Opens rules o start → Passes (table_of rules) start log end → IsBaseMoment (table_of rules) (charge_bound (weight_of rules)) (size_of o) (base_of end.count end.moment) end.moment
+begins_again rules o start end log opens passes =
+    may_begin_again (table_of rules) (weight_of rules) (is_table rules) (is_charged rules) (is_flagless rules) (size_of o) (present_of o) end.count (base_in o) start.moment opens.begins (entries_in log) end.moment (passes_run (table_of rules) start end log passes).0
+
+pub light : (rules : RuleSet) (spent charge edges nodes : ℕ) → spent + charge ≤ 2 * edges + weight_of rules * nodes → spent ≤ 2 * edges + 3 * nodes
 light Hh spent charge edges nodes within = omega (arith, within)
 light Manne spent charge edges nodes within = omega (arith, within)
 
@@ -45,10 +35,8 @@ light Manne spent charge edges nodes within = omega (arith, within)
 pub reached_within : (bytes : List ℕ) (rules : RuleSet) (size : ℕ) (p : Position) (rest : List ℕ) → IsPositionAfter bytes rules size p rest → p.spent ≤ 2 * edge_count p.state.network + 3 * node_count p.state.network
 reached_within bytes rules size p rest r =
     let is = r.follows.transcript in
-    let run = (passes_run (table_of rules) is.start (stand_of p) r.log is.passes).0 in
-    light rules p.spent ((table_of rules).charge p.state) (edge_count p.state.network) (node_count p.state.network)
-    (run_within (table_of rules) (weight_of rules) (is_table rules) (is_charged rules) is.start.moment (opens_in_state rules r.follows.opening is.start is.opens)
-    (opens_within rules r.follows.opening is.start is.opens) (entries_in r.log) (stand_of p).moment run)
+    let begins = begins_again rules r.follows.opening is.start (stand_of p) r.log is.opens is.passes in
+    light rules p.spent ((table_of rules).charge p.state) (edge_count p.state.network) (node_count p.state.network) begins.within
 
 -- it fits if the lists of a base are short
 pub spent_fits : (b : Base) (n spent : ℕ) (m : Moment) → b ≡ base_of n m → (length b.nodes ≤ 65535) × (length b.edges ≤ 1048576) → spent ≤ 2 * edge_count m.state.network + 3 * node_count m.state.network → spent < 4294967296

@@ -1,13 +1,5 @@
 -- Parts of a transcript, one after another.
-use Rattle.std.proofs.Common.{◌≡◌, ℕ, ◌≤◌, List, [], ◌∷◌, ◌++◌, refl, sym, ap, subst, ◌∙◌, append_assoc, append-nil, arith}
-use Rattle.std.specs.List.{AllByRecursion}
-use Rattle.rule_machine.specs.declared.rules.RuleSet.{RuleSet}
-use Rattle.rule_machine.specs.RuleTable.{RuleTable}
-use Rattle.rule_machine.specs.Base.{LogPart, EntryPart, BasePart, NumberedMoment, Passes}
-use Rattle.rule_machine.specs.Tables.{table_of}
-use Rattle.auditor.specs.Parts.{StepsTo, count_after, opening_text, part_text, parts_text, size_of}
-use Rattle.auditor.specs.Transcript.{NextPart, IsLogPart}
-use Rattle.auditor.specs.Damage.{BeginsWithTranscript}
+use Rattle.auditor.proofs.Prelude.{◌≡◌, ℕ, ◌≤◌, List, [], ◌∷◌, ◌++◌, refl, sym, ap, subst, ◌∙◌, append_assoc, append-nil, arith, AllByRecursion, RuleSet, RuleTable, LogPart, EntryPart, BasePart, NumberedMoment, Passes, table_of, StepsTo, count_after, opening_text, part_text, parts_text, size_of, NextPart, IsLogPart, BeginsWithTranscript}
 
 -- the first part, and the later ones
 pub passes_first : (t : RuleTable) (at end : NumberedMoment) (part : LogPart) (log : List LogPart) → Passes t at (part ∷ log) end → (next : NumberedMoment) × StepsTo t at part next × Passes t next log end

@@ -1,28 +1,5 @@
 -- A text ends, as a transcript or in a damage, in one way.
-use Rattle.std.proofs.Common.{◌≡◌, ◌≢◌, ℕ, ◌+◌, ◌⊎◌, inl, inr, List, [], ◌∷◌, ◌++◌, Option, length, drop, refl, sym, ap, subst, ◌∙◌, append_assoc, append-nil}
-use Rattle.std.proofs.lemmas.Option.{none-some, same_Some}
-use Rattle.std.proofs.lemmas.List.{append_cancel_left, append_cancel_right}
-use Rattle.rule_machine.specs.declared.base.Base.{Base}
-use Rattle.rule_machine.specs.declared.rules.RuleSet.{RuleSet}
-use Rattle.rule_machine.specs.State.{State}
-use Rattle.rule_machine.specs.Base.{LogPart, EntryPart, BasePart, NumberedMoment, base_of, entries_in}
-use Rattle.rule_machine.specs.Run.{Entry}
-use Rattle.rule_machine.specs.Answer.{Answers}
-use Rattle.rule_machine.specs.Tables.{table_of}
-use Rattle.line_text.specs.EntryText.{entry_text}
-use Rattle.line_text.specs.BaseText.{base_text}
-use Rattle.byte_streams.specs.Lines.{first_line}
-use Rattle.entry_grammar.specs.Spelling.{SpellsEntry}
-use Rattle.byte_streams.proofs.FirstLines.{first_line-ended, first_line-splits}
-use Rattle.entry_grammar.proofs.Entries.{spells_entry_once}
-use Rattle.entry_grammar.proofs.Free.{cons_parts}
-use Rattle.auditor.specs.declared.damage.Damage.{Damage}
-use Rattle.auditor.specs.declared.damage.Damage.TheVariants.{BadHeader, NotALine, OutOfOrder, NotTheMachines, BadBase}
-use Rattle.auditor.specs.declared.summary.Summary.{Summary}
-use Rattle.auditor.specs.Parts.{Opening, size_of}
-use Rattle.auditor.specs.Transcript.{IsTranscript, SameRun, NextPart, epoch_count, move_count}
-use Rattle.auditor.specs.Damage.{BeginsWithTranscript, TranscriptPrefix, EntryComes, BeginsBase, CommonPrefix, IsLineBehind, HasNoEntry, HasBadHeader, HasBadStart, EndsInBadBase, IsDamage}
-use Rattle.auditor.specs.AcceptedRuns.{Counts, IsAccepted}
+use Rattle.auditor.proofs.Prelude.{◌≡◌, ◌≢◌, ℕ, ◌+◌, ◌⊎◌, inl, inr, List, [], ◌∷◌, ◌++◌, Option, length, drop, refl, sym, ap, subst, ◌∙◌, append_assoc, append-nil, none-some, same_Some, append_cancel_left, append_cancel_right, Base, RuleSet, State, LogPart, EntryPart, BasePart, NumberedMoment, base_of, entries_in, Entry, Answers, table_of, entry_text, base_text, first_line, SpellsEntry, first_line-ended, first_line-splits, spells_entry_once, cons_parts, AuditFault, BadHeader, NotALine, OutOfOrder, NotTheMachines, BadBase, Read, Memory, Summary, Opening, size_of, IsTranscript, SameRun, NextPart, epoch_count, move_count, BeginsWithTranscript, TranscriptPrefix, EntryComes, BeginsBase, CommonPrefix, IsLineBehind, HasNoEntry, HasBadHeader, HasBadStart, EndsInBadBase, IsDamage, Counts, IsAccepted}
 use Rattle.auditor.proofs.Feedless.{entry_free}
 use Rattle.auditor.proofs.Chains.{BeginsOther, Chain, Stops, chain_of, chain_meet, entry_other, nothing_stops, other_no_base, told_spells, told_is}
 use Rattle.auditor.proofs.Openings.{SameOpening, follows_text, opening_once, parts_behind, header_good, start_good, header_no_start, start_once_bad}
@@ -111,7 +88,7 @@ transcript_ends bytes rules opening log end is = record {
 }
 
 -- what fails after a transcript
-abbrev pub Fails : Split → Damage → Type 0
+abbrev pub Fails : Split → AuditFault → Type 0
 Fails at BadHeader = ⊥
 Fails at (NotALine line) = IsLineBehind line at.good × (BeginsBase at.rest → ⊥) × HasNoEntry at.rest (first_line at.rest)
 Fails at (OutOfOrder line) = IsLineBehind line at.good × ((number : ℕ) × (entry : Entry) × EntryComes at.rest number entry × (number ≢ at.end.count + 1))
@@ -119,24 +96,28 @@ Fails at (NotTheMachines line) =
     IsLineBehind line at.good × ((entry : Entry) × EntryComes at.rest (at.end.count + 1) entry × ((s : State) → Answers (table_of at.rules) at.end.moment.state at.end.moment.spent entry.0 entry.1 s → ⊥))
 Fails at (BadBase line) =
     BeginsBase at.rest × ((parting : CommonPrefix (base_text at.rules (size_of at.opening) (base_of at.end.count at.end.moment)) at.rest) × IsLineBehind line (at.good ++ parting.common))
+Fails at Read = ⊥
+Fails at Memory = ⊥
 
 -- what fails at the start
-abbrev pub FailsFirst : List ℕ → Damage → Type 0
+abbrev pub FailsFirst : List ℕ → AuditFault → Type 0
 FailsFirst bytes BadHeader = HasBadHeader (first_line bytes)
 FailsFirst bytes (NotALine line) = ⊥
 FailsFirst bytes (OutOfOrder line) = ⊥
 FailsFirst bytes (NotTheMachines line) = ⊥
 FailsFirst bytes (BadBase line) = HasBadStart bytes line
+FailsFirst bytes Read = ⊥
+FailsFirst bytes Memory = ⊥
 
 -- after a transcript something fails
-pub record FailsBehind (bytes : List ℕ) (d : Damage) : Type 0 where
+pub record FailsBehind (bytes : List ℕ) (d : AuditFault) : Type 0 where
   pub at : TranscriptPrefix bytes
   pub fails : Fails (split_of bytes at) d
 
 abbrev pub base_fails : (bytes : List ℕ) (line : ℕ) → EndsInBadBase bytes line → FailsBehind bytes (BadBase line)
 base_fails bytes line x = record { at = x.at; fails = (x.begins, (x.parting, x.line_is)) }
 
-pub damage_fails : (bytes : List ℕ) (d : Damage) → IsDamage bytes d → FailsFirst bytes d ⊎ FailsBehind bytes d
+pub damage_fails : (bytes : List ℕ) (d : AuditFault) → IsDamage bytes d → FailsFirst bytes d ⊎ FailsBehind bytes d
 damage_fails bytes BadHeader x = inl x
 damage_fails bytes (NotALine line) x =
     inr (record { at = x.at; fails = (x.line_is, x.other, x.damage) })
@@ -146,6 +127,8 @@ damage_fails bytes (NotTheMachines line) x =
     inr (record { at = x.at; fails = (x.line_is, (x.entry, x.comes, x.damage)) })
 damage_fails bytes (BadBase line) (inl x) = inl x
 damage_fails bytes (BadBase line) (inr x) = inr (base_fails bytes line x)
+damage_fails bytes Read x = absurd x
+damage_fails bytes Memory x = absurd x
 
 -- ---- what comes
 
@@ -193,8 +176,10 @@ pub parting_begins : (text bytes behind : List ℕ) → CommonPrefix text bytes 
 parting_begins text bytes behind p e =
     parted p.common p.missing p.more behind p.some p.apart (sym p.had ∙ e ∙ ap (λ (t : List ℕ). t ++ behind) p.wanted)
 
-pub fails_stops : (at : Split) (d : Damage) → Fails at d → Stops at.rules (size_of at.opening) at.end at.rest
+pub fails_stops : (at : Split) (d : AuditFault) → Fails at d → Stops at.rules (size_of at.opening) at.end at.rest
 fails_stops at BadHeader x = absurd x
+fails_stops at Read x = absurd x
+fails_stops at Memory x = absurd x
 fails_stops at (NotALine line) x = stops
   where
     stops : Stops at.rules (size_of at.opening) at.end at.rest
@@ -234,14 +219,16 @@ begins_rest rest begins e = nothing _ (sym begins.1 ∙ e)
     nothing : (more : List ℕ) → 109 ∷ more ≡ [] → ⊥
     nothing more same = absurd cc
 
-pub fails_some : (at : Split) (d : Damage) → Fails at d → at.rest ≢ []
+pub fails_some : (at : Split) (d : AuditFault) → Fails at d → at.rest ≢ []
 fails_some at BadHeader x = absurd x
+fails_some at Read x = absurd x
+fails_some at Memory x = absurd x
 fails_some at (NotALine line) x = some_rest at.rest x.2
 fails_some at (OutOfOrder line) (line_is, (number, entry, comes, damage)) = comes_rest at.rest number entry comes
 fails_some at (NotTheMachines line) (line_is, (entry, comes, damage)) = comes_rest at.rest (at.end.count + 1) entry comes
 fails_some at (BadBase line) x = begins_rest at.rest x.0
 
-pub failure_ends : (bytes : List ℕ) (d : Damage) (x : FailsBehind bytes d) → Ended bytes (split_of bytes x.at)
+pub failure_ends : (bytes : List ℕ) (d : AuditFault) (x : FailsBehind bytes d) → Ended bytes (split_of bytes x.at)
 failure_ends bytes d x =
     let at = x.at in
     ends_here bytes at.rules at.log at.end at.rest at.follows (fails_stops (split_of bytes at) d x.fails)
@@ -263,9 +250,13 @@ parting_once text bytes p q =
     common_once p.common q.common p.missing q.missing p.more q.more (sym p.wanted ∙ q.wanted) (sym p.had ∙ q.had) p.apart q.apart
 
 -- at one place one check fails
-pub fails_once : (at : Split) (d e : Damage) → Fails at d → Fails at e → d ≡ e
+pub fails_once : (at : Split) (d e : AuditFault) → Fails at d → Fails at e → d ≡ e
 fails_once at BadHeader e x y = absurd x
+fails_once at Read e x y = absurd x
+fails_once at Memory e x y = absurd x
 fails_once at d BadHeader x y = absurd y
+fails_once at d Read x y = absurd y
+fails_once at d Memory x y = absurd y
 fails_once at (NotALine k) (NotALine l) x y = ap (λ (n : ℕ). NotALine n) (x.0 ∙ sym y.0)
 fails_once at (NotALine k) (OutOfOrder l) x (line_is, (number, entry, comes, damage)) = absurd (none_comes at.rest number entry x.2 comes)
 fails_once at (NotALine k) (NotTheMachines l) x (line_is, (entry, comes, damage)) = absurd (none_comes at.rest (at.end.count + 1) entry x.2 comes)
@@ -287,7 +278,7 @@ fails_once at (BadBase k) (BadBase l) (begins, (p, line_is)) (began, (q, also_is
     let common = parting_once (base_text at.rules (size_of at.opening) (base_of at.end.count at.end.moment)) at.rest p q in
     ap (λ (n : ℕ). BadBase n) (subst (λ (c : List ℕ). IsLineBehind k (at.good ++ c)) common line_is ∙ sym also_is)
 
-pub first_once : (bytes : List ℕ) (d e : Damage) → FailsFirst bytes d → FailsFirst bytes e → d ≡ e
+pub first_once : (bytes : List ℕ) (d e : AuditFault) → FailsFirst bytes d → FailsFirst bytes e → d ≡ e
 first_once bytes BadHeader BadHeader x y = refl
 first_once bytes BadHeader (BadBase l) x y = absurd (header_no_start bytes l x y)
 first_once bytes (BadBase k) BadHeader x y = absurd (header_no_start bytes k y x)
@@ -297,19 +288,19 @@ first_once bytes (BadBase k) e x y = absurd y
 first_once bytes d e x y = absurd x
 
 -- a transcript begins no text that fails at the start
-pub first_good : (bytes : List ℕ) (d : Damage) (rules : RuleSet) (log : List LogPart) (end : NumberedMoment) (rest : List ℕ) → FailsFirst bytes d → BeginsWithTranscript bytes rules log end rest → ⊥
+pub first_good : (bytes : List ℕ) (d : AuditFault) (rules : RuleSet) (log : List LogPart) (end : NumberedMoment) (rest : List ℕ) → FailsFirst bytes d → BeginsWithTranscript bytes rules log end rest → ⊥
 first_good bytes BadHeader rules log end rest x f = header_good bytes rules log end rest x f
 first_good bytes (BadBase line) rules log end rest x f = start_good bytes line rules log end rest x f
 first_good bytes d rules log end rest x f = x
 
-behind_once : (bytes : List ℕ) (d e : Damage) → FailsBehind bytes d → FailsBehind bytes e → d ≡ e
+behind_once : (bytes : List ℕ) (d e : AuditFault) → FailsBehind bytes d → FailsBehind bytes e → d ≡ e
 behind_once bytes d e x y =
     let a = split_of bytes x.at in
     let b = split_of bytes y.at in
     let same : a ≡ b = ended_once bytes a b (failure_ends bytes d x) (failure_ends bytes e y) in
     fails_once b d e (subst (λ (z : Split). Fails z d) same x.fails) y.fails
 
-pub damage_once : (bytes : List ℕ) (d e : Damage) → IsDamage bytes d → IsDamage bytes e → d ≡ e
+pub damage_once : (bytes : List ℕ) (d e : AuditFault) → IsDamage bytes d → IsDamage bytes e → d ≡ e
 damage_once bytes d e x y = by (damage_fails bytes d x) (damage_fails bytes e y)
   where
     by : FailsFirst bytes d ⊎ FailsBehind bytes d → FailsFirst bytes e ⊎ FailsBehind bytes e → d ≡ e
@@ -341,7 +332,7 @@ counted_is : (c : Summary) (log : List Entry) → Counts c log → c ≡ summary
 counted_is c log is =
     ap (λ (n : ℕ). summary n c.epochs c.moves) is.entries ∙ ap (λ (n : ℕ). summary (length log) n c.moves) is.epochs ∙ ap (λ (n : ℕ). summary (length log) (epoch_count log) n) is.moves
 
-pub no_damage : (bytes : List ℕ) (rules : RuleSet) (opening : Opening) (log : List LogPart) (end : NumberedMoment) (d : Damage) → IsTranscript bytes rules opening log end → IsDamage bytes d → ⊥
+pub no_damage : (bytes : List ℕ) (rules : RuleSet) (opening : Opening) (log : List LogPart) (end : NumberedMoment) (d : AuditFault) → IsTranscript bytes rules opening log end → IsDamage bytes d → ⊥
 no_damage bytes rules opening log end d is x = by (damage_fails bytes d x)
   where
     by : FailsFirst bytes d ⊎ FailsBehind bytes d → ⊥
@@ -351,7 +342,7 @@ no_damage bytes rules opening log end d is x = by (damage_fails bytes d x)
         let once = ended_once bytes place (whole bytes rules opening log end) (failure_ends bytes d a) (transcript_ends bytes rules opening log end is) in
         fails_some place d a.fails (ap (λ (z : Split). z.rest) once)
 
-pub accepted_no_damage : (bytes : List ℕ) (counted : Summary) (d : Damage) → IsAccepted bytes counted → IsDamage bytes d → ⊥
+pub accepted_no_damage : (bytes : List ℕ) (counted : Summary) (d : AuditFault) → IsAccepted bytes counted → IsDamage bytes d → ⊥
 accepted_no_damage bytes counted d is x = no_damage bytes is.rules is.opening is.log is.end d is.transcript x
 
 pub count_once : (bytes : List ℕ) (c d : Summary) → IsAccepted bytes c → IsAccepted bytes d → c ≡ d

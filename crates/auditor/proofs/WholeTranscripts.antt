@@ -1,32 +1,18 @@
 -- A transcript that is gone through from its beginning to its end.
-use Rattle.std.proofs.Common.{◌≡◌, ℕ, ◌+◌, ◌<◌, ◌≤◌, ◌^◌, inl, List, [], ◌++◌, None, Err, length, sym, ap, subst, ◌∙◌, append_assoc, arith}
-use Rattle.std.proofs.lemmas.List.{append_cancel_right, length-append}
-use Rattle.std.proofs.Math.Logic.{∥∥₁_elim, ∥∥₁_map}
-use Rattle.std.proofs.Props.{props}
-use Rattle.rule_machine.specs.declared.rules.RuleSet.{RuleSet}
-use Rattle.auditor.specs.declared.damage.JudgeFault.{JudgeFault}
-use Rattle.auditor.specs.declared.damage.JudgeFault.TheVariants.{Damaged, Memory}
-use Rattle.auditor.specs.declared.replay.TranscriptCursor.{TranscriptCursor}
-use Rattle.auditor.specs.Parts.{part_text}
-use Rattle.auditor.specs.Position.{Position, stand_of}
-use Rattle.auditor.specs.AcceptedRuns.{IsPositionAfter}
-use Rattle.auditor.specs.Damage.{line_feeds}
-use Rattle.auditor.specs.EntryWindows.{IsMetBehind, IsMetFirst}
-use Rattle.auditor.specs.TranscriptCursors.{IsCursorAfter, IsCursorAt, IsCompared, IsPassed, IsReachable, ReachableBy, StaysInPlace}
-use Rattle.auditor.specs.Verdict.{IsJudged}
+use Rattle.auditor.proofs.Prelude.{◌≡◌, ℕ, ◌+◌, ◌<◌, ◌≤◌, ◌^◌, inl, List, [], ◌++◌, None, Err, length, sym, ap, subst, ◌∙◌, append_assoc, arith, append_cancel_right, length-append, ∥∥₁_elim, ∥∥₁_map, props, RuleSet, AuditFault, Memory, TranscriptCursor, part_text, Position, stand_of, IsPositionAfter, line_feeds, IsMetBehind, IsMetFirst, IsCursorAfter, IsCursorAt, IsCompared, IsPassed, IsReachable, ReachableBy, StaysInPlace, IsJudged}
 use Rattle.auditor.proofs.Chains.{comes_shorter}
 use Rattle.auditor.proofs.LineCounts.{feeds_few}
 use Rattle.auditor.proofs.AuditPositions.{opened_reached, reached_more}
 use Rattle.auditor.proofs.Windows.{feeds_append, same_none}
 
 -- what is met is what is judged
-pub first_judged : (bytes : List ℕ) (fault : JudgeFault) → IsMetFirst bytes fault → IsJudged bytes (Err fault)
-first_judged bytes (Damaged damage) met = (met None).is
+pub first_judged : (bytes : List ℕ) (fault : AuditFault) → IsMetFirst bytes fault → IsJudged bytes (Err fault)
 first_judged bytes Memory met = tt
+first_judged bytes damage met = (met None).is
 
-pub behind_judged : (bytes : List ℕ) (count : ℕ) (fault : JudgeFault) → IsMetBehind bytes count fault → IsJudged bytes (Err fault)
-behind_judged bytes count (Damaged damage) met = (met None tt).is
+pub behind_judged : (bytes : List ℕ) (count : ℕ) (fault : AuditFault) → IsMetBehind bytes count fault → IsJudged bytes (Err fault)
 behind_judged bytes count Memory met = tt
+behind_judged bytes count damage met = (met None tt).is
 
 -- ---- where a replay is
 

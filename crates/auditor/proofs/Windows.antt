@@ -1,21 +1,6 @@
 -- What holds whatever follows a text: its first line, a base's lines in it, and how far it agrees with
 -- another.
-use Rattle.std.proofs.Common.{◌≡◌, ℕ, ◌+◌, ◌<◌, ◌≤◌, ◌==◌, Bool, true, false, if◌then◌else◌, List, [], ◌∷◌, ◌++◌, Option, None, Some, length, take, drop, refl, sym, ap, subst, ◌∙◌, append_assoc, arith, eqb-true}
-use Rattle.std.specs.Prelude.{codes}
-use Rattle.std.specs.List.{AllByRecursion}
-use Rattle.std.proofs.lemmas.List.{append_cancel_right, get_or_append_left, length-append, take-append-drop, take-append-le, take_all}
-use Rattle.std.proofs.lemmas.Option.{same_Some}
-use Rattle.line_text.specs.Words.{lines_with_ends}
-use Rattle.entry_grammar.specs.declared.base_line.BaseLine.{BaseLine}
-use Rattle.byte_streams.specs.Lines.{first_line}
-use Rattle.entry_grammar.specs.Parsing.{IsFree}
-use Rattle.entry_grammar.specs.Spelling.{IsBaseLine, base_line_text}
-use Rattle.entry_grammar.specs.BaseLines.{BreaksAt, MayFollow}
-use Rattle.byte_streams.proofs.FirstLines.{first_line-ended, first_line-is, first_line-splits, first_line-then, no_first_line}
-use Rattle.entry_grammar.proofs.FirstLines.{line_free}
-use Rattle.entry_grammar.proofs.Free.{cons_parts, free_by}
-use Rattle.auditor.specs.Damage.{BeginsBase, line_feeds}
-use Rattle.auditor.specs.TranscriptCursors.{AreSameUpTo, ArePartedAt}
+use Rattle.auditor.proofs.Prelude.{◌≡◌, ℕ, ◌+◌, ◌<◌, ◌≤◌, ◌==◌, Bool, true, false, if◌then◌else◌, List, [], ◌∷◌, ◌++◌, Option, None, Some, length, take, drop, refl, sym, ap, subst, ◌∙◌, append_assoc, arith, eqb-true, codes, AllByRecursion, append_cancel_right, get_or_append_left, length-append, take-append-drop, take-append-le, take_all, same_Some, lines_with_ends, BaseLine, first_line, IsFree, IsBaseLine, base_line_text, BreaksAt, MayFollow, first_line-ended, first_line-is, first_line-splits, first_line-then, no_first_line, line_free, cons_parts, free_by, BeginsBase, line_feeds, AreSameUpTo, ArePartedAt}
 use Rattle.auditor.proofs.LineCounts.{PartAt, feeds_few, feeds_first, part_inside}
 
 -- ---- line feeds

@@ -11,8 +11,8 @@ use Rattle.line_text.specs.BaseText.{base_head, base_text}
 use Rattle.byte_streams.specs.Lines.{first_line}
 use Rattle.entry_grammar.specs.Spelling.{SpellsEntry, SpellsHeader}
 use Rattle.entry_grammar.specs.BaseLines.{IsShaped, BreaksAt, base_lines}
-use Rattle.auditor.specs.declared.damage.Damage.{Damage}
-use Rattle.auditor.specs.declared.damage.Damage.TheVariants.{BadHeader, NotALine, OutOfOrder, NotTheMachines, BadBase}
+use Rattle.auditor.specs.declared.fault.AuditFault.{AuditFault}
+use Rattle.auditor.specs.declared.fault.AuditFault.TheVariants.{BadHeader, NotALine, OutOfOrder, NotTheMachines, BadBase, Read, Memory}
 use Rattle.auditor.specs.Parts.{Opening, Based, Opens, size_of}
 use Rattle.auditor.specs.Transcript.{IsTranscript}
 
@@ -136,10 +136,12 @@ pub record HasBadStart (bytes : List ℕ) (line : ℕ) : Type 0 where
   pub bad : HasBrokenBase rest line ⊎ HasImpossibleBase rules size rest line
 
 -- The bytes have this damage: the lines before the damaged line are a transcript, and the damage names the
--- first check that the line fails.
-abbrev pub IsDamage : List ℕ → Damage → Type 0
+-- first check that the line fails. That a read failed or memory ran out is no damage.
+abbrev pub IsDamage : List ℕ → AuditFault → Type 0
 IsDamage bytes BadHeader = HasBadHeader (first_line bytes)
 IsDamage bytes (NotALine line) = EndsInNoLine bytes line
 IsDamage bytes (OutOfOrder line) = EndsOutOfOrder bytes line
 IsDamage bytes (NotTheMachines line) = EndsNotTheMachines bytes line
 IsDamage bytes (BadBase line) = HasBadStart bytes line ⊎ EndsInBadBase bytes line
+IsDamage bytes Read = ⊥
+IsDamage bytes Memory = ⊥

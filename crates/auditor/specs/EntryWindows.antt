@@ -5,10 +5,8 @@ use Rattle.rule_machine.specs.declared.rules.RuleSet.{RuleSet}
 use Rattle.rule_machine.specs.State.{State}
 use Rattle.rule_machine.specs.declared.base.EpochStart.{EpochStart}
 use Rattle.rule_machine.specs.Base.{LogPart, NumberedMoment, begun_at}
-use Rattle.auditor.specs.declared.damage.Damage.{Damage}
-use Rattle.auditor.specs.declared.damage.Damage.TheVariants.{BadHeader, NotALine, OutOfOrder, NotTheMachines, BadBase}
-use Rattle.auditor.specs.declared.damage.JudgeFault.{JudgeFault}
-use Rattle.auditor.specs.declared.damage.JudgeFault.TheVariants.{Damaged, Memory}
+use Rattle.auditor.specs.declared.fault.AuditFault.{AuditFault}
+use Rattle.auditor.specs.declared.fault.AuditFault.TheVariants.{BadHeader, NotALine, OutOfOrder, NotTheMachines, BadBase, Read, Memory}
 use Rattle.auditor.specs.declared.reach.ReplayFault.{ReplayFault}
 use Rattle.auditor.specs.declared.reach.ReplayFault.TheVariants.{Judged, TooFew, Forgotten}
 use Rattle.auditor.specs.Parts.{Opening, base_in, size_of}
@@ -79,22 +77,24 @@ base_looked_at last count (inl start) = Unit {0}
 base_looked_at last count (inr ends) = IsAskedBeyond last (count ends)
 
 -- the damage is in the opening, or comes after fewer entries than were asked for
-abbrev pub IsDamageWithin : (bytes : List ℕ) → Option ℕ → (d : Damage) → IsDamage bytes d → Type 0
+abbrev pub IsDamageWithin : (bytes : List ℕ) → Option ℕ → (d : AuditFault) → IsDamage bytes d → Type 0
 IsDamageWithin bytes last BadHeader damage = Unit {0}
 IsDamageWithin bytes last (NotALine line) damage = IsAskedBeyond last damage.at.end.count
 IsDamageWithin bytes last (OutOfOrder line) damage = IsAskedBeyond last damage.at.end.count
 IsDamageWithin bytes last (NotTheMachines line) damage = IsAskedBeyond last damage.at.end.count
 IsDamageWithin bytes last (BadBase line) damage = base_looked_at last (λ ends. ends.at.end.count) damage
+IsDamageWithin bytes last Read damage = ⊥
+IsDamageWithin bytes last Memory damage = ⊥
 
 -- the first damage of the bytes, in a line that is read
-pub record IsMetDamage (bytes : List ℕ) (last : Option ℕ) (damage : Damage) : Type 0 where
+pub record IsMetDamage (bytes : List ℕ) (last : Option ℕ) (damage : AuditFault) : Type 0 where
   pub is : IsDamage bytes damage
   pub looked_at : IsDamageWithin bytes last damage is
 
 -- why the state was not reached: what is wrong with the lines read; nothing is said if memory ran out
 abbrev pub IsReplayFault : List ℕ → Option ℕ → ReplayFault → Type 0
-IsReplayFault bytes last (Judged (Damaged damage)) = IsMetDamage bytes last damage
 IsReplayFault bytes last (Judged Memory) = Unit {0}
+IsReplayFault bytes last (Judged damage) = IsMetDamage bytes last damage
 IsReplayFault bytes last (TooFew asked entries) = HasTooFew bytes last asked entries
 IsReplayFault bytes last (Forgotten asked base) = HasDroppedEntry bytes last asked base
 
@@ -107,11 +107,11 @@ pub record IsOpened (bytes : List ℕ) (rules : RuleSet) (size : ℕ) (begun : E
   pub opening : p ≡ position_at start
 
 -- a damage in the opening, or a damage after this many entries
-abbrev pub IsMetBehind : List ℕ → ℕ → JudgeFault → Type 0
-IsMetBehind bytes count (Damaged damage) = (last : Option ℕ) → IsAskedBeyond last count → IsMetDamage bytes last damage
+abbrev pub IsMetBehind : List ℕ → ℕ → AuditFault → Type 0
 IsMetBehind bytes count Memory = Unit {0}
+IsMetBehind bytes count damage = (last : Option ℕ) → IsAskedBeyond last count → IsMetDamage bytes last damage
 
 -- a damage of the opening
-abbrev pub IsMetFirst : List ℕ → JudgeFault → Type 0
-IsMetFirst bytes (Damaged damage) = (last : Option ℕ) → IsMetDamage bytes last damage
+abbrev pub IsMetFirst : List ℕ → AuditFault → Type 0
 IsMetFirst bytes Memory = Unit {0}
+IsMetFirst bytes damage = (last : Option ℕ) → IsMetDamage bytes last damage

@@ -8,3 +8,4 @@ pub mod EntryWindows
 pub mod TranscriptCursors
 pub mod Epochs
 pub mod AuditPieces
+pub mod TranscriptEnds

@@ -8,10 +8,8 @@ use Rattle.rule_machine.specs.Base.{LogPart, EntryPart, BasePart, NumberedMoment
 use Rattle.rule_machine.specs.Run.{Entry}
 use Rattle.rule_machine.specs.Answer.{Answers, spent_after}
 use Rattle.entry_grammar.specs.Spelling.{SpellsEntry, max_entries}
-use Rattle.auditor.specs.declared.damage.Damage.{Damage}
-use Rattle.auditor.specs.declared.damage.Damage.TheVariants.{BadHeader, NotALine, OutOfOrder, NotTheMachines, BadBase}
-use Rattle.auditor.specs.declared.damage.JudgeFault.{JudgeFault}
-use Rattle.auditor.specs.declared.damage.JudgeFault.TheVariants.{Damaged, Memory}
+use Rattle.auditor.specs.declared.fault.AuditFault.{AuditFault}
+use Rattle.auditor.specs.declared.fault.AuditFault.TheVariants.{BadHeader, NotALine, OutOfOrder, NotTheMachines, BadBase, Read, Memory}
 use Rattle.auditor.specs.declared.summary.Summary.{Summary}
 use Rattle.auditor.specs.Transcript.{NextPart, disturbances_in, reply_moves}
 use Rattle.auditor.specs.Damage.{SpellsNoEntry}
@@ -78,18 +76,20 @@ pub record BadReply (t : RuleTable) (text : List ℕ) (before : Position) : Type
   pub never : (s : State) → Answers t before.state before.spent entry.0 entry.1 s → ⊥
 
 -- the damage of a line, which has this number
-abbrev pub LineDamaged : RuleTable → List ℕ → ℕ → Position → Damage → Type 0
+abbrev pub LineDamaged : RuleTable → List ℕ → ℕ → Position → AuditFault → Type 0
 LineDamaged t text line before (NotALine at) = (at ≡ line) × SpellsNoEntry text
 LineDamaged t text line before (OutOfOrder at) = (at ≡ line) × BadNumber text before
 LineDamaged t text line before (NotTheMachines at) = (at ≡ line) × BadReply t text before
 LineDamaged t text line before BadHeader = ⊥
 LineDamaged t text line before (BadBase at) = ⊥
+LineDamaged t text line before Read = ⊥
+LineDamaged t text line before Memory = ⊥
 
 -- the result of checking the next line, which has this number; nothing is said if memory ran out
-abbrev pub LineJudged : RuleTable → List ℕ → ℕ → Position → Position → Result Unit JudgeFault → Type 0
+abbrev pub LineJudged : RuleTable → List ℕ → ℕ → Position → Position → Result Unit AuditFault → Type 0
 LineJudged t text line before after (Ok done) = GoodLine t text before after
-LineJudged t text line before after (Err (Damaged damage)) = LineDamaged t text line before damage
 LineJudged t text line before after (Err Memory) = Unit {0}
+LineJudged t text line before after (Err damage) = LineDamaged t text line before damage
 
 -- a next part leads from one position to the next and is counted; the rest after the part is `behind`
 pub record IsFurther (rules : RuleSet) (size : ℕ) (before : Position) (rest : List ℕ) (after : Position) (behind : List ℕ) : Type 0 where

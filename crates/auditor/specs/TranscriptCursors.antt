@@ -5,7 +5,7 @@ use Rattle.rule_machine.specs.Base.{base_of}
 use Rattle.line_text.specs.BaseText.{base_head, base_text}
 use Rattle.byte_streams.specs.Lines.{first_line}
 use Rattle.entry_grammar.specs.BaseLines.{BreaksAt}
-use Rattle.auditor.specs.declared.damage.JudgeFault.{JudgeFault}
+use Rattle.auditor.specs.declared.fault.AuditFault.{AuditFault}
 use Rattle.auditor.specs.declared.judging.IncrementalAudit.{IncrementalAudit}
 use Rattle.auditor.specs.declared.replay.TranscriptCursor.{TranscriptCursor}
 use Rattle.auditor.specs.AcceptedRuns.{IsPositionAfter}
@@ -119,7 +119,7 @@ pub record IsPassed (before after : TranscriptCursor) (rest behind : List ℕ) :
   pub none_same : after.same ≡ 0
 
 -- the fault is that of the next part, whatever bytes follow the rest
-abbrev pub IsMetAt : TranscriptCursor → List ℕ → JudgeFault → Type 0
+abbrev pub IsMetAt : TranscriptCursor → List ℕ → AuditFault → Type 0
 IsMetAt replay rest fault = (bytes more : List ℕ) → IsCursorAt bytes replay (rest ++ more) → IsMetBehind bytes replay.audit.number fault
 
 -- ---- a transcript that is read
@@ -138,6 +138,6 @@ abbrev pub IsUnderway : IncrementalAudit → Type 0
 IsUnderway trial = (trial.len < 2 ^ 63) × ∥ ((read : List ℕ) × IsRead read trial) ∥₁
 
 -- the bytes were read without a fault; or they have this fault, whatever bytes follow
-abbrev pub IsIncrementalAudit : List ℕ → IncrementalAudit → Option JudgeFault → Type 0
+abbrev pub IsIncrementalAudit : List ℕ → IncrementalAudit → Option AuditFault → Type 0
 IsIncrementalAudit bytes trial None = IsRead bytes trial
 IsIncrementalAudit bytes trial (Some fault) = (more : List ℕ) → IsJudged (bytes ++ more) (Err fault)

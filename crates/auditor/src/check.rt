@@ -7,7 +7,7 @@ ghost use Rattle.rule_machine.specs.Tables.{table_of};
 ghost use Rattle.auditor.specs.Position.{LineJudged, position_at, stand_of};
 
 use crate::summary::spent_after;
-use crate::{Damage, JudgeFault, Summary};
+use crate::{AuditFault, Summary};
 use entry_grammar::{EntryFault, read_entry};
 use reply_checker::Judge;
 use rule_machine::{Base, RuleSet, Want};
@@ -91,27 +91,25 @@ impl Audit {
         rules: RuleSet,
         text: &[u8],
         line: u64,
-    ) -> Result<(), JudgeFault>
+    ) -> Result<(), AuditFault>
         ensures { LineJudged (table_of rules) text.now line self.old self.new result }
     {
         let (number, entry) = match read_entry(alloc, text) {
             Ok(found) => found,
-            Err(EntryFault::NotALine) => {
-                return Err(JudgeFault::Damaged(Damage::NotALine { line }));
-            }
-            Err(EntryFault::Memory) => return Err(JudgeFault::Memory),
+            Err(EntryFault::NotALine) => return Err(AuditFault::NotALine { line }),
+            Err(EntryFault::Memory) => return Err(AuditFault::Memory),
         };
         if number != self.number + 1 {
-            return Err(JudgeFault::Damaged(Damage::OutOfOrder { line }));
+            return Err(AuditFault::OutOfOrder { line });
         }
         let judged = self
             .judge
             .replay(rules, self.spent, entry.event(), entry.reply());
         let Ok(right) = judged else {
-            return Err(JudgeFault::Memory);
+            return Err(AuditFault::Memory);
         };
         if !right {
-            return Err(JudgeFault::Damaged(Damage::NotTheMachines { line }));
+            return Err(AuditFault::NotTheMachines { line });
         }
         self.spent = spent_after(self.spent, entry.reply());
         self.number = number;

@@ -10,7 +10,7 @@ ghost use Rattle.auditor.specs.Verdict.{IsJudged};
 
 use crate::check::Audit;
 use crate::replay::TranscriptCursor;
-use crate::{CostedEpoch, Epoch, JudgeFault, Summary};
+use crate::{AuditFault, CostedEpoch, Epoch, Summary};
 use byte_streams::split_line;
 use entry_grammar::{EntryFault, read_entry};
 use rule_machine::{EpochStart, Event, RuleSet, Want};
@@ -112,7 +112,7 @@ fn turn(
 ///
 /// The errors are those of `audit_bytes`: the first damage of other bytes, or `Memory`. Costs what
 /// `audit_bytes` costs, and parses the lines of accepted disturbances twice. Takes 32 bytes an epoch.
-pub fn epochs_of(alloc: Global, bytes: &[u8]) -> Result<Epochs, JudgeFault>
+pub fn epochs_of(alloc: Global, bytes: &[u8]) -> Result<Epochs, AuditFault>
     ensures epochs { IfOk result (λ epochs. AreCostedEpochs bytes.now epochs.rules epochs.list.items) }
     ensures bounded { IfOk result (λ epochs. All (IsWithinItsBound epochs.rules) (epochs_in epochs.list.items)) }
     ensures paid { IfOk result (λ epochs. (are : AreCostedEpochs bytes.now epochs.rules epochs.list.items)

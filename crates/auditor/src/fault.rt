@@ -1,12 +1,11 @@
 //! The errors of an audit.
 
-use crate::damage::{Damage, JudgeFault};
-use byte_streams::InputFault;
+use std::alloc::AllocError;
 use thiserror::Error;
 
 /// Why bytes were not accepted: the first line that fails, and the first check that it fails.
 ///
-/// Lines count from 1.
+/// Lines count from 1. Only an audit that reads its bytes returns `Read`.
 #[derive(Clone, Copy, Debug, PartialEq, Eq, Error)]
 pub enum AuditFault {
     /// The first line is missing, has no LF, or is neither a header nor the first line of a base.
@@ -36,47 +35,13 @@ pub enum AuditFault {
     Memory,
 }
 
-impl From<InputFault> for AuditFault {
+impl From<AllocError> for AuditFault {
     ghost use Rattle.std.specs.Prelude.{◌≡◌};
-    ghost use Rattle.auditor.specs.Verdict.{of_input};
+    ghost use Rattle.auditor.specs.declared.fault.AuditFault.TheVariants.{Memory};
 
-    ghost from_gives = { λ input fault. fault ≡ of_input input };
+    ghost from_gives = { λ _ fault. fault ≡ Memory };
 
-    fn from(input: InputFault) -> AuditFault {
-        match input {
-            InputFault::Read => AuditFault::Read,
-            InputFault::Memory => AuditFault::Memory,
-        }
-    }
-}
-
-impl From<Damage> for AuditFault {
-    ghost use Rattle.std.specs.Prelude.{◌≡◌};
-    ghost use Rattle.auditor.specs.Verdict.{of_damage};
-
-    ghost from_gives = { λ damage fault. fault ≡ of_damage damage };
-
-    fn from(damage: Damage) -> AuditFault {
-        match damage {
-            Damage::BadHeader => AuditFault::BadHeader,
-            Damage::NotALine { line } => AuditFault::NotALine { line },
-            Damage::OutOfOrder { line } => AuditFault::OutOfOrder { line },
-            Damage::NotTheMachines { line } => AuditFault::NotTheMachines { line },
-            Damage::BadBase { line } => AuditFault::BadBase { line },
-        }
-    }
-}
-
-impl From<JudgeFault> for AuditFault {
-    ghost use Rattle.std.specs.Prelude.{◌≡◌};
-    ghost use Rattle.auditor.specs.Verdict.{of_judge};
-
-    ghost from_gives = { λ fault told. told ≡ of_judge fault };
-
-    fn from(fault: JudgeFault) -> AuditFault {
-        match fault {
-            JudgeFault::Damaged(damage) => AuditFault::from(damage),
-            JudgeFault::Memory => AuditFault::Memory,
-        }
+    fn from(_: AllocError) -> AuditFault {
+        AuditFault::Memory
     }
 }

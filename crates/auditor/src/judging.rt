@@ -2,10 +2,11 @@
 
 ghost use Rattle.std.specs.Prelude.{◌≡◌, ◌<◌, ◌≤◌, ◌+◌, ◌^◌, ◌++◌, ℕ, List, [], Err, IfErr, IfOk, None, OnOk, drop, length};
 ghost use Rattle.auditor.specs.TranscriptCursors.{EndsIn, IsCursorAt, IsCompared, IsRead, IsReadOf, IsReachable, IsUnderway};
+ghost use Rattle.auditor.specs.TranscriptEnds.{EndsRun, MayGoOn};
 ghost use Rattle.auditor.specs.Verdict.{IsJudged};
 
 use crate::replay::TranscriptCursor;
-use crate::{JudgeFault, Summary};
+use crate::{AuditFault, TranscriptEnd};
 use byte_streams::split_line;
 use std::alloc::Global;
 
@@ -38,7 +39,7 @@ fn drop_front(bytes: &mut Vec<u8>, count: usize)
 
 impl TranscriptCursor {
     // Judges the complete parts at the start of `held`, and returns the bytes after them.
-    fn pass_parts<'a>(&mut self, alloc: Global, held: &'a [u8]) -> Result<&'a [u8], JudgeFault>
+    fn pass_parts<'a>(&mut self, alloc: Global, held: &'a [u8]) -> Result<&'a [u8], AuditFault>
         requires at { IsReachable self.old held.now }
         requires compared { IsCompared self.old held.now }
         ensures at { IfOk result (λ rest. (bytes : List ℕ) → IsCursorAt bytes self.old held.now → IsCursorAt bytes self.new rest.now) }
@@ -53,10 +54,11 @@ impl TranscriptCursor {
         Ok(rest)
     }
 
-    fn judge_whole(self, alloc: Global, rest: &[u8]) -> Result<Summary, JudgeFault>
+    fn judge_whole(self, alloc: Global, rest: &[u8]) -> Result<TranscriptEnd, AuditFault>
         requires at { IsReachable self rest.now }
         requires compared { IsCompared self rest.now }
-        ensures { (bytes : List ℕ) → IsCursorAt bytes self rest.now → IsJudged bytes result }
+        ensures ended { (bytes : List ℕ) → IsCursorAt bytes self rest.now → EndsRun bytes result }
+        ensures goes_on { IfOk result MayGoOn }
     {
         let mut replay = self;
         let mut left = rest;
@@ -66,12 +68,13 @@ impl TranscriptCursor {
                 Err(fault) => return Err(fault),
             }
         }
-        Ok(replay.audit.counted())
+        Ok(replay.into_end())
     }
 }
 
-pub(crate) fn judge_text(alloc: Global, text: &[u8]) -> Result<Summary, JudgeFault>
-    ensures { IsJudged text.now result }
+pub(crate) fn judge_text(alloc: Global, text: &[u8]) -> Result<TranscriptEnd, AuditFault>
+    ensures ended { EndsRun text.now result }
+    ensures goes_on { IfOk result MayGoOn }
 {
     match TranscriptCursor::open_whole(alloc, text) {
         Ok((replay, rest)) => replay.judge_whole(alloc, rest),
@@ -84,7 +87,7 @@ fn judge_parts(
     alloc: Global,
     run: &mut TranscriptCursor,
     held: &mut Vec<u8>,
-) -> Result<(), JudgeFault>
+) -> Result<(), AuditFault>
     requires at { IsReachable run.old held.old.items }
     requires compared { IsCompared run.old held.old.items }
     ensures at { OnOk result ((read : List ℕ) → IsCursorAt read run.old held.old.items → IsCursorAt read run.new held.new.items) }
@@ -106,7 +109,7 @@ fn judge_behind(
     run: &mut TranscriptCursor,
     held: &mut Vec<u8>,
     bytes: &[u8],
-) -> Result<(), JudgeFault>
+) -> Result<(), AuditFault>
     requires at { IsReachable run.old (held.old.items ++ bytes.now) }
     requires compared { IsCompared run.old held.old.items }
     ensures at { OnOk result ((read : List ℕ) → IsCursorAt read run.old (held.old.items ++ bytes.now) → IsCursorAt read run.new held.new.items) }
@@ -126,20 +129,23 @@ fn judge_behind(
     }
 }
 
-// Like `judge_behind`, but copies less: the piece's first line, which may complete `held`, is judged first.
-// Then only the part that the piece begins and does not end is copied.
+// Like `judge_behind`, but copies less: if bytes are held, the piece's first line is judged first, since it
+// may complete `held`. Then only the part that the piece begins and does not end is copied.
 fn judge_piece(
     alloc: Global,
     run: &mut TranscriptCursor,
     held: &mut Vec<u8>,
     piece: &[u8],
-) -> Result<(), JudgeFault>
+) -> Result<(), AuditFault>
     requires at { IsReachable run.old (held.old.items ++ piece.now) }
     requires compared { IsCompared run.old held.old.items }
     ensures at { OnOk result ((read : List ℕ) → IsCursorAt read run.old (held.old.items ++ piece.now) → IsCursorAt read run.new held.new.items) }
     ensures compared { OnOk result (IsCompared run.new held.new.items) }
     ensures fault { IfErr result (λ fault. (read more : List ℕ) → IsCursorAt read run.old (held.old.items ++ piece.now) → IsJudged (read ++ more) (Err fault)) }
 {
+    if held.is_empty() {
+        return judge_behind(alloc, run, held, piece);
+    }
     let Some((_, behind)) = split_line(piece) else {
         held.extend_from_slice(piece)?;
         return Ok(());
@@ -152,7 +158,7 @@ fn judge_piece(
 }
 
 // Reads the opening, if it is complete, and judges the parts after it.
-fn begin(alloc: Global, held: &mut Vec<u8>) -> Result<Option<TranscriptCursor>, JudgeFault>
+fn begin(alloc: Global, held: &mut Vec<u8>) -> Result<Option<TranscriptCursor>, AuditFault>
     requires { length held.old.items < 2 ^ 63 }
     ensures on { IfOk result (λ run. IsReadOf held.old.items run held.new.items) }
     ensures fault { IfErr result (λ fault. (more : List ℕ) → IsJudged (held.old.items ++ more) (Err fault)) }
@@ -184,7 +190,7 @@ impl IncrementalAudit {
     }
 
     // If the opening is not complete, the next try waits until `held` has twice as many bytes.
-    fn begin(&mut self, alloc: Global, piece: &[u8]) -> Result<(), JudgeFault>
+    fn begin(&mut self, alloc: Global, piece: &[u8]) -> Result<(), AuditFault>
         requires unbegun { self.old.run ≡ None }
         ensures on { OnOk result (IsReadOf (self.old.held.items ++ piece.now) self.new.run self.new.held.items) }
         ensures len { self.new.len ≡ self.old.len }
@@ -204,7 +210,7 @@ impl IncrementalAudit {
     }
 
     /// An error is final, whatever bytes follow.
-    pub(crate) fn take(&mut self, alloc: Global, piece: &[u8]) -> Result<(), JudgeFault>
+    pub(crate) fn take(&mut self, alloc: Global, piece: &[u8]) -> Result<(), AuditFault>
         requires { IsUnderway self.old }
         ensures on { OnOk result ((read : List ℕ) → IsRead read self.old → IsRead (read ++ piece.now) self.new) }
         ensures few { self.new.len < 2 ^ 63 }
@@ -212,7 +218,7 @@ impl IncrementalAudit {
     {
         let len = piece.len() as u64;
         if len > MOST_BYTES - self.len {
-            return Err(JudgeFault::Memory);
+            return Err(AuditFault::Memory);
         }
         self.len += len;
         let Some(run) = &mut self.run else {
@@ -221,9 +227,10 @@ impl IncrementalAudit {
         judge_piece(alloc, run, &mut self.held, piece)
     }
 
-    pub(crate) fn finish(self, alloc: Global) -> Result<Summary, JudgeFault>
+    pub(crate) fn finish(self, alloc: Global) -> Result<TranscriptEnd, AuditFault>
         requires { IsUnderway self }
-        ensures { (read : List ℕ) → IsRead read self → IsJudged read result }
+        ensures ended { (read : List ℕ) → IsRead read self → EndsRun read result }
+        ensures goes_on { IfOk result MayGoOn }
     {
         let IncrementalAudit { run, held, .. } = self;
         match run {

@@ -3,7 +3,7 @@
 ghost use Rattle.std.specs.Prelude.{◌≡◌, ℕ, List};
 ghost use Rattle.rule_machine.specs.declared.rules.RuleSet.{RuleSet};
 ghost use Rattle.rule_machine.specs.Base.{LogPart, NumberedMoment};
-ghost use Rattle.auditor.specs.declared.damage.Damage.{Damage};
+ghost use Rattle.auditor.specs.declared.fault.AuditFault.{AuditFault};
 ghost use Rattle.auditor.specs.declared.summary.Summary.{Summary};
 ghost use Rattle.auditor.specs.Parts.{Opening};
 ghost use Rattle.auditor.specs.Transcript.{IsTranscript, SameRun};
@@ -26,15 +26,15 @@ pub fn one_count()
 
 /// A text has at most one damage: its first line that fails, and that line's first failed check.
 pub fn one_damage()
-    ensures { (bytes : List ℕ) (d e : Damage) → IsDamage bytes d → IsDamage bytes e → d ≡ e }
+    ensures { (bytes : List ℕ) (d e : AuditFault) → IsDamage bytes d → IsDamage bytes e → d ≡ e }
 {}
 
 /// The transcript of a run has no damage.
 pub fn transcript_has_no_damage()
-    ensures { (bytes : List ℕ) (counted : Summary) (damage : Damage) → IsAccepted bytes counted → IsDamage bytes damage → ⊥ }
+    ensures { (bytes : List ℕ) (counted : Summary) (damage : AuditFault) → IsAccepted bytes counted → IsDamage bytes damage → ⊥ }
 {}
 
 /// A text without damage cannot fail to be the transcript of a run.
 pub fn undamaged_is_a_transcript()
-    ensures { (bytes : List ℕ) → ((damage : Damage) → IsDamage bytes damage → ⊥) → ((counted : Summary) → IsAccepted bytes counted → ⊥) → ⊥ }
+    ensures { (bytes : List ℕ) → ((damage : AuditFault) → IsDamage bytes damage → ⊥) → ((counted : Summary) → IsAccepted bytes counted → ⊥) → ⊥ }
 {}

@@ -7,8 +7,8 @@
 //! builds on the definitions and uses no guard of the engine, so it also judges transcripts of other programs.
 //!
 //! `PieceAudit` is fed a text in pieces, cut anywhere; `audit` reads a text from a reader. `state_after`
-//! returns the state after an entry. `epochs_of` returns, for each disturbance, its cost, the moves after it,
-//! and the bound on these moves.
+//! returns the state after an entry, `end_of` the end of the run. `epochs_of` returns, for each disturbance,
+//! its cost, the moves after it, and the bound on these moves.
 //!
 //! ```rust
 //! match audit(alloc, &mut CountingReader::new(stdin)) {
@@ -20,7 +20,7 @@
 #![tactic(auto)]
 
 mod check;
-mod damage;
+mod end;
 mod epoch;
 mod epoch_list;
 mod fault;
@@ -33,7 +33,7 @@ mod replay;
 mod summary;
 mod transcript;
 
-pub use damage::{Damage, JudgeFault};
+pub use end::TranscriptEnd;
 pub use epoch::{CostedEpoch, Epoch};
 pub use epoch_list::{Epochs, epochs_of};
 pub use fault::AuditFault;
@@ -43,4 +43,4 @@ pub use laws::{
 pub use pieces::PieceAudit;
 pub use reach::{ReplayFault, ReplayedRun, state_after};
 pub use summary::Summary;
-pub use transcript::{audit, audit_bytes};
+pub use transcript::{audit, audit_bytes, end_of, end_of_bytes};

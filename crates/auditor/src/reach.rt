@@ -4,7 +4,7 @@ ghost use Rattle.std.specs.Prelude.{◌≡◌, ◌<◌, ℕ, IfErr, IfOk, MatchO
 ghost use Rattle.auditor.specs.declared.reach.ReplayFault.TheVariants.{TooFew};
 ghost use Rattle.auditor.specs.EntryWindows.{IsLongEnough, IsReplayFault, IsStateAfter, IsAskedWithin, falls_short};
 
-use crate::JudgeFault;
+use crate::AuditFault;
 use crate::replay::TranscriptCursor;
 use reply_checker::Judge;
 use rule_machine::RuleSet;
@@ -23,7 +23,7 @@ pub struct ReplayedRun {
 #[derive(Clone, Copy, PartialEq, Eq)]
 pub enum ReplayFault {
     /// A line up to the entry is damaged, or memory ran out.
-    Judged(JudgeFault),
+    Judged(AuditFault),
     /// The bytes are the transcript of a run, but its last entry has a smaller number than was asked for.
     TooFew { asked: u32, entries: u32 },
     /// The bytes begin with a base that has a greater number than was asked for.

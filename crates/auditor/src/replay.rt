@@ -6,14 +6,13 @@ ghost use Rattle.entry_grammar.specs.declared.base_line.BaseLine.TheVariants.{He
 ghost use Rattle.line_text.specs.BaseText.{base_head};
 ghost use Rattle.byte_streams.specs.Lines.{first_line};
 ghost use Rattle.entry_grammar.specs.Spelling.{SpellsHeader};
-ghost use Rattle.auditor.specs.declared.damage.JudgeFault.TheVariants.{Damaged};
 ghost use Rattle.auditor.specs.Damage.{BeginsBase, SpellsNoHead};
 ghost use Rattle.auditor.specs.EntryWindows.{IsMetBehind, IsMetFirst};
 ghost use Rattle.auditor.specs.TranscriptCursors.{IsCursorAfter, HasCutStart, IsCursorAt, IsCompared, IsMetAt, IsPassed, IsReachable, IsUnended, StaysInPlace, AwaitsBase};
 
 use crate::check::Audit;
 use crate::lines::{common_len, line_feeds, lines_before};
-use crate::{Damage, JudgeFault, Summary};
+use crate::{AuditFault, Summary};
 use byte_streams::split_line;
 use entry_grammar::{BaseFault, BaseLine, read_base, read_base_line, read_header};
 use line_text::{after, put_base};
@@ -56,15 +55,15 @@ fn read_head(line: &[u8]) -> Option<(RuleSet, u32)>
 }
 
 // The damage of a text that ends before its opening does.
-fn cut_start(text: &[u8]) -> Damage
+fn cut_start(text: &[u8]) -> AuditFault
     requires { HasCutStart text.now }
-    ensures { IsMetFirst text.now (Damaged result) }
+    ensures { IsMetFirst text.now result }
 {
     let line = line_feeds(text) + 1;
     if line == 1 {
-        Damage::BadHeader
+        AuditFault::BadHeader
     } else {
-        Damage::BadBase { line }
+        AuditFault::BadBase { line }
     }
 }
 
@@ -82,7 +81,7 @@ impl TranscriptCursor {
         text: &[u8],
         rest: &[u8],
         header: (RuleSet, u32, u32),
-    ) -> Result<TranscriptCursor, JudgeFault>
+    ) -> Result<TranscriptCursor, AuditFault>
         requires few { header.1 ≤ 65535 }
         requires within { header.2 ≤ header.1 }
         requires line { (line : List ℕ) × (first_line text.now ≡ Some (line, rest.now)) × SpellsHeader line header.0 header.1 header.2 }
@@ -109,7 +108,7 @@ impl TranscriptCursor {
         rest: &'a [u8],
         rules: RuleSet,
         size: u32,
-    ) -> Result<Option<(TranscriptCursor, &'a [u8])>, JudgeFault>
+    ) -> Result<Option<(TranscriptCursor, &'a [u8])>, AuditFault>
         requires few { size ≤ 65535 }
         requires first { first_line text.now ≡ Some (base_head rules size, rest.now) }
         ensures begins { IfOk result (λ found. MatchOption found (HasCutStart text.now) (λ begun. IsCursorAfter text.now begun.0 begun.1.now)) }
@@ -121,15 +120,15 @@ impl TranscriptCursor {
                 if line_feeds(rest) < number {
                     return Ok(None);
                 }
-                return Err(JudgeFault::Damaged(Damage::BadBase { line: number + 1 }));
+                return Err(AuditFault::BadBase { line: number + 1 });
             }
-            Err(BaseFault::Memory) => return Err(JudgeFault::Memory),
+            Err(BaseFault::Memory) => return Err(AuditFault::Memory),
         };
         if base.number > MAX_ENTRIES {
-            return Err(JudgeFault::Damaged(Damage::BadBase { line: 2 }));
+            return Err(AuditFault::BadBase { line: 2 });
         }
         let Some(judge) = Judge::at_base(alloc, rules, size, &base)? else {
-            return Err(JudgeFault::Damaged(Damage::BadBase { line: 2 }));
+            return Err(AuditFault::BadBase { line: 2 });
         };
         let replay = TranscriptCursor {
             rules,
@@ -149,7 +148,7 @@ impl TranscriptCursor {
     pub(crate) fn open(
         alloc: Global,
         text: &[u8],
-    ) -> Result<Option<(TranscriptCursor, &[u8])>, JudgeFault>
+    ) -> Result<Option<(TranscriptCursor, &[u8])>, AuditFault>
         ensures begins { IfOk result (λ found. MatchOption found (HasCutStart text.now) (λ begun. IsCursorAfter text.now begun.0 begun.1.now)) }
         ensures fault { IfErr result (λ fault. (more : List ℕ) → IsMetFirst (text.now ++ more) fault) }
     {
@@ -162,7 +161,7 @@ impl TranscriptCursor {
         }
         match read_head(line) {
             Some((rules, size)) => TranscriptCursor::at_base(alloc, text, rest, rules, size),
-            None => Err(JudgeFault::Damaged(Damage::BadHeader)),
+            None => Err(AuditFault::BadHeader),
         }
     }
 
@@ -170,13 +169,13 @@ impl TranscriptCursor {
     pub(crate) fn open_whole(
         alloc: Global,
         text: &[u8],
-    ) -> Result<(TranscriptCursor, &[u8]), JudgeFault>
+    ) -> Result<(TranscriptCursor, &[u8]), AuditFault>
         ensures begins { IfOk result (λ begun. IsCursorAfter text.now begun.0 begun.1.now) }
         ensures fault { IfErr result (IsMetFirst text.now) }
     {
         match TranscriptCursor::open(alloc, text) {
             Ok(Some(begun)) => Ok(begun),
-            Ok(None) => Err(JudgeFault::Damaged(cut_start(text))),
+            Ok(None) => Err(cut_start(text)),
             Err(fault) => Err(fault),
         }
     }
@@ -192,7 +191,7 @@ impl TranscriptCursor {
         &mut self,
         alloc: Global,
         rest: &'a [u8],
-    ) -> Result<Option<&'a [u8]>, JudgeFault>
+    ) -> Result<Option<&'a [u8]>, AuditFault>
         requires at { IsReachable self.old rest.now }
         requires other { BeginsBase rest.now → ⊥ }
         requires compared { IsCompared self.old rest.now }
@@ -228,7 +227,7 @@ impl TranscriptCursor {
         &mut self,
         alloc: Global,
         rest: &'a [u8],
-    ) -> Result<Option<&'a [u8]>, JudgeFault>
+    ) -> Result<Option<&'a [u8]>, AuditFault>
         requires at { IsReachable self.old rest.now }
         requires begins { BeginsBase rest.now }
         requires compared { IsCompared self.old rest.now }
@@ -248,7 +247,7 @@ impl TranscriptCursor {
             return Ok(None);
         }
         let line = self.lines + line_feeds(&rest[..same]) + 1;
-        Err(JudgeFault::Damaged(Damage::BadBase { line }))
+        Err(AuditFault::BadBase { line })
     }
 
     /// Judges the next entry or base, and returns the rest after it; `None` if that part is not complete.
@@ -258,7 +257,7 @@ impl TranscriptCursor {
         &mut self,
         alloc: Global,
         rest: &'a [u8],
-    ) -> Result<Option<&'a [u8]>, JudgeFault>
+    ) -> Result<Option<&'a [u8]>, AuditFault>
         requires at { IsReachable self.old rest.now }
         requires compared { IsCompared self.old rest.now }
         ensures ahead { IfOk result (λ found. MatchOption found (StaysInPlace self.old self.new rest.now) (λ behind. IsPassed self.old self.new rest.now behind.now)) }
@@ -271,17 +270,17 @@ impl TranscriptCursor {
     }
 
     // The damage of a text that ends inside a part, whose beginning is `rest`.
-    fn cut_off(&self, rest: &[u8]) -> Damage
+    fn cut_off(&self, rest: &[u8]) -> AuditFault
         requires at { IsReachable self.now rest.now }
         requires some { rest.now ≢ [] }
         requires unended { IsUnended self.now rest.now }
-        ensures { (bytes : List ℕ) → IsCursorAt bytes self.now rest.now → IsMetBehind bytes self.now.audit.number (Damaged result) }
+        ensures { (bytes : List ℕ) → IsCursorAt bytes self.now rest.now → IsMetBehind bytes self.now.audit.number result }
     {
         let line = self.lines + line_feeds(rest) + 1;
         if after(rest, b"matching2").is_some() {
-            Damage::BadBase { line }
+            AuditFault::BadBase { line }
         } else {
-            Damage::NotALine { line }
+            AuditFault::NotALine { line }
         }
     }
 
@@ -290,7 +289,7 @@ impl TranscriptCursor {
         &mut self,
         alloc: Global,
         rest: &'a [u8],
-    ) -> Result<&'a [u8], JudgeFault>
+    ) -> Result<&'a [u8], AuditFault>
         requires at { IsReachable self.old rest.now }
         requires some { rest.now ≢ [] }
         requires compared { IsCompared self.old rest.now }
@@ -299,7 +298,7 @@ impl TranscriptCursor {
     {
         match self.advance(alloc, rest) {
             Ok(Some(behind)) => Ok(behind),
-            Ok(None) => Err(JudgeFault::Damaged(self.cut_off(rest))),
+            Ok(None) => Err(self.cut_off(rest)),
             Err(fault) => Err(fault),
         }
     }

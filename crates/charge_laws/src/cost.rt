@@ -13,6 +13,8 @@ ghost use Rattle.rule_machine.specs.Run.{Entry, Moment, Run};
 ghost use Rattle.charge_laws.specs.ChargeWords.{moves_in, IsUndisturbed};
 ghost use Rattle.charge_laws.specs.Epochs.{IsPath};
 ghost use Rattle.charge_laws.specs.Costs.{hsu_huang_cost, manne_cost, path_cost, end_of_path, path_entries};
+ghost use Rattle.rules_api.specs.Charge.{AddsAtMost};
+ghost use Rattle.charge_laws.specs.Laws.{DisturbedMovesArePaid};
 
 /// The charge of a stable network is 0 (Hsu and Huang) or its number of unmarried nodes (Manne).
 pub fn stable_charge()
@@ -24,20 +26,16 @@ pub fn stable_charge()
 ///
 /// The cost is a sum of degrees of the nodes that the disturbance touches (`specs/Costs`).
 pub fn disturbances_cost()
-    ensures hsu_huang { (s : State) → IsState s → (spent : ℕ) (event : Event) (after : State) → Answers hsu_huang s spent event Accepted after
-        → hsu_huang.charge after ≤ hsu_huang.charge s + hsu_huang_cost s event }
-    ensures manne { (s : State) → IsState s → (spent : ℕ) (event : Event) (after : State) → Answers manne s spent event Accepted after
-        → manne.charge after ≤ manne.charge s + manne_cost s event }
+    ensures hsu_huang { AddsAtMost hsu_huang_cost hsu_huang }
+    ensures manne { AddsAtMost manne_cost manne }
 {}
 
 /// A run's moves plus the charge at its end are at most the charge at its start plus all costs.
 ///
 /// The costs are those of the run's disturbances. Holds from any state, whatever the daemon chooses.
 pub fn disturbed_moves_are_paid()
-    ensures hsu_huang { (start : Moment) → IsState start.state → (path : List (Entry × State)) → IsPath hsu_huang start path
-        → moves_in (path_entries path) + hsu_huang.charge (end_of_path start.state path) ≤ hsu_huang.charge start.state + path_cost hsu_huang_cost start.state path }
-    ensures manne { (start : Moment) → IsState start.state → (path : List (Entry × State)) → IsPath manne start path
-        → moves_in (path_entries path) + manne.charge (end_of_path start.state path) ≤ manne.charge start.state + path_cost manne_cost start.state path }
+    ensures hsu_huang { DisturbedMovesArePaid hsu_huang hsu_huang_cost }
+    ensures manne { DisturbedMovesArePaid manne manne_cost }
 {}
 
 /// If a run starts at a stable state, the costs of its disturbances alone bound its moves.

@@ -1,17 +1,14 @@
 //! Laws of when a run ends stable or silent.
 
-ghost use Rattle.std.specs.Prelude.{◌≡◌, ℕ, ◌+◌, ◌*◌, ◌≤◌, ◌↔◌, List, [], length, true};
+ghost use Rattle.std.specs.Prelude.{◌≡◌, ◌+◌, ◌*◌, ◌≤◌, ◌↔◌, List, length, true};
 ghost use Rattle.rule_machine.specs.Network.{node_count};
 ghost use Rattle.rule_machine.specs.State.{State, IsState};
-ghost use Rattle.rule_machine.specs.RuleTable.{enabled_names};
 ghost use Rattle.rule_machine.specs.HsuHuang.{hsu_huang};
 ghost use Rattle.rule_machine.specs.Manne.{manne};
 ghost use Rattle.rule_machine.specs.Stable.{IsStable, mutual_pairs};
 ghost use Rattle.rule_machine.specs.Run.{Entry, Moment, Run};
 ghost use Rattle.charge_laws.specs.ChargeWords.{moves_in, IsUndisturbed};
-ghost use Rattle.charge_laws.specs.Costs.{end_of_path, path_entries};
-ghost use Rattle.charge_laws.specs.Epochs.{IsPath};
-ghost use Rattle.charge_laws.specs.SilentRuns.{IsDriven};
+ghost use Rattle.charge_laws.specs.Laws.{SilenceLasts, LongRunsEndSilent};
 
 /// By Manne's rules a network is stable exactly if its charge is the number of its unmarried nodes.
 ///
@@ -32,18 +29,14 @@ pub fn fewer_moves_settle()
 
 /// A silent network stays silent until a disturbance.
 pub fn silence_lasts()
-    ensures hsu_huang { (start : Moment) → IsState start.state → enabled_names hsu_huang start.state ≡ [] → (path : List (Entry × State)) → IsPath hsu_huang start path
-        → IsUndisturbed (path_entries path) → enabled_names hsu_huang (end_of_path start.state path) ≡ [] }
-    ensures manne { (start : Moment) → IsState start.state → enabled_names manne start.state ≡ [] → (path : List (Entry × State)) → IsPath manne start path
-        → IsUndisturbed (path_entries path) → enabled_names manne (end_of_path start.state path) ≡ [] }
+    ensures hsu_huang { SilenceLasts hsu_huang }
+    ensures manne { SilenceLasts manne }
 {}
 
 /// A driven run without a disturbance ends silent if its entries reach the charge at its start.
 ///
 /// A run is driven if each entry moves a node or is made while no rule is enabled.
 pub fn long_runs_end_silent()
-    ensures hsu_huang { (start : Moment) → IsState start.state → (path : List (Entry × State)) → IsPath hsu_huang start path → IsUndisturbed (path_entries path)
-        → IsDriven hsu_huang start.state path → hsu_huang.charge start.state ≤ length path → enabled_names hsu_huang (end_of_path start.state path) ≡ [] }
-    ensures manne { (start : Moment) → IsState start.state → (path : List (Entry × State)) → IsPath manne start path → IsUndisturbed (path_entries path)
-        → IsDriven manne start.state path → manne.charge start.state ≤ length path → enabled_names manne (end_of_path start.state path) ≡ [] }
+    ensures hsu_huang { LongRunsEndSilent hsu_huang }
+    ensures manne { LongRunsEndSilent manne }
 {}

@@ -1,9 +1,5 @@
 -- What a command with one more argument is.
-use Rattle.std.proofs.Common.{◌≡◌, Result, Ok, Err, ap₂, ◌∙◌, false}
-use Rattle.std.specs.Prelude.{IfOk, ◌||◌}
-use Rattle.clap.specs.Words.{AddsArg, App, Rule, app_of, rule_of, with_rule}
-use Rattle.clap.specs.declared.builder.arg.Arg.{Arg}
-use Rattle.clap.specs.declared.builder.command.Command.{Command}
+use Rattle.cli_args.proofs.Prelude.{◌≡◌, Result, Ok, Err, ap₂, ◌∙◌, false, IfOk, ◌||◌, AddsArg, App, Rule, app_of, rule_of, with_rule, Arg, Command}
 use Rattle.clap.specs.declared.builder.command.Command.TheViews.{out-Command as fields_of}
 
 -- the command with the argument's rule

@@ -1,16 +1,6 @@
 -- What the getters of matches read, by the rows that were found.
-use Rattle.std.proofs.Common.{◌≡◌, ℕ, List, Option, None, Some, Result, Ok, Err, get_or, refl, sym, ap, subst, ◌∙◌, option_map, arith}
-use Rattle.std.specs.Prelude.{◌^◌, MatchOption, codes}
-use Rattle.clap.specs.Matches.{ReadsOne, TriesOne}
-use Rattle.clap.specs.Words.{Row, Text, first_value, one_text, rows_of}
-use Rattle.clap.specs.declared.parser.matches.Found.{Found}
-use Rattle.clap.proofs.WalkLemmas.{first_value-rows, one_text-rows}
-use Rattle.rule_machine.specs.declared.rules.RuleSet.{RuleSet}
-use Rattle.rule_machine.specs.Tables.{rules_word}
-use Rattle.cli_args.specs.declared.task.Task.{Task}
+use Rattle.cli_args.proofs.Prelude.{◌≡◌, ℕ, List, Option, None, Some, Result, Ok, Err, get_or, refl, sym, ap, subst, Bor, is_some, ◌∙◌, option_map, arith, ◌^◌, MatchOption, codes, ReadsOne, TriesOne, Row, Text, first_of, first_value, one_text, rows_of, Found, first_value-rows, one_text-rows, RuleSet, rules_word, Task, Run, Resume, Audit, Picture, Epochs, Show, GivesNumber, MatchesTask, HoldsNothing, HoldsPicture, HoldsNoRun, HoldsResume, HoldsRun, IsLeftOut, IsNumber, IsStormTask, MayGive}
 use Rattle.cli_args.specs.declared.task.Task.TheVariants as variants
-use Rattle.cli_args.specs.declared.task.Task.TheVariants.{Run, Audit, Picture, Epochs, Show}
-use Rattle.cli_args.specs.TaskWords.{GivesNumber, MatchesTask, HoldsNothing, HoldsPicture, HoldsRun, IsNumber, IsStormTask, MayGive}
 
 -- there is no run if no rule set was given
 pub no_rules : (f : Found) (r : RuleSet) (n : ℕ) (p : Option ℕ) (k : ℕ) → None ≡ first_value f (codes "rules") → HoldsRun (rows_of f) r n p k → ⊥
@@ -71,6 +61,9 @@ pub parts_are : {X A B : Type 0} (f : X → A) (g : X → B) (o : Option X) (a :
 parts_are f g None a b d e = cc
 parts_are f g (Some x) a b d e = cc
 
+some_same : (a b : Text) → Some a ≡ Some b → a ≡ b
+some_same a b e = cc
+
 -- `run` is not `audit`
 run_audit : codes "run" ≡ codes "audit" → ⊥
 run_audit e = omega (arith, ap (λ (z : Text). get_or z 0 0) e)
@@ -85,18 +78,40 @@ run_epochs e = omega (arith, ap (λ (z : Text). get_or z 0 0) e)
 run_storm : codes "run" ≡ codes "storm" → ⊥
 run_storm e = omega (arith, ap (λ (z : Text). get_or z 0 0) e)
 
--- there is no task if there is no run
-no_task : (rows : List Row) → ((r : RuleSet) (n : ℕ) (p : Option ℕ) (k : ℕ) → HoldsRun rows r n p k → ⊥) → (task : Task) → MatchesTask (Some (codes "run", rows)) task → ⊥
-no_task rows none (Run r n p k) h = none r n p k h.1
-no_task rows none Audit h = run_audit h
-no_task rows none (Picture entry) h = run_picture h.0
-no_task rows none Epochs h = run_epochs h
-no_task rows none (variants.Storm words) h = run_storm h.0
-no_task rows none (Show text) h = h
+-- nothing is asked for without a file if there is no run
+pub no_fresh : (rows : List Row) → IsLeftOut (codes "from") rows → ((r : RuleSet) (n : ℕ) (p : Option ℕ) (k : ℕ) → HoldsRun rows r n p k → ⊥) → HoldsNoRun rows
+no_fresh rows out none (Run r n p k) h = none r n p k h.2
+no_fresh rows out none (Resume from k) h =
+    let given = h.1.from_is in
+    cc
+no_fresh rows out none Audit h = run_audit h
+no_fresh rows out none (Picture entry) h = run_picture h.0
+no_fresh rows out none Epochs h = run_epochs h
+no_fresh rows out none (variants.Storm words) h = run_storm h.0
+no_fresh rows out none (Show text) h = h
+
+-- nor with a file, if its run has no number of workers or another argument beside it
+pub no_resumed : (rows : List Row) (file : Text) → first_of (codes "from") rows ≡ Some file → ((k : ℕ) → HoldsResume rows file k → ⊥) → HoldsNoRun rows
+no_resumed rows file given none (Run r n p k) h =
+    let out = h.1 in
+    cc
+no_resumed rows file given none (Resume from k) h =
+    let same : file ≡ from.now = some_same file from.now (sym given ∙ h.1.from_is) in
+    none k (subst (λ (z : Text). HoldsResume rows z k) (sym same) h.1)
+no_resumed rows file given none Audit h = run_audit h
+no_resumed rows file given none (Picture entry) h = run_picture h.0
+no_resumed rows file given none Epochs h = run_epochs h
+no_resumed rows file given none (variants.Storm words) h = run_storm h.0
+no_resumed rows file given none (Show text) h = h
+
+-- whether an argument was given
+pub given_is : (f : Found) (id : Text) (o : Option (Bor Text)) → option_map (λ s. s.now) o ≡ first_value f id → is_some o ≡ is_some (first_of id (rows_of f))
+given_is f id None e = ap (λ (z : Option Text). is_some z) (e ∙ first_value-rows f id)
+given_is f id (Some word) e = ap (λ (z : Option Text). is_some z) (e ∙ first_value-rows f id)
 
 -- what was found for `run` is what was asked
-pub run_asked : (o : Option (Text × List Row)) (rows : List Row) (found : Option Task) → o ≡ Some (codes "run", rows) → MatchOption found ((r : RuleSet) (n : ℕ) (p : Option ℕ) (k : ℕ) → HoldsRun rows r n p k → ⊥) (λ task. MatchesTask (Some (codes "run", rows)) task) → MatchOption found (HoldsNothing o) (λ task. MatchesTask o task)
-run_asked o rows None e none = (λ task h. no_task rows none task (subst (λ (z : Option (Text × List Row)). MatchesTask z task) e h), λ storm h. run_storm (subst (λ (z : Option (Text × List Row)). IsStormTask z storm) e h).0)
+pub run_asked : (o : Option (Text × List Row)) (rows : List Row) (found : Option Task) → o ≡ Some (codes "run", rows) → MatchOption found (HoldsNoRun rows) (λ task. MatchesTask (Some (codes "run", rows)) task) → MatchOption found (HoldsNothing o) (λ task. MatchesTask o task)
+run_asked o rows None e none = (λ task h. none task (subst (λ (z : Option (Text × List Row)). MatchesTask z task) e h), λ storm h. run_storm (subst (λ (z : Option (Text × List Row)). IsStormTask z storm) e h).0)
 run_asked o rows (Some task) e held = subst (λ (z : Option (Text × List Row)). MatchesTask z task) (sym e) held
 
 -- ---- a picture
@@ -115,6 +130,7 @@ picture_storm e = omega (arith, ap (λ (z : Text). get_or z 0 0) e)
 
 no_other : (rows : List Row) → ((entry : Option ℕ) → HoldsPicture rows entry → ⊥) → (task : Task) → MatchesTask (Some (codes "picture", rows)) task → ⊥
 no_other rows none (Run r n p k) h = picture_run h.0
+no_other rows none (Resume from k) h = picture_run h.0
 no_other rows none Audit h = picture_audit h
 no_other rows none (Picture entry) h = none entry h.1
 no_other rows none Epochs h = picture_epochs h

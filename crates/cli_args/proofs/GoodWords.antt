@@ -1,27 +1,7 @@
 -- What the command reads in the usual words.
-use Rattle.std.proofs.Common.{◌≡◌, ℕ, ◌≤◌, ◌<◌, true, false, [], ◌∷◌, ◌++◌, ◌==◌, Option, None, Some, refl, sym, ap, ◌∙◌, arith, rules}
-use Rattle.std.specs.Prelude.{◌^◌, IfSome, codes, pos, unwrap_or}
-use Rattle.std.specs.List.{list_any}
-use Rattle.std.specs.Cmp.Derive.{both_true}
-use Rattle.std.specs.Fmt.{decimal}
-use Rattle.std.specs.Str.Parse.{IsNumeral, digits_value}
-use Rattle.std.proofs.lemmas.Bool.{ne_eqb}
-use Rattle.std.proofs.lemmas.Int.{ints}
-use Rattle.std.proofs.lemmas.Fmt.{decimal_is_IsNumeral}
-use Rattle.std.proofs.lemmas.Str.Parse.{digit_from_value}
-use Rattle.clap.specs.Lexer.{without_minus}
-use Rattle.clap.specs.Values.{Accepts, same_text}
-use Rattle.clap.specs.ValueTests.{accepts}
-use Rattle.clap.specs.Words.{Text, subcommand_of, takes}
+use Rattle.cli_args.proofs.Prelude.{◌≡◌, ℕ, ◌≤◌, ◌<◌, true, false, [], ◌∷◌, ◌++◌, ◌==◌, Option, None, Some, refl, sym, ap, ◌∙◌, arith, rules, ◌^◌, IfSome, codes, pos, unwrap_or, list_any, both_true, decimal, IsNumeral, digits_value, ne_eqb, ints, Bor, decimal_is_IsNumeral, digit_from_value, without_minus, Accepts, same_text, accepts, Text, subcommand_of, takes, Accepts-accepts, list_any-map, RuleSet, Hh, Manne, rules_word, Run, Resume, Audit, Picture, Epochs, Names, AreRules, AreWorkers, IsNumber, MatchesTask, ParsesAsTask, console_app, run_words, resume_words, audit_words, picture_words, epochs_words}
 use Rattle.clap.specs.declared.builder.value_parser.ValueParser.TheVariants as vp
 use Rattle.clap.proofs.OnLiterals.{clap_on_literals}
-use Rattle.clap.proofs.ValueTestLemmas.{Accepts-accepts}
-use Rattle.clap.proofs.WalkLemmas.{list_any-map}
-use Rattle.rule_machine.specs.declared.rules.RuleSet.{RuleSet}
-use Rattle.rule_machine.specs.declared.rules.RuleSet.TheVariants.{Hh, Manne}
-use Rattle.rule_machine.specs.Tables.{rules_word}
-use Rattle.cli_args.specs.declared.task.Task.TheVariants.{Run, Audit, Picture, Epochs}
-use Rattle.cli_args.specs.TaskWords.{Names, AreRules, AreWorkers, IsNumber, MatchesTask, ParsesAsTask, console_app, run_words, audit_words, picture_words, epochs_words}
 
 -- digits are a number that the parser takes
 accepted : (low high : ℕ) (t : Text) (n : ℕ) → IsNumeral 10 t → digits_value 10 t ≡ n → low ≤ n → n ≤ high → high ≤ 16777216 → Accepts false (vp.Signed (pos low) (pos high)) t
@@ -67,6 +47,7 @@ run_found : (names : Names) (program t : Text) (r : RuleSet) (n : ℕ) → IsNum
 unfolding clap_on_literals
 run_found names program t r n c = (
   refl,
+  refl,
   record {
     rules_is = refl;
     nodes_is = record { text = without_minus t; given = refl; is = c };
@@ -86,6 +67,7 @@ workers_found : (names : Names) (program t u : Text) (r : RuleSet) (n k : ℕ) �
     → MatchesTask (subcommand_of (console_app names) (program ∷ codes "run" ∷ (codes "--rules=" ++ rules_word r) ∷ (codes "--nodes=" ++ t) ∷ (codes "--workers=" ++ u) ∷ [])) (Run r n None k)
 unfolding clap_on_literals
 workers_found names program t u r n k c d = (
+  refl,
   refl,
   record {
     rules_is = refl;
@@ -107,6 +89,7 @@ present_found : (names : Names) (program t u : Text) (r : RuleSet) (n p : ℕ) �
 unfolding clap_on_literals
 present_found names program t u r n p c d = (
   refl,
+  refl,
   record {
     rules_is = refl;
     nodes_is = record { text = without_minus t; given = refl; is = c };
@@ -126,6 +109,7 @@ both_found : (names : Names) (program t u x : Text) (r : RuleSet) (n p k : ℕ) 
     → MatchesTask (subcommand_of (console_app names) (program ∷ codes "run" ∷ (codes "--rules=" ++ rules_word r) ∷ (codes "--nodes=" ++ t) ∷ (codes "--present=" ++ u) ∷ (codes "--workers=" ++ x) ∷ [])) (Run r n (Some p) k)
 unfolding clap_on_literals
 both_found names program t u x r n p k c d e = (
+  refl,
   refl,
   record {
     rules_is = refl;
@@ -149,6 +133,51 @@ run_wanted program r n (Some p) None few here some names a = (
 run_wanted program r n (Some p) (Some k) few here some names a = (
   both_taken names program (rules_word r) (decimal n) (decimal p) (decimal k) (named names r a) (decimal_taken 0 65535 n (omega arith) few (omega arith)) (decimal_taken 0 65535 p (omega arith) here (omega arith)) (decimal_taken 1 64 k some.0 some.1 (omega arith)),
   both_found names program (decimal n) (decimal p) (decimal k) r n p k (decimal_read (2 ^ 16) n (omega arith) (omega arith)) (decimal_read (2 ^ 16) p (omega (arith, here)) (omega arith)) (decimal_read (2 ^ 16) k (omega (arith, some.1)) (omega arith)),
+)
+
+-- ---- a run that goes on
+
+from_taken : (names : Names) (program t : Text) → takes (console_app names) (program ∷ codes "run" ∷ (codes "--from=" ++ t) ∷ []) ≡ true
+unfolding clap_on_literals
+from_taken names program t = refl
+
+from_found : (names : Names) (program : Text) (t : Bor Text) → MatchesTask (subcommand_of (console_app names) (program ∷ codes "run" ∷ (codes "--from=" ++ t.now) ∷ [])) (Resume t 1)
+unfolding clap_on_literals
+from_found names program t = (
+  refl,
+  record {
+    from_is = refl;
+    rules_is = refl;
+    nodes_is = refl;
+    present_is = refl;
+    workers_is = record { text = codes "1"; given = refl; is = (search rules, refl) };
+  },
+)
+
+more_taken : (names : Names) (program t u : Text) → accepts false (vp.Signed (pos 1) (pos 64)) u ≡ true
+    → takes (console_app names) (program ∷ codes "run" ∷ (codes "--from=" ++ t) ∷ (codes "--workers=" ++ u) ∷ []) ≡ true
+unfolding clap_on_literals
+more_taken names program t u a = both_true (both_true (both_true refl (both_true (both_true (both_true a refl) refl) refl)) refl) refl
+
+more_found : (names : Names) (program u : Text) (t : Bor Text) (k : ℕ) → IsNumber (2 ^ 16) (without_minus u) k
+    → MatchesTask (subcommand_of (console_app names) (program ∷ codes "run" ∷ (codes "--from=" ++ t.now) ∷ (codes "--workers=" ++ u) ∷ [])) (Resume t k)
+unfolding clap_on_literals
+more_found names program u t k c = (
+  refl,
+  record {
+    from_is = refl;
+    rules_is = refl;
+    nodes_is = refl;
+    present_is = refl;
+    workers_is = record { text = without_minus u; given = refl; is = c };
+  },
+)
+
+pub resume_wanted : (program : Text) (from : Bor Text) (workers : Option ℕ) → AreWorkers workers → ParsesAsTask (resume_words program from.now workers) (Resume from (unwrap_or workers 1))
+resume_wanted program from None some names a = (from_taken names program from.now, from_found names program from)
+resume_wanted program from (Some k) some names a = (
+  more_taken names program from.now (decimal k) (decimal_taken 1 64 k some.0 some.1 (omega arith)),
+  more_found names program (decimal k) from k (decimal_read (2 ^ 16) k (omega (arith, some.1)) (omega arith)),
 )
 
 audit_taken : (names : Names) (program : Text) → takes (console_app names) (audit_words program) ≡ true

@@ -1,3 +1,4 @@
+pub mod Prelude
 pub mod ArgumentAddition
 pub mod FoundMatches
 pub mod WordReadings

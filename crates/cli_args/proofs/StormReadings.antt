@@ -1,14 +1,6 @@
 -- What the words of a storm were read as.
-use Rattle.std.proofs.Common.{◌≡◌, List, Option, None, Some, Result, Ok, Err, Bor, map, get_or, sym, ap, subst, ◌∙◌, option_map, arith}
-use Rattle.std.specs.Prelude.{IfOk, MatchOption, codes}
-use Rattle.clap.specs.Matches.{raw_values}
-use Rattle.clap.specs.Words.{Row, Text, all_of, matched_of, rows_of}
-use Rattle.clap.specs.declared.parser.matches.Found.{Found}
-use Rattle.clap.proofs.WalkLemmas.{raw_values-rows}
-use Rattle.cli_args.specs.declared.task.Task.{Task}
+use Rattle.cli_args.proofs.Prelude.{◌≡◌, List, Option, None, Some, Result, Ok, Err, Bor, map, get_or, sym, ap, subst, ◌∙◌, option_map, arith, IfOk, MatchOption, codes, raw_values, Row, Text, all_of, matched_of, rows_of, Found, raw_values-rows, Task, Run, Resume, Audit, Picture, Epochs, Show, MatchesTask, HoldsNothing, HoldsStorm, IsStormTask, Storm, storm_of}
 use Rattle.cli_args.specs.declared.task.Task.TheVariants as variants
-use Rattle.cli_args.specs.declared.task.Task.TheVariants.{Run, Audit, Picture, Epochs, Show}
-use Rattle.cli_args.specs.TaskWords.{MatchesTask, HoldsNothing, HoldsStorm, IsStormTask, Storm, storm_of}
 
 -- there is no storm if no script was given
 pub no_scripts : (f : Found) (s : Storm) → None ≡ option_map raw_values (matched_of f (codes "SCRIPT")) → HoldsStorm (rows_of f) s → ⊥
@@ -37,6 +29,7 @@ storm_epochs e = omega (arith, ap (λ (z : Text). get_or z 0 0) e)
 -- there is no task if there is no storm
 no_task : (rows : List Row) → ((s : Storm) → HoldsStorm rows s → ⊥) → (task : Task) → MatchesTask (Some (codes "storm", rows)) task → ⊥
 no_task rows none (Run r n p k) h = storm_run h.0
+no_task rows none (Resume from k) h = storm_run h.0
 no_task rows none Audit h = storm_audit h
 no_task rows none (Picture entry) h = storm_picture h.0
 no_task rows none Epochs h = storm_epochs h

@@ -1,13 +1,6 @@
 -- What the words were read as.
-use Rattle.std.proofs.Common.{◌≡◌, List, Option, None, Some, Result, Ok, Err, refl, sym, subst, true}
-use Rattle.std.specs.Prelude.{IfErr, MatchOption}
-use Rattle.clap.specs.Words.{App, HasMatchesOf, Row, Text, subcommand_of, subcommand_rows_of, takes}
-use Rattle.clap.specs.declared.parser.matches.ArgMatches.{ArgMatches}
-use Rattle.clap.specs.declared.error.Error.{Error}
-use Rattle.cli_args.specs.declared.task.Task.{Task}
+use Rattle.cli_args.proofs.Prelude.{◌≡◌, List, Option, None, Some, Result, Ok, Err, refl, sym, subst, true, IfErr, MatchOption, App, HasMatchesOf, Row, Text, subcommand_of, subcommand_rows_of, takes, ArgMatches, Error, Task, Run, Resume, Audit, Picture, Epochs, Show, Names, AreRules, console_app, MatchesTask, HoldsNothing, IsStormTask, ParsesTo, Storm, ParsesAsTask, WantsStorm}
 use Rattle.cli_args.specs.declared.task.Task.TheVariants as variants
-use Rattle.cli_args.specs.declared.task.Task.TheVariants.{Run, Audit, Picture, Epochs, Show}
-use Rattle.cli_args.specs.TaskWords.{Names, AreRules, console_app, MatchesTask, HoldsNothing, IsStormTask, ParsesTo, Storm, ParsesAsTask, WantsStorm}
 
 -- what a parse found is what the command reads in the words
 pub matched : (a : App) (names : Names) (words : List Text) (m : ArgMatches) → a ≡ console_app names → HasMatchesOf a words m → subcommand_rows_of m ≡ subcommand_of (console_app names) words
@@ -23,6 +16,7 @@ no_text (Some p) text h = h
 -- a task that was read is an answer
 pub answered : (names : Names) (words : List Text) (o : Option (Text × List Row)) (task : Task) → AreRules names → o ≡ subcommand_of (console_app names) words → MatchesTask o task → ParsesTo words task
 answered names words o (Run r n p k) a e h = (names, a, subst (λ (z : Option (Text × List Row)). MatchesTask z (Run r n p k)) e h)
+answered names words o (Resume from k) a e h = (names, a, subst (λ (z : Option (Text × List Row)). MatchesTask z (Resume from k)) e h)
 answered names words o Audit a e h = (names, a, subst (λ (z : Option (Text × List Row)). MatchesTask z Audit) e h)
 answered names words o (Picture entry) a e h = (names, a, subst (λ (z : Option (Text × List Row)). MatchesTask z (Picture entry)) e h)
 answered names words o Epochs a e h = (names, a, subst (λ (z : Option (Text × List Row)). MatchesTask z Epochs) e h)

@@ -1,5 +1,5 @@
 -- The tasks of command line words, by clap's definition of how a command reads words.
-use Rattle.std.specs.Prelude.{◌≡◌, ◌⊎◌, ℕ, ◌<◌, ◌≤◌, ◌^◌, List, [], ◌∷◌, ◌++◌, map, Option, None, Some, pos, true, codes, if◌then◌else◌, nat_le}
+use Rattle.std.specs.Prelude.{◌≡◌, ◌⊎◌, ℕ, ◌<◌, ◌≤◌, ◌^◌, List, [], ◌∷◌, ◌++◌, map, Option, None, Some, pos, Bool, false, true, codes, if◌then◌else◌, nat_le}
 use Rattle.std.specs.Borrow.{Bor}
 use Rattle.std.specs.Fmt.{decimal}
 use Rattle.std.specs.Str.Parse.{IsNumeral, digits_value, without_leading_plus}
@@ -12,7 +12,7 @@ use Rattle.rule_machine.specs.Tables.{rules_word}
 use Rattle.cli_args.specs.declared.storm.StormWords.{StormWords}
 use Rattle.cli_args.specs.declared.task.Task.{Task}
 use Rattle.cli_args.specs.declared.task.Task.TheVariants as variants
-use Rattle.cli_args.specs.declared.task.Task.TheVariants.{Run, Audit, Picture, Epochs, Show}
+use Rattle.cli_args.specs.declared.task.Task.TheVariants.{Run, Resume, Audit, Picture, Epochs, Show}
 
 -- texts, as a value parser refers to them
 abbrev pub Names : Type 0
@@ -26,13 +26,13 @@ AreRules names = map (λ s. s.now) names.now ≡ codes "hh" ∷ codes "manne" �
 abbrev pub valued_rule : Text → Rule
 valued_rule name = record (new_rule name) { long = Some name; value_names = 1 }
 
--- `--rules` and one of the names; required
-abbrev pub rules_rule : Names → Rule
-rules_rule names = record (valued_rule (codes "rules")) { parser = Some (vp.Names names); required = true }
+-- `--rules` and one of the names; required, or optional
+abbrev pub rules_rule : Bool → Names → Rule
+rules_rule required names = record (valued_rule (codes "rules")) { parser = Some (vp.Names names); required = required }
 
--- `--nodes` and a number from 0 to 65,535; required
-abbrev pub nodes_rule : Rule
-nodes_rule = record (valued_rule (codes "nodes")) { parser = Some (vp.Signed (pos 0) (pos 65535)); required = true }
+-- `--nodes` and a number from 0 to 65,535; required, or optional
+abbrev pub nodes_rule : Bool → Rule
+nodes_rule required = record (valued_rule (codes "nodes")) { parser = Some (vp.Signed (pos 0) (pos 65535)); required = required }
 
 -- `--present` and a number from 0 to 65,535; optional
 abbrev pub present_rule : Rule
@@ -42,13 +42,19 @@ present_rule = record (valued_rule (codes "present")) { parser = Some (vp.Signed
 abbrev pub workers_rule : Rule
 workers_rule = record (valued_rule (codes "workers")) { defaults = codes "1" ∷ []; parser = Some (vp.Signed (pos 1) (pos 64)) }
 
--- a subcommand with `--rules`, `--nodes`, `--present` and `--workers`
-abbrev pub network_app : App → Names → App
-network_app app names = with_rule (with_rule (with_rule (with_rule app (rules_rule names)) nodes_rule) present_rule) workers_rule
+-- a subcommand with `--rules`, `--nodes`, `--present` and `--workers`, of which the first two are required or
+-- optional
+abbrev pub network_app : App → Bool → Names → App
+network_app app required names =
+    with_rule (with_rule (with_rule (with_rule app (rules_rule required names)) (nodes_rule required)) present_rule) workers_rule
 
--- the subcommand `run`
+-- `--from` and the name of a file; optional
+abbrev pub from_rule : Rule
+from_rule = valued_rule (codes "from")
+
+-- the subcommand `run`; its task says which of its arguments go together
 abbrev pub run_app : Names → App
-run_app names = network_app (new_app (codes "run")) names
+run_app names = with_rule (network_app (new_app (codes "run")) false names) from_rule
 
 -- `--entry` and a number from 0 to 16,777,216; optional
 abbrev pub entry_rule : Rule
@@ -82,7 +88,7 @@ script_rule = record (new_rule (codes "SCRIPT")) { range = Some (record { start_
 
 -- the subcommand `storm`
 abbrev pub storm_app : Names → App
-storm_app names = with_rule (with_rule (with_rule (network_app (new_app (codes "storm")) names) roam_rule) turns_rule) script_rule
+storm_app names = with_rule (with_rule (with_rule (network_app (new_app (codes "storm")) true names) roam_rule) turns_rule) script_rule
 
 -- the command with `run`, `audit`, `picture` and `epochs`
 abbrev pub showing_app : Names → App
@@ -112,6 +118,19 @@ pub record HoldsRun (found : List Row) (rules : RuleSet) (nodes : ℕ) (present 
   pub rules_is : first_of (codes "rules") found ≡ Some (rules_word rules)
   pub nodes_is : GivesNumber (2 ^ 16) (codes "nodes") found nodes
   pub present_is : MayGive (2 ^ 16) (codes "present") found present
+  pub workers_is : GivesNumber (2 ^ 16) (codes "workers") found workers
+
+-- the argument is not given
+abbrev pub IsLeftOut : Text → List Row → Type 0
+IsLeftOut id found = first_of id found ≡ None
+
+-- the values of `run` are the file in which an earlier run ended, and this many workers; the file tells the
+-- rest
+pub record HoldsResume (found : List Row) (from : Text) (workers : ℕ) : Type 0 where
+  pub from_is : first_of (codes "from") found ≡ Some from
+  pub rules_is : IsLeftOut (codes "rules") found
+  pub nodes_is : IsLeftOut (codes "nodes") found
+  pub present_is : IsLeftOut (codes "present") found
   pub workers_is : GivesNumber (2 ^ 16) (codes "workers") found workers
 
 -- the value of `picture` is this entry, or there is no value and no entry
@@ -154,7 +173,9 @@ IsStormTask (Some p) storm = (p.0 ≡ codes "storm") × HoldsStorm p.1 storm
 
 -- the subcommand and its values are those of the task
 abbrev pub MatchesTask : Option (Text × List Row) → Task → Type 0
-MatchesTask (Some p) (Run rules nodes present workers) = (p.0 ≡ codes "run") × HoldsRun p.1 rules nodes present workers
+MatchesTask (Some p) (Run rules nodes present workers) =
+    (p.0 ≡ codes "run") × IsLeftOut (codes "from") p.1 × HoldsRun p.1 rules nodes present workers
+MatchesTask (Some p) (Resume from workers) = (p.0 ≡ codes "run") × HoldsResume p.1 from.now workers
 MatchesTask (Some p) Audit = p.0 ≡ codes "audit"
 MatchesTask (Some p) (Picture entry) = (p.0 ≡ codes "picture") × HoldsPicture p.1 entry
 MatchesTask (Some p) Epochs = p.0 ≡ codes "epochs"
@@ -165,6 +186,10 @@ MatchesTask found task = ⊥
 abbrev pub HoldsNothing : Option (Text × List Row) → Type 0
 HoldsNothing found = ((task : Task) → MatchesTask found task → ⊥) × ((storm : Storm) → IsStormTask found storm → ⊥)
 
+-- the values of `run` are those of no task
+abbrev pub HoldsNoRun : List Row → Type 0
+HoldsNoRun found = (task : Task) → MatchesTask (Some (codes "run", found)) task → ⊥
+
 -- the words are read as the task
 abbrev pub Asks : List Text → Task → Type 0
 Asks words task = (names : Names) × AreRules names × MatchesTask (subcommand_of (console_app names) words) task
@@ -174,7 +199,7 @@ abbrev pub ParsesTo : List Text → Task → Type 0
 ParsesTo words (Show text) = (kind_of text ≡ DisplayHelp) ⊎ (kind_of text ≡ DisplayVersion)
 ParsesTo words task = Asks words task
 
--- the words are good, and are read as this task
+-- The words are good, and are read as this task. `usual_words` proves it of the usual words of each task.
 abbrev pub ParsesAsTask : List Text → Task → Type 0
 ParsesAsTask words task =
     (names : Names) → AreRules names → (takes (console_app names) words ≡ true) × MatchesTask (subcommand_of (console_app names) words) task
@@ -209,6 +234,10 @@ AreWorkers (Some k) = (1 ≤ k) × (k ≤ 64)
 abbrev pub run_words : Text → RuleSet → ℕ → Option ℕ → Option ℕ → List Text
 run_words program rules nodes present workers =
     program ∷ codes "run" ∷ (codes "--rules=" ++ rules_word rules) ∷ (codes "--nodes=" ++ decimal nodes) ∷ (present_words present ++ workers_words workers)
+
+-- the words for a run that goes on where an earlier one ended
+abbrev pub resume_words : Text → Text → Option ℕ → List Text
+resume_words program from workers = program ∷ codes "run" ∷ (codes "--from=" ++ from) ∷ workers_words workers
 
 -- the words for an audit
 abbrev pub audit_words : Text → List Text

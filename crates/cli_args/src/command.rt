@@ -3,13 +3,13 @@
 ghost use Rattle.std.specs.Prelude.{◌≡◌, false, IfOk, codes};
 ghost use Rattle.clap.specs.Words.{app_of, new_app, rule_of};
 ghost use Rattle.clap.specs.declared.builder.command.Command.TheViews.{out-Command as fields_of};
-ghost use Rattle.cli_args.specs.TaskWords.{AreRules, Names, console_app, entry_rule, judging_app, network_app, nodes_rule, picture_app, present_rule, roam_rule, rules_rule, run_app, script_rule, showing_app, storm_app, top_app, turns_rule, valued_rule, workers_rule};
+ghost use Rattle.cli_args.specs.TaskWords.{AreRules, Names, console_app, entry_rule, from_rule, judging_app, network_app, nodes_rule, picture_app, present_rule, roam_rule, rules_rule, run_app, script_rule, showing_app, storm_app, top_app, turns_rule, valued_rule, workers_rule};
 
 use crate::help::{
     ABOUT, AUDIT_ABOUT, AUDIT_NOTES, AUDIT_USAGE, ENTRY_HELP, EPOCHS_ABOUT, EPOCHS_NOTES,
-    EPOCHS_USAGE, EXAMPLES, NODES_HELP, PICTURE_ABOUT, PICTURE_NOTES, PICTURE_USAGE, PRESENT_HELP,
-    ROAM_HELP, RULES_HELP, RUN_ABOUT, RUN_NOTES, STORM_ABOUT, STORM_NOTES, TURNS_HELP,
-    WORKERS_HELP,
+    EPOCHS_USAGE, EXAMPLES, FROM_HELP, NODES_HELP, PICTURE_ABOUT, PICTURE_NOTES, PICTURE_USAGE,
+    PRESENT_HELP, ROAM_HELP, RULES_HELP, RUN_ABOUT, RUN_NOTES, RUN_USAGE, STORM_ABOUT, STORM_NOTES,
+    TURNS_HELP, WORKERS_HELP,
 };
 use clap::{Arg, Command, value_parser};
 use std::alloc::{AllocError, Global};
@@ -26,21 +26,21 @@ fn valued_arg<'a>(alloc: Global, name: &'a str, value: &'a str, help: &'a str) -
         .help(help)
 }
 
-fn rules_arg<'a>(alloc: Global, names: &'a [&'a str]) -> Arg<'a>
-    ensures rule { rule_of result ≡ rules_rule names.entry }
+fn rules_arg<'a>(alloc: Global, required: bool, names: &'a [&'a str]) -> Arg<'a>
+    ensures rule { rule_of result ≡ rules_rule required names.entry }
     ensures local { result.global ≡ false }
 {
     valued_arg(alloc, "rules", "RULES", RULES_HELP)
-        .required(true)
+        .required(required)
         .value_parser(names)
 }
 
-fn nodes_arg<'a>(alloc: Global) -> Arg<'a>
-    ensures rule { rule_of result ≡ nodes_rule }
+fn nodes_arg<'a>(alloc: Global, required: bool) -> Arg<'a>
+    ensures rule { rule_of result ≡ nodes_rule required }
     ensures local { result.global ≡ false }
 {
     valued_arg(alloc, "nodes", "N", NODES_HELP)
-        .required(true)
+        .required(required)
         .value_parser(value_parser!(u16))
 }
 
@@ -58,6 +58,13 @@ fn workers_arg<'a>(alloc: Global) -> Arg<'a>
     valued_arg(alloc, "workers", "K", WORKERS_HELP)
         .default_value("1")
         .value_parser(value_parser!(u16).range(1..=64))
+}
+
+fn from_arg<'a>(alloc: Global) -> Arg<'a>
+    ensures rule { rule_of result ≡ from_rule }
+    ensures local { result.global ≡ false }
+{
+    valued_arg(alloc, "from", "FILE", FROM_HELP)
 }
 
 fn told_command<'a>(alloc: Global, name: &'a str, about: &'a str, notes: &'a str) -> Command<'a>
@@ -83,15 +90,16 @@ fn reading_command<'a>(
 fn network_command<'a>(
     alloc: Global,
     command: Command<'a>,
+    required: bool,
     names: &'a [&'a str],
 ) -> Result<Command<'a>, AllocError>
     requires { (fields_of command).has_globals ≡ false }
-    ensures app { IfOk result (λ more. app_of more ≡ network_app (app_of command.entry) names.entry) }
+    ensures app { IfOk result (λ more. app_of more ≡ network_app (app_of command.entry) required names.entry) }
     ensures local { IfOk result (λ more. (fields_of more).has_globals ≡ false) }
 {
     command
-        .arg(rules_arg(alloc, names))?
-        .arg(nodes_arg(alloc))?
+        .arg(rules_arg(alloc, required, names))?
+        .arg(nodes_arg(alloc, required))?
         .arg(present_arg(alloc))?
         .arg(workers_arg(alloc))
 }
@@ -100,8 +108,8 @@ fn run_command<'a>(alloc: Global, names: &'a [&'a str]) -> Result<Command<'a>, A
     ensures app { IfOk result (λ run. app_of run ≡ run_app names.entry) }
     ensures local { IfOk result (λ run. (fields_of run).has_globals ≡ false) }
 {
-    let run = told_command(alloc, "run", RUN_ABOUT, RUN_NOTES);
-    network_command(alloc, run, names)
+    let run = reading_command(alloc, "run", RUN_ABOUT, RUN_NOTES, RUN_USAGE);
+    network_command(alloc, run, false, names)?.arg(from_arg(alloc))
 }
 
 fn entry_arg<'a>(alloc: Global) -> Arg<'a>
@@ -160,7 +168,7 @@ fn storm_command<'a>(alloc: Global, names: &'a [&'a str]) -> Result<Command<'a>,
     ensures local { IfOk result (λ storm. (fields_of storm).has_globals ≡ false) }
 {
     let storm = told_command(alloc, "storm", STORM_ABOUT, STORM_NOTES);
-    network_command(alloc, storm, names)?
+    network_command(alloc, storm, true, names)?
         .arg(roam_arg(alloc))?
         .arg(turns_arg(alloc))?
         .arg(script_arg(alloc))
@@ -197,13 +205,29 @@ fn showing_command<'a>(alloc: Global, names: &'a [&'a str]) -> Result<Command<'a
 ///
 /// | Subcommand | Arguments |
 /// |---|---|
-/// | `run` | `--rules`, `--nodes`, `--present`, `--workers` |
+/// | `run` | `--rules`, `--nodes`, `--present`, `--workers`, `--from` |
 /// | `audit`, `epochs` | none |
 /// | `picture` | `--entry` |
-/// | `storm` | those of `run`, `--roam`, `--turns`, and scripts |
+/// | `storm` | the first four of `run`, `--roam`, `--turns`, and scripts |
+///
+/// All arguments of `run` are optional here; `strict_command` has the rules between them.
 pub(crate) fn command<'a>(alloc: Global) -> Result<Command<'a>, AllocError>
     ensures { IfOk result (λ command. (names : Names) × AreRules names × (app_of command ≡ console_app names)) }
 {
     let names = RULES.as_slice();
     showing_command(alloc, names)?.subcommand(storm_command(alloc, names)?)
+}
+
+/// The command with `run` alone, whose arguments have rules on each other.
+///
+/// `--from` excludes `--rules`, `--nodes` and `--present`; of these the first two are optional or `required`. The
+/// contracts of clap say nothing of such rules, so this command only gives the text for words that break them.
+pub(crate) fn strict_command<'a>(alloc: Global, required: bool) -> Result<Command<'a>, AllocError> {
+    let from = from_arg(alloc)
+        .conflicts_with("rules")?
+        .conflicts_with("nodes")?
+        .conflicts_with("present")?;
+    let run = told_command(alloc, "run", RUN_ABOUT, RUN_NOTES);
+    let run = network_command(alloc, run, required, RULES.as_slice())?.arg(from)?;
+    top_command(alloc).subcommand(run)
 }

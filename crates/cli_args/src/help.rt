@@ -12,6 +12,8 @@ pub(crate) const PRESENT_HELP: &str = "Nodes 1 to P are present at the start; de
 
 pub(crate) const WORKERS_HELP: &str = "How many workers evaluate a step; 1 to 64";
 
+pub(crate) const FROM_HELP: &str = "Go on where the run of a transcript or a base ended";
+
 pub(crate) const ROAM_HELP: &str = "Workers that move nodes alone; 0 to 64";
 
 pub(crate) const TURNS_HELP: &str = "Turns of each of them; at most 1000000";
@@ -28,6 +30,10 @@ Examples:
 
 pub(crate) const RUN_ABOUT: &str = "Runs the script on standard input and writes its transcript.";
 
+pub(crate) const RUN_USAGE: &str = "\
+console run [OPTIONS] --rules <RULES> --nodes <N>
+       console run [OPTIONS] --from <FILE>";
+
 pub(crate) const RUN_NOTES: &str = "\
 Under hh one enabled node moves in a step, under manne any set of them. The
 number of workers does not change the transcript.
@@ -35,6 +41,10 @@ number of workers does not change the transcript.
 The entries of all whole lines are written before more input is read. So a
 person or a program at the other end of a pipe can read the replies and then
 choose, and tee or tail -f shows a long run as it goes.
+
+With --from the rules, the nodes and their states come from the end of FILE, a
+transcript or a base alone, and the output begins with a base. FILE with the
+output behind it is one transcript. If audit refuses FILE, nothing is run.
 
 Commands of a script, one per line; A and B are names of nodes:
   link A B      adds an edge            unlink A B    removes it
@@ -54,11 +64,13 @@ Examples:
   console run --rules manne --nodes 60000 --workers 4 < script > transcript
   console run --rules hh --nodes 9 --present 4 < script > transcript
   printf 'link 1 2\\nstep 1\\nstep 2\\n' | console run --rules hh --nodes 2
+  console run --from transcript < more > rest; cat transcript rest > whole
 
 Exit status:
   0  the whole script was run
+  1  the transcript of --from is refused
   2  bad words, a P above N (! bad present), or a line that is not a command
-  3  a read or a write failed
+  3  a read or a write failed, or FILE cannot be opened
   4  memory ran out, or the log is full";
 
 pub(crate) const AUDIT_ABOUT: &str = "Judges the transcript on standard input and prints one line.";

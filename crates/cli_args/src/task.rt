@@ -1,11 +1,11 @@
 //! The tasks of the command line.
 
-ghost use Rattle.std.specs.Prelude.{◌≡◌, ◌≤◌, ◌^◌, ℕ, Option, Some, IfErr, IfOk, IfSome, MatchOption, codes};
-ghost use Rattle.clap.specs.Words.{found_of, kind_of, rows_of, subcommand_rows_of};
+ghost use Rattle.std.specs.Prelude.{◌≡◌, ◌≤◌, ◌^◌, ℕ, Option, Some, is_some, IfErr, IfOk, IfSome, MatchOption, codes};
+ghost use Rattle.clap.specs.Words.{first_of, found_of, kind_of, rows_of, subcommand_rows_of};
 ghost use Rattle.clap.specs.declared.error.kind.ErrorKind.TheVariants.{OutOfMemory};
 ghost use Rattle.rule_machine.specs.declared.rules.RuleSet.{RuleSet};
 ghost use Rattle.rule_machine.specs.Tables.{rules_word};
-ghost use Rattle.cli_args.specs.TaskWords.{GivesNumber, HoldsPicture, HoldsRun, MatchesTask, HoldsNothing, present_at_start};
+ghost use Rattle.cli_args.specs.TaskWords.{GivesNumber, HoldsPicture, HoldsNoRun, HoldsRun, IsLeftOut, MatchesTask, HoldsNothing, present_at_start};
 
 use crate::storm::{StormWords, storm_task};
 use clap::{ArgMatches, Error};
@@ -22,6 +22,11 @@ pub enum Task<'a> {
         rules: RuleSet,
         nodes: u16,
         present: Option<u16>,
+        workers: u16,
+    },
+    /// Run a script from where the run of the file `from` ended, with this many workers for each step.
+    Resume {
+        from: &'a str,
         workers: u16,
     },
     /// Judge a transcript.
@@ -85,9 +90,15 @@ pub(crate) fn network(found: &ArgMatches<'_>) -> Option<(RuleSet, u16, Option<u1
     Some((rules, nodes, present, workers))
 }
 
-fn run_task<'a>(run: &ArgMatches<'a>) -> Option<Task<'a>>
-    ensures { MatchOption result
-        ((rules : RuleSet) (nodes : ℕ) (present : Option ℕ) (workers : ℕ) → HoldsRun (rows_of (found_of run.now)) rules nodes present workers → ⊥)
+fn is_given(found: &ArgMatches<'_>, id: &str) -> bool
+    ensures { result ≡ is_some (first_of id.now (rows_of (found_of found.now))) }
+{
+    found.get_str(id).is_some()
+}
+
+fn fresh_run<'a>(run: &ArgMatches<'a>) -> Option<Task<'a>>
+    requires { IsLeftOut (codes "from") (rows_of (found_of run.now)) }
+    ensures { MatchOption result (HoldsNoRun (rows_of (found_of run.now)))
         (λ task. MatchesTask (Some (codes "run", rows_of (found_of run.now))) task) }
 {
     let Some((rules, nodes, present, workers)) = network(run) else {
@@ -99,6 +110,30 @@ fn run_task<'a>(run: &ArgMatches<'a>) -> Option<Task<'a>>
         present,
         workers,
     })
+}
+
+fn resumed_run<'a>(run: &ArgMatches<'a>, from: &'a str) -> Option<Task<'a>>
+    requires { first_of (codes "from") (rows_of (found_of run.now)) ≡ Some from.now }
+    ensures { MatchOption result (HoldsNoRun (rows_of (found_of run.now)))
+        (λ task. MatchesTask (Some (codes "run", rows_of (found_of run.now))) task) }
+{
+    if is_given(run, "rules") || is_given(run, "nodes") || is_given(run, "present") {
+        return None;
+    }
+    let Some(workers) = number(run, "workers") else {
+        return None;
+    };
+    Some(Task::Resume { from, workers })
+}
+
+fn run_task<'a>(run: &ArgMatches<'a>) -> Option<Task<'a>>
+    ensures { MatchOption result (HoldsNoRun (rows_of (found_of run.now)))
+        (λ task. MatchesTask (Some (codes "run", rows_of (found_of run.now))) task) }
+{
+    match run.get_str("from") {
+        Some(from) => resumed_run(run, from),
+        None => fresh_run(run),
+    }
 }
 
 fn picture_task<'a>(picture: &ArgMatches<'a>) -> Option<Task<'a>>

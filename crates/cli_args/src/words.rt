@@ -1,20 +1,45 @@
 //! Reading the words of the command line.
 
 ghost use Rattle.std.specs.Prelude.{◌≡◌, ◌≤◌, ℕ, List, Option, IfOk, IfErr, IfSome, map, unwrap_or};
+ghost use Rattle.std.specs.Borrow.{Bor};
 ghost use Rattle.clap.specs.Words.{Text, kind_of};
 ghost use Rattle.clap.specs.declared.error.kind.ErrorKind.TheVariants.{OutOfMemory};
 ghost use Rattle.rule_machine.specs.declared.rules.RuleSet.{RuleSet};
 ghost use Rattle.cli_args.specs.declared.task.Task.{Task};
-ghost use Rattle.cli_args.specs.declared.task.Task.TheVariants.{Run, Audit, Picture, Epochs};
+ghost use Rattle.cli_args.specs.declared.task.Task.TheVariants.{Run, Resume, Audit, Picture, Epochs};
 ghost use Rattle.cli_args.specs.Mistake.{IsMistake};
-ghost use Rattle.cli_args.specs.TaskWords.{ParsesTo, AreWorkers, Storm, ParsesAsTask, WantsStorm, audit_words, epochs_words, picture_words, run_words};
+ghost use Rattle.cli_args.specs.TaskWords.{ParsesTo, AreWorkers, Storm, ParsesAsTask, WantsStorm, audit_words, epochs_words, picture_words, resume_words, run_words};
 
-use crate::command::command;
+use crate::command::{command, strict_command};
 use crate::task::{Task, asked};
-use clap::Error;
 use clap::error::ErrorKind;
+use clap::{ArgMatches, Error};
 use std::alloc::Global;
 use std::convert::AsStr;
+
+fn goes_on(found: &ArgMatches<'_>) -> bool {
+    match found.subcommand() {
+        Some((_, inner)) => inner.contains_id("from"),
+        None => false,
+    }
+}
+
+// Why words that clap took ask for no task: arguments of `run` that do not go together, or are missing.
+fn mistake<'a, S: AsStr>(
+    alloc: Global,
+    found: &ArgMatches<'a>,
+    words: &'a [S],
+) -> Result<Error, Error>
+    ensures mistake { IfOk result (λ e. IsMistake (kind_of e)) }
+    ensures memory { IfErr result (λ e. kind_of e ≡ OutOfMemory) }
+{
+    let mut command = strict_command(alloc, !goes_on(found))?;
+    match command.try_get_matches_from_mut(words) {
+        Err(error) if error.use_stderr() => Ok(error),
+        Err(_shown) => Ok(command.error(ErrorKind::ValueValidation, "no such task")?),
+        Ok(_found) => Ok(command.error(ErrorKind::ValueValidation, "no such task")?),
+    }
+}
 
 /// Reads the words of the command line as clap defines the command. The first is the program's name.
 ///
@@ -30,7 +55,7 @@ pub fn read_words<'a, S: AsStr>(alloc: Global, words: &'a [S]) -> Result<Task<'a
     match command.try_get_matches_from_mut(words) {
         Ok(found) => match asked(alloc, &found) {
             Ok(Some(task)) => Ok(task),
-            Ok(None) => Err(command.error(ErrorKind::ValueValidation, "no such task")?),
+            Ok(None) => Err(mistake(alloc, &found, words)?),
             Err(error) => Err(error),
         },
         Err(error) if error.use_stderr() => Err(error),
@@ -38,11 +63,13 @@ pub fn read_words<'a, S: AsStr>(alloc: Global, words: &'a [S]) -> Result<Task<'a
     }
 }
 
-/// The usual words are good and ask for their tasks. By default a run has one worker.
+/// The usual words are good and ask for their tasks. By default a run has one worker, also one that goes on.
 pub fn usual_words()
     ensures run { (program : Text) (rules : RuleSet) (nodes : ℕ) (present workers : Option ℕ)
         → nodes ≤ 65535 → IfSome present (λ p. p ≤ 65535) → AreWorkers workers
         → ParsesAsTask (run_words program rules nodes present workers) (Run rules nodes present (unwrap_or workers 1)) }
+    ensures resume { (program : Text) (from : Bor Text) (workers : Option ℕ) → AreWorkers workers
+        → ParsesAsTask (resume_words program from.now workers) (Resume from (unwrap_or workers 1)) }
     ensures audit { (program : Text) → ParsesAsTask (audit_words program) Audit }
     ensures picture { (program : Text) (entry : Option ℕ) → IfSome entry (λ k. k ≤ 16777216) → ParsesAsTask (picture_words program entry) (Picture entry) }
     ensures epochs { (program : Text) → ParsesAsTask (epochs_words program) Epochs }

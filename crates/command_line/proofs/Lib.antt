@@ -3,3 +3,4 @@ pub mod Input
 pub mod MissingEntry
 pub mod Storms
 pub mod ShownText
+pub mod ResumedRuns

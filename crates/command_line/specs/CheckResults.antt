@@ -1,5 +1,5 @@
 -- The check of a transcript.
-use Rattle.std.specs.Prelude.{◌≢◌, ℕ, List, Option, Result, Ok, Err}
+use Rattle.std.specs.Prelude.{ℕ, List, Option, Result, Ok, Err}
 use Rattle.std.specs.Io.KnownBytes.{Appends, Keeps}
 use Rattle.byte_streams.specs.PartialOutput.{AppendsBeginning}
 use Rattle.script_run.specs.declared.fault.RunFault.{RunFault}
@@ -8,16 +8,16 @@ use Rattle.auditor.specs.declared.fault.AuditFault.TheVariants as fault
 use Rattle.auditor.specs.declared.fault.AuditFault.{AuditFault}
 use Rattle.auditor.specs.declared.summary.Summary.{Summary}
 use Rattle.auditor.specs.AcceptedRuns.{IsAccepted}
-use Rattle.auditor.specs.Verdict.{IsAuditFault}
+use Rattle.auditor.specs.Damage.{IsDamage}
 use Rattle.command_line.specs.declared.verdict.CheckEnd.{CheckEnd}
 use Rattle.command_line.specs.declared.verdict.CheckEnd.TheVariants.{Accepted, Refused}
 use Rattle.command_line.specs.VerdictText.{verdict_line}
 
--- the bytes are the transcript of a run with these counts, or have this damage; after a failed read or
--- without memory there is no verdict
+-- The bytes are the transcript of a run with these counts, or have this damage; after a failed read or
+-- without memory there is no verdict. `one_verdict` proves that there is at most one.
 abbrev pub IsVerdict : List ℕ → CheckEnd → Type 0
 IsVerdict bytes (Accepted counted) = IsAccepted bytes counted
-IsVerdict bytes (Refused f) = IsAuditFault bytes f × (f ≢ fault.Read) × (f ≢ fault.Memory)
+IsVerdict bytes (Refused f) = IsDamage bytes f
 
 -- the verdict of an audit's result
 abbrev pub check_result : Result Summary AuditFault → Result CheckEnd RunFault

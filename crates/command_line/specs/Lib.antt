@@ -6,4 +6,5 @@ pub mod CheckResults
 pub mod ViewEnds
 pub mod StormEnds
 pub mod ProgramEnds
+pub mod ResumeEnds
 pub mod WriterStates

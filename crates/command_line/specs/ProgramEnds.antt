@@ -11,27 +11,18 @@ use Rattle.script_run.specs.declared.fault.RunFault.TheVariants.{Memory}
 use Rattle.script_run.specs.Outcome.{IsRunOutcome}
 use Rattle.cli_args.specs.declared.task.Task.{Task}
 use Rattle.cli_args.specs.declared.task.Task.TheVariants as variants
-use Rattle.cli_args.specs.declared.task.Task.TheVariants.{Run, Audit, Picture, Epochs, Show}
+use Rattle.cli_args.specs.declared.task.Task.TheVariants.{Run, Resume, Audit, Picture, Epochs, Show}
 use Rattle.cli_args.specs.TaskWords.{Storm, present_at_start, storm_of}
 use Rattle.command_line.specs.declared.verdict.CheckEnd.{CheckEnd}
-use Rattle.command_line.specs.Status.{run_status, words_status}
+use Rattle.command_line.specs.Status.{ended_status, run_status, words_status}
 use Rattle.command_line.specs.FaultText.{bad_present_line, run_fault_line}
 use Rattle.transcript_view.specs.Views.{IsPicture, IsEpochTable}
 use Rattle.command_line.specs.WriterStates.{WriterState, WritesLine}
-use Rattle.command_line.specs.ViewEnds.{WrittenBytes, ShowsSome, Views}
+use Rattle.command_line.specs.ViewEnds.{WrittenBytes, ShowsSome, TellsFault, Views}
+use Rattle.command_line.specs.ResumeEnds.{ResumesFile}
 use Rattle.command_line.specs.Network.{asked_storm}
 use Rattle.command_line.specs.StormEnds.{PlaysStorm}
 use Rattle.command_line.specs.CheckResults.{IsVerdict, TellsVerdict, verdict_status}
-
--- what was written: the fault's line, or a beginning of it if a write failed; nothing if there is no fault
-abbrev pub TellsFault : {X : Type 0} → WrittenBytes → WriterState → Result X RunFault → Type 0
-TellsFault before after (Ok _) = Keeps before after.got
-TellsFault before after (Err fault) = WritesLine before after (run_fault_line fault)
-
--- the exit status of a run
-abbrev pub ended_status : Result Unit RunFault → ℕ
-ended_status (Ok _) = 0
-ended_status (Err fault) = run_status fault
 
 -- the exit status of an audit
 abbrev pub checked_status : Result CheckEnd RunFault → ℕ
@@ -64,9 +55,10 @@ DoesStorm storm None old new before after status = TellsBadPresent old new befor
 DoesStorm storm (Some present) old new before after status = PlaysStorm (asked_storm storm present) (length storm.scripts) old new before after status
 
 -- what each task does. The bytes and the status of a run are the same for any number of workers. For the help
--- or the version some text is shown.
+-- or the version some text is shown. What a file holds that the program opens is not said.
 abbrev pub DoesTask : Task → List ℕ → WrittenBytes → WrittenBytes → WrittenBytes → WriterState → ℕ → Type 0
 DoesTask (Run rules nodes present workers) input old new before after status = DoesRun rules nodes (present_at_start nodes present) input old new before after status
+DoesTask (Resume from workers) input old new before after status = ResumesFile from.now input old new before after status
 DoesTask Audit input old new before after status = TellsCheck input old new before after status
 DoesTask (Picture entry) input old new before after status = Views (IsPicture input entry) old new before after status
 DoesTask Epochs input old new before after status = Views (IsEpochTable input) old new before after status

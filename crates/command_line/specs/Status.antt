@@ -1,6 +1,6 @@
 -- The exit statuses: 0 done, 1 a refused transcript, 2 bad words or a bad line, 3 a failed read or write, 4
 -- no memory, a full log, or failed workers.
-use Rattle.std.specs.Prelude.{ℕ, ◌≢◌, ◌≤◌}
+use Rattle.std.specs.Prelude.{ℕ, ◌≢◌, ◌≤◌, Result, Ok, Err}
 use Rattle.clap.specs.declared.error.kind.ErrorKind.{ErrorKind}
 use Rattle.clap.specs.declared.error.kind.ErrorKind.TheVariants.{OutOfMemory}
 use Rattle.std.specs.declared.io.ErrorKind as io
@@ -16,6 +16,11 @@ run_status Write = 3
 run_status LogFull = 4
 run_status Memory = 4
 run_status (Pool _) = 4
+
+-- the exit status of a run
+abbrev pub ended_status : Result Unit RunFault → ℕ
+ended_status (Ok _) = 0
+ended_status (Err fault) = run_status fault
 
 -- the status of bad words
 abbrev pub words_status : ErrorKind → ℕ

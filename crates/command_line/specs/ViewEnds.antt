@@ -5,8 +5,7 @@ use Rattle.byte_streams.specs.declared.input_fault.InputFault.{InputFault}
 use Rattle.byte_streams.specs.declared.input_fault.InputFault.TheVariants as input
 use Rattle.byte_streams.specs.PartialOutput.{AppendsBeginning}
 use Rattle.line_text.specs.Words.{number_text}
-use Rattle.auditor.specs.declared.damage.Damage.{Damage}
-use Rattle.auditor.specs.Verdict.{of_damage}
+use Rattle.auditor.specs.declared.fault.AuditFault.{AuditFault}
 use Rattle.script_run.specs.declared.fault.RunFault.{RunFault}
 use Rattle.script_run.specs.declared.fault.RunFault.TheVariants as run
 use Rattle.transcript_view.specs.declared.view.View.{View}
@@ -32,6 +31,11 @@ forgotten_line asked base = missing_line asked (codes ": the transcript begins b
 abbrev pub TellsEarly : RunFault → WrittenBytes → WrittenBytes → WrittenBytes → WriterState → ℕ → Type 0
 TellsEarly fault old new before after status = (status ≡ run_status fault) × Keeps old new × WritesLine before after (run_fault_line fault)
 
+-- what was written: the fault's line, or a beginning of it if a write failed; nothing if there is no fault
+abbrev pub TellsFault : {X : Type 0} → WrittenBytes → WriterState → Result X RunFault → Type 0
+TellsFault before after (Ok _) = Keeps before after.got
+TellsFault before after (Err fault) = WritesLine before after (run_fault_line fault)
+
 -- the text is written; or a write failed, a beginning of the text is written, and the failed write is
 -- reported
 abbrev pub ShowsText : List ℕ → ℕ → WrittenBytes → WrittenBytes → WrittenBytes → WriterState → ℕ → Type 0
@@ -46,9 +50,9 @@ ShowsSome old new before after status =
     ⊎ TellsEarly run.Memory old new before after status
 
 -- an audit's verdict is written, or memory ran out for it
-abbrev pub ShowsRefusal : Damage → WrittenBytes → WrittenBytes → WrittenBytes → WriterState → ℕ → Type 0
+abbrev pub ShowsRefusal : AuditFault → WrittenBytes → WrittenBytes → WrittenBytes → WriterState → ℕ → Type 0
 ShowsRefusal damage old new before after status =
-    ShowsText (verdict_line (verdict.Refused (of_damage damage))) 1 old new before after status
+    ShowsText (verdict_line (verdict.Refused damage)) 1 old new before after status
     ⊎ TellsEarly run.Memory old new before after status
 
 -- the line of a missing entry, or that memory ran out, is reported; nothing is written to the writer

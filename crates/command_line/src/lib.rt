@@ -4,8 +4,8 @@
 //! `does` of `start` joins the contracts of the words and of their task; so the words and the script
 //! determine the transcript bytes of a `run`. Writing the line of a fault takes no memory.
 //!
-//! `console` passes the process's words and streams to `start`. `start` opens the script files of a storm and
-//! nothing else.
+//! `console` passes the process's words and streams to `start`. `start` opens the script files of a storm, the
+//! file of a run that goes on, and nothing else.
 //!
 //! ```rust
 //! let (mut input, mut output) = (CountingReader::new(stdin), FailStopWriter::new(stdout));
@@ -18,6 +18,7 @@ mod law;
 mod options;
 mod playing;
 mod program;
+mod resuming;
 mod verdict;
 mod verdict_line;
 mod viewing;

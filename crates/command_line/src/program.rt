@@ -1,10 +1,11 @@
 //! The program: from the words of the command line to the exit status.
 
-ghost use Rattle.std.specs.Prelude.{◌≡◌, ◌≢◌, ◌⊎◌, false, true, IfErr, IfOk, IfSome, MatchOption, OnErr, Result, map, string_bytes};
+ghost use Rattle.std.specs.Prelude.{◌≡◌, ◌≢◌, ◌⊎◌, ℕ, List, false, true, IfErr, IfOk, IfSome, MatchOption, OnErr, Result, map, string_bytes};
 ghost use Rattle.std.specs.Io.KnownBytes.{Appends};
 ghost use Rattle.clap.specs.declared.error.kind.ErrorKind.TheVariants.{OutOfMemory};
 ghost use Rattle.cli_args.specs.declared.task.Task.{Task};
 ghost use Rattle.cli_args.specs.declared.storm.StormWords.{StormWords};
+ghost use Rattle.std.specs.Borrow.{Bor};
 ghost use Rattle.cli_args.specs.TaskWords.{ParsesTo, Asks, ParsesAsTask};
 ghost use Rattle.clap.specs.declared.error.Error.{Error};
 ghost use Rattle.clap.specs.Words.{kind_of};
@@ -19,6 +20,7 @@ ghost use Rattle.command_line.specs.ViewEnds.{ShowsSome, ShowsText, TellsEarly};
 use crate::fault_line::write_fault;
 use crate::options::network_options;
 use crate::playing::play_storm;
+use crate::resuming::resume_file;
 use crate::verdict::check;
 use crate::viewing::{draw, list_epochs, show_text};
 use byte_streams::{CountingReader, FailStopWriter};
@@ -202,9 +204,9 @@ fn check_transcript<In: Read, Out: Write, Faults: Write>(
 /// | Status | When |
 /// |---|---|
 /// | 0 | a whole run or storm, an accepted transcript, or a view, the help or the version shown |
-/// | 1 | a refused transcript or settle |
+/// | 1 | a refused transcript or settle, also the transcript that a run is to go on from |
 /// | 2 | bad words, too many nodes at the start, a bad line, too many scripts, or a missing entry |
-/// | 3 | a failed read or write, or a storm's script that could not be opened |
+/// | 3 | a failed read or write, or a file that could not be opened |
 /// | 4 | no memory, a full log, or a clerk that is behind |
 ///
 /// Faults are written to `faults`. After bad words nothing is written to `writer`. Only a run and a storm may
@@ -224,7 +226,8 @@ pub fn start<S: AsStr, In: Read, Out: Write, Faults: Write, T: Threads + Wait + 
         (Faults.contents faults.old.writer) (heard Faults.contents faults.new) result) }
     ensures status { IsStatus result }
     ensures device { result ≡ 3 → ((storm : StormWords) × Asks (map S.text words.entry.now) (Task.Storm storm))
-        ⊎ (IsEnded reader.new.failed reader.new.count ⊎ (writer.new.failed ≡ true)) }
+        ⊎ (((from : Bor (List ℕ)) × (workers : ℕ) × Asks (map S.text words.entry.now) (Task.Resume from workers))
+        ⊎ (IsEnded reader.new.failed reader.new.count ⊎ (writer.new.failed ≡ true))) }
 {
     match read_words(alloc, words) {
         Ok(
@@ -237,6 +240,9 @@ pub fn start<S: AsStr, In: Read, Out: Write, Faults: Write, T: Threads + Wait + 
         ) => {
             let options = network_options(rules, nodes, present, workers);
             run_network(rt, alloc, options, reader, writer, faults)
+        }
+        Ok(Task::Resume { from, workers }) => {
+            resume_file(rt, alloc, from, workers, reader, writer, faults)
         }
         Ok(Task::Audit) => check_transcript(alloc, reader, writer, faults),
         Ok(Task::Picture { entry }) => draw(alloc, entry, reader, writer, faults),

@@ -11,7 +11,7 @@ ghost use Rattle.command_line.specs.ViewEnds.{ShowsRefusal, ShowsText, TellsView
 use crate::program::tell;
 use crate::verdict::CheckEnd;
 use crate::verdict_line::{put_number, verdict_line};
-use auditor::{AuditFault, Damage};
+use auditor::AuditFault;
 use byte_streams::{CountingReader, FailStopWriter, InputFault, read_whole};
 use script_run::RunFault;
 use std::alloc::{AllocError, Global};
@@ -56,7 +56,7 @@ pub fn show_text<Out: Write, Faults: Write>(
 
 fn show_refusal<Out: Write, Faults: Write>(
     alloc: Global,
-    damage: Damage,
+    damage: AuditFault,
     writer: &mut FailStopWriter<Out>,
     faults: &mut FailStopWriter<Faults>,
 ) -> u8
@@ -65,7 +65,7 @@ fn show_refusal<Out: Write, Faults: Write>(
     ensures status { IsStatus result }
     ensures device { result ≡ 3 → writer.new.failed ≡ true }
 {
-    match verdict_line(alloc, CheckEnd::Refused(AuditFault::from(damage))) {
+    match verdict_line(alloc, CheckEnd::Refused(damage)) {
         Ok(line) => show_text(&line, 1, writer, faults),
         Err(_) => tell(RunFault::Memory, faults),
     }

@@ -1,16 +1,5 @@
 -- A name that is absent, and one without neighbours.
-use Rattle.std.proofs.Common.{◌≡◌, ℕ, suc, ◌<◌, Bool, true, false, List, [], ◌∷◌, filter, nat_eq, None, Some, is_some, find, refl, sym, ap, ap₂, ◌∙◌, inl, inr, ⊎_elim, arith}
-use Rattle.std.proofs.lemmas.Bool.{true≢false, false_from_ne_true, cases_eq, eq-eqb, ne_eqb, cond-true, cond-false}
-use Rattle.rule_machine.specs.Network.{Network, names, linked, neighbours, present}
-use Rattle.rule_machine.specs.State.{State, IsState, points, pointer, partner, married}
-use Rattle.machine_laws.specs.Neighbours.{linked_present, near_fails, names_fails}
-use Rattle.machine_laws.specs.Pointers.{married_some, none_is, points_from, unanswered_unmarried}
-use Rattle.machine_laws.specs.Search.{empty_from_find}
-use Rattle.charge_laws.specs.ListCounts.{IsIn}
-use Rattle.charge_laws.specs.PresentMovers.{pointer_present}
-use Rattle.charge_laws.specs.Members.{in_names}
-use Rattle.containment_laws.specs.Rest.{is_at_rest}
-use Rattle.containment_laws.specs.AtRest.{rest_from, absent_rests}
+use Rattle.containment.proofs.Prelude.{◌≡◌, ℕ, suc, ◌<◌, Bool, true, false, List, [], ◌∷◌, filter, nat_eq, None, Some, is_some, find, refl, sym, ap, ap₂, ◌∙◌, inl, inr, ⊎_elim, arith, true≢false, false_from_ne_true, cases_eq, eq-eqb, ne_eqb, cond-true, cond-false, Network, names, linked, neighbours, present, State, IsState, points, pointer, partner, married, linked_present, near_fails, names_fails, married_some, none_is, points_from, unanswered_unmarried, empty_from_find, IsIn, pointer_present, in_names, is_at_rest, rest_from, absent_rests}
 use Rattle.containment.proofs.MergedLists.{Rises, names_rise}
 
 pub absent_unmarried : (s : State) (v : ℕ) → IsState s → present s.network v ≡ false → false ≡ married s v

@@ -1,18 +1,5 @@
 -- The reach from lists that cover it, without a look at a node's neighbours.
-use Rattle.std.proofs.Common.{◌≡◌, ℕ, Bool, true, false, cond, not, ◌&&◌, ◌||◌, List, [], ◌∷◌, filter, nat_eq, Option, None, Some, is_some, find, IsTrue, refl, sym, ap, ◌∙◌, subst, inl, inr, ◌⊎◌, ⊎_elim}
-use Rattle.std.proofs.lemmas.Bool.{true≢false, and_parts, and_from, or_cases, or_left, or_right, eqb-true, eq-eqb, not-true, not_from_false}
-use Rattle.std.proofs.lemmas.List.Elements.{filter_agree}
-use Rattle.std.proofs.lemmas.Option.{same_Some}
-use Rattle.rule_machine.specs.declared.event.Event.{Event}
-use Rattle.rule_machine.specs.declared.event.Event.TheVariants.{Link, Unlink, Point, Flag, Step, Show, Enabled, Matching, Status, Join, Leave}
-use Rattle.rule_machine.specs.Network.{linked, neighbours, names}
-use Rattle.rule_machine.specs.State.{State, IsState, points, pointer, partner, married, is_mutual}
-use Rattle.machine_laws.specs.Neighbours.{linked_back, near_found}
-use Rattle.machine_laws.specs.Pointers.{points_from, pointer_linked, partner_some, married_from}
-use Rattle.containment_laws.specs.Reach.{is_parted, is_hit, is_in_reach, parts_a_pair}
-use Rattle.containment_laws.specs.Edits.{mutual_is}
-use Rattle.containment_laws.specs.ReachSize.{reach_cases}
-use Rattle.containment.specs.Candidates.{is_hit_or_parted, is_kept}
+use Rattle.containment.proofs.Prelude.{◌≡◌, ℕ, Bool, true, false, cond, not, ◌&&◌, ◌||◌, List, [], ◌∷◌, filter, nat_eq, Option, None, Some, is_some, find, IsTrue, refl, sym, ap, ◌∙◌, subst, inl, inr, ◌⊎◌, ⊎_elim, true≢false, and_parts, and_from, or_cases, or_left, or_right, eqb-true, eq-eqb, not-true, not_from_false, filter_agree, same_Some, Event, Link, Unlink, Point, Flag, Step, Show, Enabled, Matching, Status, Join, Leave, linked, neighbours, names, State, IsState, points, pointer, partner, married, is_mutual, linked_back, near_found, points_from, pointer_linked, partner_some, married_from, is_parted, is_hit, is_in_reach, parts_a_pair, mutual_is, reach_cases, is_hit_or_parted, is_kept}
 
 -- The test covers the reach of the event: each node that is hit or parted passes it, and so does each
 -- neighbour of a parted one. If a pair is parted, each unmarried node that passes has such a neighbour.

@@ -1,3 +1,4 @@
+pub mod Prelude
 pub mod AbsentNames
 pub mod CoveredReach
 pub mod MergedLists

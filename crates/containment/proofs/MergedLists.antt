@@ -1,11 +1,5 @@
 -- Two ascending lists that are kept from the same names, taken apart head by head.
-use Rattle.std.proofs.Common.{◌≡◌, ℕ, zero, suc, ◌+◌, ◌≤◌, min, Bool, true, false, cond, ◌&&◌, ◌||◌, List, [], ◌∷◌, ◌++◌, filter, None, Some, nat_eq, refl, sym, ap, ap₂, ◌∙◌, subst, append_assoc, arith}
-use Rattle.std.specs.List.{range_with_len}
-use Rattle.std.proofs.lemmas.Bool.{eq-eqb, ne_eqb, cond-true, cond-false}
-use Rattle.std.proofs.lemmas.List.{append-nil}
-use Rattle.std.proofs.lemmas.Option.{none-some, same_Some}
-use Rattle.rule_machine.specs.Network.{Network, names, present}
-use Rattle.containment.specs.Candidates.{least_head, without_head, is_kept}
+use Rattle.containment.proofs.Prelude.{◌≡◌, ℕ, zero, suc, ◌+◌, ◌≤◌, min, Bool, true, false, cond, ◌&&◌, ◌||◌, List, [], ◌∷◌, ◌++◌, filter, None, Some, nat_eq, refl, sym, ap, ap₂, ◌∙◌, subst, append_assoc, arith, range_with_len, eq-eqb, ne_eqb, cond-true, cond-false, append-nil, none-some, same_Some, Network, names, present, least_head, without_head, is_kept}
 
 -- the list ascends from a number on
 abbrev pub Rises : ℕ → List ℕ → Type 0

@@ -1,15 +1,4 @@
 pub mod Rest
 pub mod Reach
 pub mod Movers
-pub mod AtRest
-pub mod IdleNodes
-pub mod Steps
-pub mod Edits
-pub mod Containment
-pub mod Partings
 pub mod Laws
-pub mod Proved
-pub mod NearReach
-pub mod ExactReach
-pub mod ReachSize
-pub mod LostPairs

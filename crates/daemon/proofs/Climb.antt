@@ -1,13 +1,5 @@
 -- Lists that climb: each number is greater than the one before it, and passes a test.
-use Rattle.std.proofs.Common.{◌≡◌, ℕ, zero, suc, ◌+◌, ◌-◌, ◌<◌, ◌≤◌, Bool, true, false, cond, List, [], ◌∷◌, length, get_or, IsTrue, None, refl, sym, ap, subst, ◌∙◌, arith, ⊎_elim}
-use Rattle.std.specs.List.{All, filter, range_with_len}
-use Rattle.std.specs.List.Sorted.{IsStrictlyIncreasing}
-use Rattle.std.proofs.lemmas.Bool.{cases_Bool}
-use Rattle.std.proofs.lemmas.List.{get_or_read}
-use Rattle.std.proofs.lemmas.List.Elements.{All-nil, All-cons}
-use Rattle.rule_machine.specs.declared.choice.Item.{Item}
-use Rattle.enabled_set.specs.Members.{is_in, members}
-use Rattle.daemon.specs.DaemonLaws.{nodes_of, plain, IsLawful}
+use Rattle.daemon.proofs.Prelude.{◌≡◌, ℕ, zero, suc, ◌+◌, ◌-◌, ◌<◌, ◌≤◌, Bool, true, false, cond, List, [], ◌∷◌, length, get_or, IsTrue, None, refl, sym, ap, subst, ◌∙◌, arith, ⊎_elim, All, filter, range_with_len, IsStrictlyIncreasing, cases_Bool, get_or_read, All-nil, All-cons, Item, is_in, members, nodes_of, plain, IsLawful}
 
 -- the list climbs from a number on
 abbrev pub Climbs : (ℕ → Bool) → ℕ → List ℕ → Type 0

@@ -1,7 +1,5 @@
 -- When a seeded daemon draws no choice.
-use Rattle.std.proofs.Common.{◌≡◌, ◌↔◌, Bool, List, ℕ, [], ◌∷◌, None, refl}
-use Rattle.rand_core.specs.Stream.{Stream}
-use Rattle.daemon.specs.DrawnChoices.{choice_drawn}
+use Rattle.daemon.proofs.Prelude.{◌≡◌, ◌↔◌, Bool, List, ℕ, [], ◌∷◌, None, refl, Stream, choice_drawn}
 
 pub rests : (central : Bool) (names : List ℕ) (stream : Stream) → ((choice_drawn central names stream).0 ≡ None) ↔ (names ≡ [])
 rests central [] stream = (λ _. refl, λ _. refl)

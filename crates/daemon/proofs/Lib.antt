@@ -1,3 +1,4 @@
+pub mod Prelude
 pub mod Climb
 pub mod Odd
 pub mod RecordedPlay

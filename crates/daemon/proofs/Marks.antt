@@ -1,9 +1,5 @@
 -- The table of the names of a list.
-use Rattle.std.proofs.Common.{◌≡◌, ℕ, suc, ◌+◌, ◌<◌, ◌≤◌, Bool, true, false, ◌||◌, List, ◌∷◌, length, drop, set, replicate, get_or, nat_eq, sym, ap, ◌∙◌, arith, ⊎_elim}
-use Rattle.std.proofs.lemmas.Bool.{cases_Bool, eqb-true, eqb-false}
-use Rattle.std.proofs.lemmas.List.{get_or-set_same, get_or-set_other, drop_all, get_or-replicate, length-replicate}
-use Rattle.std.proofs.Math.Seq.{drop-cons}
-use Rattle.daemon.specs.RecordedLists.{is_in_list, AreMarksOf}
+use Rattle.daemon.proofs.Prelude.{◌≡◌, ℕ, suc, ◌+◌, ◌<◌, ◌≤◌, Bool, true, false, ◌||◌, List, ◌∷◌, length, drop, set, replicate, get_or, nat_eq, sym, ap, ◌∙◌, arith, ⊎_elim, cases_Bool, eqb-true, eqb-false, get_or-set_same, get_or-set_other, drop_all, get_or-replicate, length-replicate, drop-cons, is_in_list, AreMarksOf}
 
 -- The table has the names before a place of the list, and those from there on are still to come.
 pub record IsMarking (marks : List Bool) (list : List ℕ) (i : ℕ) : Type 0 where

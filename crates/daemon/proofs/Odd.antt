@@ -1,10 +1,5 @@
 -- The names whose word is odd.
-use Rattle.std.proofs.Common.{◌≡◌, ℕ, suc, ◌+◌, ◌%◌, ◌<◌, ◌≤◌, Bool, true, false, cond, List, [], ◌∷◌, length, get_or, nat_eq, refl, sym, subst, ◌∙◌, arith, ⊎_elim}
-use Rattle.std.proofs.lemmas.Bool.{cases_Bool, true≢false}
-use Rattle.rand_core.specs.Stream.{Stream, next_u32}
-use Rattle.enabled_set.specs.Members.{is_in, members}
-use Rattle.daemon.specs.DaemonLaws.{plain, IsLawful}
-use Rattle.daemon.specs.DrawnChoices.{draw_one, keep_odd, draw_odd, or_one, draw_some}
+use Rattle.daemon.proofs.Prelude.{◌≡◌, ℕ, suc, ◌+◌, ◌%◌, ◌<◌, ◌≤◌, Bool, true, false, cond, List, [], ◌∷◌, length, get_or, nat_eq, refl, sym, subst, ◌∙◌, arith, ⊎_elim, cases_Bool, true≢false, Stream, next_u32, is_in, members, plain, IsLawful, draw_one, keep_odd, draw_odd, or_one, draw_some}
 use Rattle.daemon.proofs.Climb.{Climbs, climbs_lower, climbs_members, climbs_at, lawful_plain}
 
 climbs_kept : (p : ℕ → Bool) (low v word : ℕ) (names : List ℕ) → low ≤ v → p v ≡ true → Climbs p (suc v) names → Climbs p low (keep_odd v word names)

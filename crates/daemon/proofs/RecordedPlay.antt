@@ -1,14 +1,5 @@
 -- What a recorded daemon plays.
-use Rattle.std.proofs.Common.{◌≡◌, ℕ, suc, ◌+◌, ◌<◌, ◌≤◌, Bool, true, false, cond, ◌↔◌, List, [], ◌∷◌, length, take, drop, get_or, Option, None, Some, IsTrue, refl, sym, ap, subst, ◌∙◌, arith, ⊎_elim}
-use Rattle.std.specs.Prelude.{SomeIff, IsNone, IfSome}
-use Rattle.std.specs.List.{All, AllByRecursion, filter}
-use Rattle.std.proofs.lemmas.Bool.{cases_Bool, true≢false}
-use Rattle.std.proofs.lemmas.List.Elements.{All-from_recursion, recursion_from_All}
-use Rattle.std.proofs.Math.Seq.{drop-cons}
-use Rattle.rule_machine.specs.declared.choice.Item.{Item}
-use Rattle.enabled_set.specs.Members.{is_in, members}
-use Rattle.daemon.specs.DaemonLaws.{plain, IsLawful}
-use Rattle.daemon.specs.RecordedLists.{is_in_list, named_of, first_or_all, some_choice, list_choice, play_or, played}
+use Rattle.daemon.proofs.Prelude.{◌≡◌, ℕ, suc, ◌+◌, ◌<◌, ◌≤◌, Bool, true, false, cond, ◌↔◌, List, [], ◌∷◌, length, take, drop, get_or, Option, None, Some, IsTrue, refl, sym, ap, subst, ◌∙◌, arith, ⊎_elim, SomeIff, IsNone, IfSome, All, AllByRecursion, filter, cases_Bool, true≢false, All-from_recursion, recursion_from_All, drop-cons, Item, is_in, members, plain, IsLawful, is_in_list, named_of, first_or_all, some_choice, list_choice, play_or, played}
 use Rattle.daemon.proofs.Climb.{Climbs, climbs_lower, climbs_members, lawful_plain, length_plain}
 
 -- the items of the first alone, or of all

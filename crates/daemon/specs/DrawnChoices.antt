@@ -40,8 +40,8 @@ draw central names stream = cond central (draw_one names stream) (draw_some name
 abbrev pub as_choice : List ℕ × Stream → List Item × Stream
 as_choice d = (plain d.0, d.1)
 
--- the choice, and the rest of the stream; if there are no names, there is no choice and no word is
--- drawn
+-- The choice, and the rest of the stream. If there are no names, there is no choice and no word is drawn;
+-- `seeded_rests_among_nobody` proves that only then there is no choice.
 abbrev pub choice_drawn : Bool → List ℕ → Stream → Option (List Item) × Stream
 choice_drawn central [] stream = (None, stream)
 choice_drawn central (v ∷ names) stream =

@@ -1,13 +1,2 @@
-pub mod Counts
-pub mod Kinds
-pub mod Arithmetic
-pub mod Moves
-pub mod Starts
 pub mod Potential
-pub mod Falls
-pub mod Runs
-pub mod SilentRuns
-pub mod Plays
-pub mod Schedule
-pub mod CompleteNetworks
 pub mod Bound

@@ -13,8 +13,7 @@ ghost use Rattle.charge_laws.specs.ChargeWords.{moves_in, IsUndisturbed};
 ghost use Rattle.charge_laws.specs.Costs.{end_of_path, path_entries};
 ghost use Rattle.charge_laws.specs.Epochs.{IsPath};
 ghost use Rattle.charge_laws.specs.SilentRuns.{IsDriven};
-ghost use Rattle.dense_laws.specs.Bound.{dense_bound};
-ghost use Rattle.dense_laws.specs.CompleteNetworks.{HasLongRun};
+ghost use Rattle.dense_laws.specs.Bound.{dense_bound, HasLongRun};
 ghost use Rattle.dense_laws.specs.Potential.{dense_charge};
 
 /// Each move lowers the dense charge, which is at most n² + 2n, by at least 2, whatever the edges.

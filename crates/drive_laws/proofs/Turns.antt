@@ -13,12 +13,12 @@ use Rattle.rule_machine.specs.State.{State, IsState}
 use Rattle.rule_machine.specs.Step.{IsStep, after_moves}
 use Rattle.rule_machine.specs.Refuse.{refusal_of, step_refusal}
 use Rattle.rule_machine.specs.RuleTable.{RuleTable, enabled_names}
-use Rattle.machine_laws.specs.LeastAnswers.{least_answers}
-use Rattle.machine_laws.specs.LeastMoves.{IsTable}
-use Rattle.machine_laws.specs.Neighbours.{option_cases}
-use Rattle.machine_laws.specs.Runs.{answers_keep}
+use Rattle.machine_laws.proofs.LeastAnswers.{least_answers}
+use Rattle.machine_laws.proofs.LeastMoves.{IsTable}
+use Rattle.machine_laws.proofs.Neighbours.{option_cases}
+use Rattle.machine_laws.proofs.Runs.{answers_keep}
 use Rattle.charge_laws.specs.ChargeWords.{IsCharged}
-use Rattle.charge_laws.specs.SilentRuns.{charge_budget, spent_is_quiet}
+use Rattle.charge_laws.proofs.SilentRuns.{charge_budget, spent_is_quiet}
 use Rattle.daemon.specs.DrawnChoices.{choice_drawn, draw}
 use Rattle.daemon.specs.DaemonLaws.{plain}
 use Rattle.drive_laws.specs.DriveEnds.{after_turn, driven}

@@ -1,12 +1,6 @@
 -- The bits of a word.
-use Rattle.std.proofs.Common.{◌≡◌, ℕ, zero, suc, ◌+◌, ◌-◌, ◌*◌, ◌/◌, ◌%◌, ◌^◌, ◌<◌, Bool, true, false, sym, ap, ◌∙◌, arith}
-use Rattle.std.specs.Prelude.{◌≢◌, bit_and, bit_or, count_ones, nat_eq}
-use Rattle.std.specs.Int.{bit_at, w64, trailing_zeros}
-use Rattle.std.proofs.Math.Nat.{mod-lt}
-use Rattle.std.proofs.lemmas.Nat.{shr-shr, mod-pow-add, ones_cat, one_shl, and_mask, pow_pos, ones_le_self, zero_from_ones}
-use Rattle.std.proofs.lemmas.Nat.Bits.{shr_and_one, bit_at-zero, bit_at_set_same, bit_at_set_other, bit_at_clear_same, bit_at_clear_other, bit_at-trailing_zeros, bit_at-lt}
+use Rattle.enabled_set.proofs.Prelude.{◌≡◌, ℕ, zero, suc, ◌+◌, ◌-◌, ◌*◌, ◌/◌, ◌%◌, ◌^◌, ◌<◌, Bool, true, false, sym, ap, ◌∙◌, arith, ◌≢◌, bit_and, bit_or, count_ones, nat_eq, bit_at, w64, trailing_zeros, mod-lt, shr-shr, mod-pow-add, ones_cat, one_shl, and_mask, pow_pos, ones_le_self, zero_from_ones, shr_and_one, bit_at-zero, bit_at_set_same, bit_at_set_other, bit_at_clear_same, bit_at_clear_other, bit_at-trailing_zeros, bit_at-lt, tally}
 use Rattle.enabled_set.specs.Members.{has_bit}
-use Rattle.enabled_set.specs.Counts.{tally}
 use Rattle.enabled_set.proofs.PassCounts.{tally_none, tally_more, tally_shift}
 use Rattle.enabled_set.proofs.Steps.{tally_on, tally_off}
 
@@ -61,10 +55,7 @@ ones_of_0 : count_ones 0 ≡ 0
 ones_of_0 = omega (arith, ones_le_self 0)
 
 ones_of_1 : count_ones 1 ≡ 1
-ones_of_1 =
-    let most = ones_le_self 1 in
-    let some = zero_from_ones 1 in
-    grind arith
+ones_of_1 = grind (arith, ones_le_self, zero_from_ones)
 
 -- the ones below a place are as many as the tally says
 ones_low : (word n : ℕ) → count_ones (word % 2 ^ n) ≡ tally (has_bit word) n
@@ -94,7 +85,4 @@ ones_there word at width less =
 
 -- if one place has more members than remain to be skipped, it has one and none remains to be skipped
 pub last : (p : ℕ → Bool) (n left : ℕ) → tally p n + left < tally p (n + 1) → (p n ≡ true) × (left ≡ 0)
-last p n left less =
-    let on = tally_on p n in
-    let off = tally_off p n in
-    (grind arith, grind arith)
+last p n left less = grind (arith, tally_on, tally_off)

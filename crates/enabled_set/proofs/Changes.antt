@@ -1,9 +1,6 @@
 -- One member more, and one less.
-use Rattle.std.proofs.Common.{◌≡◌, ℕ, zero, suc, ◌+◌, ◌-◌, ◌*◌, ◌/◌, ◌%◌, ◌<◌, ◌≤◌, Bool, true, false, List, length, get_or, set, replicate, sym, ap, subst, ◌∙◌, arith}
-use Rattle.std.specs.Prelude.{◌≢◌}
-use Rattle.std.proofs.lemmas.List.{length-set, length-replicate, get_or_read, set-get_or}
-use Rattle.enabled_set.specs.Members.{is_in, has_bit, is_bit_on, first_bits}
-use Rattle.enabled_set.specs.Counts.{tally, before, AreBlockCounts, HasRightCounts}
+use Rattle.enabled_set.proofs.Prelude.{◌≡◌, ℕ, zero, suc, ◌+◌, ◌-◌, ◌*◌, ◌/◌, ◌%◌, ◌<◌, ◌≤◌, Bool, true, false, List, length, get_or, set, replicate, sym, ap, subst, ◌∙◌, arith, ◌≢◌, length-set, length-replicate, get_or_read, set-get_or, is_in, has_bit, first_bits, tally, before, AreBlockCounts, HasRightCounts}
+use Rattle.enabled_set.specs.Members.{is_bit_on}
 use Rattle.enabled_set.proofs.PassCounts.{tally_add, tally_through, tally_put, tally_flat, tally_none}
 use Rattle.enabled_set.proofs.Before.{before_none, before_more}
 use Rattle.enabled_set.proofs.Places.{length-places_of, places_are, put_here, put_there, on_none}
@@ -17,9 +14,7 @@ count_read bits w counts v n some good there read = get_or_read counts (v / w) n
 -- the bit that was read, of a name that has a place
 pub bit_read : (bits : List Bool) (words s l : List ℕ) (total v read : ℕ) → HasRightCounts bits words s l total → v < length bits → read ≡ get_or words (v / 64) read → is_in bits v ≡ has_bit read (v % 64)
 unfolding is_bit_on
-bit_read bits words s l total v read good there is =
-    let covered = good.covered in
-    good.same v ∙ ap (λ w. has_bit w (v % 64)) (sym (get_or_read words (v / 64) read (omega arith) is 0))
+bit_read bits words s l total v read good there is = grind (arith, get_or_read)
 
 -- the set stays the same if a name is already as it is to be
 pub put_same : (bits : List Bool) (v : ℕ) (b : Bool) → is_in bits v ≡ b → bits ≡ set bits v b
@@ -39,36 +34,11 @@ total_some bits v there on = let t = tally_through (is_in bits) 0 v (length bits
 
 -- the bits of the changed words
 same_put : (bits : List Bool) (words : List ℕ) (v word : ℕ) (b : Bool) → v < length bits → v / 64 < length words → ((u : ℕ) → is_in bits u ≡ is_bit_on words u) → has_bit word (v % 64) ≡ b → ((i : ℕ) → i < 64 → i ≢ (v % 64) → has_bit word i ≡ has_bit (get_or words (v / 64) 0) i) → (u : ℕ) → is_in (set bits v b) u ≡ is_bit_on (set words (v / 64) word) u
-same_put bits words v word b there room same here others u =
-    let mine = on_here bits v b there ∙ sym (put_here words v word b room here) in
-    let away = same_there bits v b u in
-    let kept = put_there words v word u room others in
-    let was = same u in
-    grind arith
+same_put bits words v word b there room same here others u = grind (arith, on_here, put_here, same_there, put_there)
 
 -- one member more or less if its counts were changed by one; the lists count the right places
 counted_put : (len : ℕ) (words s l : List ℕ) (total v read word x y left : ℕ) (b : Bool) → HasRightCounts (first_bits len words) words s l total → v < length (first_bits len words) → 1 ≤ v → read ≡ get_or words (v / 64) read → has_bit word (v % 64) ≡ b → ((i : ℕ) → i < 64 → i ≢ (v % 64) → has_bit word i ≡ has_bit read i) → AreBlockCounts (set (first_bits len words) v b) 512 (set s (v / 512) x) → AreBlockCounts (set (first_bits len words) v b) 4096 (set l (v / 4096) y) → tally (is_in (set (first_bits len words) v b)) (length (first_bits len words)) ≡ left → HasRightCounts (first_bits len (set words (v / 64) word)) (set words (v / 64) word) (set s (v / 512) x) (set l (v / 4096) y) left × (first_bits len (set words (v / 64) word) ≡ set (first_bits len words) v b)
-counted_put len words s l total v read word x y left b good there named is here others in_512 in_4096 in_all =
-    let bits = first_bits len words in
-    let size = length-set bits v b in
-    let words_len = length-set words (v / 64) word in
-    let covered = good.covered in
-    let room : v / 64 < length words = omega arith in
-    let same = same_put bits words v word b there room good.same here (λ i inside apart. others i inside apart ∙ ap (λ w. has_bit w i) (get_or_read words (v / 64) read room is 0)) in
-    let counted : HasRightCounts (set bits v b) (set words (v / 64) word) (set s (v / 512) x) (set l (v / 4096) y) left = record {
-      few = omega (arith, good.few, size);
-      covered = omega (arith, good.covered, size, words_len);
-      spare = omega (arith, good.spare, size, words_len);
-      nobody = same_there bits v b 0 (λ (e : 0 ≡ v). omega arith) ∙ good.nobody;
-      same = same;
-      in_512 = in_512;
-      in_4096 = in_4096;
-      groups = omega (arith, good.groups, size, length-set s (v / 512) x);
-      lots = length-set l (v / 4096) y ∙ good.lots;
-      in_all = ap (tally (is_in (set bits v b))) size ∙ in_all;
-    } in
-    let places = places_are len (set words (v / 64) word) (set bits v b) (size ∙ length-places_of len words) (λ u inside. same u) in
-    (subst (λ (xs : List Bool). HasRightCounts xs (set words (v / 64) word) (set s (v / 512) x) (set l (v / 4096) y) left) (sym places) counted, places)
+counted_put len words s l total v read word x y left b good there named is here others in_512 in_4096 in_all = grind (arith, length-set, same_put, get_or_read, same_there, places_are, length-places_of)
 
 -- one member more
 pub counted_more : (len : ℕ) (words s l : List ℕ) (total v read word x y : ℕ) → HasRightCounts (first_bits len words) words s l total → v < length (first_bits len words) → 1 ≤ v → read ≡ get_or words (v / 64) read → has_bit read (v % 64) ≡ false → has_bit word (v % 64) ≡ true → ((i : ℕ) → i < 64 → i ≢ (v % 64) → has_bit word i ≡ has_bit read i) → x ≡ get_or s (v / 512) x → y ≡ get_or l (v / 4096) y → HasRightCounts (first_bits len (set words (v / 64) word)) (set words (v / 64) word) (set s (v / 512) (x + 1)) (set l (v / 4096) (y + 1)) (total + 1) × (first_bits len (set words (v / 64) word) ≡ set (first_bits len words) v true)
@@ -97,11 +67,7 @@ counted_less len words s l total v read word x y good there is on here others re
 -- zero counts count no member
 before_zeros : (m i : ℕ) → before (replicate m 0) i ≡ 0
 before_zeros m zero = before_none (replicate m 0)
-before_zeros m (suc i) =
-    let more = before_more (replicate m 0) i in
-    let so_far = before_zeros m i in
-    let here : get_or (replicate {A = ℕ} m 0) i 0 ≡ 0 = everywhere m i 0 in
-    omega arith
+before_zeros m (suc i) = grind (arith, before_zeros m i, before_more, everywhere)
 
 -- no place passes
 pub tally_nobody : (n i : ℕ) → tally (is_in (replicate n false)) i ≡ 0
@@ -109,14 +75,7 @@ tally_nobody n i = tally_flat (is_in (replicate n false)) 0 i (omega arith) (λ 
 
 -- the counts of the empty set
 pub count_empty : (n w m : ℕ) → n ≤ w * m → AreBlockCounts (replicate n false) w (replicate m 0)
-count_empty n w m most =
-    let len = length-replicate n false in
-    let o : ℕ = 0 in
-    let count_len = length-replicate m o in
-    record {
-      covers = omega (arith, ap (λ k. w * k) count_len);
-      counted = λ i. before_zeros m i ∙ sym (tally_nobody n (w * i));
-    }
+count_empty n w m most = grind (arith, length-replicate, before_zeros, tally_nobody)
 
 -- words without bits have no member
 nobody_on : (n : ℕ) (words : List ℕ) (v : ℕ) → words ≡ replicate (n / 64 + 8) 0 → is_in (replicate n false) v ≡ is_bit_on words v

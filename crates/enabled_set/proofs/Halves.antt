@@ -3,9 +3,7 @@ use Rattle.std.proofs.Common.{◌≡◌, ℕ, ◌+◌, ◌*◌, ◌<◌, ◌≤�
 
 -- the half that is left has more than are to pass, and no less has been passed than before
 pub halved : (f : ℕ → ℕ) (place left width members to_place to_left : ℕ) → f (place + width) ≡ f place + members → f place + left < f (place + 2 * width) → (left < members → to_place ≡ place) → (left < members → to_left ≡ left) → (members ≤ left → to_place ≡ place + width) → (members ≤ left → to_left + members ≡ left) → (f to_place + to_left ≡ f place + left) × (f to_place + to_left < f (to_place + width)) × (to_place ≤ place + width)
-halved f place left width members to_place to_left sum enough stays_place stays_left moves_place moves_left =
-    let twice : place + width + width ≡ place + 2 * width = omega arith in
-    (grind arith, grind arith, grind arith)
+halved f place left width members to_place to_left sum enough stays_place stays_left moves_place moves_left = grind arith
 
 -- The state of a scan that has summed the blocks up to one: it is after those that it has skipped, and before
 -- one with more members than remain to be skipped.
@@ -21,18 +19,8 @@ passed_none f from to_pass = record { summed = omega arith; passed = omega arith
 
 -- one stretch more
 pub passed_more : (f : ℕ → ℕ) (from at place left sum to_pass members to_place to_left : ℕ) → IsPassed f from at place left sum to_pass → f (at + 1) ≡ f at + members → (to_pass < sum + members → to_place ≡ place) → (to_pass < sum + members → to_left ≡ left) → (sum + members ≤ to_pass → to_place ≡ at + 1) → (sum + members ≤ to_pass → to_left + (sum + members) ≡ to_pass) → IsPassed f from (at + 1) to_place to_left (sum + members) to_pass
-passed_more f from at place left sum to_pass members to_place to_left was more stays_place stays_left moves_place moves_left =
-    let summed = was.summed in
-    let passed = was.passed in
-    let low = was.low in
-    let high = was.high in
-    let stands = was.stands in
-    record { summed = omega arith; passed = grind arith; low = grind arith; high = grind arith; stands = λ h. grind arith }
+passed_more f from at place left sum to_pass members to_place to_left was more stays_place stays_left moves_place moves_left = grind arith
 
 -- all but the last
 pub passed_all : (f : ℕ → ℕ) (from at place left sum to_pass : ℕ) → IsPassed f from at place left sum to_pass → f from + to_pass < f (at + 1) → f place + left < f (place + 1)
-passed_all f from at place left sum to_pass was enough =
-    let passed = was.passed in
-    let high = was.high in
-    let stands = was.stands in
-    grind arith
+passed_all f from at place left sum to_pass was enough = grind arith

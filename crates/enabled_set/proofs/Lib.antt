@@ -1,3 +1,4 @@
+pub mod Prelude
 pub mod PassCounts
 pub mod Bits
 pub mod Places

@@ -1,10 +1,6 @@
 -- One mark more, and one less.
-use Rattle.std.proofs.Common.{◌≡◌, ◌≢◌, ℕ, ◌+◌, ◌-◌, ◌<◌, ◌≤◌, Bool, true, false, List, length, get_or, set, replicate, sym, ap, ◌∙◌, ⊎_elim, arith}
-use Rattle.std.proofs.lemmas.Bool.{cases_lt, false_from_ne_true, true≢false}
-use Rattle.std.proofs.lemmas.List.{get_or_read, get_or-set_other, get_or-set_same, length-replicate, length-set}
-use Rattle.enabled_set.specs.Members.{is_in, members}
-use Rattle.enabled_set.specs.Counts.{tally}
-use Rattle.enabled_set.specs.MarkedNames.{AreListed}
+use Rattle.enabled_set.proofs.Prelude.{◌≡◌, ℕ, ◌+◌, ◌-◌, ◌<◌, ◌≤◌, Bool, true, false, List, length, get_or, set, replicate, sym, ap, ◌∙◌, ⊎_elim, arith, cases_lt, false_from_ne_true, true≢false, get_or_read, get_or-set_other, get_or-set_same, length-replicate, length-set, is_in, members, tally, AreListed}
+use Rattle.std.proofs.Common.{◌≢◌}
 use Rattle.enabled_set.proofs.Changes.{tally_nobody, total_few, total_some}
 use Rattle.enabled_set.proofs.PassCounts.{tally_put}
 use Rattle.enabled_set.proofs.Members.{inside, length-members}
@@ -12,16 +8,7 @@ use Rattle.enabled_set.proofs.Stretches.{on_here, same_there}
 
 -- no name is marked
 pub none_listed : (n : ℕ) (bits : List Bool) (names : List ℕ) → 1 ≤ n → n ≤ 65536 → bits ≡ replicate n false → length names ≡ n → AreListed bits names 0
-none_listed n bits names some few empty room =
-    let len = ap length empty ∙ length-replicate n false in
-    record {
-      few = omega (arith, len);
-      some = omega (arith, len);
-      room = omega (arith, len, room);
-      counted = ap (λ l. tally (is_in l) (length bits)) empty ∙ tally_nobody n (length bits);
-      marked = λ i none. absurd (omega (arith, none));
-      once = λ i j less none. absurd (omega (arith, none));
-    }
+none_listed n bits names some few empty room = grind (arith, length-replicate, tally, tally_nobody)
 
 -- if one is not marked, there is room for it
 pub room_left : (bits : List Bool) (names : List ℕ) (count v : ℕ) → AreListed bits names count → v < length bits → is_in bits v ≡ false → count < length bits

@@ -1,12 +1,6 @@
 -- The members below a number, ascending.
-use Rattle.std.proofs.Common.{◌≡◌, ℕ, zero, suc, ◌+◌, ◌-◌, ◌<◌, ◌≤◌, Bool, true, false, cond, List, [], ◌∷◌, ◌++◌, map, length, get_or, Some, refl, sym, ap, ◌∙◌, arith}
-use Rattle.std.specs.List.{filter, range_with_len}
-use Rattle.std.specs.Prelude.{slice_get}
-use Rattle.std.proofs.lemmas.List.{append-nil, map-id, length_push, get_or_past, get_or_push, get_or_append_left}
-use Rattle.std.proofs.lemmas.List.FromFn.{filter_of_map_range_with_len_more}
-use Rattle.std.proofs.lemmas.Option.{slice_get-get_or}
-use Rattle.enabled_set.specs.Members.{is_in, members}
-use Rattle.enabled_set.specs.Counts.{tally, below}
+use Rattle.enabled_set.proofs.Prelude.{◌≡◌, ℕ, zero, suc, ◌+◌, ◌-◌, ◌<◌, ◌≤◌, Bool, true, false, cond, List, [], ◌∷◌, ◌++◌, map, length, get_or, Some, refl, sym, ap, ◌∙◌, arith, filter, range_with_len, slice_get, append-nil, map-id, length_push, get_or_past, get_or_push, get_or_append_left, filter_of_map_range_with_len_more, slice_get-get_or, is_in, members, tally}
+use Rattle.enabled_set.specs.Counts.{below}
 use Rattle.enabled_set.proofs.PassCounts.{flat, tally_none, tally_more, tally_through}
 
 pub below_none : (p : ℕ → Bool) → below p 0 ≡ []
@@ -56,15 +50,7 @@ length-members bits = ap length (members_below bits) ∙ length-below (is_in bit
 -- the k-th member
 below_at : (p : ℕ → Bool) (n v k : ℕ) → p v ≡ true → tally p v ≡ k → v < n → get_or (below p n) k 0 ≡ v
 below_at p zero v k on is inside = absurd (omega arith)
-below_at p (suc n) v k on is inside =
-    let len = length-below p n in
-    let ih = below_at p n v k on is in
-    let room = tally_through p v v n on (omega arith) in
-    let passes = below_true p n in
-    let fails = below_false p n in
-    let before = get_or_append_left (below p n) (n ∷ []) 0 k in
-    let last = get_or_push (below p n) n 0 k in
-    grind arith
+below_at p (suc n) v k on is inside = grind (arith, below_at p n v k on is, length-below, tally_through, below_true, below_false, get_or_append_left, get_or_push)
 
 -- a member has a place
 pub inside : (bits : List Bool) (v : ℕ) → is_in bits v ≡ true → v < length bits

@@ -1,11 +1,5 @@
 -- From the counts down to the k-th member, and from the words to all members.
-use Rattle.std.proofs.Common.{◌≡◌, ℕ, suc, ◌+◌, ◌-◌, ◌*◌, ◌<◌, ◌≤◌, Bool, true, false, List, [], ◌∷◌, ◌++◌, length, get_or, Option, Some, None, sym, ap, ap₂, subst, ◌∙◌, arith, ⊎_elim}
-use Rattle.std.specs.Prelude.{◌≢◌, slice_get, SomeIff}
-use Rattle.std.proofs.lemmas.Bool.{cases_lt}
-use Rattle.std.proofs.lemmas.List.{get_or_past}
-use Rattle.std.proofs.lemmas.Option.{slice_get_past}
-use Rattle.enabled_set.specs.Members.{is_in, members, has_bit, is_bit_on, HasOnlyNames}
-use Rattle.enabled_set.specs.Counts.{tally, below, before, AreBlockCounts, HasRightCounts}
+use Rattle.enabled_set.proofs.Prelude.{◌≡◌, ℕ, suc, ◌+◌, ◌-◌, ◌*◌, ◌<◌, ◌≤◌, Bool, true, false, List, [], ◌∷◌, ◌++◌, length, get_or, Option, Some, None, sym, ap, ap₂, subst, ◌∙◌, arith, ⊎_elim, ◌≢◌, slice_get, SomeIff, cases_lt, get_or_past, slice_get_past, is_in, members, has_bit, is_bit_on, HasOnlyNames, tally, below, before, AreBlockCounts, HasRightCounts}
 use Rattle.enabled_set.proofs.PassCounts.{tally_rise, tally_end, tally_shift, tally_put}
 use Rattle.enabled_set.proofs.Places.{on_word}
 use Rattle.enabled_set.proofs.Members.{below_true, below_flat, members_below, length-members, nth_member, inside}
@@ -14,10 +8,7 @@ use Rattle.enabled_set.proofs.Steps.{before_step}
 
 -- a member is a name
 is_name : (bits : List Bool) (words s l : List ℕ) (total v : ℕ) → HasRightCounts bits words s l total → is_in bits v ≡ true → (1 ≤ v) × (v ≤ 65535)
-is_name bits words s l total v good on =
-    let there = inside bits v on in
-    let few = good.few in
-    (somebody bits v good.nobody on, omega arith)
+is_name bits words s l total v good on = grind (arith, inside, somebody)
 
 -- ---- all members of a word
 
@@ -29,12 +20,7 @@ pub record IsListed (words : List ℕ) (place rest : ℕ) (list : List ℕ) (n :
   pub left : (i : ℕ) → n ≤ i → i < 64 → has_bit rest i ≡ is_bit_on words (64 * place + i)
 
 pub listed_none : (words : List ℕ) (place rest : ℕ) (list : List ℕ) → rest ≡ get_or words place 0 → list ≡ below (is_bit_on words) (64 * place) → IsListed words place rest list 0
-listed_none words place rest list is so_far = record {
-  within = omega arith;
-  listed = so_far ∙ ap (below (is_bit_on words)) (let e : 64 * place ≡ 64 * place + 0 = omega arith in e);
-  gone = λ i low. absurd (omega (arith, low));
-  left = λ i low inside. ap (λ w. has_bit w i) is ∙ sym (on_word words place i inside);
-}
+listed_none words place rest list is so_far = grind (arith, inside, on_word)
 
 -- a bit that is left comes after these, and is a name
 bit_behind : (words : List ℕ) (place rest : ℕ) (list : List ℕ) (n at : ℕ) → IsListed words place rest list n → has_bit rest at ≡ true → n ≤ at
@@ -86,25 +72,12 @@ below_all bits words s l total n good most =
 
 -- more members are left in all places than are to pass, and there are sixteen counts of them
 pub enough_lots : (bits : List Bool) (words s l ls : List ℕ) (total k : ℕ) → HasRightCounts bits words s l total → ls ≡ l → k < total → (16 ≤ length ls) × (k < before ls 16)
-enough_lots bits words s l ls total k good is less =
-    let all : before ls 16 ≡ tally (is_in bits) 65536 = ap (λ xs. before xs 16) is ∙ good.in_4096.counted 16 in
-    let most = tally_rise (is_in bits) (length bits) 65536 good.few in
-    let was = good.in_all in
-    let long = ap length is ∙ good.lots in
-    (omega arith, omega arith)
+enough_lots bits words s l ls total k good is less = grind (arith, tally_rise)
 
 -- a block of eight parts with more members than remain to be skipped begins at a place, and the sums over its
 -- parts ascend beyond that
 enough : (bits : List Bool) (width : ℕ) (counts : List ℕ) (f : ℕ → ℕ) (j left : ℕ) → AreBlockCounts bits width counts → left < get_or counts j 0 → f (8 * j) ≡ tally (is_in bits) (width * j) → f (8 * j + 8) ≡ tally (is_in bits) (width * (j + 1)) → (width * j < length bits) × (f (8 * j) + left < f (8 * j + 8))
-enough bits width counts f j left good less from to =
-    let low = good.counted j in
-    let high = good.counted (j + 1) in
-    let step = before_step counts j in
-    let begins = ⊎_elim
-    (λ (lt : width * j < length bits). lt)
-    (λ (le : length bits ≤ width * j). let end = tally_end (is_in bits) (width * j) (width * (j + 1)) (λ k past. get_or_past bits k false (omega arith)) in absurd (omega arith))
-    (cases_lt (width * j) (length bits)) in
-    (begins, omega arith)
+enough bits width counts f j left good less from to = grind (arith, before_step, tally_end, get_or_past, cases_lt)
 
 -- so there are eight counts of a lot that has more members than are to pass, and more are left in them
 pub enough_groups : (bits : List Bool) (words s l ls ss : List ℕ) (total lot left : ℕ) → HasRightCounts bits words s l total → ls ≡ l → ss ≡ s → left < get_or ls lot 0 → (8 * lot + 8 ≤ length ss) × (before ss (8 * lot) + left < before ss (8 * lot + 8))
@@ -130,15 +103,7 @@ enough_words bits words s l ss ws total group left good is_s is_w less =
 
 -- what three scans over these lists have skipped; each begins at the end of the one before
 pub passed : (bits : List Bool) (words s l ls ss ws : List ℕ) (total k lot lot_left group group_left place left : ℕ) → HasRightCounts bits words s l total → ls ≡ l → ss ≡ s → ws ≡ words → before ls lot + lot_left ≡ k → before ss group + group_left ≡ before ss (8 * lot) + lot_left → tally (is_bit_on ws) (64 * place) + left ≡ tally (is_bit_on ws) (64 * (8 * group)) + group_left → tally (is_in bits) (64 * place) + left ≡ k
-passed bits words s l ls ss ws total k lot lot_left group group_left place left good is_l is_s is_w from_l from_s from_w =
-    let at_l = ap (λ xs. before xs lot) is_l ∙ good.in_4096.counted lot in
-    let in_s = ap (λ xs. before xs (8 * lot)) is_s ∙ good.in_512.counted (8 * lot) in
-    let same_s = ap (tally (is_in bits)) (let e : 512 * (8 * lot) ≡ 4096 * lot = omega arith in e) in
-    let at_s = ap (λ xs. before xs group) is_s ∙ good.in_512.counted group in
-    let in_w = words_tally bits words s l ws total (64 * (8 * group)) good is_w in
-    let same_w = ap (tally (is_in bits)) (let e : 64 * (8 * group) ≡ 512 * group = omega arith in e) in
-    let at_w = words_tally bits words s l ws total (64 * place) good is_w in
-    omega arith
+passed bits words s l ls ss ws total k lot lot_left group group_left place left good is_l is_s is_w from_l from_s from_w = grind (arith, words_tally)
 
 -- there is no k-th member if k is at least the total
 pub nth_none : (bits : List Bool) (words s l : List ℕ) (total k : ℕ) → HasRightCounts bits words s l total → total ≤ k → slice_get (members bits) k ≡ None

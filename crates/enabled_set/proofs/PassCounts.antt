@@ -1,6 +1,6 @@
 -- Counting the numbers that pass, below a number.
-use Rattle.std.proofs.Common.{◌≡◌, ◌≢◌, ℕ, zero, suc, ◌+◌, ◌-◌, ◌<◌, ◌≤◌, min, Bool, true, false, cond, refl, sym, ap, ◌∙◌, arith, ⊎_elim}
-use Rattle.std.proofs.lemmas.Bool.{cases_lt}
+use Rattle.enabled_set.proofs.Prelude.{◌≡◌, ℕ, zero, suc, ◌+◌, ◌-◌, ◌<◌, ◌≤◌, min, Bool, true, false, cond, refl, sym, ap, ◌∙◌, arith, cases_lt}
+use Rattle.std.proofs.Common.{◌≢◌}
 use Rattle.enabled_set.specs.Counts.{tally}
 
 -- 1 if a number is above v, else 0
@@ -44,11 +44,7 @@ tally_one p n = let more = tally_more p n in (grind arith, grind arith)
 pub tally_add : (p : ℕ → Bool) (a n b : ℕ) → b ≡ a + n → (tally p a ≤ tally p b) × (tally p b ≤ tally p a + n)
 tally_add p a zero b e =
     let to : b ≡ a = omega arith in (grind arith, grind arith)
-tally_add p a (suc n) b e =
-    let ih = tally_add p a n (a + n) refl in
-    let one = tally_one p (a + n) in
-    let to : b ≡ suc (a + n) = omega arith in
-    (grind arith, grind arith)
+tally_add p a (suc n) b e = grind (arith, tally_add p a n (a + n) refl, tally_one)
 
 -- the tally rises, no faster than the numbers
 pub tally_rise : (p : ℕ → Bool) (a b : ℕ) → a ≤ b → tally p a ≤ tally p b
@@ -74,11 +70,7 @@ tally_flat p a b up none = flat (tally p) a (b - a) b (omega arith) (λ k low hi
 
 -- if no number from one on passes, no tally is above the tally below that number
 pub tally_end : (p : ℕ → Bool) (a b : ℕ) → ((k : ℕ) → a ≤ k → p k ≡ false) → tally p b ≤ tally p a
-tally_end p a b none =
-    ⊎_elim
-    (λ (lt : b < a). tally_rise p b a (omega arith))
-    (λ (le : a ≤ b). let same = tally_flat p a b le (λ k low high. none k low) in omega arith)
-    (cases_lt b a)
+tally_end p a b none = grind (arith, tally_rise, tally_flat, cases_lt)
 
 -- two tests that agree from a number on
 pub tally_shift : (p q : ℕ → Bool) (a n : ℕ) → ((k : ℕ) → k < n → p (a + k) ≡ q k) → tally p (a + n) ≡ tally p a + tally q n

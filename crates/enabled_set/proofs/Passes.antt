@@ -1,8 +1,5 @@
 -- What a scan of words passes.
-use Rattle.std.proofs.Common.{◌≡◌, ℕ, ◌+◌, ◌*◌, ◌<◌, ◌≤◌, List, get_or, sym, ap, ◌∙◌, arith}
-use Rattle.std.specs.Prelude.{count_ones}
-use Rattle.enabled_set.specs.Members.{has_bit, is_bit_on}
-use Rattle.enabled_set.specs.Counts.{tally}
+use Rattle.enabled_set.proofs.Prelude.{◌≡◌, ℕ, ◌+◌, ◌*◌, ◌<◌, ◌≤◌, List, get_or, sym, ap, ◌∙◌, arith, count_ones, has_bit, is_bit_on, tally}
 use Rattle.enabled_set.proofs.PassCounts.{tally_none, tally_add, tally_shift}
 use Rattle.enabled_set.proofs.Bits.{ones_of}
 use Rattle.enabled_set.proofs.Places.{on_word}

@@ -1,10 +1,6 @@
 -- Places as bits of words.
-use Rattle.std.proofs.Common.{◌≡◌, ℕ, ◌+◌, ◌*◌, ◌/◌, ◌%◌, ◌<◌, Bool, false, List, length, get_or, set, replicate, sym, ap, ◌∙◌, arith}
-use Rattle.std.specs.Prelude.{◌≢◌}
-use Rattle.std.proofs.lemmas.List.{get_or-set_same, get_or-set_other, ext_get_or}
-use Rattle.std.proofs.lemmas.List.FromFn.{length-map-range_with_len, get_or-map-range_with_len}
-use Rattle.std.proofs.lemmas.Nat.Bits.{bit_at-zero}
-use Rattle.enabled_set.specs.Members.{is_in, has_bit, is_bit_on, first_bits}
+use Rattle.enabled_set.proofs.Prelude.{◌≡◌, ℕ, ◌+◌, ◌*◌, ◌/◌, ◌%◌, ◌<◌, Bool, false, List, length, get_or, set, replicate, sym, ap, ◌∙◌, arith, ◌≢◌, get_or-set_same, get_or-set_other, ext_get_or, length-map-range_with_len, get_or-map-range_with_len, bit_at-zero, is_in, has_bit}
+use Rattle.enabled_set.specs.Members.{is_bit_on, first_bits}
 use Rattle.enabled_set.proofs.Bits.{has_none}
 use Rattle.enabled_set.proofs.Sums.{everywhere}
 
@@ -26,10 +22,7 @@ places_are len words bits long same =
 -- a place is a bit of its word
 pub on_word : (words : List ℕ) (g i : ℕ) → i < 64 → is_bit_on words (64 * g + i) ≡ has_bit (get_or words g 0) i
 unfolding is_bit_on
-on_word words g i inside =
-    let q : (64 * g + i) / 64 ≡ g = omega arith in
-    let r : (64 * g + i) % 64 ≡ i = omega arith in
-    ap (λ n. has_bit (get_or words n 0) ((64 * g + i) % 64)) q ∙ ap (has_bit (get_or words g 0)) r
+on_word words g i inside = grind arith
 
 -- a word that is written
 pub put_here : (words : List ℕ) (v word : ℕ) (b : Bool) → v / 64 < length words → has_bit word (v % 64) ≡ b → is_bit_on (set words (v / 64) word) v ≡ b
@@ -38,11 +31,7 @@ put_here words v word b room here = ap (λ w. has_bit w (v % 64)) (get_or-set_sa
 
 pub put_there : (words : List ℕ) (v word : ℕ) (u : ℕ) → v / 64 < length words → ((i : ℕ) → i < 64 → i ≢ (v % 64) → has_bit word i ≡ has_bit (get_or words (v / 64) 0) i) → (u ≡ v → ⊥) → is_bit_on (set words (v / 64) word) u ≡ is_bit_on words u
 unfolding is_bit_on
-put_there words v word u room others apart =
-    let here = get_or-set_same words (v / 64) word 0 room in
-    let away = get_or-set_other words (v / 64) (u / 64) word 0 in
-    let kept = others (u % 64) (omega arith) in
-    grind arith
+put_there words v word u room others apart = grind (arith, get_or-set_same, get_or-set_other)
 
 -- words of no bits
 pub on_none : (m v : ℕ) → is_bit_on (replicate m 0) v ≡ false

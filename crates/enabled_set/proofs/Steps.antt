@@ -1,6 +1,5 @@
 -- What a step of a scan passes.
-use Rattle.std.proofs.Common.{◌≡◌, ℕ, ◌+◌, Bool, true, false, List, get_or, add-one, sym, ap, ◌∙◌}
-use Rattle.enabled_set.specs.Counts.{tally, before}
+use Rattle.enabled_set.proofs.Prelude.{◌≡◌, ℕ, ◌+◌, Bool, true, false, List, get_or, add-one, sym, ap, ◌∙◌, tally, before}
 use Rattle.enabled_set.proofs.PassCounts.{tally_true, tally_false}
 use Rattle.enabled_set.proofs.Before.{before_more}
 

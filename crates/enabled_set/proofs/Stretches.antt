@@ -1,22 +1,11 @@
 -- Counts that say how many members each stretch of places has.
-use Rattle.std.proofs.Common.{◌≡◌, ℕ, suc, ◌+◌, ◌-◌, ◌*◌, ◌/◌, ◌<◌, ◌≤◌, Bool, true, false, List, length, get_or, set, sym, ap, ◌∙◌, arith, ⊎_elim}
-use Rattle.std.proofs.lemmas.Bool.{cases_lt}
-use Rattle.std.proofs.lemmas.List.{length-set, get_or-set_same, get_or-set_other}
-use Rattle.std.proofs.Math.Nat.{div-lt_iff_lt-mul, mul-suc, mul_comm, mul-div-le, le-div_iff_mul-le}
-use Rattle.enabled_set.specs.Members.{is_in}
-use Rattle.enabled_set.specs.Counts.{tally, AreBlockCounts}
+use Rattle.enabled_set.proofs.Prelude.{◌≡◌, ℕ, suc, ◌+◌, ◌-◌, ◌*◌, ◌/◌, ◌<◌, ◌≤◌, Bool, true, false, List, length, get_or, set, sym, ap, ◌∙◌, arith, cases_lt, length-set, get_or-set_same, get_or-set_other, div-lt_iff_lt-mul, mul-suc, mul_comm, mul-div-le, le-div_iff_mul-le, is_in, tally, AreBlockCounts}
 use Rattle.enabled_set.proofs.PassCounts.{past, tally_add, tally_through, tally_put}
 use Rattle.enabled_set.proofs.Before.{before_more, before_put}
 
 -- a block is counted before a place if it ends there
 past_stretch : (w v i : ℕ) → 0 < w → past (v / w) i ≡ past v (w * i)
-past_stretch w v i some =
-    let turn = mul_comm w i in
-    let fits = div-lt_iff_lt-mul {k = w} {x = v} {y = i} some in
-    ⊎_elim
-    (λ (lt : v / w < i). let f = fits.0 lt in omega arith)
-    (λ (le : i ≤ v / w). let f = (le-div_iff_mul-le {k = w} {x = i} {y = v} some).0 le in omega arith)
-    (cases_lt (v / w) i)
+past_stretch w v i some = grind (arith, mul_comm, div-lt_iff_lt-mul, le-div_iff_mul-le, cases_lt)
 
 -- a stretch has no more members than places
 pub count_few : (bits : List Bool) (w : ℕ) (counts : List ℕ) (j : ℕ) → AreBlockCounts bits w counts → get_or counts j 0 ≤ w
@@ -42,10 +31,7 @@ count_some bits w counts v some good on =
 
 -- the place of a name's stretch
 pub stretch_there : (bits : List Bool) (w : ℕ) (counts : List ℕ) (v : ℕ) → 0 < w → AreBlockCounts bits w counts → v < length bits → v / w < length counts
-stretch_there bits w counts v some good there =
-    let turn = mul_comm w (length counts) in
-    let most = good.covers in
-    (div-lt_iff_lt-mul {k = w} {x = v} {y = length counts} some).1 (omega arith)
+stretch_there bits w counts v some good there = grind (arith, mul_comm, div-lt_iff_lt-mul)
 
 -- a name put in is the one change
 pub on_here : (bits : List Bool) (v : ℕ) (b : Bool) → v < length bits → is_in (set bits v b) v ≡ b

@@ -1,21 +1,10 @@
 -- Sums of what a list has at a place for each name.
-use Rattle.std.proofs.Common.{◌≡◌, ℕ, suc, ◌+◌, ◌*◌, ◌-◌, ◌<◌, ◌≤◌, Bool, true, false, cond, List, [], ◌∷◌, length, get_or, replicate, set, map, sum_by, sym, refl, ap, ◌∙◌, arith}
-use Rattle.std.specs.List.{All, range_with_len}
+use Rattle.enabled_set.proofs.Prelude.{◌≡◌, ℕ, suc, ◌+◌, ◌*◌, ◌-◌, ◌<◌, ◌≤◌, Bool, true, false, cond, List, [], ◌∷◌, length, get_or, replicate, set, map, sum_by, sym, refl, ap, ◌∙◌, arith, All, range_with_len, le_trans, mul-le, ext_get_or, get_or-replicate, get_or_past, length-replicate, length-set, All-set, get_or-map-range_with_len, length-map-range_with_len, get_or-le-sum_by, sum_by-cons, sum_by-le, sum_by-set}
 use mir.Val.{bool_byte}
-use Rattle.std.proofs.Math.Nat.{le_trans}
-use Rattle.std.proofs.lemmas.Nat.{mul-le}
-use Rattle.std.proofs.lemmas.List.{ext_get_or, get_or-replicate, get_or_past, length-replicate, length-set}
-use Rattle.std.proofs.lemmas.List.Elements.{All-set}
-use Rattle.std.proofs.lemmas.List.FromFn.{get_or-map-range_with_len, length-map-range_with_len}
-use Rattle.std.proofs.lemmas.List.Sums.{get_or-le-sum_by, sum_by-cons, sum_by-le, sum_by-set}
 
 -- what is everywhere is at each place, and past the end
 pub everywhere : {X : Type 0} (n v : ℕ) (d : X) → get_or (replicate n d) v d ≡ d
-everywhere n v d =
-    let size = length-replicate n d in
-    let there = get_or-replicate n v d d in
-    let past = get_or_past (replicate n d) v d in
-    grind arith
+everywhere n v d = grind (arith, length-replicate, get_or-replicate, get_or_past)
 
 -- a test as a number
 pub one_byte : (b : Bool) → bool_byte b ≡ cond b 1 0
@@ -47,11 +36,7 @@ summed f part size xs d places none told =
 
 -- the sum after one place was written
 pub sum_put : {X : Type 0} (f : X → ℕ) (xs : List X) (v : ℕ) (was it : X) (sum x y : ℕ) → v < length xs → sum ≡ sum_by f xs → was ≡ get_or xs v was → x ≡ f was → y ≡ f it → sum - x + y ≡ sum_by f (set xs v it)
-sum_put f xs v was it sum x y within is at left right =
-    let turn = sum_by-set f xs v it was within in
-    let part = get_or-le-sum_by f xs v was within in
-    let same = ap f at in
-    omega (arith, turn, part, same, is, left, right)
+sum_put f xs v was it sum x y within is at left right = grind (arith, sum_by-set, get_or-le-sum_by)
 
 -- it still fits, if no place exceeds the greatest value
 pub sum_fits : {X : Type 0} (f : X → ℕ) (most : ℕ) (xs : List X) (v : ℕ) (was it : X) (sum x y : ℕ) → length xs ≤ 65536 → All (λ z. f z ≤ most) xs → f it ≤ most → v < length xs → sum ≡ sum_by f xs → was ≡ get_or xs v was → x ≡ f was → y ≡ f it → sum - x + y ≤ 65536 * most

@@ -1,19 +1,6 @@
 -- The first line at which a text departs from the lines of a base.
-use Rattle.std.proofs.Common.{◌≡◌, ℕ, zero, suc, ◌+◌, ◌<◌, ◌≤◌, List, [], ◌∷◌, ◌++◌, length, length-append, map, refl, sym, ap, ap₂, subst, ◌∙◌, append_assoc, arith}
-use Rattle.std.specs.Prelude.{Result, Ok, Err, IfErr}
-use Rattle.std.specs.Result.{IsErrAnd}
-use Rattle.std.specs.List.{AllByRecursion}
-use Rattle.std.proofs.lemmas.Grind.{flat_map-append}
-use Rattle.std.proofs.lemmas.List.{length-map}
+use Rattle.entry_grammar.proofs.Prelude.{◌≡◌, ℕ, zero, suc, ◌+◌, ◌<◌, ◌≤◌, List, [], ◌∷◌, ◌++◌, length, length-append, map, refl, sym, ap, ap₂, subst, ◌∙◌, append_assoc, arith, Result, Ok, Err, IfErr, IsErrAnd, AllByRecursion, flat_map-append, length-map, lines_with_ends, node_record_text, link_text, BaseLine, Base, Place, Link, IsOrderedPair, IsBaseLine, base_line_text, AreCounts, Starts, IsEdgeAbove, NodesRise, EdgesRise, IsPlace, node_key, place_line, EdgesFollow, NodesFollow, MayFollow, BreaksAt, numbers_text, last_key, NodesRead, NodesBreak, EdgesBreak}
 use Rattle.rule_machine.specs.declared.base.NodeRecord.{NodeRecord as PlaceKept}
-use Rattle.line_text.specs.Words.{lines_with_ends}
-use Rattle.line_text.specs.BaseText.{node_record_text, link_text}
-use Rattle.entry_grammar.specs.declared.base_line.BaseLine.{BaseLine}
-use Rattle.entry_grammar.specs.declared.base_line.BaseLine.TheVariants.{Base, Place, Link}
-use Rattle.entry_grammar.specs.Spelling.{IsOrderedPair, IsBaseLine, base_line_text}
-use Rattle.entry_grammar.specs.Parsing.{AreCounts, Starts}
-use Rattle.entry_grammar.specs.BaseLines.{IsEdgeAbove, NodesRise, EdgesRise, IsPlace, place_line, EdgesFollow, NodesFollow, MayFollow, BreaksAt}
-use Rattle.entry_grammar.specs.BaseParts.{numbers_text, last_node, last_edge, NodesRead, NodesBreak, EdgesBreak}
 
 abbrev pub place_lines : List PlaceKept → List BaseLine
 place_lines places = map place_line places
@@ -69,13 +56,13 @@ all_follow (suc left) edges last (place ∷ places) lines h r f = (r.0, all_foll
 
 -- what follows them if some are missing
 
-node_comes : (left edges last : ℕ) (places : List PlaceKept) (line : BaseLine) → length places < left → NodesFollow left edges last (place_lines places ++ line ∷ []) → (place : PlaceKept) × (line ≡ place_line place) × (last_node last places < place.node)
+node_comes : (left edges last : ℕ) (places : List PlaceKept) (line : BaseLine) → length places < left → NodesFollow left edges last (place_lines places ++ line ∷ []) → (place : PlaceKept) × (line ≡ place_line place) × (last_key node_key last places < place.node)
 node_comes zero edges last places line h f = absurd (omega (arith, h))
 node_comes (suc left) edges last [] (Place node target flagged) h f = (record { node = node; target = target; flagged = flagged }, refl, f.0)
 node_comes (suc left) edges last [] line h f = absurd f
 node_comes (suc left) edges last (place ∷ places) line h f = node_comes left edges place.node places line (omega (arith, h)) f.1
 
-edge_comes : (left : ℕ) (last : ℕ × ℕ) (edges : List (ℕ × ℕ)) (line : BaseLine) → length edges < left → EdgesFollow left last (edge_lines edges ++ line ∷ []) → (edge : ℕ × ℕ) × (line ≡ Link edge) × IsEdgeAbove (last_edge last edges) edge
+edge_comes : (left : ℕ) (last : ℕ × ℕ) (edges : List (ℕ × ℕ)) (line : BaseLine) → length edges < left → EdgesFollow left last (edge_lines edges ++ line ∷ []) → (edge : ℕ × ℕ) × (line ≡ Link edge) × IsEdgeAbove (last_key (λ edge. edge) last edges) edge
 edge_comes zero last edges line h f = absurd (omega (arith, h))
 edge_comes (suc left) last [] (Link edge) h f = (edge, refl, f.0)
 edge_comes (suc left) last [] line h f = absurd f
@@ -120,17 +107,17 @@ text_behind bytes q rest lines more h e =
 pub node_breaks : (bytes : List ℕ) (q : ℕ × ℕ × ℕ × ℕ) (rest : List ℕ) (k : ℕ) → Starts AreCounts numbers_text bytes q rest → NodesBreak rest q.2 k → BreaksAt bytes k
 node_breaks bytes q rest k h b =
     let few = b.few in
-    let many : length (place_lines b.places) ≡ length b.places = length-map b.places place_line in
+    let many : length (place_lines b.items) ≡ length b.items = length-map b.items place_line in
     record {
-      lines = Base q.0 q.1 q.2 q.3 ∷ place_lines b.places;
+      lines = Base q.0 q.1 q.2 q.3 ∷ place_lines b.items;
       rest = b.rest;
-      is = text_behind bytes q rest (lines_with_ends base_line_text (place_lines b.places)) b.rest h (b.read.is ∙ ap (λ (z : List ℕ). z ++ b.rest) (sym (ended_places b.places)));
-      fit = (h.fits, fit_places b.places b.read.fit);
-      follow = nodes_follow q.2 q.3 0 b.places (omega (arith, few)) b.read.rise;
+      is = text_behind bytes q rest (lines_with_ends base_line_text (place_lines b.items)) b.rest h (b.read.is ∙ ap (λ (z : List ℕ). z ++ b.rest) (sym (ended_places b.items)));
+      fit = (h.fits, fit_places b.items b.read.fit);
+      follow = nodes_follow q.2 q.3 0 b.items (omega (arith, few)) b.read.rise;
       short = omega (arith, few, many);
       number = b.number ∙ omega (arith, many);
       stops = λ line more f m e.
-          let next = node_comes q.2 q.3 0 b.places line few m in
+          let next = node_comes q.2 q.3 0 b.items line few m in
           b.stops next.0 more next.2 (record { fits = subst IsBaseLine next.1 f; is = e ∙ ap (λ (z : BaseLine). base_line_text z ++ 10 ∷ more) next.1 });
     }
 
@@ -139,24 +126,24 @@ pub edge_breaks : (bytes : List ℕ) (q : ℕ × ℕ × ℕ × ℕ) (rest : List
 edge_breaks bytes q rest places left k h read all b =
     let few = b.few in
     let nodes = place_lines places in
-    let edges = edge_lines b.edges in
-    let many : length (nodes ++ edges) ≡ q.2 + length b.edges = length-append nodes edges ∙ ap₂ (λ (m n : ℕ). m + n) (length-map places place_line ∙ all) (length-map b.edges (λ edge. Link edge)) in
-    let texts : lines_with_ends base_line_text (nodes ++ edges) ≡ lines_with_ends node_record_text places ++ lines_with_ends link_text b.edges =
-    flat_map-append (λ line. base_line_text line ++ 10 ∷ []) nodes edges ∙ ap₂ (λ (x y : List ℕ). x ++ y) (ended_places places) (ended_edges b.edges)
+    let edges = edge_lines b.items in
+    let many : length (nodes ++ edges) ≡ q.2 + length b.items = length-append nodes edges ∙ ap₂ (λ (m n : ℕ). m + n) (length-map places place_line ∙ all) (length-map b.items (λ edge. Link edge)) in
+    let texts : lines_with_ends base_line_text (nodes ++ edges) ≡ lines_with_ends node_record_text places ++ lines_with_ends link_text b.items =
+    flat_map-append (λ line. base_line_text line ++ 10 ∷ []) nodes edges ∙ ap₂ (λ (x y : List ℕ). x ++ y) (ended_places places) (ended_edges b.items)
     in
     record {
       lines = Base q.0 q.1 q.2 q.3 ∷ (nodes ++ edges);
       rest = b.rest;
       is =
           text_behind bytes q rest (lines_with_ends base_line_text (nodes ++ edges)) b.rest h
-          (read.is ∙ ap (λ (z : List ℕ). lines_with_ends node_record_text places ++ z) b.read.is ∙ sym (append_assoc (lines_with_ends node_record_text places) (lines_with_ends link_text b.edges) b.rest) ∙ ap (λ (z : List ℕ). z ++ b.rest) (sym texts));
-      fit = (h.fits, fit_both nodes edges (fit_places places read.fit) (fit_edges b.edges b.read.fit));
-      follow = all_follow q.2 q.3 0 places edges all read.rise (edges_follow q.3 (0, 0) b.edges (omega (arith, few)) b.read.rise);
+          (read.is ∙ ap (λ (z : List ℕ). lines_with_ends node_record_text places ++ z) b.read.is ∙ sym (append_assoc (lines_with_ends node_record_text places) (lines_with_ends link_text b.items) b.rest) ∙ ap (λ (z : List ℕ). z ++ b.rest) (sym texts));
+      fit = (h.fits, fit_both nodes edges (fit_places places read.fit) (fit_edges b.items b.read.fit));
+      follow = all_follow q.2 q.3 0 places edges all read.rise (edges_follow q.3 (0, 0) b.items (omega (arith, few)) b.read.rise);
       short = omega (arith, few, many);
       number = b.number ∙ omega (arith, many);
       stops = λ line more f m e.
           let behind = past_nodes q.2 q.3 0 places (edges ++ line ∷ []) all (subst (λ (z : List BaseLine). NodesFollow q.2 q.3 0 z) (append_assoc nodes edges (line ∷ [])) m) in
-          let next = edge_comes q.3 (0, 0) b.edges line few behind in
+          let next = edge_comes q.3 (0, 0) b.items line few behind in
           b.stops next.0 more next.2 (record { fits = subst IsBaseLine next.1 f; is = e ∙ ap (λ (z : BaseLine). base_line_text z ++ 10 ∷ more) next.1 });
     }
 

@@ -1,24 +1,10 @@
 -- The lines of a base.
-use Rattle.std.proofs.Common.{◌≡◌, ℕ, ◌≤◌, Bool, List, [], ◌∷◌, ◌++◌, None, Some, get_or, refl, sym, ap, ap₂, ◌∙◌, append_assoc, arith}
-use Rattle.std.specs.Prelude.{codes, IfSome, Option}
-use Rattle.std.proofs.lemmas.List.{append-nil, append_cancel_left}
-use Rattle.std.proofs.lemmas.Fmt.{decimal_injective}
-use Rattle.rule_machine.specs.declared.rules.RuleSet.{RuleSet}
-use Rattle.rule_machine.specs.Tables.{rules_word}
-use Rattle.line_text.specs.Words.{number_text, IsName}
-use Rattle.line_text.specs.EventText.{bool_text, target_text, pair_text}
-use Rattle.line_text.specs.ReplyText.{IsOrderedPair, field_text}
-use Rattle.line_text.specs.Words.{joined_texts}
-use Rattle.line_text.specs.BaseText.{base_fields}
-use Rattle.entry_grammar.specs.declared.base_line.BaseLine.{BaseLine}
-use Rattle.entry_grammar.specs.declared.base_line.BaseLine.TheVariants.{Head, Base, Place, Link}
-use Rattle.entry_grammar.specs.Spelling.{SpellsBaseLine}
-use Rattle.entry_grammar.specs.Parsing.{IsFree, CutAt, FieldThen, AreCounts, rules_text, registers_text}
-use Rattle.entry_grammar.proofs.Free.{cut_once, free_by, free_name}
-use Rattle.entry_grammar.proofs.Headers.{rules_free, rules_once}
-use Rattle.entry_grammar.proofs.CountsOnce.{behind, field_once}
-use Rattle.entry_grammar.proofs.MarkedNames.{marked_once, name_once}
-use Rattle.line_text.proofs.EventsOnce.{bool_once, target_once}
+use Rattle.entry_grammar.proofs.Prelude.{◌≡◌, ℕ, ◌<◌, ◌≤◌, Bool, List, [], ◌∷◌, ◌++◌, None, Some, drop, get_or, refl, sym, ap, ◌∙◌, append_assoc, arith, codes, IfSome, IsInRange, append_cancel_left, RuleSet, NodeRecord, rules_word, number_text, IsName, bool_text, target_text, pair_text, field_text, joined_texts, base_fields, base_head, link_text, node_record_text, BaseLine, Head, Base, Place, Link, SpellsBaseLine, IsPlace, place_line, NoDigit, IsFree, CutAt, AreCounts, rules_text, registers_text, IsReadBack, Always, Undigited, alone, after_word, apart_by, bool_back, for_fewer, name_back, nothing_ends, number_back, target_back, through}
+use Rattle.std.specs.Prelude.{Option}
+use Rattle.line_text.specs.ReplyText.{IsOrderedPair}
+use Rattle.entry_grammar.proofs.Free.{free_by, free_name}
+use Rattle.entry_grammar.proofs.Headers.{rules_back, rules_free}
+use Rattle.entry_grammar.proofs.CountsOnce.{fields_once, number_at}
 
 -- the rules and the names are cut at the space between them
 pub rules_cut : (bytes : List ℕ) (rules : RuleSet) (size : ℕ) → bytes ≡ rules_text rules size → CutAt 32 bytes (rules_word rules) (number_text size)
@@ -38,9 +24,6 @@ place_is node target flag =
     append_assoc (number_text node ++ codes " " ++ target_text target) (32 ∷ []) (bool_text flag)
     ∙ append_assoc (number_text node ++ codes " ") (target_text target) (32 ∷ bool_text flag)
     ∙ append_assoc (number_text node) (32 ∷ []) (registers_text target flag)
-
-pub ends_is : (a b : ℕ) → pair_text a b ≡ number_text a ++ 32 ∷ number_text b
-ends_is a b = append_assoc (number_text a) (32 ∷ []) (number_text b)
 
 pub head_is : (rules : RuleSet) (size : ℕ) → rules_word rules ++ codes " " ++ number_text size ≡ rules_text rules size
 head_is rules size = append_assoc (rules_word rules) (32 ∷ []) (number_text size)
@@ -72,53 +55,36 @@ no_line line node edge base head (Base number spent nodes edges) h = base (joine
 no_line line node edge base head (Place v target flag) h = node (number_text v ++ codes " " ++ target_text target ++ codes " " ++ bool_text flag) h.is
 no_line line node edge base head (Link e) h = edge (pair_text e.0 e.1) h.is
 
--- what follows each number of a base
-pub behind_number : (bytes : List ℕ) (n : ℕ) (rest : List ℕ) (q : ℕ × ℕ × ℕ × ℕ) → AreCounts q → FieldThen bytes (codes "") n rest → bytes ≡ joined_texts field_text (base_fields q.0 q.1 q.2 q.3) → rest ≡ joined_texts field_text ((codes "spent=", q.1) ∷ (codes "nodes=", q.2) ∷ (codes "edges=", q.3) ∷ [])
-behind_number bytes n rest q f h e =
-    (behind bytes (codes "") n q.0 rest (codes "spent=", q.1) ((codes "nodes=", q.2) ∷ (codes "edges=", q.3) ∷ []) tt f.0 h e).1
-
-pub behind_spent : (bytes : List ℕ) (n : ℕ) (rest : List ℕ) (q : ℕ × ℕ × ℕ × ℕ) → AreCounts q → FieldThen bytes (codes "spent=") n rest → bytes ≡ joined_texts field_text ((codes "spent=", q.1) ∷ (codes "nodes=", q.2) ∷ (codes "edges=", q.3) ∷ []) → rest ≡ joined_texts field_text ((codes "nodes=", q.2) ∷ (codes "edges=", q.3) ∷ [])
-behind_spent bytes n rest q f h e =
-    (behind bytes (codes "spent=") n q.1 rest (codes "nodes=", q.2) ((codes "edges=", q.3) ∷ []) (free_by 32 (codes "spent=") refl) f.1 h e).1
-
-pub behind_nodes : (bytes : List ℕ) (n : ℕ) (rest : List ℕ) (q : ℕ × ℕ × ℕ × ℕ) → AreCounts q → FieldThen bytes (codes "nodes=") n rest → bytes ≡ joined_texts field_text ((codes "nodes=", q.2) ∷ (codes "edges=", q.3) ∷ []) → rest ≡ field_text (codes "edges=", q.3)
-behind_nodes bytes n rest q f h e =
-    (behind bytes (codes "nodes=") n q.2 rest (codes "edges=", q.3) [] (free_by 32 (codes "nodes=") refl) f.2 h e).1
-    ∙ append-nil (field_text (codes "edges=", q.3))
-
 -- ---- a line spells one
 
-heads_once : (r q : RuleSet) (m n : ℕ) → m ≤ 65535 → n ≤ 65535 → rules_text r m ≡ rules_text q n → Head r m ≡ Head q n
-heads_once r q m n f g e =
-    let p = cut_once 32 (rules_text r m) (rules_word r) (rules_word q) (number_text m) (number_text n) (rules_cut (rules_text r m) r m refl) (rules_cut (rules_text r m) q n e) in
-    ap₂ Head (rules_once r q p.0) (decimal_injective m n (omega (arith, f)) (omega (arith, g)) p.1)
+space_ends : {X : Type 0} (x : X) (r : List ℕ) → NoDigit (32 ∷ r)
+space_ends x r = λ (h : IsInRange 48 57 32). omega (arith, h.0)
 
-places_once : (m n : ℕ) (v w : Option ℕ) (f g : Bool) → IsName m × IfSome v IsName → IsName n × IfSome w IsName → number_text m ++ 32 ∷ registers_text v f ≡ number_text n ++ 32 ∷ registers_text w g → Place m v f ≡ Place n w g
-places_once m n v w f g x y e =
-    let name = marked_once 32 m n (registers_text v f) (registers_text w g) (λ h. omega (arith, h.0)) x.0 y.0 e in
-    let p = cut_once 32 (registers_text v f) (target_text v) (target_text w) (bool_text f) (bool_text g) (registers_cut (registers_text v f) v f x.1 refl) (registers_cut (registers_text v f) w g y.1 name.1) in
-    ap (λ z. Place z v f) name.0 ∙ ap₂ (λ z b. Place n z b) (target_once v w x.1 y.1 p.0) (bool_once f g p.1)
+head_back : IsReadBack (λ (p : RuleSet × ℕ). Unit {0} × (p.1 < 18446744073709551616)) (λ p. base_head p.0 p.1) Undigited
+head_back = apart_by 32 (after_word (codes "matching2 ") rules_back) number_back (λ rules r. tt)
 
-links_once : (p q : ℕ × ℕ) → IsOrderedPair p → IsOrderedPair q → number_text p.0 ++ 32 ∷ number_text p.1 ≡ number_text q.0 ++ 32 ∷ number_text q.1 → p ≡ q
-links_once p q f g e =
-    let low = marked_once 32 p.0 q.0 (number_text p.1) (number_text q.1) (λ h. omega (arith, h.0)) f.0 g.0 e in
-    ap₂ (λ x y. (x, y)) low.0 (name_once p.1 q.1 f.1 g.1 low.1)
+pub record_back : IsReadBack IsPlace node_record_text Always
+record_back =
+    for_fewer IsPlace
+    (through (apart_by 32 (apart_by 32 (after_word (codes "node ") name_back) target_back space_ends) bool_back space_ends) (λ (p : NodeRecord). ((p.node, p.target), p.flagged)) (λ q. record { node = q.0.0; target = q.0.1; flagged = q.1 }) (λ p. refl))
+    (λ p f. ((f.0, f.1), tt))
 
-bases_once : (a b c d k l m n : ℕ) → AreCounts (a, b, c, d) → AreCounts (k, l, m, n) → joined_texts field_text (base_fields a b c d) ≡ joined_texts field_text (base_fields k l m n) → Base a b c d ≡ Base k l m n
-bases_once a b c d k l m n f g e =
-    let number = behind (joined_texts field_text (base_fields a b c d)) (codes "") a k (joined_texts field_text ((codes "spent=", b) ∷ (codes "nodes=", c) ∷ (codes "edges=", d) ∷ [])) (codes "spent=", l) ((codes "nodes=", m) ∷ (codes "edges=", n) ∷ []) tt g.0 (record { fits = f.0; is = refl }) e in
-    let spent = behind (joined_texts field_text ((codes "spent=", b) ∷ (codes "nodes=", c) ∷ (codes "edges=", d) ∷ [])) (codes "spent=") b l (joined_texts field_text ((codes "nodes=", c) ∷ (codes "edges=", d) ∷ [])) (codes "nodes=", m) ((codes "edges=", n) ∷ []) (free_by 32 (codes "spent=") refl) g.1 (record { fits = f.1; is = refl }) number.1 in
-    let nodes = behind (joined_texts field_text ((codes "nodes=", c) ∷ (codes "edges=", d) ∷ [])) (codes "nodes=") c m (joined_texts field_text ((codes "edges=", d) ∷ [])) (codes "edges=", n) [] (free_by 32 (codes "nodes=") refl) g.2 (record { fits = f.2; is = refl }) spent.1 in
-    let edges = field_once (codes "edges=") d n f.3 g.3 (sym (append-nil (field_text (codes "edges=", d))) ∙ nodes.1 ∙ append-nil (field_text (codes "edges=", n))) in
-    ap (λ z. Base z b c d) number.0 ∙ ap (λ z. Base k z c d) spent.0 ∙ ap (λ z. Base k l z d) nodes.0 ∙ ap (λ z. Base k l m z) edges
+pub link_back : IsReadBack IsOrderedPair link_text Undigited
+link_back = for_fewer IsOrderedPair (after_word (codes "edge ") (apart_by 32 name_back name_back space_ends)) (λ p f. (f.0, f.1))
+
+abbrev base_from : List (List ℕ × ℕ) → BaseLine
+base_from fields = Base (number_at fields 0) (number_at fields 1) (number_at fields 2) (number_at fields 3)
 
 pub spells_base_line_once : (line : List ℕ) (a b : BaseLine) → SpellsBaseLine line a → SpellsBaseLine line b → a ≡ b
-spells_base_line_once line (Head rules size) (Head rules_b size_b) x y =
-    heads_once rules rules_b size size_b x.fits y.fits (sym (head_is rules size) ∙ append_cancel_left (codes "matching2 ") (rules_word rules ++ codes " " ++ number_text size) (rules_word rules_b ++ codes " " ++ number_text size_b) (sym x.is ∙ y.is) ∙ head_is rules_b size_b)
-spells_base_line_once line (Base number spent nodes edges) (Base number_b spent_b nodes_b edges_b) x y =
-    bases_once number spent nodes edges number_b spent_b nodes_b edges_b x.fits y.fits (append_cancel_left (codes "base ") (joined_texts field_text (base_fields number spent nodes edges)) (joined_texts field_text (base_fields number_b spent_b nodes_b edges_b)) (sym x.is ∙ y.is))
-spells_base_line_once line (Place node target flag) (Place node_b target_b flag_b) x y =
-    places_once node node_b target target_b flag flag_b x.fits y.fits (sym (place_is node target flag) ∙ append_cancel_left (codes "node ") (number_text node ++ codes " " ++ target_text target ++ codes " " ++ bool_text flag) (number_text node_b ++ codes " " ++ target_text target_b ++ codes " " ++ bool_text flag_b) (sym x.is ∙ y.is) ∙ place_is node_b target_b flag_b)
-spells_base_line_once line (Link edge) (Link edge_b) x y =
-    ap Link (links_once edge edge_b x.fits y.fits (sym (ends_is edge.0 edge.1) ∙ append_cancel_left (codes "edge ") (pair_text edge.0 edge.1) (pair_text edge_b.0 edge_b.1) (sym x.is ∙ y.is) ∙ ends_is edge_b.0 edge_b.1))
+spells_base_line_once line (Head r m) (Head q n) x y =
+    ap (λ (p : RuleSet × ℕ). Head p.0 p.1) (alone head_back (λ p. nothing_ends) (r, m) (q, n) (tt, omega (arith, x.fits)) (tt, omega (arith, y.fits)) (sym x.is ∙ y.is))
+spells_base_line_once line (Base a b c d) (Base k l m n) x y =
+    let f = x.fits in
+    let g = y.fits in
+    ap base_from
+    (fields_once (codes "", a) (codes "", k) (drop 1 (base_fields a b c d)) (drop 1 (base_fields k l m n)) (refl, (refl, (refl, (refl, tt)))) (f.0, (f.1, (f.2, (f.3, tt)))) (g.0, (g.1, (g.2, (g.3, tt))))
+    (append_cancel_left (codes "base ") (joined_texts field_text (base_fields a b c d)) (joined_texts field_text (base_fields k l m n)) (sym x.is ∙ y.is)))
+spells_base_line_once line (Place m v f) (Place n w g) x y =
+    ap place_line (alone record_back (λ p. tt) (record { node = m; target = v; flagged = f }) (record { node = n; target = w; flagged = g }) x.fits y.fits (sym x.is ∙ y.is))
+spells_base_line_once line (Link e) (Link f) x y = ap Link (alone link_back (λ p. nothing_ends) e f x.fits y.fits (sym x.is ∙ y.is))
 spells_base_line_once line a b x y = absurd (omega (arith, ap first_of (sym x.is ∙ y.is)))

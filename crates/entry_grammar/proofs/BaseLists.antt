@@ -1,14 +1,5 @@
 -- Nodes and edges of a base, read one after another.
-use Rattle.std.proofs.Common.{◌≡◌, ℕ, Bool, true, if◌then◌else◌, ◌+◌, ◌<◌, List, [], ◌∷◌, ◌++◌, length, length-append, refl, sym, ap, subst, ◌∙◌, append_assoc, arith}
-use Rattle.std.proofs.lemmas.Grind.{flat_map-append}
-use Rattle.std.proofs.lemmas.List.{append-nil}
-use Rattle.rule_machine.specs.declared.base.NodeRecord.{NodeRecord}
-use Rattle.line_text.specs.Words.{lines_with_ends}
-use Rattle.line_text.specs.BaseText.{node_record_text, link_text}
-use Rattle.entry_grammar.specs.Spelling.{IsOrderedPair}
-use Rattle.entry_grammar.specs.Parsing.{Starts}
-use Rattle.entry_grammar.specs.BaseLines.{IsEdgeAbove, NodesRise, EdgesRise, IsPlace}
-use Rattle.entry_grammar.specs.BaseParts.{NodesRead, NodesBreak, EdgesRead, EdgesBreak, last_node, last_edge}
+use Rattle.entry_grammar.proofs.Prelude.{◌≡◌, ℕ, Bool, true, if◌then◌else◌, ◌+◌, ◌<◌, List, [], ◌∷◌, ◌++◌, length, length-append, refl, sym, ap, subst, ◌∙◌, append_assoc, arith, flat_map-append, append-nil, NodeRecord, lines_with_ends, node_record_text, link_text, IsOrderedPair, Starts, AscendByKey, IsEdgeAbove, IsNodeAbove, IsPlace, node_key, LinesBreak, LinesRead, last_key}
 use Rattle.entry_grammar.proofs.JoinedWords.{fits_push}
 
 -- the text of one item more
@@ -20,87 +11,52 @@ ended_push {X} text xs x rest more e =
     ∙ sym (append_assoc (lines_with_ends text xs) (lines_with_ends text (x ∷ [])) more)
     ∙ ap (λ (z : List ℕ). z ++ more) (sym (flat_map-append line xs (x ∷ [])))
 
--- ---- nodes
+last_push : {K X : Type 0} (key : X → K) (last : K) (items : List X) (x : X) → last_key key last (items ++ x ∷ []) ≡ key x
+last_push key last [] x = refl
+last_push key last (y ∷ items) x = last_push key (key y) items x
 
-last_node_push : (last : ℕ) (places : List NodeRecord) (place : NodeRecord) → last_node last (places ++ place ∷ []) ≡ place.node
-last_node_push last [] place = refl
-last_node_push last (p ∷ places) place = last_node_push p.node places place
+ascend_push : {K X : Type 0} (above : K → X → Type 0) (key : X → K) (last : K) (items : List X) (x : X) → AscendByKey above key last items → above (last_key key last items) x → AscendByKey above key last (items ++ x ∷ [])
+ascend_push above key last [] x r h = (h, tt)
+ascend_push above key last (y ∷ items) x r h = (r.0, ascend_push above key (key y) items x r.1 h)
 
-nodes_rise_push : (last : ℕ) (places : List NodeRecord) (place : NodeRecord) → NodesRise last places → last_node last places < place.node → NodesRise last (places ++ place ∷ [])
-nodes_rise_push last [] place r h = (h, tt)
-nodes_rise_push last (p ∷ places) place r h = (r.0, nodes_rise_push p.node places place r.1 h)
+-- this many items were read, the last of them with that key
+pub record LinesSoFar {K X : Type 0} (fits : X → Type 0) (text : X → List ℕ) (above : K → X → Type 0) (key : X → K) (least : K) (bytes : List ℕ) (items : List X) (rest : List ℕ) (count : ℕ) (last : K) : Type 0 where
+  pub read : LinesRead fits text above key least bytes items rest
+  pub count_is : length items ≡ count
+  pub last_is : last ≡ last_key key least items
 
--- this many nodes were read, the last of them that one
-pub record NodesSoFar (bytes : List ℕ) (places : List NodeRecord) (rest : List ℕ) (count last : ℕ) : Type 0 where
-  pub read : NodesRead bytes places rest
-  pub count_is : length places ≡ count
-  pub last_is : last ≡ last_node 0 places
+pub no_lines : {K X : Type 0} {fits : X → Type 0} {text : X → List ℕ} {above : K → X → Type 0} {key : X → K} {least : K} (bytes : List ℕ) → LinesSoFar fits text above key least bytes [] bytes 0 least
+no_lines bytes = record { read = record { is = refl; fit = tt; rise = tt }; count_is = refl; last_is = refl }
 
-pub no_nodes : (bytes : List ℕ) → NodesSoFar bytes [] bytes 0 0
-no_nodes bytes = record { read = record { is = refl; fit = tt; rise = tt }; count_is = refl; last_is = refl }
-
-pub one_node_more : (bytes : List ℕ) (places : List NodeRecord) (rest : List ℕ) (count last : ℕ) (place : NodeRecord) (more : List ℕ) → NodesSoFar bytes places rest count last → last < place.node → Starts IsPlace node_record_text rest place more → NodesSoFar bytes (places ++ place ∷ []) more (count + 1) place.node
-one_node_more bytes places rest count last place more h above found = record {
+pub one_more : {K X : Type 0} {fits : X → Type 0} {text : X → List ℕ} {above : K → X → Type 0} {key : X → K} {least : K} {bytes : List ℕ} {items : List X} {rest : List ℕ} {count : ℕ} {last : K} → LinesSoFar fits text above key least bytes items rest count last
+    → (x : X) (more : List ℕ) → above last x → Starts fits text rest x more → LinesSoFar fits text above key least bytes (items ++ x ∷ []) more (count + 1) (key x)
+one_more {K} {X} {fits} {text} {above} {key} {least} {bytes} {items} {rest} h x more after found = record {
   read = record {
-    is = h.read.is ∙ ended_push node_record_text places place rest more found.is;
-    fit = fits_push IsPlace places place h.read.fit found.fits;
-    rise = nodes_rise_push 0 places place h.read.rise (subst (λ n. n < place.node) h.last_is above);
+    is = h.read.is ∙ ended_push text items x rest more found.is;
+    fit = fits_push fits items x h.read.fit found.fits;
+    rise = ascend_push above key least items x h.read.rise (subst (λ k. above k x) h.last_is after);
   };
-  count_is = length-append places (place ∷ []) ∙ ap (λ (n : ℕ). n + 1) h.count_is;
-  last_is = sym (last_node_push 0 places place);
+  count_is = length-append items (x ∷ []) ∙ ap (λ (n : ℕ). n + 1) h.count_is;
+  last_is = sym (last_push key least items x);
 }
 
 -- none comes that is above the last
-pub nodes_break : (bytes : List ℕ) (places : List NodeRecord) (rest : List ℕ) (count last size k : ℕ) → NodesSoFar bytes places rest count last → count < size → k ≡ count + 2 → ((place : NodeRecord) (more : List ℕ) → last < place.node → Starts IsPlace node_record_text rest place more → ⊥) → NodesBreak bytes size k
-nodes_break bytes places rest count last size k h few e none = record {
-  places = places;
-  rest = rest;
-  read = h.read;
-  few = omega (arith, few, h.count_is);
-  number = e ∙ ap (λ (n : ℕ). n + 2) (sym h.count_is);
-  stops = λ place more above. none place more (subst (λ n. n < place.node) (sym h.last_is) above);
-}
-
--- ---- edges
-
-last_edge_push : (last : ℕ × ℕ) (edges : List (ℕ × ℕ)) (edge : ℕ × ℕ) → last_edge last (edges ++ edge ∷ []) ≡ edge
-last_edge_push last [] edge = refl
-last_edge_push last (e ∷ edges) edge = last_edge_push e edges edge
-
-edges_rise_push : (last : ℕ × ℕ) (edges : List (ℕ × ℕ)) (edge : ℕ × ℕ) → EdgesRise last edges → IsEdgeAbove (last_edge last edges) edge → EdgesRise last (edges ++ edge ∷ [])
-edges_rise_push last [] edge r h = (h, tt)
-edges_rise_push last (e ∷ edges) edge r h = (r.0, edges_rise_push e edges edge r.1 h)
-
--- this many edges were read, the last of them that one
-pub record EdgesSoFar (bytes : List ℕ) (edges : List (ℕ × ℕ)) (rest : List ℕ) (count : ℕ) (last : ℕ × ℕ) : Type 0 where
-  pub read : EdgesRead bytes edges rest
-  pub count_is : length edges ≡ count
-  pub last_is : last ≡ last_edge (0, 0) edges
-
-pub no_edges : (bytes : List ℕ) → EdgesSoFar bytes [] bytes 0 (0, 0)
-no_edges bytes = record { read = record { is = refl; fit = tt; rise = tt }; count_is = refl; last_is = refl }
-
-pub one_edge_more : (bytes : List ℕ) (edges : List (ℕ × ℕ)) (rest : List ℕ) (count : ℕ) (last edge : ℕ × ℕ) (more : List ℕ) → EdgesSoFar bytes edges rest count last → IsEdgeAbove last edge → Starts IsOrderedPair link_text rest edge more → EdgesSoFar bytes (edges ++ edge ∷ []) more (count + 1) edge
-one_edge_more bytes edges rest count last edge more h above found = record {
-  read = record {
-    is = h.read.is ∙ ended_push link_text edges edge rest more found.is;
-    fit = fits_push IsOrderedPair edges edge h.read.fit found.fits;
-    rise = edges_rise_push (0, 0) edges edge h.read.rise (subst (λ e. IsEdgeAbove e edge) h.last_is above);
-  };
-  count_is = length-append edges (edge ∷ []) ∙ ap (λ (n : ℕ). n + 1) h.count_is;
-  last_is = sym (last_edge_push (0, 0) edges edge);
-}
-
--- none comes that is above the last
-pub edges_break : (bytes : List ℕ) (edges : List (ℕ × ℕ)) (rest : List ℕ) (count : ℕ) (last : ℕ × ℕ) (size first k : ℕ) → EdgesSoFar bytes edges rest count last → count < size → k ≡ first + count → ((edge : ℕ × ℕ) (more : List ℕ) → IsEdgeAbove last edge → Starts IsOrderedPair link_text rest edge more → ⊥) → EdgesBreak bytes size first k
-edges_break bytes edges rest count last size first k h few e none = record {
-  edges = edges;
+pub lines_break : {K X : Type 0} {fits : X → Type 0} {text : X → List ℕ} {above : K → X → Type 0} {key : X → K} {least : K} {bytes : List ℕ} {items : List X} {rest : List ℕ} {count : ℕ} {last : K} → LinesSoFar fits text above key least bytes items rest count last
+    → (size first k : ℕ) → count < size → k ≡ first + count → ((x : X) (more : List ℕ) → above last x → Starts fits text rest x more → ⊥) → LinesBreak fits text above key least bytes size first k
+lines_break {K} {X} {fits} {text} {above} {key} {least} {bytes} {items} {rest} h size first k few e none = record {
+  items = items;
   rest = rest;
   read = h.read;
   few = omega (arith, few, h.count_is);
   number = e ∙ ap (λ (n : ℕ). first + n) (sym h.count_is);
-  stops = λ edge more above. none edge more (subst (λ z. IsEdgeAbove z edge) (sym h.last_is) above);
+  stops = λ x more after. none x more (subst (λ z. above z x) (sym h.last_is) after);
 }
+
+abbrev pub NodesSoFar : List ℕ → List NodeRecord → List ℕ → ℕ → ℕ → Type 0
+NodesSoFar bytes places rest count last = LinesSoFar IsPlace node_record_text IsNodeAbove node_key 0 bytes places rest count last
+
+abbrev pub EdgesSoFar : List ℕ → List (ℕ × ℕ) → List ℕ → ℕ → ℕ × ℕ → Type 0
+EdgesSoFar bytes edges rest count last = LinesSoFar IsOrderedPair link_text IsEdgeAbove (λ edge. edge) (0, 0) bytes edges rest count last
 
 -- what a push that did not fail made
 pub was_pushed : {X : Type 0} (items old : List X) (x : X) (ok : Bool) → items ≡ (if ok then old ++ x ∷ [] else old) → ok ≡ true → items ≡ old ++ x ∷ []

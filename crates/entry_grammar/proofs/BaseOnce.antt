@@ -1,20 +1,10 @@
 -- A text begins with the lines of one base at most, and they break off at one line at most.
-use Rattle.std.proofs.Common.{◌≡◌, ℕ, zero, suc, ◌+◌, ◌⊎◌, inl, inr, List, [], ◌∷◌, ◌++◌, length, map, refl, sym, ap, ap₂, subst, ◌∙◌, append_assoc, arith}
-use Rattle.std.specs.List.{AllByRecursion}
-use Rattle.std.proofs.lemmas.Grind.{flat_map-append}
-use Rattle.std.proofs.lemmas.List.{length-append, length-map, append-nil}
-use Rattle.rule_machine.specs.declared.rules.RuleSet.{RuleSet}
-use Rattle.rule_machine.specs.declared.base.NodeRecord.{NodeRecord as PlaceKept}
+use Rattle.entry_grammar.proofs.Prelude.{◌≡◌, ℕ, zero, suc, ◌+◌, ◌⊎◌, inl, inr, List, [], ◌∷◌, ◌++◌, length, map, refl, sym, ap, ap₂, subst, ◌∙◌, append_assoc, arith, IsInRange, AllByRecursion, flat_map-append, length-map, append-nil, RuleSet, lines_with_ends, base_head, numbers_line, node_record_text, link_text, base_text, BaseLine, Base, Place, Link, IsBaseLine, base_line_text, IsShaped, base_lines, place_line, lines_of_base, EdgesFollow, NodesFollow, MayFollow, LacksLines, BreaksAt, lines_back}
+use Rattle.std.proofs.lemmas.List.{length-append}
 use Rattle.rule_machine.specs.declared.base.Base.{Base as BaseKept}
-use Rattle.line_text.specs.Words.{lines_with_ends}
-use Rattle.line_text.specs.BaseText.{base_head, numbers_line, node_record_text, link_text, base_text}
-use Rattle.entry_grammar.specs.declared.base_line.BaseLine.{BaseLine}
-use Rattle.entry_grammar.specs.declared.base_line.BaseLine.TheVariants.{Base, Place, Link}
-use Rattle.entry_grammar.specs.Spelling.{IsBaseLine, base_line_text}
-use Rattle.entry_grammar.specs.BaseLines.{IsShaped, base_lines, place_line, lines_of_base, EdgesFollow, NodesFollow, MayFollow, LacksLines, BreaksAt}
 use Rattle.entry_grammar.proofs.Free.{mark_once}
 use Rattle.entry_grammar.proofs.BaseBreaks.{all_follow, edges_follow, ended_edges, ended_places, fit_both, fit_edges, fit_places}
-use Rattle.entry_grammar.proofs.BaseLines.{spells_base_line_once}
+use Rattle.entry_grammar.proofs.BaseLines.{link_back, record_back, spells_base_line_once}
 use Rattle.entry_grammar.proofs.FirstLines.{line_free}
 
 -- ---- two lists of lines at the beginning of one text
@@ -105,9 +95,6 @@ tail_len base =
     let edges = length-map base.edges (λ edge. Link edge) in
     omega (arith, both, nodes, edges)
 
-cons_is : (a b : BaseLine) (ls ms : List BaseLine) → a ∷ ls ≡ b ∷ ms → (a ≡ b) × (ls ≡ ms)
-cons_is a b ls ms e = let head : a ≡ b = cc in let rest : ls ≡ ms = cc in (head, rest)
-
 base_is : (a b c d k l m n : ℕ) → Base a b c d ≡ Base k l m n → (a ≡ k) × (b ≡ l) × (c ≡ m) × (d ≡ n)
 base_is a b c d k l m n e =
     let number : a ≡ k = cc in
@@ -116,70 +103,24 @@ base_is a b c d k l m n e =
     let edges : d ≡ n = cc in
     (number, spent, nodes, edges)
 
-links_once : (es fs : List (ℕ × ℕ)) → map (λ edge. Link edge) es ≡ map (λ edge. Link edge) fs → es ≡ fs
-links_once [] [] e = refl
-links_once [] (f ∷ fs) e = absurd cc
-links_once (g ∷ es) [] e = absurd cc
-links_once (g ∷ es) (f ∷ fs) e =
-    let head : g ≡ f = cc in
-    let rest : map (λ edge. Link edge) es ≡ map (λ edge. Link edge) fs = cc in
-    ap (λ z. z ∷ es) head ∙ ap (λ l. f ∷ l) (links_once es fs rest)
-
-place_once : (p q : PlaceKept) → place_line p ≡ place_line q → p ≡ q
-place_once p q e =
-    let node : p.node ≡ q.node = cc in
-    let target : p.target ≡ q.target = cc in
-    let flagged : p.flagged ≡ q.flagged = cc in
-    λ i. record { node = node i; target = target i; flagged = flagged i }
-
-parts_once : (ps qs : List PlaceKept) (es fs : List (ℕ × ℕ)) → map place_line ps ++ map (λ edge. Link edge) es ≡ map place_line qs ++ map (λ edge. Link edge) fs → (ps ≡ qs) × (es ≡ fs)
-parts_once [] [] es fs e = (refl, links_once es fs e)
-parts_once (p ∷ ps) (q ∷ qs) es fs e =
-    let two = cons_is (place_line p) (place_line q) (map place_line ps ++ map (λ edge. Link edge) es) (map place_line qs ++ map (λ edge. Link edge) fs) e in
-    let more = parts_once ps qs es fs two.1 in
-    (ap (λ z. z ∷ ps) (place_once p q two.0) ∙ ap (λ l. q ∷ l) more.0, more.1)
-parts_once [] (q ∷ qs) [] fs e = absurd cc
-parts_once (p ∷ ps) [] es [] e = absurd cc
-parts_once ps qs es fs e = absurd cc
-
-base_from_lines : (a b : BaseKept) → lines_of_base a ≡ lines_of_base b → a ≡ b
-base_from_lines a b e =
-    let two = cons_is (first_of a) (first_of b) (tail_of a) (tail_of b) e in
-    let four = base_is a.number a.spent (length a.nodes) (length a.edges) b.number b.spent (length b.nodes) (length b.edges) two.0 in
-    let parts = parts_once a.nodes b.nodes a.edges b.edges two.1 in
-    λ i. record { number = four.0 i; spent = four.1 i; nodes = parts.0 i; edges = parts.1 i }
-
--- a base's lines never continue after those of another
-no_more : (a b : BaseKept) (more : List BaseLine) → lines_of_base b ≡ lines_of_base a ++ more → length more ≡ 0
-no_more a b more e =
-    let two = cons_is (first_of b) (first_of a) (tail_of b) (tail_of a ++ more) e in
-    let four = base_is b.number b.spent (length b.nodes) (length b.edges) a.number a.spent (length a.nodes) (length a.edges) two.0 in
-    let lens = ap length two.1 ∙ length-append (tail_of a) more in
-    let la = tail_len a in
-    let lb = tail_len b in
-    omega (arith, lens, la, lb, four.2, four.3)
-
-empty : (more : List BaseLine) → length more ≡ 0 → more ≡ []
-empty [] e = refl
-empty (line ∷ more) e = absurd (omega (arith, e))
-
-record SameBase (a b : BaseKept) (x y : List ℕ) : Type 0 where
-  bases : a ≡ b
-  rests : x ≡ y
-
-same_from : (a b : BaseKept) (x y : List ℕ) → GoesOn (lines_of_base a) (lines_of_base b) x y → SameBase a b x y
-same_from a b x y g =
-    let none = empty g.more (no_more a b g.more g.is) in
-    let same : lines_of_base b ≡ lines_of_base a = g.is ∙ ap (λ l. lines_of_base a ++ l) none ∙ append-nil (lines_of_base a) in
-    record { bases = sym (base_from_lines b a same); rests = g.behind ∙ ap (λ l. text l ++ y) none }
+-- the first line, and what follows it
+first_line_is : (base : BaseKept) (rest : List ℕ) → base_lines base ++ rest ≡ numbers_line base ++ 10 ∷ (lines_with_ends node_record_text base.nodes ++ (lines_with_ends link_text base.edges ++ rest))
+first_line_is base rest =
+    let nodes = lines_with_ends node_record_text base.nodes in
+    let edges = lines_with_ends link_text base.edges in
+    append_assoc (numbers_line base ++ 10 ∷ []) (nodes ++ edges) rest ∙ append_assoc (numbers_line base) (10 ∷ []) ((nodes ++ edges) ++ rest) ∙ ap (λ (z : List ℕ). numbers_line base ++ 10 ∷ z) (append_assoc nodes edges rest)
 
 pub base_once : (bytes : List ℕ) (a b : BaseKept) (x y : List ℕ) → IsShaped a → IsShaped b → bytes ≡ base_lines a ++ x → bytes ≡ base_lines b ++ y → (a ≡ b) × (x ≡ y)
 base_once bytes a b x y f g d e =
-    go (meet (lines_of_base a) (lines_of_base b) x y (all_lines a f) (all_lines b g) (ap (λ t. t ++ x) (lines_text a) ∙ sym d ∙ e ∙ sym (ap (λ t. t ++ y) (lines_text b))))
-  where
-    go : GoesOn (lines_of_base a) (lines_of_base b) x y ⊎ GoesOn (lines_of_base b) (lines_of_base a) y x → (a ≡ b) × (x ≡ y)
-    go (inl h) = let s = same_from a b x y h in (s.bases, s.rests)
-    go (inr h) = let s = same_from b a y x h in (sym s.bases, sym s.rests)
+    let fits_a : IsBaseLine (first_of a) = (f.number, f.spent, f.nodes, f.edges) in
+    let fits_b : IsBaseLine (first_of b) = (g.number, g.spent, g.nodes, g.edges) in
+    let cut = mark_once 10 (numbers_line a) (numbers_line b) (lines_with_ends node_record_text a.nodes ++ (lines_with_ends link_text a.edges ++ x)) (lines_with_ends node_record_text b.nodes ++ (lines_with_ends link_text b.edges ++ y)) (line_free (first_of a) fits_a) (line_free (first_of b) fits_b)
+    (sym (first_line_is a x) ∙ sym d ∙ e ∙ first_line_is b y) in
+    let line = spells_base_line_once (numbers_line a) (first_of a) (first_of b) (record { fits = fits_a; is = refl }) (record { fits = fits_b; is = cut.0 }) in
+    let four = base_is a.number a.spent (length a.nodes) (length a.edges) b.number b.spent (length b.nodes) (length b.edges) line in
+    let nodes = lines_back record_back (λ place r. tt) a.nodes b.nodes (lines_with_ends link_text a.edges ++ x) (lines_with_ends link_text b.edges ++ y) f.places g.places four.2 cut.1 in
+    let edges = lines_back link_back (λ edge r (h : IsInRange 48 57 10). omega (arith, h.0)) a.edges b.edges x y f.links g.links four.3 nodes.1 in
+    (λ i. record { number = four.0 i; spent = four.1 i; nodes = nodes.0 i; edges = edges.0 i }, edges.1)
 
 -- ---- the break of lines
 

@@ -1,14 +1,6 @@
 -- Fields: numbers after their names.
-use Rattle.std.proofs.Common.{◌≡◌, ◌≤◌, ℕ, List, ◌∷◌, ◌++◌, Option, None, Some, drop, refl, sym, ap, ◌∙◌, arith}
-use Rattle.std.specs.Prelude.{codes}
-use Rattle.std.proofs.lemmas.List.{append-nil, append_cancel_left}
-use Rattle.std.proofs.lemmas.Fmt.{decimal_injective}
-use Rattle.rule_machine.specs.declared.counts.Counts.{Counts}
-use Rattle.line_text.specs.Words.{number_text, joined_texts}
-use Rattle.line_text.specs.ReplyText.{IsCountValue, IsCounts, counts_text, field_text, fields_of}
-use Rattle.line_text.specs.Parsing.{ParsesAs}
-use Rattle.entry_grammar.specs.Parsing.{IsFree, CutAt, FieldThen}
-use Rattle.entry_grammar.proofs.Free.{free_append, free_number, free_by, cut_once}
+use Rattle.entry_grammar.proofs.Prelude.{◌≡◌, ◌≤◌, ℕ, List, [], ◌∷◌, ◌++◌, Option, None, Some, drop, get_or, refl, sym, ap, ap₂, ◌∙◌, arith, codes, IsInRange, AllByRecursion, append_cancel_left, Counts, number_text, spaced, joined_texts, IsCountValue, IsCounts, counts_text, field_text, fields_of, ParsesAs, NoDigit, IsReadBack, Undigited, after_word, for_fewer, nothing_ends, number_back, IsFree, CutAt, FieldThen}
+use Rattle.entry_grammar.proofs.Free.{cons_parts, free_append, free_number}
 
 -- a field is cut at the space after it
 pub field_cut : (bytes name : List ℕ) (n : ℕ) (rest : List ℕ) → IsFree 32 name → FieldThen bytes name n rest → CutAt 32 bytes (field_text (name, n)) rest
@@ -19,75 +11,65 @@ field_cut bytes name n rest f h =
       is = h.is;
     }
 
--- a field has one text
-pub field_once : (name : List ℕ) (m n : ℕ) → IsCountValue m → IsCountValue n → field_text (name, m) ≡ field_text (name, n) → m ≡ n
-field_once name m n f g e =
-    decimal_injective m n (omega (arith, f)) (omega (arith, g)) (append_cancel_left name (number_text m) (number_text n) e)
-
 -- a number after its name is read as its digits are
 pub field_reads : (bytes name digits : List ℕ) (r : Option ℕ) → bytes ≡ name ++ digits → ParsesAs (λ n. n ≤ 4294967295) number_text digits r → ParsesAs IsCountValue (λ n. field_text (name, n)) bytes r
 field_reads bytes name digits None e none = λ n f is. none n (omega (arith, f)) (append_cancel_left name digits (number_text n) (sym e ∙ is))
 field_reads bytes name digits (Some n) e found = (omega (arith, found.0), e ∙ ap (λ (t : List ℕ). name ++ t) found.1)
 
--- a field, and what follows the space after it
-pub behind : (bytes name : List ℕ) (m n : ℕ) (rest : List ℕ) (next : List ℕ × ℕ) (more : List (List ℕ × ℕ)) → IsFree 32 name → IsCountValue n → FieldThen bytes name m rest → bytes ≡ joined_texts field_text ((name, n) ∷ next ∷ more) → (m ≡ n) × (rest ≡ joined_texts field_text (next ∷ more))
-behind bytes name m n rest next more f g h e =
-    let r = cut_once 32 bytes (field_text (name, m)) (field_text (name, n)) rest (joined_texts field_text (next ∷ more)) (field_cut bytes name m rest f h) (field_cut bytes name n (joined_texts field_text (next ∷ more)) f (record { fits = g; is = e })) in
-    (field_once name m n h.fits g r.0, r.1)
+-- ---- fields with the same names
 
--- the fields from this one on
-abbrev pub left_from : ℕ → Counts → List ℕ
-left_from k c = joined_texts field_text (drop k (fields_of c))
+-- the number after a name is read back
+after_name : (name : List ℕ) → IsReadBack IsCountValue (λ n. field_text (name, n)) Undigited
+after_name name = after_word name (for_fewer IsCountValue number_back (λ n h. omega (arith, h)))
 
--- what follows each field, one after another
-pub after_nodes : (bytes : List ℕ) (n : ℕ) (rest : List ℕ) (c : Counts) → IsCounts c → FieldThen bytes (codes "nodes=") n rest → bytes ≡ counts_text c → (n ≡ c.nodes) × (rest ≡ left_from 1 c)
-after_nodes bytes n rest c f h e =
-    behind bytes (codes "nodes=") n c.nodes rest (codes "edges=", c.edges) (drop 2 (fields_of c)) (free_by 32 (codes "nodes=") refl) f.0 h e
+-- what follows a field, and the space after it, are the next fields
+pub behind : {bytes name rest : List ℕ} {m n : ℕ} (next : List ℕ × ℕ) (more : List (List ℕ × ℕ)) → FieldThen bytes name m rest → IsCountValue n → bytes ≡ joined_texts field_text ((name, n) ∷ next ∷ more) → rest ≡ joined_texts field_text (next ∷ more)
+behind {bytes} {name} {rest} {m} {n} next more h f e =
+    let space : (r : List ℕ) → NoDigit (32 ∷ r) = λ r (p : IsInRange 48 57 32). omega (arith, p.0) in
+    let same = (after_name name).once m n (32 ∷ rest) (32 ∷ joined_texts field_text (next ∷ more)) h.fits f (space rest) (space (joined_texts field_text (next ∷ more))) (sym h.is ∙ e) in
+    (cons_parts 32 32 rest (joined_texts field_text (next ∷ more)) same.1).1
 
-pub after_edges : (bytes : List ℕ) (n : ℕ) (rest : List ℕ) (c : Counts) → IsCounts c → FieldThen bytes (codes "edges=") n rest → bytes ≡ left_from 1 c → (n ≡ c.edges) × (rest ≡ left_from 2 c)
-after_edges bytes n rest c f h e =
-    behind bytes (codes "edges=") n c.edges rest (codes "pairs=", c.pairs) (drop 3 (fields_of c)) (free_by 32 (codes "edges=") refl) f.1 h e
+abbrev IsField : List ℕ × ℕ → Type 0
+IsField field = IsCountValue field.1
 
-pub after_pairs : (bytes : List ℕ) (n : ℕ) (rest : List ℕ) (c : Counts) → IsCounts c → FieldThen bytes (codes "pairs=") n rest → bytes ≡ left_from 2 c → (n ≡ c.pairs) × (rest ≡ left_from 3 c)
-after_pairs bytes n rest c f h e =
-    behind bytes (codes "pairs=") n c.pairs rest (codes "enabled=", c.enabled) (drop 4 (fields_of c)) (free_by 32 (codes "pairs=") refl) f.2 h e
+abbrev SameNames : List (List ℕ × ℕ) → List (List ℕ × ℕ) → Type 0
+SameNames [] [] = Unit {0}
+SameNames (f ∷ fs) (g ∷ gs) = (f.0 ≡ g.0) × SameNames fs gs
+SameNames fs gs = ⊥
 
-pub after_enabled : (bytes : List ℕ) (n : ℕ) (rest : List ℕ) (c : Counts) → IsCounts c → FieldThen bytes (codes "enabled=") n rest → bytes ≡ left_from 3 c → (n ≡ c.enabled) × (rest ≡ left_from 4 c)
-after_enabled bytes n rest c f h e =
-    behind bytes (codes "enabled=") n c.enabled rest (codes "charge=", c.charge) (drop 5 (fields_of c)) (free_by 32 (codes "enabled=") refl) f.3 h e
+spaced_ends : (fs : List (List ℕ × ℕ)) → NoDigit (spaced field_text fs)
+spaced_ends [] = nothing_ends
+spaced_ends (f ∷ fs) = λ (h : IsInRange 48 57 32). omega (arith, h.0)
 
-pub after_charge : (bytes : List ℕ) (n : ℕ) (rest : List ℕ) (c : Counts) → IsCounts c → FieldThen bytes (codes "charge=") n rest → bytes ≡ left_from 4 c → (n ≡ c.charge) × (rest ≡ left_from 5 c)
-after_charge bytes n rest c f h e =
-    behind bytes (codes "charge=") n c.charge rest (codes "spent=", c.spent) (drop 6 (fields_of c)) (free_by 32 (codes "charge=") refl) f.4 h e
+first_field : (f g : List ℕ × ℕ) (fs gs : List (List ℕ × ℕ)) → f.0 ≡ g.0 → IsField f → IsField g → joined_texts field_text (f ∷ fs) ≡ joined_texts field_text (g ∷ gs) → (f ≡ g) × (spaced field_text fs ≡ spaced field_text gs)
+first_field f g fs gs name x y e =
+    let same = (after_name g.0).once f.1 g.1 (spaced field_text fs) (spaced field_text gs) x y (spaced_ends fs) (spaced_ends gs) (ap (λ (z : List ℕ). (z ++ number_text f.1) ++ spaced field_text fs) (sym name) ∙ e) in
+    (ap₂ (λ (z : List ℕ) (n : ℕ). (z, n)) name same.0, same.1)
 
-abbrev counts_made : ℕ → ℕ → ℕ → ℕ → ℕ → ℕ → Counts
-counts_made nodes edges pairs enabled charge spent =
-    record { nodes = nodes; edges = edges; pairs = pairs; enabled = enabled; charge = charge; spent = spent }
+-- they have a text of their own
+pub fields_once : (f g : List ℕ × ℕ) (fs gs : List (List ℕ × ℕ)) → SameNames (f ∷ fs) (g ∷ gs) → AllByRecursion IsField (f ∷ fs) → AllByRecursion IsField (g ∷ gs) → joined_texts field_text (f ∷ fs) ≡ joined_texts field_text (g ∷ gs) → f ∷ fs ≡ g ∷ gs
+fields_once f g [] [] names x y e = ap (λ z. z ∷ []) (first_field f g [] [] names.0 x.0 y.0 e).0
+fields_once f g (h ∷ fs) (k ∷ gs) names x y e =
+    let first = first_field f g (h ∷ fs) (k ∷ gs) names.0 x.0 y.0 e in
+    let rest = (cons_parts 32 32 (field_text h ++ spaced field_text fs) (field_text k ++ spaced field_text gs) first.1).1 in
+    ap₂ (λ z l. z ∷ l) first.0 (fields_once h k fs gs names.1 x.1 y.1 rest)
+fields_once f g [] (k ∷ gs) names x y e = absurd names.1
+fields_once f g (h ∷ fs) [] names x y e = absurd names.1
 
--- counts with the same numbers are one
-counts_same : (x y : Counts) → x.nodes ≡ y.nodes → x.edges ≡ y.edges → x.pairs ≡ y.pairs → x.enabled ≡ y.enabled → x.charge ≡ y.charge → x.spent ≡ y.spent → x ≡ y
-counts_same x y a b c d e f =
-    ap (λ (z : ℕ). counts_made z x.edges x.pairs x.enabled x.charge x.spent) a
-    ∙ ap (λ (z : ℕ). counts_made y.nodes z x.pairs x.enabled x.charge x.spent) b
-    ∙ ap (λ (z : ℕ). counts_made y.nodes y.edges z x.enabled x.charge x.spent) c
-    ∙ ap (λ (z : ℕ). counts_made y.nodes y.edges y.pairs z x.charge x.spent) d
-    ∙ ap (λ (z : ℕ). counts_made y.nodes y.edges y.pairs y.enabled z x.spent) e
-    ∙ ap (λ (z : ℕ). counts_made y.nodes y.edges y.pairs y.enabled y.charge z) f
+-- the number of a field, by its place
+abbrev pub number_at : List (List ℕ × ℕ) → ℕ → ℕ
+number_at fields place = (get_or fields place ([], 0)).1
+
+abbrev counts_from : List (List ℕ × ℕ) → Counts
+counts_from fs =
+    record { nodes = number_at fs 0; edges = number_at fs 1; pairs = number_at fs 2; enabled = number_at fs 3; charge = number_at fs 4; spent = number_at fs 5 }
 
 -- counts have a text of their own
 pub counts_once : (x y : Counts) → IsCounts x → IsCounts y → counts_text x ≡ counts_text y → x ≡ y
 counts_once x y f g e =
-    let a = after_nodes (counts_text x) x.nodes (left_from 1 x) y g (record { fits = f.0; is = refl }) e in
-    let b = after_edges (left_from 1 x) x.edges (left_from 2 x) y g (record { fits = f.1; is = refl }) a.1 in
-    let c = after_pairs (left_from 2 x) x.pairs (left_from 3 x) y g (record { fits = f.2; is = refl }) b.1 in
-    let d = after_enabled (left_from 3 x) x.enabled (left_from 4 x) y g (record { fits = f.3; is = refl }) c.1 in
-    let k = after_charge (left_from 4 x) x.charge (left_from 5 x) y g (record { fits = f.4; is = refl }) d.1 in
-    let last = field_once (codes "spent=") x.spent y.spent f.5 g.5 (sym (append-nil (field_text (codes "spent=", x.spent))) ∙ k.1 ∙ append-nil (field_text (codes "spent=", y.spent))) in
-    counts_same x y a.0 b.0 c.0 d.0 k.0 last
-
--- what is left after the fifth field is the sixth
-pub last_text : (rest : List ℕ) (c : Counts) → rest ≡ left_from 5 c → rest ≡ field_text (codes "spent=", c.spent)
-last_text rest c e = e ∙ append-nil (field_text (codes "spent=", c.spent))
+    ap counts_from
+    (fields_once (codes "nodes=", x.nodes) (codes "nodes=", y.nodes) (drop 1 (fields_of x)) (drop 1 (fields_of y)) (refl, (refl, (refl, (refl, (refl, (refl, tt)))))) (f.0, (f.1, (f.2, (f.3, (f.4, (f.5, tt))))))
+    (g.0, (g.1, (g.2, (g.3, (g.4, (g.5, tt)))))) e)
 
 -- if none was found there is none to be found
 pub none_read : (bytes : List ℕ) (r : Option Counts) → r ≡ None → ((c : Counts) → IsCounts c → bytes ≡ counts_text c → ⊥) → ParsesAs IsCounts counts_text bytes r

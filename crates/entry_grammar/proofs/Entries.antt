@@ -1,17 +1,5 @@
 -- A line spells at most one entry.
-use Rattle.std.proofs.Common.{◌≡◌, ℕ, ◌<◌, ◌≤◌, List, ◌++◌, refl, sym, ap, subst, ◌∙◌, arith}
-use Rattle.std.specs.Prelude.{IsTrue, Result, Ok, Err, IfErr, codes}
-use Rattle.std.proofs.lemmas.Fmt.{decimal_injective}
-use Rattle.rule_machine.specs.declared.event.Event.{Event}
-use Rattle.rule_machine.specs.declared.event.Event.TheVariants.{Step}
-use Rattle.rule_machine.specs.declared.reply.Reply.{Reply}
-use Rattle.log_entry.specs.Kinds.{fits}
-use Rattle.line_text.specs.Words.{number_text}
-use Rattle.line_text.specs.EventText.{IsEvent, event_text, Spells, SpellsStep, NotACommand}
-use Rattle.line_text.specs.ReplyText.{reply_text}
-use Rattle.line_text.proofs.EventsOnce.{spells_once}
-use Rattle.entry_grammar.specs.Spelling.{IsReply, SpellsEntry, AsksForList}
-use Rattle.entry_grammar.specs.Parsing.{PartsOf, reply_suits}
+use Rattle.entry_grammar.proofs.Prelude.{◌≡◌, ℕ, ◌<◌, ◌≤◌, List, ◌++◌, refl, sym, ap, subst, ◌∙◌, arith, IsTrue, Result, Ok, Err, IfErr, codes, decimal_injective, Event, Step, Reply, fits, number_text, IsEvent, event_text, Spells, SpellsStep, NotACommand, reply_text, spells_once, IsReply, SpellsEntry, AsksForList, PartsOf, reply_suits}
 use Rattle.entry_grammar.proofs.Free.{free_number}
 use Rattle.entry_grammar.proofs.Parts.{parts_of, parts_once}
 use Rattle.entry_grammar.proofs.Replies.{fits_suits, reply_once}

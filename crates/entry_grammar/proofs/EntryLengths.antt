@@ -1,27 +1,8 @@
 -- How long the text of an entry is: that of its event, and that of a reply of its kind.
-use Rattle.std.proofs.Common.{◌≡◌, ℕ, ◌*◌, ◌≤◌, nat_le, ◌&&◌, List, [], ◌∷◌, ◌++◌, Option, None, Some, IfSome, IsTrue, length, codes, sym, ap, length-append, leb-true, arith}
-use Rattle.std.specs.List.{AllByRecursion, list_all}
-use Rattle.std.proofs.lemmas.Bool.{and_parts, true≢false}
-use Rattle.std.proofs.lemmas.Fmt.{length-decimal-le}
-use Rattle.rule_machine.specs.declared.act.Act.{Act}
-use Rattle.rule_machine.specs.declared.act.Act.TheVariants.{Update, Marry, Seduce, Abandon}
-use Rattle.rule_machine.specs.declared.counts.Counts.{Counts}
-use Rattle.rule_machine.specs.declared.act.Moved.{Moved}
-use Rattle.rule_machine.specs.declared.event.Event.{Event}
-use Rattle.rule_machine.specs.declared.event.Event.TheVariants.{Step, Enabled, Matching}
-use Rattle.rule_machine.specs.declared.refusal.Refusal.{Refusal}
-use Rattle.rule_machine.specs.declared.refusal.Refusal.TheVariants.{UnknownNode}
-use Rattle.rule_machine.specs.declared.reply.Reply.{Reply}
-use Rattle.rule_machine.specs.declared.reply.Reply.TheVariants.{Accepted, Refused, Moves, Shown, EnabledAre, Pairs}
+use Rattle.entry_grammar.proofs.Prelude.{◌≡◌, ℕ, ◌*◌, ◌≤◌, nat_le, ◌&&◌, List, [], ◌∷◌, ◌++◌, Option, None, Some, length, sym, ap, length-append, leb-true, arith, AllByRecursion, list_all, and_parts, true≢false, length-decimal-le, Act, Update, Marry, Seduce, Abandon, Counts, Moved, Event, Step, Enabled, Matching, Refusal, UnknownNode, Reply, Accepted, Refused, Moves, Shown, EnabledAre, Pairs, refusal_number, refusal_text, number_text, IsName, marked_text, spaced, joined_texts, joined_or, event_text, act_word, enabled_text, move_text, mutual_text, refusal_words, field_text, counts_text, reply_text, IsMoved, IsEnabled, IsCountValue, IsCounts, entry_text, name_short, target_short, event_short, is_move, are_moves, fits, SpellsEntry}
+use Rattle.std.proofs.Common.{IfSome, IsTrue, codes}
 use Rattle.rule_machine.specs.declared.reply.Reply.TheVariants as reply_is
-use Rattle.rule_machine.specs.Refuse.{refusal_number, refusal_text}
-use Rattle.line_text.specs.Words.{number_text, IsName, marked_text, spaced, joined_texts, joined_or}
-use Rattle.line_text.specs.EventText.{event_text}
-use Rattle.line_text.specs.ReplyText.{act_word, enabled_text, move_text, mutual_text, refusal_words, field_text, counts_text, reply_text, IsMoved, IsEnabled, IsOrderedPair, IsCountValue, IsCounts, IsReply}
-use Rattle.line_text.specs.EntryText.{entry_text}
-use Rattle.line_text.proofs.EventLengths.{name_short, target_short, event_short}
-use Rattle.log_entry.specs.Kinds.{is_move, are_moves, fits}
-use Rattle.entry_grammar.specs.Spelling.{SpellsEntry}
+use Rattle.line_text.specs.ReplyText.{IsOrderedPair, IsReply}
 
 -- ---- one item of a reply
 

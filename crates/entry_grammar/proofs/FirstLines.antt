@@ -1,18 +1,5 @@
 -- The line of a base that bytes begin with.
-use Rattle.std.proofs.Common.{◌≡◌, ℕ, List, ◌∷◌, ◌++◌, refl, ap, ◌∙◌, arith}
-use Rattle.std.specs.Prelude.{codes}
-use Rattle.byte_streams.specs.Lines.{IsLine}
-use Rattle.rule_machine.specs.declared.rules.RuleSet.{RuleSet}
-use Rattle.rule_machine.specs.declared.rules.RuleSet.TheVariants.{Hh, Manne}
-use Rattle.rule_machine.specs.Tables.{rules_word}
-use Rattle.line_text.specs.Words.{number_text, joined_texts}
-use Rattle.line_text.specs.EventText.{bool_text, target_text, pair_text}
-use Rattle.line_text.specs.ReplyText.{IsCountValue, field_text}
-use Rattle.line_text.specs.BaseText.{base_fields}
-use Rattle.entry_grammar.specs.declared.base_line.BaseLine.{BaseLine}
-use Rattle.entry_grammar.specs.declared.base_line.BaseLine.TheVariants.{Head, Base, Place, Link}
-use Rattle.entry_grammar.specs.Spelling.{IsBaseLine, SpellsBaseLine, base_line_text}
-use Rattle.entry_grammar.specs.Parsing.{IsFree, CutAt, AreCounts, Starts}
+use Rattle.entry_grammar.proofs.Prelude.{◌≡◌, ℕ, List, ◌∷◌, ◌++◌, refl, ap, ◌∙◌, arith, codes, IsLine, RuleSet, Hh, Manne, rules_word, number_text, joined_texts, bool_text, target_text, pair_text, IsCountValue, field_text, base_fields, BaseLine, Head, Base, Place, Link, IsBaseLine, SpellsBaseLine, base_line_text, IsFree, CutAt, AreCounts, Starts}
 use Rattle.entry_grammar.proofs.Free.{free_by, cut_once, free_no_cut}
 use Rattle.entry_grammar.proofs.Marks.{feed, apart_lack, bool_lacks, both_lack, joined_lack, name_lacks, number_lacks, target_lacks}
 use Rattle.entry_grammar.proofs.BaseLines.{spells_base_line_once}

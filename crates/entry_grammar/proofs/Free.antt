@@ -1,23 +1,7 @@
 -- Texts without a given byte, and their ends.
-use Rattle.std.proofs.Common.{◌≡◌, ◌≢◌, ℕ, ◌<◌, ◌+◌, ◌-◌, true, not, List, [], ◌∷◌, ◌++◌, take, drop, length, get_or, refl, sym, ap, subst, ◌∙◌, arith}
-use Rattle.std.specs.Prelude.{Option, None, Some, IfSome, nat_eq}
-use Rattle.std.specs.Int.{IsInRange}
-use Rattle.std.specs.List.{list_all}
-use Rattle.std.specs.Str.Parse.{AllDigits}
-use Rattle.std.proofs.lemmas.Str.Parse.{digit_from_value}
-use Rattle.rule_machine.specs.declared.act.Act.{Act}
-use Rattle.rule_machine.specs.declared.act.Act.TheVariants.{Update}
-use Rattle.rule_machine.specs.declared.act.Moved.{Moved}
-use Rattle.line_text.specs.Words.{number_text, marked_text, IsName}
-use Rattle.line_text.specs.ReplyText.{act_word, enabled_text, move_text, mutual_text}
-use Rattle.entry_grammar.specs.Spelling.{IsMoved, IsEnabled, IsOrderedPair}
-use Rattle.line_text.proofs.Digits.{own}
+use Rattle.entry_grammar.proofs.Prelude.{◌≡◌, ◌≢◌, ℕ, ◌<◌, ◌+◌, ◌-◌, true, not, List, [], ◌∷◌, ◌++◌, take, drop, length, get_or, refl, sym, ap, subst, ◌∙◌, arith, IfSome, nat_eq, IsInRange, list_all, AllDigits, digit_from_value, number_text, marked_text, IsName, own, IsFree, CutAt, digits_decimal, and_parts, take-append-drop, take_more, length-drop, drop-cons, take-length}
+use Rattle.std.specs.Prelude.{Option, None, Some}
 pub use Rattle.line_text.proofs.Digits.{cons_parts}
-use Rattle.entry_grammar.specs.Parsing.{IsFree, CutAt}
-use Rattle.std.proofs.lemmas.Fmt.{digits_decimal}
-use Rattle.std.proofs.lemmas.Bool.{and_parts}
-use Rattle.std.proofs.lemmas.List.{take-append-drop, take_more, length-drop}
-use Rattle.std.proofs.Math.Seq.{drop-cons, take-length}
 
 -- two free texts make one
 pub free_append : (mark : ℕ) (x y : List ℕ) → IsFree mark x → IsFree mark y → IsFree mark (x ++ y)
@@ -89,37 +73,7 @@ cut_here mark bytes i lt f e =
 pub free_name : (mark n : ℕ) → (IsInRange 48 57 mark → ⊥) → IsName n → IsFree mark (number_text n)
 free_name mark n o h = free_number mark n o (omega arith)
 
--- a rule's word has no space, no colon and no `>`
-pub free_act : (act : Act) → IsFree 32 (act_word act)
-free_act Update = free_by 32 (act_word Update) refl
-free_act act = free_by 32 (act_word act) refl
-
-pub free_act_mark : (act : Act) → IsFree 62 (act_word act)
-free_act_mark Update = free_by 62 (act_word Update) refl
-free_act_mark act = free_by 62 (act_word act) refl
-
 -- a target after its mark
 pub free_marked : (mark : ℕ) (target : Option ℕ) → (IsInRange 48 57 mark → ⊥) → 62 ≢ mark → IfSome target IsName → IsFree mark (marked_text (62 ∷ []) target)
 free_marked mark None o n f = tt
 free_marked mark (Some w) o n f = (n, free_name mark w o f)
-
--- no word of a reply has a space
-pub free_move : (m : Moved) → IsMoved m → IsFree 32 (move_text m)
-free_move m f =
-    free_append 32 (number_text m.node ++ 58 ∷ [] ++ act_word m.act) (marked_text (62 ∷ []) m.target)
-    (free_append 32 (number_text m.node ++ 58 ∷ []) (act_word m.act)
-    (free_append 32 (number_text m.node) (58 ∷ []) (free_name 32 m.node (λ h. omega (arith, h.0)) f.0) (free_by 32 (58 ∷ []) refl))
-    (free_act m.act))
-    (free_marked 32 m.target (λ h. omega (arith, h.0)) (λ h. omega (arith, h)) f.1)
-
-pub free_enabled : (e : ℕ × Act) → IsEnabled e → IsFree 32 (enabled_text e)
-free_enabled e f =
-    free_append 32 (number_text e.0 ++ 58 ∷ []) (act_word e.1)
-    (free_append 32 (number_text e.0) (58 ∷ []) (free_name 32 e.0 (λ h. omega (arith, h.0)) f) (free_by 32 (58 ∷ []) refl))
-    (free_act e.1)
-
-pub free_pair : (p : ℕ × ℕ) → IsOrderedPair p → IsFree 32 (mutual_text p)
-free_pair p f =
-    free_append 32 (number_text p.0 ++ 45 ∷ []) (number_text p.1)
-    (free_append 32 (number_text p.0) (45 ∷ []) (free_name 32 p.0 (λ h. omega (arith, h.0)) f.0) (free_by 32 (45 ∷ []) refl))
-    (free_name 32 p.1 (λ h. omega (arith, h.0)) f.1)

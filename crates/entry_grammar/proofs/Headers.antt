@@ -1,16 +1,5 @@
 -- The parts of a header.
-use Rattle.std.proofs.Common.{◌≡◌, ℕ, ◌<◌, ◌≤◌, Bool, true, false, cond, List, [], ◌∷◌, ◌++◌, length, refl, sym, ap, subst, ◌∙◌, append_assoc, arith, rules}
-use Rattle.std.specs.Prelude.{codes, nat_lt}
-use Rattle.std.proofs.lemmas.Bool.Decides.{nat_tests}
-use Rattle.std.proofs.lemmas.List.{append_cancel_left}
-use Rattle.std.proofs.lemmas.Fmt.{decimal_injective}
-use Rattle.rule_machine.specs.declared.rules.RuleSet.{RuleSet}
-use Rattle.rule_machine.specs.declared.rules.RuleSet.TheVariants.{Hh, Manne}
-use Rattle.rule_machine.specs.Tables.{rules_word}
-use Rattle.line_text.specs.Words.{number_text}
-use Rattle.line_text.specs.EntryText.{sizes_text}
-use Rattle.entry_grammar.specs.Spelling.{AreSizes, SpellsHeader}
-use Rattle.entry_grammar.specs.Parsing.{IsFree, CutAt}
+use Rattle.entry_grammar.proofs.Prelude.{◌≡◌, ℕ, ◌<◌, ◌≤◌, Bool, true, false, cond, List, [], ◌∷◌, ◌++◌, get_or, refl, sym, ap, subst, ◌∙◌, append_assoc, arith, rules, codes, nat_lt, nat_tests, append_cancel_left, decimal_injective, RuleSet, Hh, Manne, rules_word, number_text, sizes_text, IsReadBack, Always, alone, AreSizes, SpellsHeader, IsFree, CutAt}
 use Rattle.entry_grammar.proofs.Free.{free_by, free_number, free_no_cut, cut_once}
 
 -- a rule set's word has no space
@@ -84,11 +73,13 @@ sizes_once bytes m n c d f g e h = both (said m c bytes f e) (said n d bytes g h
         (first, decimal_injective c d (omega (arith, f.few, x)) (omega (arith, g.few, y)) parts.1)
 
 -- a rule set has one word
-pub rules_once : (r q : RuleSet) → rules_word r ≡ rules_word q → r ≡ q
-rules_once Hh Hh e = refl
-rules_once Hh Manne e = absurd (omega (arith, ap length e))
-rules_once Manne Hh e = absurd (omega (arith, ap length e))
-rules_once Manne Manne e = refl
+pub rules_back : IsReadBack (λ (rules : RuleSet). Unit {0}) rules_word Always
+rules_back = record { once = once }
+  where
+    once : (x y : RuleSet) (r s : List ℕ) → Unit {0} → Unit {0} → Unit {0} → Unit {0} → rules_word x ++ r ≡ rules_word y ++ s → (x ≡ y) × (r ≡ s)
+    once Hh Hh r s f g a b e = (refl, append_cancel_left (rules_word Hh) r s e)
+    once Manne Manne r s f g a b e = (refl, append_cancel_left (rules_word Manne) r s e)
+    once x y r s f g a b e = absurd (omega (arith, ap (λ (z : List ℕ). get_or z 0 0) e))
 
 -- a header's numbers
 pub sizes_of : (line : List ℕ) (rules : RuleSet) (size count : ℕ) → SpellsHeader line rules size count → AreSizes size count
@@ -102,4 +93,4 @@ spells_header_once line r q m n c d a b =
     let e : line ≡ codes "matching " ++ words = a.is ∙ append_assoc (codes "matching " ++ rules_word r) (32 ∷ []) sizes ∙ append_assoc (codes "matching ") (rules_word r) (32 ∷ sizes) in
     let p = cut_once 32 words (rules_word r) (rules_word q) sizes (sizes_text n d) (header_words line words r m c e a) (header_words line words q n d e b) in
     let numbers = sizes_once sizes m n c d (sizes_of line r m c a) (sizes_of line q n d b) refl p.1 in
-    (rules_once r q p.0, numbers.0, numbers.1)
+    (alone rules_back (λ rules. tt) r q tt tt p.0, numbers.0, numbers.1)

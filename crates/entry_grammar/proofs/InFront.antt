@@ -1,23 +1,7 @@
 -- The front of a text is determined.
-use Rattle.std.proofs.Common.{◌≡◌, ℕ, List, [], ◌∷◌, ◌++◌, Option, None, Some, get_or, refl, sym, ap, subst, ◌∙◌, append_assoc, arith}
-use Rattle.std.specs.Prelude.{IfSome, slice_index_or}
-use Rattle.std.specs.Int.{IsInRange}
-use Rattle.std.proofs.lemmas.List.{append-nil, append_cancel_left}
-use Rattle.rule_machine.specs.declared.act.Act.{Act}
-use Rattle.rule_machine.specs.declared.act.Act.TheVariants.{Update, Marry, Seduce, Abandon}
-use Rattle.line_text.specs.Words.{number_text, marked_text, IsName}
-use Rattle.line_text.specs.ReplyText.{act_word, mutual_text}
-use Rattle.line_text.specs.Parsing.{NoDigit, NameThen}
-use Rattle.line_text.proofs.Digits.{name_once}
-use Rattle.entry_grammar.specs.Spelling.{IsOrderedPair}
-use Rattle.entry_grammar.specs.Parsing.{first_byte, EndsWord, TokenThen, PairThen, DeedThen, deed_text}
+use Rattle.entry_grammar.proofs.Prelude.{◌≡◌, ℕ, List, [], ◌∷◌, ◌++◌, Option, None, Some, refl, sym, ap, subst, ◌∙◌, append_assoc, arith, IfSome, slice_index_or, IsInRange, append-nil, Act, Update, Marry, Seduce, Abandon, number_text, marked_text, IsName, act_word, mutual_text, NameThen, cons_parts, name_once, IsOrderedPair, first_byte, EndsWord, TokenThen, PairThen, DeedThen, deed_text}
 use Rattle.entry_grammar.proofs.MarkedNames.{marked_once}
-use Rattle.entry_grammar.proofs.TokensOnce.{whole_pair}
-
--- no digit begins an end
-pub ends_digit : (rest : List ℕ) → EndsWord rest → NoDigit rest
-ends_digit [] e = λ h. omega (arith, h.0)
-ends_digit (b ∷ rest) e = λ (h : IsInRange 48 57 b). omega (arith, h.0, h.1, e)
+use Rattle.entry_grammar.proofs.TokensOnce.{act_first, ends_digit, whole_pair}
 
 -- no mark except a space begins an end
 pub ends_mark : (mark : ℕ) (rest : List ℕ) → (mark ≡ 32 → ⊥) → EndsWord (mark ∷ rest) → ⊥
@@ -26,14 +10,6 @@ ends_mark mark rest other e = other e
 -- a name that a mark follows
 pub marked_name : (mark : ℕ) (bytes : List ℕ) (n : ℕ) (rest : List ℕ) → (IsInRange 48 57 mark → ⊥) → IsName n → bytes ≡ number_text n ++ mark ∷ rest → NameThen bytes n (mark ∷ rest)
 marked_name mark bytes n rest o f e = record { fits = f; ends = o; is = e }
-
--- a rule's word in front is one
-pub act_first : (a b : Act) (x y : List ℕ) → act_word a ++ x ≡ act_word b ++ y → (a ≡ b) × (x ≡ y)
-act_first Update Update x y e = (refl, append_cancel_left (act_word Update) x y e)
-act_first Marry Marry x y e = (refl, append_cancel_left (act_word Marry) x y e)
-act_first Seduce Seduce x y e = (refl, append_cancel_left (act_word Seduce) x y e)
-act_first Abandon Abandon x y e = (refl, append_cancel_left (act_word Abandon) x y e)
-act_first a b x y e = absurd (omega (arith, ap (λ (z : List ℕ). get_or z 0 0) e))
 
 -- the first byte of a text with a rule's word in front
 pub act_begins : (act : Act) (bytes rest : List ℕ) → bytes ≡ act_word act ++ rest → first_byte act ≡ slice_index_or bytes 0 0
@@ -79,7 +55,4 @@ deed_marked bytes a marked act target rest e h =
 pub deed_name : (marked name : List ℕ) (target : Option ℕ) (rest : List ℕ) → marked ≡ 62 ∷ name → IfSome target IsName → EndsWord rest → marked ≡ marked_text (62 ∷ []) target ++ rest → (w : ℕ) × NameThen name w rest
 deed_name marked name None rest at f ends e = absurd (ends_mark 62 name (λ h. omega (arith, h)) (subst EndsWord (sym e ∙ at) ends))
 deed_name marked name (Some w) rest at f ends e =
-    (w, record { fits = f; ends = ends_digit rest ends; is = tail 62 62 name (number_text w ++ rest) (sym at ∙ e) })
-  where
-    tail : (c d : ℕ) (xs ys : List ℕ) → c ∷ xs ≡ d ∷ ys → xs ≡ ys
-    tail c d xs ys e = cc
+    (w, record { fits = f; ends = ends_digit rest ends; is = (cons_parts 62 62 name (number_text w ++ rest) (sym at ∙ e)).1 })

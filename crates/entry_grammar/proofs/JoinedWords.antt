@@ -1,11 +1,6 @@
 -- Words that are joined by one space.
-use Rattle.std.proofs.Common.{◌≡◌, ◌≢◌, ℕ, List, [], ◌∷◌, ◌++◌, length, refl, sym, ap, subst, ◌∙◌, append_assoc, arith}
-use Rattle.std.specs.Prelude.{codes}
-use Rattle.std.specs.List.{AllByRecursion}
-use Rattle.std.proofs.lemmas.List.{append-nil}
-use Rattle.line_text.specs.Words.{spaced, joined_texts, joined_or}
-use Rattle.entry_grammar.specs.Parsing.{IsFree, CutAt, EndsWord, TokenThen}
-use Rattle.entry_grammar.proofs.Free.{mark_once, not_free}
+use Rattle.entry_grammar.proofs.Prelude.{◌≡◌, ◌≢◌, ℕ, List, [], ◌∷◌, ◌++◌, length, refl, sym, ap, ◌∙◌, append_assoc, arith, codes, AllByRecursion, append-nil, spaced, joined_texts, joined_or, EndsWord, TokenThen, cons_parts}
+use Rattle.line_text.specs.ReadBack.{IsReadBack}
 
 -- Some words were read, and a non-empty rest is left. With the words of the rest they make the whole text;
 -- and whatever words the whole text spells, the rest spells some.
@@ -32,25 +27,30 @@ pub fits_push : {X : Type 0} (fits : X → Type 0) (words : List X) (x : X) → 
 fits_push fits [] x f g = (g, tt)
 fits_push fits (w ∷ words) x f g = (f.0, fits_push fits words x f.1 g)
 
--- if the rest has a space, its first word comes before it
-cut_word : {X : Type 0} (text : X → List ℕ) (fits : X → Type 0) → ((x : X) → fits x → IsFree 32 (text x)) → (rest front back : List ℕ) (w : X) (more : List X) → CutAt 32 rest front back → AllByRecursion fits (w ∷ more) → rest ≡ joined_texts text (w ∷ more) → (front ≡ text w) × ((v : X) × (others : List X) × AllByRecursion fits (v ∷ others) × (back ≡ joined_texts text (v ∷ others)))
-cut_word text fits free rest front back w [] a f e =
-    absurd (not_free 32 front back (subst (IsFree 32) (sym (append-nil (text w)) ∙ sym e ∙ a.is) (free w f.0)))
-cut_word text fits free rest front back w (v ∷ others) a f e =
-    let r = mark_once 32 front (text w) back (joined_texts text (v ∷ others)) a.free (free w f.0) (sym a.is ∙ e) in
-    (r.0, (v, others, f.1, r.1))
+words_end : {X : Type 0} (text : X → List ℕ) (more : List X) → EndsWord (spaced text more)
+words_end text [] = refl
+words_end text (v ∷ more) = refl
+
+-- if a space follows the first word, more words follow the space
+next_word : {X : Type 0} (text : X → List ℕ) (fits : X → Type 0) → IsReadBack fits text (λ x. EndsWord) → (rest next : List ℕ) (x w : X) (more : List X) → fits x → rest ≡ text x ++ 32 ∷ next → AllByRecursion fits (w ∷ more) → rest ≡ joined_texts text (w ∷ more) → (v : X) × (others : List X) × AllByRecursion fits (v ∷ others) × (next ≡ joined_texts text (v ∷ others))
+next_word text fits back rest next x w [] g is f e = let behind : 32 ∷ next ≡ [] = (back.once x w (32 ∷ next) [] g f.0 refl refl (sym is ∙ e)).1 in absurd cc
+next_word text fits back rest next x w (v ∷ others) g is f e =
+    let behind = (back.once x w (32 ∷ next) (32 ∷ joined_texts text (v ∷ others)) g f.0 refl refl (sym is ∙ e)).1 in
+    (v, others, f.1, (cons_parts 32 32 next (joined_texts text (v ∷ others)) behind).1)
 
 -- one more word was read
-pub SoFar-more : {X : Type 0} (text : X → List ℕ) (fits : X → Type 0) → ((x : X) → fits x → IsFree 32 (text x)) → (bytes : List ℕ) (words : List X) (rest front back : List ℕ) (x : X) → SoFar text fits bytes words rest → CutAt 32 rest front back → fits x → front ≡ text x → SoFar text fits bytes (words ++ x ∷ []) back
-SoFar-more {X} text fits free bytes words rest front back x s a f e = record {
-  read = fits_push fits words x s.read f;
-  onto = λ w more h.
-      s.onto x (w ∷ more) (a.is ∙ ap (λ (z : List ℕ). z ++ 32 ∷ back) e ∙ ap (λ (z : List ℕ). text x ++ 32 ∷ z) h)
-      ∙ ap (joined_texts text) (sym (append_assoc words (x ∷ []) (w ∷ more)));
-  left = λ all g h.
-      let l = s.left all g h in
-      (cut_word text fits free rest front back l.0 l.1 a l.2 l.3).1;
-}
+pub SoFar-more : {X : Type 0} {text : X → List ℕ} {fits : X → Type 0} {bytes : List ℕ} {words : List X} {rest behind next : List ℕ} {x : X} → IsReadBack fits text (λ x. EndsWord) → SoFar text fits bytes words rest → TokenThen fits text rest x behind → behind ≡ 32 ∷ next → SoFar text fits bytes (words ++ x ∷ []) next
+SoFar-more {X} {text} {fits} {bytes} {words} {rest} {behind} {next} {x} back s h space =
+    let is : rest ≡ text x ++ 32 ∷ next = h.is ∙ ap (λ (z : List ℕ). text x ++ z) space in
+    record {
+      read = fits_push fits words x s.read h.fits;
+      onto = λ w more e.
+          s.onto x (w ∷ more) (is ∙ ap (λ (z : List ℕ). text x ++ 32 ∷ z) e)
+          ∙ ap (joined_texts text) (sym (append_assoc words (x ∷ []) (w ∷ more)));
+      left = λ all g e.
+          let l = s.left all g e in
+          next_word text fits back rest next x l.0 l.1 h.fits is l.2 l.3;
+    }
 
 -- the last word was read
 pub SoFar-last : {X : Type 0} (text : X → List ℕ) (fits : X → Type 0) (bytes : List ℕ) (words : List X) (rest : List ℕ) (x : X) → SoFar text fits bytes words rest → fits x → rest ≡ text x → AllByRecursion fits (words ++ x ∷ []) × (bytes ≡ joined_texts text (words ++ x ∷ []))
@@ -61,15 +61,7 @@ SoFar-last text fits bytes words rest x s f e =
 pub SoFar-no_word : {X : Type 0} (text : X → List ℕ) (fits : X → Type 0) (bytes : List ℕ) (words : List X) (rest : List ℕ) → SoFar text fits bytes words rest → ((x : X) (back : List ℕ) → TokenThen fits text rest x back → ⊥) → (all : List X) → AllByRecursion fits all → bytes ≡ joined_texts text all → ⊥
 SoFar-no_word {X} text fits bytes words rest s none all g h =
     let l = s.left all g h in
-    none l.0 (spaced text l.1) (record { fits = l.2.0; ends = spaced_ends l.1; is = l.3 })
-  where
-    spaced_ends : (more : List X) → EndsWord (spaced text more)
-    spaced_ends [] = refl
-    spaced_ends (v ∷ more) = refl
-
--- a word at the front, with a space after it, is cut there
-pub word_cut : {X : Type 0} (text : X → List ℕ) (fits : X → Type 0) → ((x : X) → fits x → IsFree 32 (text x)) → (rest behind next : List ℕ) (x : X) → TokenThen fits text rest x behind → behind ≡ 32 ∷ next → CutAt 32 rest (text x) next
-word_cut text fits free rest behind next x h e = record { free = free x h.fits; is = h.is ∙ ap (λ (z : List ℕ). text x ++ z) e }
+    none l.0 (spaced text l.1) (record { fits = l.2.0; ends = words_end text l.1; is = l.3 })
 
 -- only an empty text and another make an empty text
 front_nil : (x y : List ℕ) → x ++ y ≡ [] → x ≡ []

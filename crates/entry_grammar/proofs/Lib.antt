@@ -1,3 +1,4 @@
+pub mod Prelude
 pub mod Free
 pub mod Marks
 pub mod Headers

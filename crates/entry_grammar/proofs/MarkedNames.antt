@@ -1,12 +1,5 @@
 -- Names that a mark ends, and what follows it.
-use Rattle.std.proofs.Common.{◌≡◌, ℕ, List, [], ◌∷◌, ◌++◌, ◌∙◌, append_assoc, arith}
-use Rattle.std.specs.Int.{IsInRange}
-use Rattle.std.proofs.lemmas.Fmt.{decimal_injective}
-use Rattle.rule_machine.specs.declared.act.Act.{Act}
-use Rattle.rule_machine.specs.declared.act.Moved.{Moved}
-use Rattle.line_text.specs.Words.{number_text, marked_text, IsName}
-use Rattle.line_text.specs.ReplyText.{act_word, enabled_text, move_text, mutual_text}
-use Rattle.entry_grammar.specs.Parsing.{CutAt, deed_text}
+use Rattle.entry_grammar.proofs.Prelude.{◌≡◌, ℕ, List, [], ◌∷◌, ◌++◌, ◌∙◌, append_assoc, arith, IsInRange, decimal_injective, Act, Moved, number_text, marked_text, IsName, act_word, enabled_text, move_text, mutual_text, CutAt, deed_text}
 use Rattle.entry_grammar.proofs.Free.{mark_once, free_name}
 
 -- a name has one text

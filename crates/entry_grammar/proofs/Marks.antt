@@ -1,14 +1,6 @@
 -- Texts without a line feed, which ends a line, and texts without a `=`, which comes before a reply.
-use Rattle.std.proofs.Common.{◌≡◌, ℕ, ◌<◌, Bool, true, false, not, List, [], ◌∷◌, ◌++◌, Option, None, Some, refl, arith}
-use Rattle.std.specs.Prelude.{codes, IfSome, nat_eq}
-use Rattle.std.specs.Int.{IsInRange}
-use Rattle.std.specs.List.{AllByRecursion, list_all}
-use Rattle.rule_machine.specs.declared.choice.Item.{Item}
-use Rattle.rule_machine.specs.declared.event.Event.{Event}
-use Rattle.rule_machine.specs.declared.event.Event.TheVariants.{Link, Unlink, Point, Flag, Step, Show, Enabled, Matching, Status, Join, Leave}
-use Rattle.line_text.specs.Words.{number_text, marked_text, spaced, joined_texts, IsName}
-use Rattle.line_text.specs.EventText.{IsItem, IsEvent, bool_text, event_text, flag_text, item_text, pair_text, point_text, target_text}
-use Rattle.entry_grammar.specs.Parsing.{IsFree}
+use Rattle.entry_grammar.proofs.Prelude.{◌≡◌, ℕ, ◌<◌, Bool, true, false, not, List, [], ◌∷◌, ◌++◌, Option, None, Some, refl, arith, codes, IfSome, nat_eq, IsInRange, AllByRecursion, list_all, Item, Event, Unlink, Point, Flag, Step, Show, Enabled, Matching, Status, Join, Leave, number_text, marked_text, spaced, joined_texts, IsName, IsItem, IsEvent, bool_text, event_text, flag_text, item_text, pair_text, point_text, target_text, IsFree}
+use Rattle.rule_machine.specs.declared.event.Event.TheVariants.{Link}
 use Rattle.entry_grammar.proofs.Free.{free_append, free_by, free_marked, free_name, free_number}
 
 pub data Mark : Type 0 where

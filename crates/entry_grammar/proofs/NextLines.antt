@@ -1,13 +1,6 @@
 -- The next line of a base: its numbers, a node or an edge.
-use Rattle.std.proofs.Common.{◌≡◌, ℕ, ◌<◌, ◌≤◌, List, sym, subst, ◌∙◌, arith}
+use Rattle.entry_grammar.proofs.Prelude.{◌≡◌, ℕ, ◌<◌, ◌≤◌, List, sym, subst, ◌∙◌, arith, node_record_text, link_text, BaseLine, Base, Link, IsBaseLine, IsOrderedPair, base_line_text, AreCounts, Starts, IsEdgeAbove, IsPlace, place_line, numbers_text}
 use Rattle.rule_machine.specs.declared.base.NodeRecord.{NodeRecord as PlaceKept}
-use Rattle.line_text.specs.BaseText.{node_record_text, link_text}
-use Rattle.entry_grammar.specs.declared.base_line.BaseLine.{BaseLine}
-use Rattle.entry_grammar.specs.declared.base_line.BaseLine.TheVariants.{Base, Link}
-use Rattle.entry_grammar.specs.Spelling.{IsBaseLine, IsOrderedPair, base_line_text}
-use Rattle.entry_grammar.specs.Parsing.{AreCounts, Starts}
-use Rattle.entry_grammar.specs.BaseLines.{IsEdgeAbove, IsPlace, place_line}
-use Rattle.entry_grammar.specs.BaseParts.{numbers_text}
 use Rattle.entry_grammar.proofs.FirstLines.{starts_once}
 
 -- each as a line

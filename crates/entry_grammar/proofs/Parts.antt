@@ -1,13 +1,5 @@
 -- The parts of an entry's line.
-use Rattle.std.proofs.Common.{◌≡◌, ◌<◌, ℕ, List, [], ◌∷◌, ◌++◌, refl, sym, ap, subst, ◌∙◌, append_assoc, arith}
-use Rattle.std.specs.Int.{IsInRange}
-use Rattle.std.specs.Prelude.{codes}
-use Rattle.std.proofs.lemmas.List.{append_cancel_left, append_cancel_right}
-use Rattle.rule_machine.specs.declared.event.Event.{Event}
-use Rattle.line_text.specs.Words.{number_text}
-use Rattle.line_text.specs.Parsing.{NumberThen}
-use Rattle.line_text.specs.EventText.{IsEvent, event_text}
-use Rattle.entry_grammar.specs.Parsing.{IsFree, CutAt, PartsOf}
+use Rattle.entry_grammar.proofs.Prelude.{◌≡◌, ◌<◌, ℕ, List, [], ◌∷◌, ◌++◌, refl, sym, ap, subst, ◌∙◌, append_assoc, arith, IsInRange, codes, append_cancel_left, append_cancel_right, Event, number_text, NumberThen, IsEvent, event_text, IsFree, CutAt, PartsOf}
 use Rattle.entry_grammar.proofs.Free.{free_append, free_by, free_number, cut_once}
 use Rattle.entry_grammar.proofs.Marks.{equals, event_lacks}
 

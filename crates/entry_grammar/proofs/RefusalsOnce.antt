@@ -1,13 +1,5 @@
 -- Refusals by their numbers.
-use Rattle.std.proofs.Common.{◌≡◌, ℕ, ◌≤◌, List, [], ◌∷◌, ◌++◌, if◌then◌else◌, refl, sym, ap, ◌∙◌, append_assoc, arith}
-use Rattle.std.specs.Prelude.{nat_eq}
-use Rattle.std.proofs.lemmas.Fmt.{decimal_injective}
-use Rattle.rule_machine.specs.declared.refusal.Refusal.{Refusal}
-use Rattle.rule_machine.specs.declared.refusal.Refusal.TheVariants.{UnknownNode, SelfLoop, AlreadyLinked, NotLinked, TooManyEdges, NotNeighbour, NoFlag, EmptyChoice, NotCentral, ChosenTwice, NotEnabled, BadTarget, AlreadyPresent}
-use Rattle.rule_machine.specs.Refuse.{refusal_number, refusal_text}
-use Rattle.line_text.specs.Words.{number_text, IsName}
-use Rattle.line_text.specs.ReplyText.{refusal_words}
-use Rattle.entry_grammar.specs.Parsing.{CutAt}
+use Rattle.entry_grammar.proofs.Prelude.{◌≡◌, ℕ, ◌≤◌, List, [], ◌∷◌, ◌++◌, if◌then◌else◌, refl, sym, ap, ◌∙◌, append_assoc, arith, nat_eq, decimal_injective, Refusal, UnknownNode, SelfLoop, AlreadyLinked, NotLinked, TooManyEdges, NotNeighbour, NoFlag, EmptyChoice, NotCentral, ChosenTwice, NotEnabled, BadTarget, AlreadyPresent, refusal_number, refusal_text, number_text, IsName, refusal_words, CutAt}
 use Rattle.entry_grammar.proofs.Free.{cut_once}
 use Rattle.entry_grammar.proofs.MarkedNames.{name_cut, name_once}
 

@@ -1,22 +1,9 @@
 -- Replies of one kind.
-use Rattle.std.proofs.Common.{◌≡◌, ℕ, List, ◌++◌, Option, get_or, refl, sym, ap, ◌∙◌, arith}
-use Rattle.std.specs.Prelude.{IsTrue, ⊤, codes}
-use Rattle.std.proofs.lemmas.List.{append_cancel_left}
-use Rattle.rule_machine.specs.declared.act.Act.{Act}
+use Rattle.entry_grammar.proofs.Prelude.{◌≡◌, ℕ, List, ◌++◌, Option, get_or, refl, sym, ap, ◌∙◌, arith, IsTrue, ⊤, codes, append_cancel_left, Act, Moved, Refusal, Event, Step, Show, Enabled, Matching, Status, Reply, Accepted, Refused, Moves, Shown, EnabledAre, Pairs, fits, refusal_words, reply_text, IsReply, is_done, answers_step, is_shown, are_enabled, are_pairs, are_counts, reply_suits, alone, nothing_ends, target_back}
 use Rattle.rule_machine.specs.declared.counts.Counts as numbers
-use Rattle.rule_machine.specs.declared.act.Moved.{Moved}
-use Rattle.rule_machine.specs.declared.refusal.Refusal.{Refusal}
-use Rattle.rule_machine.specs.declared.event.Event.{Event}
-use Rattle.rule_machine.specs.declared.event.Event.TheVariants.{Step, Show, Enabled, Matching, Status}
-use Rattle.rule_machine.specs.declared.reply.Reply.{Reply}
-use Rattle.rule_machine.specs.declared.reply.Reply.TheVariants.{Accepted, Refused, Moves, Shown, EnabledAre, Pairs, Counts}
-use Rattle.log_entry.specs.Kinds.{fits}
-use Rattle.line_text.specs.ReplyText.{refusal_words, reply_text}
-use Rattle.entry_grammar.specs.Spelling.{IsReply}
-use Rattle.entry_grammar.specs.Parsing.{is_done, answers_step, is_shown, are_enabled, are_pairs, are_counts, reply_suits}
+use Rattle.rule_machine.specs.declared.reply.Reply.TheVariants.{Counts}
 use Rattle.entry_grammar.proofs.RefusalsOnce.{refusal_words_once}
 use Rattle.entry_grammar.proofs.CountsOnce.{counts_once}
-use Rattle.line_text.proofs.EventsOnce.{target_once}
 use Rattle.entry_grammar.proofs.TokensOnce.{moves_once, enabled_once, pairs_once, refused_moves, refused_target}
 
 -- what fits an event suits it
@@ -50,7 +37,7 @@ moved_once (Refused r) (Refused q) s t f g e = refused_once r q e
 moved_once r q s t f g e = cc
 
 shown_once : (r q : Reply) → IsTrue (is_shown r) → IsTrue (is_shown q) → IsReply r → IsReply q → reply_text r ≡ reply_text q → r ≡ q
-shown_once (Shown x) (Shown y) s t f g e = ap (λ (z : Option ℕ). Shown z) (target_once x y f g e)
+shown_once (Shown x) (Shown y) s t f g e = ap (λ (z : Option ℕ). Shown z) (alone target_back (λ w. nothing_ends) x y f g e)
 shown_once (Shown x) (Refused q) s t f g e = absurd (refused_target x (refusal_words q) f e)
 shown_once (Refused r) (Shown y) s t f g e = absurd (refused_target y (refusal_words r) g (sym e))
 shown_once (Refused r) (Refused q) s t f g e = refused_once r q e

@@ -16,15 +16,25 @@ use Rattle.entry_grammar.specs.Spelling.{IsOrderedPair, IsBaseLine, base_line_te
 abbrev pub IsEdgeAbove : ℕ × ℕ → ℕ × ℕ → Type 0
 IsEdgeAbove last edge = (last.0 < edge.0) ⊎ ((last.0 ≡ edge.0) × (last.1 < edge.1))
 
+-- a node comes after one with this name
+abbrev pub IsNodeAbove : ℕ → PlaceKept → Type 0
+IsNodeAbove last place = last < place.node
+
+abbrev pub node_key : PlaceKept → ℕ
+node_key place = place.node
+
+-- items ascend: the first comes after `last`, and each after the key of the one before it
+abbrev pub AscendByKey : {K X : Type 0} → (K → X → Type 0) → (X → K) → K → List X → Type 0
+AscendByKey above key last [] = Unit {0}
+AscendByKey above key last (x ∷ xs) = above last x × AscendByKey above key (key x) xs
+
 -- the nodes ascend by name, all above `last`
 abbrev pub NodesRise : ℕ → List PlaceKept → Type 0
-NodesRise last [] = Unit {0}
-NodesRise last (place ∷ places) = (last < place.node) × NodesRise place.node places
+NodesRise last places = AscendByKey IsNodeAbove node_key last places
 
 -- the edges ascend, all after `last`
 abbrev pub EdgesRise : ℕ × ℕ → List (ℕ × ℕ) → Type 0
-EdgesRise last [] = Unit {0}
-EdgesRise last (edge ∷ edges) = IsEdgeAbove last edge × EdgesRise edge edges
+EdgesRise last edges = AscendByKey IsEdgeAbove (λ edge. edge) last edges
 
 abbrev pub IsPlace : PlaceKept → Type 0
 IsPlace place = IsName place.node × IfSome place.target IsName
@@ -40,7 +50,8 @@ pub record IsShaped (base : BaseKept) : Type 0 where
   pub nodes_rise : NodesRise 0 base.nodes
   pub edges_rise : EdgesRise (0, 0) base.edges
 
--- the text of all lines of a base except its head
+-- The text of all lines of a base except its head. `one_base` proves that a text begins with those of at most
+-- one base.
 abbrev pub base_lines : BaseKept → List ℕ
 base_lines base =
     (numbers_line base ++ 10 ∷ []) ++ (lines_with_ends node_record_text base.nodes ++ lines_with_ends link_text base.edges)

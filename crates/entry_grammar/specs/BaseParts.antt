@@ -6,49 +6,43 @@ use Rattle.line_text.specs.Words.{lines_with_ends}
 use Rattle.line_text.specs.BaseText.{base_counts, node_record_text, link_text}
 use Rattle.entry_grammar.specs.Spelling.{IsOrderedPair}
 use Rattle.entry_grammar.specs.Parsing.{Starts}
-use Rattle.entry_grammar.specs.BaseLines.{IsEdgeAbove, NodesRise, EdgesRise, IsPlace}
+use Rattle.entry_grammar.specs.BaseLines.{AscendByKey, IsEdgeAbove, IsNodeAbove, IsPlace, node_key}
 
 -- the line of the four numbers
 abbrev pub numbers_text : ℕ × ℕ × ℕ × ℕ → List ℕ
 numbers_text q = base_counts q.0 q.1 q.2 q.3
 
--- the name of the last node; `last` if there are no nodes
-abbrev pub last_node : ℕ → List NodeRecord → ℕ
-last_node last [] = last
-last_node last (place ∷ places) = last_node place.node places
+-- the key of the last item; `last` if there are no items
+abbrev pub last_key : {K X : Type 0} → (X → K) → K → List X → K
+last_key key last [] = last
+last_key key last (x ∷ xs) = last_key key (key x) xs
 
-abbrev pub last_edge : ℕ × ℕ → List (ℕ × ℕ) → ℕ × ℕ
-last_edge last [] = last
-last_edge last (edge ∷ edges) = last_edge edge edges
+-- the bytes begin with the lines of these items, which ascend
+pub record LinesRead {K X : Type 0} (fits : X → Type 0) (text : X → List ℕ) (above : K → X → Type 0) (key : X → K) (least : K) (bytes : List ℕ) (items : List X) (rest : List ℕ) : Type 0 where
+  pub is : bytes ≡ lines_with_ends text items ++ rest
+  pub fit : AllByRecursion fits items
+  pub rise : AscendByKey above key least items
 
--- the bytes begin with the lines of these nodes, which ascend
-pub record NodesRead (bytes : List ℕ) (places : List NodeRecord) (rest : List ℕ) : Type 0 where
-  pub is : bytes ≡ lines_with_ends node_record_text places ++ rest
-  pub fit : AllByRecursion IsPlace places
-  pub rise : NodesRise 0 places
-
--- The bytes begin with fewer than `count` ascending nodes; then line k is not a node that ascends
--- further. The first node is line 2.
-pub record NodesBreak (bytes : List ℕ) (count k : ℕ) : Type 0 where
-  pub places : List NodeRecord
+-- The bytes begin with fewer than `count` ascending items, of which the first is line `first`; then line k is
+-- not an item that ascends further.
+pub record LinesBreak {K X : Type 0} (fits : X → Type 0) (text : X → List ℕ) (above : K → X → Type 0) (key : X → K) (least : K) (bytes : List ℕ) (count first k : ℕ) : Type 0 where
+  pub items : List X
   pub rest : List ℕ
-  pub read : NodesRead bytes places rest
-  pub few : length places < count
-  pub number : k ≡ length places + 2
-  pub stops : (place : NodeRecord) (more : List ℕ) → last_node 0 places < place.node → Starts IsPlace node_record_text rest place more → ⊥
+  pub read : LinesRead fits text above key least bytes items rest
+  pub few : length items < count
+  pub number : k ≡ first + length items
+  pub stops : (x : X) (more : List ℕ) → above (last_key key least items) x → Starts fits text rest x more → ⊥
 
--- the bytes begin with the lines of these edges, which ascend
-pub record EdgesRead (bytes : List ℕ) (edges : List (ℕ × ℕ)) (rest : List ℕ) : Type 0 where
-  pub is : bytes ≡ lines_with_ends link_text edges ++ rest
-  pub fit : AllByRecursion IsOrderedPair edges
-  pub rise : EdgesRise (0, 0) edges
+-- the nodes; the first node is line 2
+abbrev pub NodesRead : List ℕ → List NodeRecord → List ℕ → Type 0
+NodesRead bytes places rest = LinesRead IsPlace node_record_text IsNodeAbove node_key 0 bytes places rest
 
--- The bytes begin with fewer than `count` ascending edges; then line k is not an edge that ascends
--- further. The first edge is line `first`.
-pub record EdgesBreak (bytes : List ℕ) (count first k : ℕ) : Type 0 where
-  pub edges : List (ℕ × ℕ)
-  pub rest : List ℕ
-  pub read : EdgesRead bytes edges rest
-  pub few : length edges < count
-  pub number : k ≡ first + length edges
-  pub stops : (edge : ℕ × ℕ) (more : List ℕ) → IsEdgeAbove (last_edge (0, 0) edges) edge → Starts IsOrderedPair link_text rest edge more → ⊥
+abbrev pub NodesBreak : List ℕ → ℕ → ℕ → Type 0
+NodesBreak bytes count k = LinesBreak IsPlace node_record_text IsNodeAbove node_key 0 bytes count 2 k
+
+-- the edges
+abbrev pub EdgesRead : List ℕ → List (ℕ × ℕ) → List ℕ → Type 0
+EdgesRead bytes edges rest = LinesRead IsOrderedPair link_text IsEdgeAbove (λ edge. edge) (0, 0) bytes edges rest
+
+abbrev pub EdgesBreak : List ℕ → ℕ → ℕ → ℕ → Type 0
+EdgesBreak bytes count first k = LinesBreak IsOrderedPair link_text IsEdgeAbove (λ edge. edge) (0, 0) bytes count first k

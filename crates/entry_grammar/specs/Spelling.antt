@@ -15,7 +15,8 @@ use Rattle.entry_grammar.specs.declared.base_line.BaseLine.{BaseLine}
 use Rattle.entry_grammar.specs.declared.base_line.BaseLine.TheVariants.{Head, Base, Place, Link}
 use Rattle.line_text.specs.EntryText.{header_text, entry_text}
 
--- the line is the one spelling of the entry with this number: an event, and a reply of its kind
+-- The line is the one spelling of the entry with this number: an event, and a reply of its kind.
+-- `entry_lines_are_short` bounds its length.
 pub record SpellsEntry (line : List ℕ) (number : ℕ) (entry : Event × Reply) : Type 0 where
   pub numbered : (1 ≤ number) × (number ≤ max_entries)
   pub event : IsEvent entry.0

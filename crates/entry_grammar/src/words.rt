@@ -4,7 +4,8 @@ ghost use Rattle.std.specs.Prelude.{◌≡◌, ◌≢◌, ℕ, List, [], ◌∷�
 ghost use Rattle.std.specs.List.{AllByRecursion};
 ghost use Rattle.line_text.specs.Words.{joined_texts, joined_or};
 ghost use Rattle.line_text.specs.Parsing.{ParsesAs};
-ghost use Rattle.entry_grammar.specs.Parsing.{IsFree, TokenThen};
+ghost use Rattle.line_text.specs.ReadBack.{IsReadBack};
+ghost use Rattle.entry_grammar.specs.Parsing.{EndsWord, TokenThen};
 
 use crate::cut::behind;
 use rule_machine::{Listing, Want};
@@ -38,7 +39,7 @@ fn read_alone<W: Token + Copy>(bytes: &[u8]) -> Option<W>
 #[inline(never)]
 fn read_many<W: Token + Copy>(alloc: Global, bytes: &[u8]) -> Result<Option<Listing<W>>, Want>
     requires some { bytes.now ≢ [] }
-    requires no_space { (word : W) → W.fits word → IsFree 32 (W.text word) }
+    requires read_back { IsReadBack W.fits W.text (λ _ rest. EndsWord rest) }
     ensures { IfOk result (ParsesAs (AllByRecursion W.fits) (joined_texts W.text) bytes.now) }
 {
     let mut words = Vec::new(alloc);
@@ -56,7 +57,7 @@ fn read_many<W: Token + Copy>(alloc: Global, bytes: &[u8]) -> Result<Option<List
 /// Reads words joined by one space; an empty text has no words. `None` for any other text.
 /// Takes memory only for two or more words. Error: out of memory.
 pub fn read_words<W: Token + Copy>(alloc: Global, bytes: &[u8]) -> Result<Option<Listing<W>>, Want>
-    requires no_space { (word : W) → W.fits word → IsFree 32 (W.text word) }
+    requires read_back { IsReadBack W.fits W.text (λ _ rest. EndsWord rest) }
     ensures { IfOk result (ParsesAs (AllByRecursion W.fits) (joined_texts W.text) bytes.now) }
 {
     if bytes.is_empty() {
@@ -71,7 +72,7 @@ pub fn read_words<W: Token + Copy>(alloc: Global, bytes: &[u8]) -> Result<Option
 /// Reads words joined by one space, or `none` for no words; `None` for any other text.
 pub fn read_list<W: Token + Copy>(alloc: Global, bytes: &[u8]) -> Result<Option<Listing<W>>, Want>
     requires some { (word : W) → W.fits word → W.text word ≢ [] }
-    requires no_space { (word : W) → W.fits word → IsFree 32 (W.text word) }
+    requires read_back { IsReadBack W.fits W.text (λ _ rest. EndsWord rest) }
     ensures { IfOk result (ParsesAs (AllByRecursion W.fits) (joined_or (codes "none") W.text) bytes.now) }
 {
     if bytes == b"none".as_slice() {

@@ -1,16 +1,6 @@
 -- Ascending lists: such a list is the part of a range that it has, and it still ascends after an insertion or
 -- a removal.
-use Rattle.std.proofs.Common.{◌≡◌, ◌≢◌, ℕ, ◌+◌, ◌-◌, ◌<◌, ◌≤◌, suc, zero, Bool, true, false, not, cond, ◌&&◌, ◌||◌, List, [], ◌∷◌, ◌++◌, length, eqb, get_or, take, drop, sym, refl, ap, ◌∙◌, arith, add-one, ⊎_elim}
-use Rattle.std.specs.Prelude.{filter}
-use Rattle.std.specs.List.{range_with_len, insert, remove}
-use Rattle.std.specs.List.Sorted.{IsStrictlyIncreasing}
-use Rattle.std.proofs.lemmas.Bool.{ne_eqb, eq-eqb, eqb-true, or_from, cases_eq, cases_lt, true≢false, or_right, cases_Bool}
-use Rattle.std.proofs.lemmas.List.{take-append-drop, get_or-take, get_or-drop, length-take, length-drop, get_or_default}
-use Rattle.std.proofs.lemmas.List.Edits.{length-insert, get_or-insert_below, get_or-insert_at, get_or-insert_above, length-remove, get_or-remove_below, get_or-remove_above}
-use Rattle.std.proofs.lemmas.List.Folds.{list_any-append, list_any_at, list_any_none}
-use Rattle.std.proofs.lemmas.List.Kept.{AllPairs-from_increasing}
-use Rattle.std.proofs.Math.Seq.{drop-cons}
-use Rattle.graph_store.specs.Rows.{has, IsPlaceOf, IsGapFor}
+use Rattle.graph_store.proofs.Prelude.{◌≡◌, ◌≢◌, ℕ, ◌+◌, ◌-◌, ◌<◌, ◌≤◌, suc, zero, Bool, true, false, not, cond, ◌&&◌, ◌||◌, List, [], ◌∷◌, ◌++◌, length, eqb, get_or, take, drop, sym, refl, ap, ◌∙◌, arith, add-one, ⊎_elim, filter, range_with_len, insert, remove, IsStrictlyIncreasing, ne_eqb, eq-eqb, eqb-true, or_from, cases_eq, cases_lt, true≢false, or_right, cases_Bool, take-append-drop, get_or-take, get_or-drop, length-take, length-drop, get_or_default, length-insert, get_or-insert_below, get_or-insert_at, get_or-insert_above, length-remove, get_or-remove_below, get_or-remove_above, list_any-append, list_any_at, list_any_none, AllPairs-from_increasing, drop-cons, has, IsPlaceOf, IsGapFor}
 
 -- the names rise, from a on
 unfoldable pub RisesFrom : ℕ → List ℕ → Type 0

@@ -1,13 +1,6 @@
 -- The names in rows that are vectors, whatever their capacities.
-use Rattle.std.proofs.Common.{◌≡◌, ℕ, suc, ◌-◌, ◌<◌, ◌≤◌, List, [], ◌∷◌, map, length, get_or, set, sym, ap, ◌∙◌, ◌+◌, take, drop, ◌++◌, append_assoc, length-take, length-drop, arith, Result, Ok, Err, MatchResult}
-use Rattle.std.specs.List.{insert, remove}
-use Rattle.std.specs.Result.{is_ok}
-use Rattle.std.specs.Vec.{vec_len, vec_capacity}
-use Rattle.std.specs.declared.vec.Vec.{Vec}
-use Rattle.std.specs.declared.alloc.Global.{Global}
-use Rattle.std.proofs.Math.Seq.{map-set_same, take-append-add}
-use Rattle.std.proofs.lemmas.List.{map-set, get_or-map, get_or_past, length-map, ext_get_or, get_or-take, get_or-drop, take_rest, length-take-le, take-take, take-append-le, drop-drop}
-use Rattle.graph_store.specs.Rows.{contents, row_at, has, HasRoom, IsPlaceOf, IsGapFor}
+use Rattle.graph_store.proofs.Prelude.{◌≡◌, ℕ, suc, ◌-◌, ◌<◌, ◌≤◌, List, [], ◌∷◌, map, length, get_or, set, sym, ap, ◌∙◌, ◌+◌, take, drop, ◌++◌, append_assoc, arith, Result, Ok, Err, MatchResult, insert, remove, is_ok, vec_len, vec_capacity, Vec, Global, map-set_same, take-append-add, map-set, get_or-map, get_or_past, length-map, ext_get_or, get_or-take, get_or-drop, take_rest, length-take-le, take-take, take-append-le, drop-drop, contents, row_at, has, HasRoom, IsPlaceOf, IsGapFor}
+use Rattle.std.proofs.Common.{length-take, length-drop}
 use Rattle.graph_store.proofs.AscendingLists.{there_at_place, absent_at_gap}
 
 -- there are as many lists of names as vectors

@@ -1,18 +1,8 @@
 -- Which fault a call has, and the row that a call reads.
-use Rattle.std.proofs.Common.{◌≡◌, ◌≢◌, ℕ, ◌<◌, ◌≤◌, Bool, true, false, cond, not, ◌&&◌, List, length, get_or, None, Some, eqb, sym, refl, ap, ◌∙◌, arith}
-use Rattle.std.specs.Prelude.{nat_le}
-use Rattle.std.specs.declared.vec.Vec.{Vec}
-use Rattle.std.specs.declared.alloc.Global.{Global}
-use Rattle.std.proofs.lemmas.Bool.{leb-false, true≢false}
-use Rattle.rule_machine.specs.Network.{Network, present, linked, edge, edge_count}
-use Rattle.rule_machine.specs.Refuse.{max_edges}
-use Rattle.graph_store.specs.declared.fault.GraphFault.TheVariants.{UnknownNode, SelfLoop, AlreadyLinked, NotLinked, TooManyEdges}
-use Rattle.graph_store.specs.Fault.{ends_fault, link_fault, unlink_fault}
-use Rattle.graph_store.specs.Rows.{contents, row_at, has, network_of, IsRows, IsPlaceOf}
+use Rattle.graph_store.proofs.Prelude.{◌≡◌, ◌≢◌, ℕ, ◌<◌, ◌≤◌, Bool, true, false, cond, not, ◌&&◌, List, length, get_or, None, Some, eqb, sym, refl, ap, ◌∙◌, arith, nat_le, Vec, Global, leb-false, true≢false, Network, present, linked, edge, edge_count, max_edges, UnknownNode, SelfLoop, AlreadyLinked, NotLinked, TooManyEdges, ends_fault, link_fault, unlink_fault, contents, row_at, has, network_of, IsRows, IsPlaceOf, present_range, linked_back}
 use Rattle.graph_store.proofs.PairOrder.{count-some}
 use Rattle.graph_store.proofs.Contents.{row_read, length_contents}
 use Rattle.graph_store.proofs.AscendingLists.{there_at_place}
-use Rattle.machine_laws.specs.Neighbours.{present_range, linked_back}
 use Rattle.graph_store.proofs.Store.{linked_by, linked_present}
 
 -- two names that may be ends are nodes, and different

@@ -1,11 +1,5 @@
 -- The place of a name, looked for by halves.
-use Rattle.std.proofs.Common.{◌≡◌, ℕ, suc, ◌+◌, ◌-◌, ◌/◌, ◌^◌, ◌<◌, ◌≤◌, true, false, List, get_or, subst, arith}
-use Rattle.std.proofs.Math.Nat.{pow-succ'}
-use Rattle.std.specs.Ordering.{is_lt, nat_cmp}
-use Rattle.std.specs.List.Sorted.{IsStrictlyIncreasing}
-use Rattle.std.proofs.lemmas.Bool.Decides.{nat_tests}
-use Rattle.std.proofs.lemmas.List.Kept.{AllPairs-from_increasing}
-use Rattle.graph_store.specs.Rows.{IsPartFor}
+use Rattle.graph_store.proofs.Prelude.{◌≡◌, ℕ, suc, ◌+◌, ◌-◌, ◌/◌, ◌^◌, ◌<◌, ◌≤◌, true, false, List, get_or, subst, arith, pow-succ', is_lt, nat_cmp, IsStrictlyIncreasing, nat_tests, AllPairs-from_increasing, IsPartFor}
 use Rattle.graph_store.proofs.Results.{never_falls}
 
 -- what the order of two names says

@@ -1,17 +1,7 @@
 -- A node that leaves: its edges go one by one from its last neighbour, and then its place.
-use Rattle.std.proofs.Common.{◌≡◌, ℕ, ◌-◌, ◌<◌, ◌≤◌, min, max, Bool, true, false, not, cond, ◌&&◌, List, [], ◌∷◌, length, eqb, leb, ltb, get_or, set, Option, None, Some, sym, refl, ap, subst, ◌∙◌, arith, ⊎_elim}
-use Rattle.std.specs.Prelude.{slice_get, MatchOption}
+use Rattle.graph_store.proofs.Prelude.{◌≡◌, ℕ, ◌-◌, ◌<◌, ◌≤◌, min, max, Bool, true, false, not, cond, ◌&&◌, List, [], ◌∷◌, length, eqb, leb, ltb, get_or, set, Option, None, Some, sym, refl, ap, subst, ◌∙◌, arith, ⊎_elim, slice_get, MatchOption, and_parts, or_cases, or_left, or_right, eqb-true, eq-eqb, ne_eqb, cases_lt, true≢false, get_or-set_other, length-set, slice_get-get_or, Network, PairSet, present, linked, neighbours, edge, edge_count, is_end, without_edge, without_node, UnknownNode, leave_fault, unlink_fault, has, row_at, edges_of, network_of, IsRows, IsStore, IsPlaceOf, contains-without, and-false}
 use Rattle.std.specs.FinMap as map
-use Rattle.std.proofs.lemmas.Bool.{and_parts, or_cases, or_left, or_right, eqb-true, eq-eqb, ne_eqb, cases_lt, true≢false}
-use Rattle.std.proofs.lemmas.List.{get_or-set_other, length-set}
-use Rattle.std.proofs.lemmas.Option.{slice_get-get_or}
-use Rattle.rule_machine.specs.Network.{Network, PairSet, present, linked, neighbours, edge, edge_count, is_end, without_edge, without_node}
-use Rattle.graph_store.specs.declared.fault.GraphFault.TheVariants.{UnknownNode}
-use Rattle.graph_store.specs.Fault.{leave_fault, unlink_fault}
-use Rattle.graph_store.specs.Rows.{has, row_at, edges_of, network_of, IsRows, IsStore, IsPlaceOf}
-use Rattle.machine_laws.specs.Edges.{contains-without}
 use Rattle.graph_store.proofs.PairOrder.{same_pair, has-remove, count-remove, same_pairs}
-use Rattle.std.proofs.Math.Bool.{and-false}
 use Rattle.graph_store.proofs.Pairs.{has-edges_of}
 use Rattle.graph_store.proofs.AscendingLists.{there_at_place}
 use Rattle.graph_store.proofs.Store.{neighbours_by}

@@ -1,3 +1,4 @@
+pub mod Prelude
 pub mod PairOrder
 pub mod Pairs
 pub mod AscendingLists

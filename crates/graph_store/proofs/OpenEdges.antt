@@ -1,23 +1,6 @@
 -- How many edges are open, as an edge comes or goes and as a name turns.
-use Rattle.std.proofs.Common.{◌≡◌, ℕ, ◌+◌, ◌<◌, ◌≤◌, min, max, Bool, true, false, cond, ◌&&◌, List, [], length, count_by, replicate, get_or, set, refl, sym, ap, ap₂, ◌∙◌, ⊎_elim, arith, ltb}
+use Rattle.graph_store.proofs.Prelude.{◌≡◌, ℕ, ◌+◌, ◌<◌, ◌≤◌, min, max, Bool, true, false, cond, ◌&&◌, List, [], length, count_by, replicate, get_or, set, refl, sym, ap, ap₂, ◌∙◌, ⊎_elim, arith, ltb, Vec, Global, from_bool, range_with_len, length-range_with_len, length-filter, count_by-le-length, and_parts, cases_lt, cases_eq, ltb-true, get_or-set_other, get_or-set_same, length-replicate, Network, IsNetwork, PairSet, edge, names, linked, present, count_agree, zeros, count_filter, one_node_changes, count_with, count_without, count_empty, count_all_few, EdgeStance, Shut, are_open, end_at, open_among, CountsOpenEdges, contents, has, row_at, edges_of, network_of, IsRows, IsStore}
 use Rattle.std.specs.FinMap as map
-use Rattle.std.specs.declared.vec.Vec.{Vec}
-use Rattle.std.specs.declared.alloc.Global.{Global}
-use Rattle.std.specs.Int.{from_bool}
-use Rattle.std.specs.List.{range_with_len}
-use Rattle.std.proofs.lemmas.List.FromFn.{length-range_with_len}
-use Rattle.std.proofs.lemmas.List.Sums.{length-filter, count_by-le-length}
-use Rattle.std.proofs.lemmas.Bool.{and_parts, cases_lt, cases_eq, ltb-true}
-use Rattle.std.proofs.lemmas.List.{get_or-set_other, get_or-set_same, length-replicate}
-use Rattle.rule_machine.specs.Network.{Network, IsNetwork, PairSet, edge, names, linked, present}
-use Rattle.charge_laws.specs.ListCounts.{count_agree}
-use Rattle.charge_laws.specs.EdgesByNodes.{zeros, count_filter}
-use Rattle.charge_laws.specs.EdgesByEnds.{one_node_changes}
-use Rattle.charge_laws.specs.EdgeChanges.{count_with, count_without, count_empty, count_all_few}
-use Rattle.graph_store.specs.declared.ends.EdgeStance.{EdgeStance}
-use Rattle.graph_store.specs.declared.ends.EdgeStance.TheVariants.{Shut}
-use Rattle.graph_store.specs.EdgeStances.{are_open, end_at, open_among, CountsOpenEdges}
-use Rattle.graph_store.specs.Rows.{contents, has, row_at, edges_of, network_of, IsRows, IsStore}
 use Rattle.graph_store.proofs.Contents.{row_read, length_contents}
 use Rattle.graph_store.proofs.Pairs.{has-edges_of}
 use Rattle.graph_store.proofs.Store.{empty_network, neighbours_row, linked_row}

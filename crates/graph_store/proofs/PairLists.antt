@@ -1,17 +1,8 @@
 -- The pairs of rows rise, so the set of them lists them as they are.
-use Rattle.std.proofs.Common.{◌≡◌, ℕ, ◌+◌, ◌<◌, suc, Bool, true, false, cond, ◌||◌, List, [], ◌∷◌, ◌++◌, length, get_or, take, append_assoc, refl, sym, ap, ap₂, ◌∙◌, arith}
-use Rattle.std.specs.Prelude.{filter, nat_lt}
+use Rattle.graph_store.proofs.Prelude.{◌≡◌, ℕ, ◌+◌, ◌<◌, suc, Bool, true, false, cond, ◌||◌, List, [], ◌∷◌, ◌++◌, length, get_or, take, append_assoc, refl, sym, ap, ap₂, ◌∙◌, arith, filter, nat_lt, IsStrictlyIncreasing, nat_cmp, ordering_then, nat_cmp_is, Less, Equal, eq-eqb, true≢false, append-nil, nil_from_length, length-take, take_more, pair_cmp, pair_set, row_at, has, pairs_from, IsRows, pair_total}
 use Rattle.std.specs.Prelude.{map as list_map}
 use Rattle.std.specs.FinMap as map
-use Rattle.std.specs.List.Sorted.{IsStrictlyIncreasing}
-use Rattle.std.specs.Ordering.{nat_cmp, ordering_then}
-use Rattle.std.specs.Cmp.{nat_cmp_is}
-use Rattle.std.specs.declared.cmp.Ordering.TheVariants.{Less, Equal}
-use Rattle.std.proofs.lemmas.Bool.{eq-eqb, true≢false}
-use Rattle.std.proofs.lemmas.List.{append-nil, nil_from_length, length-take, take_more}
-use Rattle.rule_machine.specs.Network.{pair_cmp, pair_set}
-use Rattle.graph_store.specs.Rows.{row_at, has, pairs_from, edges_of, IsRows}
-use Rattle.machine_laws.specs.Edges.{pair_total}
+use Rattle.graph_store.specs.Rows.{edges_of}
 use Rattle.graph_store.proofs.AscendingLists.{RisesFrom, rises_from, lower_rises}
 
 -- each pair is below the next one

@@ -1,13 +1,6 @@
 -- What a set of pairs has after a change.
-use Rattle.std.proofs.Common.{◌≡◌, ℕ, Bool, true, false, cond, not, ◌&&◌, ◌||◌, ◌+◌, ◌-◌, List, [], ◌∷◌, eqb, sym, ap, ◌∙◌, ◌<◌, ◌≤◌, ⊎_elim, arith}
-use Rattle.std.proofs.lemmas.Bool.{cases_lt, true≢false}
-use Rattle.std.specs.List.{list_any}
-use Rattle.std.specs.Ordering.{eq_by_cmp, nat_cmp}
-use Rattle.std.specs.Cmp.{both_tied, unsigned_ties}
+use Rattle.graph_store.proofs.Prelude.{◌≡◌, ℕ, Bool, true, false, cond, not, ◌&&◌, ◌||◌, ◌+◌, ◌-◌, List, [], ◌∷◌, eqb, sym, ap, ◌∙◌, ◌<◌, ◌≤◌, ⊎_elim, arith, cases_lt, true≢false, list_any, eq_by_cmp, nat_cmp, both_tied, unsigned_ties, pair_cmp, pair_set, PairSet, pair_total, pair_exact, contains-insert, contains-remove, contains-empty, unit_some}
 use Rattle.std.specs.FinMap as map
-use Rattle.rule_machine.specs.Network.{pair_cmp, pair_set, PairSet}
-use Rattle.machine_laws.specs.Edges.{pair_total, pair_exact, contains-insert, contains-remove, contains-empty}
-use Rattle.machine_laws.specs.Leaves.{unit_some}
 
 -- whether two pairs are one
 abbrev pub same_pair : ℕ × ℕ → ℕ × ℕ → Bool

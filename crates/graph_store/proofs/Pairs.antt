@@ -1,12 +1,7 @@
 -- Which pairs neighbour lists hold.
-use Rattle.std.proofs.Common.{◌≡◌, ℕ, ◌+◌, suc, zero, Bool, true, false, cond, ◌&&◌, ◌||◌, List, [], ◌∷◌, map, eqb, ltb, get_or, sym, refl, ap, ◌∙◌, ◌<◌, arith}
-use Rattle.std.specs.Prelude.{filter}
-use Rattle.std.specs.List.{list_any}
-use Rattle.std.proofs.lemmas.Bool.{ne_eqb, eq-eqb, eqb-true, or_from, and_left}
-use Rattle.std.proofs.lemmas.List.Folds.{list_any-append}
-use Rattle.std.proofs.Math.Bool.{and-false, or-false}
+use Rattle.graph_store.proofs.Prelude.{◌≡◌, ℕ, ◌+◌, suc, zero, Bool, true, false, cond, ◌&&◌, ◌||◌, List, [], ◌∷◌, map, eqb, ltb, get_or, sym, refl, ap, ◌∙◌, ◌<◌, arith, filter, list_any, ne_eqb, eq-eqb, eqb-true, or_from, and_left, list_any-append, and-false, or-false, row_at, has, pairs_from}
 use Rattle.std.specs.FinMap as fin
-use Rattle.graph_store.specs.Rows.{row_at, has, pairs_from, edges_of}
+use Rattle.graph_store.specs.Rows.{edges_of}
 use Rattle.graph_store.proofs.PairOrder.{same_pair, has-pair_set}
 
 -- a name that is kept, since it is above the row's

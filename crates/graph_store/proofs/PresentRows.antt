@@ -1,14 +1,7 @@
 -- The rows of the first names.
-use Rattle.std.proofs.Common.{suc, ◌≡◌, ℕ, ◌+◌, ◌≤◌, true, false, ◌&&◌, length, filter, replicate, leb, set, get_or, sym, ap, ap₂, ◌∙◌, arith, ⊎_elim}
-use Rattle.std.specs.List.{range_with_len}
-use Rattle.std.proofs.lemmas.Bool.{cases_eq, le-leb}
-use Rattle.std.proofs.lemmas.Bool.Decides.{nat_tests}
-use Rattle.std.proofs.lemmas.List.{ext_get_or, length-set, length-replicate, get_or-replicate, get_or-set_same, get_or-set_other}
-use Rattle.std.proofs.lemmas.List.Elements.{filter_agree}
-use Rattle.std.proofs.lemmas.List.FromFn.{length-map-range_with_len, get_or-map-range_with_len}
-use Rattle.rule_machine.specs.Network.{Network, first_names, names, present}
+use Rattle.graph_store.proofs.Prelude.{suc, ◌≡◌, ℕ, ◌+◌, ◌≤◌, true, false, ◌&&◌, length, replicate, leb, set, get_or, sym, ap, ap₂, ◌∙◌, arith, ⊎_elim, range_with_len, cases_eq, le-leb, nat_tests, ext_get_or, length-set, length-replicate, get_or-replicate, get_or-set_same, get_or-set_other, filter_agree, length-map-range_with_len, get_or-map-range_with_len, Network, first_names, names, present, is_in, members}
+use Rattle.std.proofs.Common.{filter}
 use Rattle.graph_store.proofs.Store.{on_roll}
-use Rattle.enabled_set.specs.Members.{is_in, members}
 
 pub first_names_len : (size count : ℕ) → length (first_names size count) ≡ size + 1
 first_names_len size count = length-map-range_with_len (λ v. leb 1 v && leb v count) 0 (size + 1)

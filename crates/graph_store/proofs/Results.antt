@@ -1,10 +1,5 @@
 -- What `map_err` passes on, and the order of a rising list's places.
-use Rattle.std.proofs.Common.{◌≡◌, ℕ, ◌-◌, ◌<◌, ◌≤◌, List, length, get_or, Result, Ok, Err, IfOk, OnOk, MatchResult, ap, sym, subst, arith, ⊎_elim}
-use Rattle.std.specs.Result.{IsErrAnd}
-use Rattle.std.specs.List.Sorted.{IsStrictlyIncreasing}
-use Rattle.graph_store.specs.Rows.{IsGapFor}
-use Rattle.std.proofs.lemmas.Bool.{cases_lt}
-use Rattle.std.proofs.lemmas.List.Kept.{AllPairs-from_increasing}
+use Rattle.graph_store.proofs.Prelude.{◌≡◌, ℕ, ◌-◌, ◌<◌, ◌≤◌, List, length, get_or, Result, Ok, Err, IfOk, OnOk, MatchResult, ap, sym, subst, arith, ⊎_elim, IsErrAnd, IsStrictlyIncreasing, IsGapFor, cases_lt, AllPairs-from_increasing}
 
 -- what holds of an `Ok` holds of the value that `map_err` passed on
 pub from_map_err : {T E F : Type 0} (P : T → Type 0) (r : Result T E) (v : Result T F) (x : T) (Q : E → F → Type 0) → v ≡ Ok x → MatchResult r (λ y. v ≡ Ok y) (λ e. IsErrAnd v (Q e)) → IfOk r P → P x

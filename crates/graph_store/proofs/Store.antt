@@ -1,21 +1,8 @@
 -- What a store's rows say of its network, and what one edge more or less does to both.
-use Rattle.std.proofs.Common.{◌≡◌, ℕ, ◌+◌, ◌<◌, ◌≤◌, min, max, Bool, true, false, cond, ◌&&◌, List, [], ◌∷◌, length, filter, get_or, refl, ltb, leb, replicate, sym, ap, subst, ◌∙◌, arith, ⊎_elim}
-use Rattle.std.specs.Prelude.{All, IsTrue}
-use Rattle.std.specs.Cmp.{nat_eq_equiv}
-use Rattle.std.specs.List.{range_with_len}
-use Rattle.std.specs.List.Sorted.{IsStrictlyIncreasing}
+use Rattle.graph_store.proofs.Prelude.{◌≡◌, ℕ, ◌+◌, ◌<◌, ◌≤◌, min, max, Bool, true, false, cond, ◌&&◌, List, [], ◌∷◌, length, get_or, refl, ltb, leb, replicate, sym, ap, subst, ◌∙◌, arith, ⊎_elim, All, IsTrue, nat_eq_equiv, range_with_len, IsStrictlyIncreasing, and_left, cases_lt, true≢false, lt-ltb, le-ltb, le-leb, lt-leb, get_or-replicate, get_or_past, length-replicate, filter_agree, length-map-range_with_len, get_or-map-range_with_len, All-from_any, Network, PairSet, linked, present, neighbours, names, first_names, edgeless_with, edge_count, contains-empty, present_range, has, row_at, edges_of, network_of, IsRows, IsStore, and-false}
+use Rattle.std.proofs.Common.{filter}
 use Rattle.std.specs.FinMap as map
-use Rattle.std.proofs.lemmas.Bool.{and_left, cases_lt, true≢false, lt-ltb, le-ltb, le-leb, lt-leb}
-use Rattle.std.proofs.lemmas.List.{get_or-replicate, get_or_past, length-replicate}
-use Rattle.std.proofs.lemmas.List.Elements.{filter_agree}
-use Rattle.std.proofs.lemmas.List.FromFn.{length-map-range_with_len, get_or-map-range_with_len}
-use Rattle.std.proofs.lemmas.Map.Views.{All-from_any}
-use Rattle.rule_machine.specs.Network.{Network, PairSet, linked, present, neighbours, names, first_names, edgeless_with, edge_count}
-use Rattle.machine_laws.specs.Edges.{contains-empty}
-use Rattle.machine_laws.specs.Neighbours.{present_range}
-use Rattle.graph_store.specs.Rows.{has, row_at, edges_of, network_of, IsRows, IsStore}
 use Rattle.graph_store.proofs.PairOrder.{count-empty, same_pairs}
-use Rattle.std.proofs.Math.Bool.{and-false}
 use Rattle.graph_store.proofs.Pairs.{has-edges_of}
 use Rattle.graph_store.proofs.AscendingLists.{part_of_names}
 

@@ -1,17 +1,9 @@
 -- What one edge more or less does to a store's rows and to its network.
-use Rattle.std.proofs.Common.{◌≡◌, ◌≢◌, ℕ, ◌+◌, ◌-◌, ◌<◌, ◌≤◌, min, max, Bool, true, false, not, cond, ◌&&◌, ◌||◌, List, [], length, eqb, ltb, set, sym, ap, subst, ◌∙◌, arith, ⊎_elim, inl, inr, ◌⊎◌}
-use Rattle.std.specs.List.{insert, remove}
-use Rattle.std.specs.List.Sorted.{IsStrictlyIncreasing}
+use Rattle.graph_store.proofs.Prelude.{◌≡◌, ◌≢◌, ℕ, ◌+◌, ◌-◌, ◌<◌, ◌≤◌, min, max, Bool, true, false, not, cond, ◌&&◌, ◌||◌, List, [], length, eqb, ltb, set, sym, ap, subst, ◌∙◌, arith, ⊎_elim, inl, inr, ◌⊎◌, insert, remove, IsStrictlyIncreasing, ne_eqb, eqb-true, and_left, and_parts, or_from, or_cases, cases_eq, cases_lt, cases_Bool, ltb-true, ltb-false, nat_tests, get_or-set_same, get_or-set_other, length-set, Network, PairSet, edge, linked, present, with_edge, without_edge, has, row_at, edges_of, network_of, put_both, take_both, IsRows, IsStore, IsPlaceOf, IsGapFor, present_range}
 use Rattle.std.specs.FinMap as map
-use Rattle.std.proofs.lemmas.Bool.{ne_eqb, eqb-true, and_left, and_parts, or_from, or_cases, cases_eq, cases_lt, cases_Bool, ltb-true, ltb-false}
-use Rattle.std.proofs.lemmas.Bool.Decides.{nat_tests}
-use Rattle.std.proofs.lemmas.List.{get_or-set_same, get_or-set_other, length-set}
-use Rattle.rule_machine.specs.Network.{Network, PairSet, edge, linked, present, with_edge, without_edge}
-use Rattle.graph_store.specs.Rows.{has, row_at, edges_of, network_of, put_both, take_both, IsRows, IsStore, IsPlaceOf, IsGapFor}
 use Rattle.graph_store.proofs.PairOrder.{same_pair, has-insert as has_pair-insert, has-remove as has_pair-remove, count-insert, count-remove, same_pairs}
 use Rattle.graph_store.proofs.Pairs.{has-edges_of}
 use Rattle.graph_store.proofs.AscendingLists.{absent_at_gap, there_at_place, has-insert, has-remove, rising-insert, rising-remove}
-use Rattle.machine_laws.specs.Neighbours.{present_range}
 use Rattle.graph_store.proofs.Store.{linked_row}
 
 -- whether x and y are a and b, either way round

@@ -1,29 +1,6 @@
 -- The sums of the contributions if no name is stale.
-use Rattle.std.proofs.Common.{◌≡◌, ℕ, suc, ◌+◌, ◌<◌, ◌≤◌, Bool, true, false, cond, not, ◌&&◌, List, [], ◌∷◌, length, get_or, count_by, sum_by, filter, filter_map, Option, None, Some, is_some, option_and_then, IsTrue, nat_eq, take, refl, sym, ap, ap₂, ◌∙◌, arith}
+use Rattle.indexed_state.proofs.Prelude.{◌≡◌, ℕ, suc, ◌+◌, ◌<◌, ◌≤◌, Bool, true, false, cond, not, ◌&&◌, List, [], ◌∷◌, length, get_or, count_by, sum_by, filter, filter_map, Option, None, Some, is_some, option_and_then, IsTrue, nat_eq, take, refl, sym, ap, ap₂, ◌∙◌, arith, range_with_len, cons_option, and_parts, eq-eqb, false_from_ne_true, true≢false, sum_by_more, sum_by-cons, is_in, members, summed, EdgeStance, Shut, Courted, Free, are_open, end_at, open_edges, is_courted, Network, IsNetwork, names, present, linked, neighbours, edge_list, mutual_pairs, pair_above, State, IsState, is_at, pointer, points, married, has_suitor, linked_present, no_suitor, pointer_linked, points_true, ends_open, at_once, closing_by_targets, count_agree, count_filter, in_names, names_without_repeats, IsLoneSuitor, edges_agree, Contribution, answered_by, closing_at, stance_of, is_lower_end, no_contribution, contribution_at}
 use mir.Val.{bool_byte}
-use Rattle.std.specs.List.{range_with_len, cons_option}
-use Rattle.std.proofs.lemmas.Bool.{and_parts, eq-eqb, false_from_ne_true, true≢false}
-use Rattle.std.proofs.lemmas.List.Sums.{sum_by_more, sum_by-cons}
-use Rattle.enabled_set.specs.Members.{is_in, members}
-use Rattle.enabled_set.proofs.Sums.{summed}
-use Rattle.graph_store.specs.declared.ends.EdgeStance.{EdgeStance}
-use Rattle.graph_store.specs.declared.ends.EdgeStance.TheVariants.{Shut, Courted, Free}
-use Rattle.graph_store.specs.EdgeStances.{are_open, end_at, open_edges}
-use Rattle.rule_machine.specs.Charge.{is_courted}
-use Rattle.rule_machine.specs.Network.{Network, IsNetwork, names, present, linked, neighbours, edge_list}
-use Rattle.rule_machine.specs.Stable.{mutual_pairs, pair_above}
-use Rattle.rule_machine.specs.State.{State, IsState, is_at, pointer, points, married, has_suitor}
-use Rattle.machine_laws.specs.Neighbours.{linked_present}
-use Rattle.machine_laws.specs.Pointers.{no_suitor, pointer_linked, points_true}
-use Rattle.rules_api.specs.ChargeInputs.{ends_open}
-use Rattle.charge_laws.specs.ClosedByPointers.{at_once, closing_by_targets}
-use Rattle.charge_laws.specs.ListCounts.{count_agree}
-use Rattle.charge_laws.specs.EdgesByNodes.{count_filter}
-use Rattle.charge_laws.specs.Members.{in_names, names_without_repeats}
-use Rattle.suitor_index.specs.Tallies.{IsLoneSuitor}
-use Rattle.charge_laws.specs.EdgesByEnds.{edges_agree}
-use Rattle.indexed_state.specs.declared.share.Contribution.{Contribution}
-use Rattle.indexed_state.specs.Contributions.{answered_by, closing_at, stance_of, is_lower_end, no_contribution, contribution_at}
 use Rattle.indexed_state.proofs.NodeScans.{names_sum, pairs_scanned}
 
 -- ---- lower ends

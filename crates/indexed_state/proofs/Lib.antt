@@ -1,3 +1,4 @@
+pub mod Prelude
 pub mod Partners
 pub mod NodeScans
 pub mod Rounds

@@ -1,16 +1,6 @@
 -- Lists and sums over the names of a network's nodes, by a scan of all names up to its capacity.
-use Rattle.std.proofs.Common.{◌≡◌, ℕ, ◌≤◌, Bool, false, cond, ◌&&◌, List, [], ◌∷◌, filter, filter_map, length, sum_by, Option, None, refl, sym, ap, ◌∙◌, arith}
-use Rattle.std.specs.List.{range_with_len}
-use Rattle.std.proofs.lemmas.Bool.{true≢false}
-use Rattle.std.proofs.lemmas.List.FromFn.{length-range_with_len}
-use Rattle.std.proofs.lemmas.List.Sums.{count_by-le-length, length-filter}
-use Rattle.rule_machine.specs.Network.{Network, linked, names, neighbours, present, node_count}
-use Rattle.rule_machine.specs.State.{State, IsState, partner, is_mutual}
-use Rattle.rule_machine.specs.Stable.{mutual_pairs, pair_above}
-use Rattle.machine_laws.specs.Neighbours.{linked_present, near_fails}
-use Rattle.suitor_index.proofs.Sums.{sum_filter}
+use Rattle.indexed_state.proofs.Prelude.{◌≡◌, ℕ, ◌≤◌, Bool, false, cond, ◌&&◌, List, [], ◌∷◌, filter, filter_map, length, sum_by, Option, None, refl, sym, ap, ◌∙◌, arith, range_with_len, true≢false, length-range_with_len, count_by-le-length, length-filter, Network, linked, names, neighbours, present, node_count, State, IsState, partner, is_mutual, mutual_pairs, pair_above, linked_present, near_fails, sum_filter, answered_by}
 use Rattle.indexed_state.proofs.Partners.{partner_answered}
-use Rattle.indexed_state.specs.Contributions.{answered_by}
 
 -- what passes both of two filters
 pub kept_twice : (p q : ℕ → Bool) (xs : List ℕ) → filter p (filter q xs) ≡ filter (λ x. q x && p x) xs

@@ -1,10 +1,5 @@
 -- Partners, read off the registers.
-use Rattle.std.proofs.Common.{◌≡◌, ℕ, Bool, true, false, cond, None, Some, option_and_then, refl, sym, ap, ◌∙◌, ⊎_elim}
-use Rattle.std.proofs.lemmas.Bool.{true≢false}
-use Rattle.rule_machine.specs.State.{State, IsState, pointer, points, partner}
-use Rattle.machine_laws.specs.Neighbours.{option_cases}
-use Rattle.indexed_state.specs.Contributions.{answered_by}
-use Rattle.machine_laws.specs.Pointers.{none_is, partner_from, null_unmarried, unanswered_unmarried, points_true, points_from}
+use Rattle.indexed_state.proofs.Prelude.{◌≡◌, ℕ, Bool, true, false, cond, None, Some, option_and_then, refl, sym, ap, ◌∙◌, ⊎_elim, true≢false, State, IsState, pointer, points, partner, option_cases, answered_by, none_is, partner_from, null_unmarried, unanswered_unmarried, points_true, points_from}
 
 at_pointer : (s : State) (v w : ℕ) → IsState s → pointer s v ≡ Some w → (b : Bool) → points s.registers w v ≡ b → partner s v ≡ cond b (Some w) None
 at_pointer s v w good at true back = partner_from s v w good at (points_true s w v back)

@@ -1,18 +1,5 @@
 -- A node's contribution depends only on its registers, its neighbours and the nodes that point at it.
-use Rattle.std.proofs.Common.{◌≡◌, ◌≢◌, ℕ, ◌+◌, Bool, true, false, cond, not, ◌&&◌, List, length, set, count_by, None, Some, is_some, is_none, option_and_then, refl, sym, ap, subst, ◌∙◌, arith}
-use Rattle.enabled_set.specs.Members.{is_in}
-use Rattle.rule_machine.specs.Network.{neighbours}
-use Rattle.rule_machine.specs.State.{State, IsState, holds_at, points}
-use Rattle.rule_machine.specs.Stable.{pair_above}
-use Rattle.rules_api.specs.Charge.{AreNear}
-use Rattle.rules_api.specs.ChargeInputs.{IsSameChargeInput}
-use Rattle.machine_laws.specs.Pointers.{points_true}
-use Rattle.charge_laws.specs.ListCounts.{count_agree}
-use Rattle.graph_store.specs.declared.ends.EdgeStance.{EdgeStance}
-use Rattle.graph_store.specs.declared.ends.EdgeStance.TheVariants.{Shut, Courted, Free}
-use Rattle.net_state.proofs.Rounds.{IsSameRound, round_seated, same_suitors, same_marriage}
-use Rattle.indexed_state.specs.declared.share.Contribution.{Contribution}
-use Rattle.indexed_state.specs.Contributions.{closing_at, IsExactAt, AreExactUnlessStale}
+use Rattle.indexed_state.proofs.Prelude.{◌≡◌, ℕ, ◌+◌, Bool, true, false, cond, not, ◌&&◌, List, length, count_by, None, Some, is_some, is_none, option_and_then, sym, ap, subst, ◌∙◌, arith, is_in, neighbours, State, IsState, holds_at, points, pair_above, AreNear, IsSameChargeInput, points_true, count_agree, EdgeStance, Shut, Courted, Free, StateView, IsUnaffected, affected_by, IsChange, Change, round_changed, size_kept, IsSameRound, same_suitors, same_marriage, Contribution, closing_at, IsExactAt, AreExactUnlessStale}
 
 pub same_standing : (s u : State) (v : ℕ) → IsSameRound s u v → IsSameChargeInput s u v
 same_standing s u v round = record {
@@ -46,29 +33,16 @@ told_again courted_close closes adds s u ends each lower v near good also round 
       end = λ here. told.end (round.here ∙ here) ∙ (λ i. cond (standing.paired i) Shut (cond (courted_close && (is_none (standing.points i) && standing.courted i)) Courted Free));
     }
 
--- and so is all that is not stale, if only this changed
-pub told_after : {t : State} (courted_close : Bool) (closes : State → ℕ → Bool) (adds : State → ℕ → ℕ) (s u : State) (ends ends' : List EdgeStance) (each each' : List Contribution) (lower lower' stale stale' : List Bool) → AreNear closes adds → IsState s → IsState u → u ≡ t → t.network.size ≡ s.network.size → ends' ≡ ends → each' ≡ each → lower' ≡ lower → length stale' ≡ length stale → ((v : ℕ) → is_in stale' v ≡ false → (is_in stale v ≡ false) × IsSameRound s t v) → AreExactUnlessStale courted_close closes adds s ends each lower stale → AreExactUnlessStale courted_close closes adds u ends' each' lower' stale'
-told_after {t = t} courted_close closes adds s u ends ends' each each' lower lower' stale stale' near good also now size same_ends same_each same_lower same_places elsewhere told = record {
-  places = ap length same_each ∙ told.places ∙ sym (ap (λ n. n + 1) sizes);
-  lower_places = ap length same_lower ∙ told.lower_places ∙ sym (ap (λ n. n + 1) sizes);
-  stale_places = same_places ∙ told.stale_places ∙ sym (ap (λ n. n + 1) sizes);
+-- and so is all that is not stale after a change, if the names whose surroundings it may alter are
+pub told_after : (courted_close : Bool) (closes : State → ℕ → Bool) (adds : State → ℕ → ℕ) (before now : StateView) (change : Change) (each : List Contribution) (lower stale stale' : List Bool) → AreNear closes adds → IsChange before change now → length stale' ≡ length stale → ((v : ℕ) → is_in stale' v ≡ false → (is_in stale v ≡ false) × IsUnaffected (affected_by change) v) → AreExactUnlessStale courted_close closes adds before.state before.ends each lower stale → AreExactUnlessStale courted_close closes adds now.state now.ends each lower stale'
+told_after courted_close closes adds before now change each lower stale stale' near made same_places elsewhere told = record {
+  places = told.places ∙ sizes;
+  lower_places = told.lower_places ∙ sizes;
+  stale_places = same_places ∙ told.stale_places ∙ sizes;
   told = λ v fresh.
       let was = elsewhere v fresh in
-      let round = subst (λ x. IsSameRound s x v) (sym now) was.1 in
-      subst (λ (l : List Bool). IsExactAt courted_close closes adds u ends' each' l v) (sym same_lower)
-      (subst (λ (l : List Contribution). IsExactAt courted_close closes adds u ends' l lower v) (sym same_each)
-      (subst (λ (l : List EdgeStance). IsExactAt courted_close closes adds u l each lower v) (sym same_ends)
-      (told_again courted_close closes adds s u ends each lower v near good also round (told.told v was.0))));
+      subst (λ (l : List EdgeStance). IsExactAt courted_close closes adds now.state l each lower v) (sym made.ends)
+      (told_again courted_close closes adds before.state now.state before.ends each lower v near made.was_state made.is_state (round_changed before now change v made was.1) (told.told v was.0));
 } where
-  sizes : u.network.size ≡ s.network.size
-  sizes = ap (λ (x : State). x.network.size) now ∙ size
-
--- if a name became present or absent, without an edge
-pub told_seated : (courted_close : Bool) (closes : State → ℕ → Bool) (adds : State → ℕ → ℕ) (s u : State) (v : ℕ) (b : Bool) (ends ends' : List EdgeStance) (each each' : List Contribution) (lower lower' stale stale' : List Bool) → AreNear closes adds → IsState s → IsState u → u ≡ record s { network = record s.network { here = set s.network.here v b } } → ends' ≡ ends → each' ≡ each → lower' ≡ lower → length stale' ≡ length stale → ((w : ℕ) → is_in stale' w ≡ false → (is_in stale w ≡ false) × (w ≢ v)) → AreExactUnlessStale courted_close closes adds s ends each lower stale → AreExactUnlessStale courted_close closes adds u ends' each' lower' stale'
-told_seated courted_close closes adds s u v b ends ends' each each' lower lower' stale stale' near good also now same_ends same_each same_lower same_places elsewhere told =
-    let kept = subst IsState now also in
-    told_after courted_close closes adds s u ends ends' each each' lower lower' stale stale' near good also now refl same_ends same_each same_lower same_places
-    (λ w fresh.
-    let fact = elsewhere w fresh in
-    (fact.0, round_seated s.network s.registers v b w good.is_network kept.is_network fact.1))
-    told
+  sizes : before.state.network.size + 1 ≡ now.state.network.size + 1
+  sizes = sym (ap (λ n. n + 1) (size_kept before now change made))

@@ -1,18 +1,7 @@
 -- What is kept of each name, at first and after a look.
-use Rattle.std.proofs.Common.{◌≡◌, ◌≢◌, ℕ, ◌+◌, ◌≤◌, Bool, true, false, cond, List, length, set, replicate, None, Some, is_some, option_and_then, IsTrue, sym, ap, subst, ◌∙◌, ⊎_elim, arith}
-use Rattle.std.proofs.lemmas.Bool.{cases_eq, le-leb, lt-leb, true≢false}
-use Rattle.std.proofs.lemmas.List.{get_or-set_other, get_or-set_same, length-replicate, length-set}
-use Rattle.enabled_set.specs.Members.{is_in}
-use Rattle.enabled_set.proofs.Sums.{everywhere}
-use Rattle.graph_store.specs.declared.ends.EdgeStance.{EdgeStance}
-use Rattle.graph_store.specs.EdgeStances.{end_at}
-use Rattle.rule_machine.specs.Network.{present}
-use Rattle.rule_machine.specs.State.{State, points, pointer, opening_with}
-use Rattle.rule_machine.specs.Stable.{pair_above}
-use Rattle.indexed_state.specs.declared.share.Contribution.{Contribution}
-use Rattle.indexed_state.specs.Contributions.{closing_at, stance_of, is_lower_end, no_contribution, node_part, contribution_at, IsExactAt, AreExactUnlessStale}
+use Rattle.indexed_state.proofs.Prelude.{◌≡◌, ◌≢◌, ℕ, ◌+◌, ◌≤◌, Bool, true, false, cond, List, length, set, replicate, None, Some, is_some, option_and_then, IsTrue, sym, ap, subst, ◌∙◌, ⊎_elim, arith, cases_eq, le-leb, lt-leb, true≢false, get_or-set_other, get_or-set_same, length-replicate, length-set, is_in, everywhere, EdgeStance, end_at, present, State, points, pointer, opening_with, pair_above, Contribution, closing_at, stance_of, is_lower_end, no_contribution, node_part, contribution_at, IsExactAt, AreExactUnlessStale, IsExactState, IsState, StateView, Option, MatchOption, IfSome, opening_is_state, linked_present, pointer_linked, option_cases}
 
--- of a name without a node and without a pointer no value is kept
+-- of a name without a node no value is kept
 told_nowhere : (courted_close : Bool) (closes : State → ℕ → Bool) (adds : State → ℕ → ℕ) (s : State) (ends : List EdgeStance) (each : List Contribution) (lower : List Bool) (v : ℕ) → present s.network v ≡ false → pointer s v ≡ None → contribution_at each v ≡ no_contribution → is_in lower v ≡ false → IsExactAt courted_close closes adds s ends each lower v
 told_nowhere courted_close closes adds s ends each lower v absent null nothing not_lower = record {
   added = ap (λ (it : Contribution). it.added) nothing ∙ sym (ap (λ b. cond b (node_part (adds s) s v) 0) absent);
@@ -21,27 +10,46 @@ told_nowhere courted_close closes adds s ends each lower v absent null nothing n
   end = λ here. absurd (true≢false (sym here ∙ absent));
 }
 
--- at first all names are stale
-pub told_at_first : (courted_close : Bool) (closes : State → ℕ → Bool) (adds : State → ℕ → ℕ) (size count : ℕ) (ends : List EdgeStance) (stale : List Bool) → length stale ≡ size + 1 → ((v : ℕ) → 1 ≤ v → v ≤ size → is_in stale v ≡ true) → AreExactUnlessStale courted_close closes adds (opening_with size count) ends (replicate (size + 1) no_contribution) (replicate (size + 1) false) stale
-told_at_first courted_close closes adds size count ends stale places all = record {
-  places = length-replicate (size + 1) no_contribution;
-  lower_places = length-replicate (size + 1) false;
+-- an absent name has a null pointer
+absent_null : (s : State) (v : ℕ) → IsState s → present s.network v ≡ false → pointer s v ≡ None
+absent_null s v good absent =
+    ⊎_elim
+    (λ (none : pointer s v ≡ None). none)
+    (λ found. absurd (true≢false (sym (linked_present s.network v found.0 good.is_network (pointer_linked s v found.0 good found.1)) ∙ absent)))
+    (option_cases (pointer s v))
+
+-- while all names are stale, the entries fit any state
+pub told_at_first : (courted_close : Bool) (closes : State → ℕ → Bool) (adds : State → ℕ → ℕ) (s : State) (ends : List EdgeStance) (stale : List Bool) → IsState s → length stale ≡ s.network.size + 1 → ((v : ℕ) → 1 ≤ v → v ≤ s.network.size → is_in stale v ≡ true) → AreExactUnlessStale courted_close closes adds s ends (replicate (s.network.size + 1) no_contribution) (replicate (s.network.size + 1) false) stale
+told_at_first courted_close closes adds s ends stale good places all = record {
+  places = length-replicate (s.network.size + 1) no_contribution;
+  lower_places = length-replicate (s.network.size + 1) false;
   stale_places = places;
   told = λ v fresh.
-      told_nowhere courted_close closes adds (opening_with size count) ends (replicate (size + 1) no_contribution) (replicate (size + 1) false) v (absent v fresh) (everywhere (size + 1) v None) (everywhere (size + 1) v no_contribution) (everywhere (size + 1) v false);
+      told_nowhere courted_close closes adds s ends (replicate (s.network.size + 1) no_contribution) (replicate (s.network.size + 1) false) v (absent v fresh) (absent_null s v good (absent v fresh)) (everywhere (s.network.size + 1) v no_contribution) (everywhere (s.network.size + 1) v false);
 }
   where
-    absent : (v : ℕ) → is_in stale v ≡ false → present (opening_with size count).network v ≡ false
+    absent : (v : ℕ) → is_in stale v ≡ false → present s.network v ≡ false
     absent v fresh =
         let listed = all v in
         let low = lt-leb 1 v in
         let some = le-leb 1 v in
-        let past = lt-leb v size in
+        let past = lt-leb v s.network.size in
         grind arith
 
+-- what a look at v finds
+pub record IsLook (courted_close : Bool) (closes : State → ℕ → Bool) (adds : State → ℕ → ℕ) (s : State) (v : ℕ) (share : Contribution) (is_lower : Bool) (stance : Option EdgeStance) : Type 0 where
+  pub added : share.added ≡ cond (present s.network v) (node_part (adds s) s v) 0
+  pub closing : share.closing ≡ cond (present s.network v) (closing_at (closes s) s v) 0
+  pub lower : is_lower ≡ is_lower_end s.registers v
+  pub end : MatchOption stance (present s.network v ≡ false) (λ it. it ≡ stance_of courted_close s v)
+
+end_told : (o : Option EdgeStance) (here : Bool) (found set : EdgeStance) → MatchOption o (here ≡ false) (λ it. it ≡ found) → IfSome o (λ it. set ≡ it) → IsTrue here → set ≡ found
+end_told None here found set absent done there = absurd (true≢false (sym there ∙ absent))
+end_told (Some it) here found set same done there = done ∙ same
+
 -- a look at a name makes its entry right, and leaves the others
-pub told_next : (courted_close : Bool) (closes : State → ℕ → Bool) (adds : State → ℕ → ℕ) (s : State) (ends ends' : List EdgeStance) (each each' : List Contribution) (lower lower' stale stale' : List Bool) (v : ℕ) (share : Contribution) (is_lower : Bool) → v ≤ s.network.size → each' ≡ set each v share → lower' ≡ set lower v is_lower → stale' ≡ set stale v false → share.added ≡ cond (present s.network v) (node_part (adds s) s v) 0 → share.closing ≡ cond (present s.network v) (closing_at (closes s) s v) 0 → is_lower ≡ is_lower_end s.registers v → (IsTrue (present s.network v) → end_at ends' v ≡ stance_of courted_close s v) → ((w : ℕ) → w ≢ v → end_at ends' w ≡ end_at ends w) → AreExactUnlessStale courted_close closes adds s ends each lower stale → AreExactUnlessStale courted_close closes adds s ends' each' lower' stale'
-told_next courted_close closes adds s ends ends' each each' lower lower' stale stale' v share is_lower within set_each set_lower set_stale added closing low end others told = record {
+pub told_next : (courted_close : Bool) (closes : State → ℕ → Bool) (adds : State → ℕ → ℕ) (s : State) (ends ends' : List EdgeStance) (each each' : List Contribution) (lower lower' stale stale' : List Bool) (v : ℕ) (share : Contribution) (is_lower : Bool) (stance : Option EdgeStance) → v ≤ s.network.size → each' ≡ set each v share → lower' ≡ set lower v is_lower → stale' ≡ set stale v false → IsLook courted_close closes adds s v share is_lower stance → IfSome stance (λ it. end_at ends' v ≡ it) → ((w : ℕ) → w ≢ v → end_at ends' w ≡ end_at ends w) → AreExactUnlessStale courted_close closes adds s ends each lower stale → AreExactUnlessStale courted_close closes adds s ends' each' lower' stale'
+told_next courted_close closes adds s ends ends' each each' lower lower' stale stale' v share is_lower stance within set_each set_lower set_stale look done others told = record {
   places = ap length set_each ∙ length-set each v share ∙ told.places;
   lower_places = ap length set_lower ∙ length-set lower v is_lower ∙ told.lower_places;
   stale_places = ap length set_stale ∙ length-set stale v false ∙ told.stale_places;
@@ -57,10 +65,10 @@ told_next courted_close closes adds s ends ends' each each' lower lower' stale s
 
     here : IsExactAt courted_close closes adds s ends' each' lower' v
     here = record {
-      added = ap (λ (it : Contribution). it.added) new_share ∙ added;
-      closing = ap (λ (it : Contribution). it.closing) new_share ∙ closing;
-      is_lower = ap (λ l. is_in l v) set_lower ∙ get_or-set_same lower v is_lower false (omega (arith, told.lower_places)) ∙ low;
-      end = end;
+      added = ap (λ (it : Contribution). it.added) new_share ∙ look.added;
+      closing = ap (λ (it : Contribution). it.closing) new_share ∙ look.closing;
+      is_lower = ap (λ l. is_in l v) set_lower ∙ get_or-set_same lower v is_lower false (omega (arith, told.lower_places)) ∙ look.lower;
+      end = end_told stance (present s.network v) (stance_of courted_close s v) (end_at ends' v) look.end done;
     }
 
     there : (w : ℕ) → w ≢ v → IsExactAt courted_close closes adds s ends each lower w → IsExactAt courted_close closes adds s ends' each' lower' w

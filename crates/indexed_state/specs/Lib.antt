@@ -1,2 +1,1 @@
-pub mod IndexedViews
 pub mod Contributions

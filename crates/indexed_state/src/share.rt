@@ -10,7 +10,7 @@ use graph_store::EdgeStance;
 use registers::Registers;
 use rule_machine::Node;
 use rules_api::{ChargeInput, Rules};
-use suitor_index::SuitorIndex;
+use suitor_index::IndexedNet;
 
 /// `added` is what the node adds to the charge apart from its edges.
 ///
@@ -51,7 +51,7 @@ fn is_unanswered(registers: &Registers, node: &ChargeInput) -> bool
 
 /// The facts about a node that the charge depends on.
 #[inline(always)]
-fn standing<R: Rules>(index: &SuitorIndex<R>, v: Node) -> ChargeInput
+fn standing<R: Rules>(index: &IndexedNet<'_, R>, v: Node) -> ChargeInput
     requires { IsTrue (present index.now.state.network v) }
     ensures node { result.node ≡ v }
     ensures standing { IsChargeInput index.now.state result }
@@ -68,7 +68,7 @@ fn standing<R: Rules>(index: &SuitorIndex<R>, v: Node) -> ChargeInput
 
 /// Whether `w` points at the node and thereby closes an edge that is open by the ends' stances.
 #[inline(always)]
-fn closes_edge<R: Rules>(index: &SuitorIndex<R>, w: Node, node: &ChargeInput) -> bool
+fn closes_edge<R: Rules>(index: &IndexedNet<'_, R>, w: Node, node: &ChargeInput) -> bool
     requires { IsChargeInput index.now.state node.now }
     ensures { result ≡ (points index.now.state.registers w node.now.node && R.closes index.now.state w) }
 {
@@ -76,7 +76,7 @@ fn closes_edge<R: Rules>(index: &SuitorIndex<R>, w: Node, node: &ChargeInput) ->
 }
 
 /// As `closing_at`, by a look at each neighbour.
-fn closing_among<R: Rules>(index: &SuitorIndex<R>, node: &ChargeInput) -> u16
+fn closing_among<R: Rules>(index: &IndexedNet<'_, R>, node: &ChargeInput) -> u16
     requires present { IsTrue (present index.now.state.network node.now.node) }
     requires standing { IsChargeInput index.now.state node.now }
     ensures { result ≡ closing_at (R.closes index.now.state) index.now.state node.now.node }
@@ -91,7 +91,7 @@ fn closing_among<R: Rules>(index: &SuitorIndex<R>, node: &ChargeInput) -> u16
 /// The number of pointers at a node that close an edge open by its ends.
 ///
 /// Scans the neighbours only if the node has several suitors.
-fn closing_at<R: Rules>(index: &SuitorIndex<R>, node: &ChargeInput) -> u16
+fn closing_at<R: Rules>(index: &IndexedNet<'_, R>, node: &ChargeInput) -> u16
     requires present { IsTrue (present index.now.state.network node.now.node) }
     requires standing { IsChargeInput index.now.state node.now }
     ensures { result ≡ closing_at (R.closes index.now.state) index.now.state node.now.node }
@@ -107,7 +107,7 @@ fn closing_at<R: Rules>(index: &SuitorIndex<R>, node: &ChargeInput) -> u16
     }
 }
 
-pub(crate) fn share_of<R: Rules>(index: &SuitorIndex<R>, v: Node) -> Contribution
+pub(crate) fn share_of<R: Rules>(index: &IndexedNet<'_, R>, v: Node) -> Contribution
     ensures added { result.added ≡ cond (present index.now.state.network v) (node_part (R.adds index.now.state) index.now.state v) 0 }
     ensures closing { result.closing ≡ cond (present index.now.state.network v) (closing_at (R.closes index.now.state) index.now.state v) 0 }
 {
@@ -122,7 +122,7 @@ pub(crate) fn share_of<R: Rules>(index: &SuitorIndex<R>, v: Node) -> Contributio
     }
 }
 
-pub(crate) fn is_lower_end<R: Rules>(index: &SuitorIndex<R>, v: Node) -> bool
+pub(crate) fn is_lower_end<R: Rules>(index: &IndexedNet<'_, R>, v: Node) -> bool
     requires { v ≤ index.now.state.network.size }
     ensures { result ≡ is_lower_end index.now.state.registers v }
 {
@@ -133,7 +133,7 @@ pub(crate) fn is_lower_end<R: Rules>(index: &SuitorIndex<R>, v: Node) -> bool
 }
 
 /// The stance of node `v` towards its edges; `None` if `v` is absent.
-pub(crate) fn end_at<R: Rules>(index: &SuitorIndex<R>, v: Node) -> Option<EdgeStance>
+pub(crate) fn end_at<R: Rules>(index: &IndexedNet<'_, R>, v: Node) -> Option<EdgeStance>
     ensures { MatchOption result (present index.now.state.network v ≡ false) (λ end. end ≡ stance_of R.COURTED_PAIR_CLOSES_EDGE index.now.state v) }
 {
     if !index.net().has(v) {

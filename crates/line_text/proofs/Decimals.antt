@@ -1,10 +1,6 @@
 -- The decimal text of a number, two digits at a time.
-use Rattle.std.proofs.Common.{◌≡◌, ℕ, zero, suc, ◌+◌, ◌-◌, ◌*◌, ◌/◌, ◌%◌, ◌<◌, ◌≤◌, Bool, true, ◌&&◌, T, eqb, eqb→eq, ◌∷◌, ◌++◌, get_or, inl, inr, eq-zero-or-pos, arith}
+use Rattle.line_text.proofs.Prelude.{◌≡◌, ℕ, zero, suc, ◌+◌, ◌-◌, ◌*◌, ◌/◌, ◌%◌, ◌<◌, ◌≤◌, Bool, true, ◌&&◌, T, eqb, eqb→eq, ◌∷◌, ◌++◌, get_or, inl, inr, eq-zero-or-pos, arith, decimal, decimal_digit, pair, decimal_two, decimal_pair, decimal_four, PAIRS}
 use lib.Ieee.Fits.{and_l, and_r}
-use Rattle.std.specs.Fmt.{decimal}
-use Rattle.std.proofs.lemmas.Fmt.{decimal_digit}
-use Rattle.itoa.proofs.Decimal.{pair, decimal_two, decimal_pair, decimal_four}
-use Rattle.line_text.specs.declared.room.TheConstants.{PAIRS}
 
 -- the first `n` pairs of the table are right
 abbrev are_pairs : ℕ → Bool

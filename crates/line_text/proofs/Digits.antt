@@ -1,13 +1,5 @@
 -- Digits at the front of a text, and the names that they say.
-use Rattle.std.proofs.Common.{◌≡◌, ℕ, zero, suc, ◌+◌, ◌<◌, ◌≤◌, List, [], ◌∷◌, ◌++◌, length, get_or, take, drop, refl, sym, ap, subst, ◌∙◌, append_assoc, arith}
-use Rattle.std.specs.Prelude.{slice_index}
-use Rattle.std.specs.Int.{IsInRange}
-use Rattle.std.specs.Str.Parse.{AllDigits, digits_value}
-use Rattle.std.proofs.lemmas.List.{append-nil, take-append-drop, length-take-le, get_or-drop, get_or-take}
-use Rattle.std.proofs.lemmas.Str.Parse.{IsNumeralModel, numerals_by_value, tells_digits, digit_from_value}
-use Rattle.std.proofs.lemmas.Fmt.{digits_decimal, digits_value-decimal, decimal-digits_value, decimal_injective, decimal_nonempty, length-decimal-le, first_decimal}
-use Rattle.line_text.specs.Words.{number_text, IsName}
-use Rattle.line_text.specs.Parsing.{NoDigit, NameThen, WordThen}
+use Rattle.line_text.proofs.Prelude.{◌≡◌, ℕ, zero, suc, ◌+◌, ◌<◌, ◌≤◌, List, [], ◌∷◌, ◌++◌, length, get_or, take, drop, refl, sym, ap, subst, ◌∙◌, append_assoc, arith, slice_index, IsInRange, AllDigits, digits_value, append-nil, take-append-drop, length-take-le, get_or-drop, get_or-take, IsNumeralModel, numerals_by_value, tells_digits, digit_from_value, digits_decimal, digits_value-decimal, decimal-digits_value, decimal_injective, decimal_nonempty, length-decimal-le, first_decimal, number_text, IsName, NoDigit, NameThen, WordThen}
 
 -- std's words for digits and for their number
 pub own : IsNumeralModel (AllDigits 10) (digits_value 10)

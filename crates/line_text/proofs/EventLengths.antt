@@ -1,12 +1,6 @@
 -- How long the text of an event is.
-use Rattle.std.proofs.Common.{ℕ, ◌+◌, ◌*◌, ◌<◌, ◌≤◌, Bool, true, false, List, [], ◌∷◌, ◌++◌, Option, None, Some, IfSome, length, codes, ap, length-append, arith}
-use Rattle.std.specs.List.{AllByRecursion}
-use Rattle.std.proofs.lemmas.Fmt.{length-decimal-le}
-use Rattle.rule_machine.specs.declared.choice.Item.{Item}
-use Rattle.rule_machine.specs.declared.event.Event.{Event}
-use Rattle.rule_machine.specs.declared.event.Event.TheVariants.{Link, Unlink, Point, Flag, Step, Show, Enabled, Matching, Status, Join, Leave}
-use Rattle.line_text.specs.Words.{number_text, IsName, marked_text, spaced}
-use Rattle.line_text.specs.EventText.{IsItem, IsEvent, pair_text, target_text, bool_text, flag_text, point_text, item_text, event_text}
+use Rattle.line_text.proofs.Prelude.{ℕ, ◌+◌, ◌*◌, ◌≤◌, Bool, true, false, List, [], ◌∷◌, ◌++◌, Option, None, Some, length, codes, length-append, arith, AllByRecursion, length-decimal-le, Item, Event, Link, Unlink, Point, Flag, Step, Show, Enabled, Matching, Status, Join, Leave, number_text, IsName, marked_text, spaced, IsItem, IsEvent, pair_text, target_text, bool_text, flag_text, point_text, item_text, event_text}
+use Rattle.std.proofs.Common.{IfSome}
 
 pub name_short : (n : ℕ) → IsName n → length (number_text n) ≤ 5
 name_short n h = length-decimal-le 5 n (omega arith) (omega (arith, h.1)) (omega (arith, h.1))

@@ -1,11 +1,5 @@
 -- Numbers of at most eight digits.
-use Rattle.std.proofs.Common.{◌≡◌, ℕ, zero, suc, List, [], ◌++◌, ◌^◌, ◌<◌, ◌≤◌, length, get_or, take, drop, sym, ap, ◌∙◌, arith}
-use Rattle.std.specs.Str.Parse.{AllDigits, digits_value}
-use Rattle.std.proofs.lemmas.Fmt.{digits_decimal, digits_value-decimal, decimal-digits_value, decimal_injective, decimal_nonempty, length-decimal-le, first_decimal, decimal_digit}
-use Rattle.std.proofs.lemmas.List.{append-nil, take-append-drop, length-take-le, get_or-take}
-use Rattle.std.proofs.lemmas.Str.Parse.{digits_value_short}
-use Rattle.line_text.specs.Words.{number_text}
-use Rattle.line_text.specs.Parsing.{NoDigit, NumberThen}
+use Rattle.line_text.proofs.Prelude.{◌≡◌, ℕ, zero, suc, List, [], ◌++◌, ◌^◌, ◌<◌, ◌≤◌, length, get_or, take, drop, sym, ap, ◌∙◌, arith, AllDigits, digits_value, digits_decimal, digits_value-decimal, decimal-digits_value, decimal_injective, decimal_nonempty, length-decimal-le, first_decimal, decimal_digit, append-nil, take-append-drop, length-take-le, get_or-take, digits_value_short, number_text, NoDigit, NumberThen}
 use Rattle.line_text.proofs.Digits.{own, run_once}
 
 -- a number with a leading zero has one digit

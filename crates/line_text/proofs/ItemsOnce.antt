@@ -1,15 +1,8 @@
 -- Items at the front of a text.
-use Rattle.std.proofs.Common.{◌≡◌, ◌≢◌, ℕ, ◌+◌, ◌<◌, ◌≤◌, List, [], ◌∷◌, ◌++◌, length, Option, None, Some, refl, sym, ap, ◌∙◌, append_assoc, arith}
-use Rattle.std.specs.Prelude.{slice_index, IfSome}
-use Rattle.std.specs.Int.{IsInRange}
-use Rattle.std.specs.List.{AllByRecursion}
-use Rattle.std.proofs.lemmas.List.{append-nil, append_cancel_left, length-append}
-use Rattle.std.proofs.lemmas.List.Concat.{flat_map-append}
-use Rattle.rule_machine.specs.declared.choice.Item.{Item}
-use Rattle.line_text.specs.Words.{number_text, IsName, marked_text, spaced}
-use Rattle.line_text.specs.EventText.{IsItem, AreChoiceItems, item_text}
-use Rattle.line_text.specs.Parsing.{NoDigit, NameThen, ItemEnds, ItemThen, SpellsChoice, HasItems}
+use Rattle.line_text.proofs.Prelude.{◌≡◌, ◌≢◌, ℕ, ◌+◌, ◌<◌, ◌≤◌, List, [], ◌∷◌, ◌++◌, length, Option, None, Some, refl, sym, ap, ◌∙◌, append_assoc, arith, slice_index, IfSome, AllByRecursion, append-nil, append_cancel_left, flat_map-append, Item, number_text, IsName, marked_text, spaced, IsItem, AreChoiceItems, item_text, NoDigit, NameThen, ItemEnds, ItemThen, SpellsChoice, HasItems}
+use Rattle.std.proofs.lemmas.List.{length-append}
 use Rattle.line_text.proofs.Digits.{name_once}
+use Rattle.line_text.proofs.Grammars.{IsReadBack, EndsItem, both, item_ends, name_back, through, wish_back, wish_ends, wish_last, wish_space}
 
 -- the empty text is not a text with a byte
 pub nil_cons : {c : ℕ} {x : List ℕ} → [] ≡ c ∷ x → ⊥
@@ -19,16 +12,18 @@ nil_cons e = cc
 abbrev pub item_of : ℕ → Option ℕ → Item
 item_of node wish = record { node = node; wish = wish }
 
--- a wish and the rest begin with no digit
-pub NoDigit-wish : (wish : Option ℕ) (rest : List ℕ) → ItemEnds wish rest → NoDigit (marked_text (62 ∷ []) wish ++ rest)
-NoDigit-wish None rest h = h.0
-NoDigit-wish (Some w) rest h = λ (p : IsInRange 48 57 62). omega (arith, p.0, p.1)
+-- an item is read back, and the end of the text or a space ends it
+pub item_back : IsReadBack IsItem item_text (λ item. ItemEnds item.wish)
+item_back = through (both name_back wish_back (λ node wish rest f ends. wish_ends wish rest ends)) (λ item. (item.node, item.wish)) (λ p. item_of p.0 p.1) (λ item. refl)
+
+pub items_end : EndsItem (λ (item : Item). ItemEnds item.wish)
+items_end = record { last = λ item. wish_last item.wish; space = λ item. wish_space item.wish }
 
 -- the name of the item at the front, and its wish after it
 pub item_name : (word : List ℕ) (item : Item) (rest : List ℕ) → ItemThen (32 ∷ word) item rest → NameThen word item.node (marked_text (62 ∷ []) item.wish ++ rest)
 item_name word item rest h = record {
   fits = h.fits.0;
-  ends = NoDigit-wish item.wish rest h.ends;
+  ends = wish_ends item.wish rest h.ends;
   is = append_cancel_left (32 ∷ []) word (item_text item ++ rest) h.is ∙ append_assoc (number_text item.node) (marked_text (62 ∷ []) item.wish) rest;
 }
 
@@ -50,43 +45,14 @@ pub no_wish_no_item : (word : List ℕ) (node : ℕ) (marked : List ℕ) (item :
 no_wish_no_item word node marked item rest a none h =
     no_wish_by word node marked item.node item.wish rest a none h.fits.1 h.ends (item_name word item rest h)
 
--- the wish and the rest are one wish and one rest
-wish_once : (v w : Option ℕ) (x y : List ℕ) → IfSome v IsName → IfSome w IsName → ItemEnds v x → ItemEnds w y → marked_text (62 ∷ []) v ++ x ≡ marked_text (62 ∷ []) w ++ y → (v ≡ w) × (x ≡ y)
-wish_once None None x y f g a b e = (refl, e)
-wish_once None (Some w) x y f g a b e = absurd (a.1 (ap (λ (z : List ℕ). slice_index z 0) e))
-wish_once (Some v) None x y f g a b e = absurd (b.1 (sym (ap (λ (z : List ℕ). slice_index z 0) e)))
-wish_once (Some v) (Some w) x y f g a b e =
-    let first : NameThen (number_text v ++ x) v x = record { fits = f; ends = a; is = refl } in
-    let r = name_once (number_text v ++ x) v w x y first (wish_name w (number_text v ++ x) y g b e) in
-    (ap (λ (n : ℕ). Some n) r.0, r.1)
-
--- items with the same parts are one
-item_same : (i j : Item) → i.node ≡ j.node → i.wish ≡ j.wish → i ≡ j
-item_same i j e f = ap (λ (n : ℕ). item_of n i.wish) e ∙ ap (λ (w : Option ℕ). item_of j.node w) f
-
--- an item after its space
-first_space : (bytes : List ℕ) (item : Item) (rest : List ℕ) → ItemThen bytes item rest → ItemThen (32 ∷ (item_text item ++ rest)) item rest
-first_space bytes item rest h = record { fits = h.fits; ends = h.ends; is = refl }
-
 -- an item at the front is one item
 pub item_once : (bytes : List ℕ) (i j : Item) (x y : List ℕ) → ItemThen bytes i x → ItemThen bytes j y → (i ≡ j) × (x ≡ y)
 item_once bytes i j x y a b =
-    let word = item_text i ++ x in
-    let second : ItemThen (32 ∷ word) j y = record { fits = b.fits; ends = b.ends; is = sym a.is ∙ b.is } in
-    let r = name_once word i.node j.node (marked_text (62 ∷ []) i.wish ++ x) (marked_text (62 ∷ []) j.wish ++ y) (item_name word i x (first_space bytes i x a)) (item_name word j y second) in
-    let s = wish_once i.wish j.wish x y a.fits.1 b.fits.1 a.ends b.ends r.1 in
-    (item_same i j r.0 s.0, s.1)
-
--- items end if a space follows or the text ends
-ItemEnds-spaced : (wish : Option ℕ) (items : List Item) → ItemEnds wish (spaced item_text items)
-ItemEnds-spaced None [] = (λ p. omega (arith, p.0, p.1), λ e. omega (arith, e))
-ItemEnds-spaced None (i ∷ is) = (λ p. omega (arith, p.0, p.1), λ e. omega (arith, e))
-ItemEnds-spaced (Some w) [] = λ p. omega (arith, p.0, p.1)
-ItemEnds-spaced (Some w) (i ∷ is) = λ p. omega (arith, p.0, p.1)
+    item_back.once i j x y a.fits b.fits a.ends b.ends (append_cancel_left (32 ∷ []) (item_text i ++ x) (item_text j ++ y) (sym a.is ∙ b.is))
 
 -- the first of the items that a text spells
 pub first_item : (bytes : List ℕ) (item : Item) (items : List Item) → AllByRecursion IsItem (item ∷ items) → bytes ≡ spaced item_text (item ∷ items) → ItemThen bytes item (spaced item_text items)
-first_item bytes item items f e = record { fits = f.0; ends = ItemEnds-spaced item.wish items; is = e }
+first_item bytes item items f e = record { fits = f.0; ends = item_ends items_end item_text item items; is = e }
 
 -- Some items were read, and the rest is left: the items of the whole text are they and those of the rest.
 pub record SoFar (bytes : List ℕ) (items : List Item) (rest : List ℕ) : Type 0 where

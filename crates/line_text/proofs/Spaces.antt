@@ -1,7 +1,5 @@
 -- Texts with a space after each, and their texts with a space before each.
-use Rattle.std.proofs.Common.{◌≡◌, ℕ, ◌-◌, ◌<◌, List, [], ◌∷◌, ◌++◌, length, take, refl, sym, ap, ◌∙◌, append_assoc, length-append, arith}
-use Rattle.std.proofs.Math.Seq.{take-append_seam}
-use Rattle.line_text.specs.Words.{space_ended, spaced, joined_texts}
+use Rattle.line_text.proofs.Prelude.{◌≡◌, ℕ, ◌-◌, ◌<◌, List, [], ◌∷◌, ◌++◌, length, take, refl, sym, ap, ◌∙◌, append_assoc, length-append, arith, take-append_seam, space_ended, spaced, joined_texts}
 
 -- a space before the first and after each is one before each and one after the last
 ended_spaced : {X : Type 0} (text : X → List ℕ) (items : List X) → 32 ∷ space_ended text items ≡ spaced text items ++ 32 ∷ []

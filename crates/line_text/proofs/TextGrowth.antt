@@ -1,6 +1,5 @@
 -- A text that grows.
-use Rattle.std.proofs.Common.{◌≡◌, ℕ, List, ◌++◌, Result, Ok, Err, OnErr, ap, ◌∙◌, append_assoc}
-use Rattle.line_text.specs.Words.{Extends}
+use Rattle.line_text.proofs.Prelude.{◌≡◌, ℕ, List, ◌++◌, Result, Ok, Err, OnErr, ap, ◌∙◌, append_assoc, Extends}
 
 -- a text that was written whole, and another begun after it
 pub Extends-then : (old middle new text : List ℕ) → middle ≡ old ++ text → Extends middle new → Extends old new

@@ -1,17 +1,6 @@
 -- Windows: the digits in them, and how they are written.
-use Rattle.std.proofs.Common.{◌≡◌, ℕ, zero, suc, ◌+◌, ◌-◌, ◌*◌, ◌/◌, ◌%◌, ◌^◌, ◌<◌, ◌≤◌, List, [], ◌∷◌, ◌++◌, length, take, drop, refl, ap, ◌∙◌, arith, w64, get_or, inl, inr, sym}
-use Rattle.std.proofs.lemmas.Slice.{take-put_mid}
-use Rattle.std.proofs.lemmas.List.{take-take, length-take-le}
-use Rattle.std.proofs.Math.Seq.{take-append-add}
+use Rattle.line_text.proofs.Prelude.{◌≡◌, ℕ, zero, suc, ◌+◌, ◌-◌, ◌*◌, ◌/◌, ◌%◌, ◌^◌, ◌<◌, ◌≤◌, List, [], ◌∷◌, ◌++◌, length, take, drop, refl, ap, ◌∙◌, arith, w64, get_or, inl, inr, sym, take-put_mid, take-take, length-take-le, take-append-add, to_le_bytes, from_le_bytes, decimal, div-div-eq-div-mul, cases_lt, decimal_digit, decimal_nonempty, le_bytes_8, decimal_two, six_digits}
 use borrow.Rule.Slice.PartMut.{put_mid}
-use Rattle.std.specs.Int.{to_le_bytes, from_le_bytes}
-use Rattle.std.specs.Fmt.{decimal}
-use Rattle.std.proofs.Math.Nat.{div-div-eq-div-mul}
-use Rattle.std.proofs.lemmas.Bool.{cases_lt}
-use Rattle.std.proofs.lemmas.Fmt.{decimal_digit, decimal_nonempty}
-use Rattle.std.proofs.lemmas.Nat.{le_bytes_8}
-use Rattle.itoa.proofs.Decimal.{decimal_two}
-use Rattle.line_text.specs.Words.{six_digits}
 use Rattle.line_text.proofs.Decimals.{decimal_of_three, decimal_of_four, decimal_of_five, decimal_of_six}
 
 -- the first bytes of a part that was written over

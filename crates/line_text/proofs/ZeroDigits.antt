@@ -1,13 +1,6 @@
 -- The zeros below a number's lowest bit, and those that lead its digits.
-use Rattle.std.proofs.Common.{◌≡◌, ℕ, zero, suc, ◌+◌, ◌-◌, ◌*◌, ◌/◌, ◌%◌, ◌^◌, ◌<◌, ◌≤◌, [], ◌∷◌, ◌++◌, length, arith, refl, w64, inl, inr, eq-zero-or-pos, add-one}
-use Rattle.std.specs.Int.{from_le_bytes}
+use Rattle.line_text.proofs.Prelude.{◌≡◌, ℕ, zero, suc, ◌+◌, ◌-◌, ◌*◌, ◌/◌, ◌%◌, ◌^◌, ◌<◌, ◌≤◌, [], ◌∷◌, ◌++◌, length, arith, refl, w64, inl, inr, eq-zero-or-pos, add-one, from_le_bytes, decimal, cases_lt, decimal_digit, mod-pow-add, decimal_two, six_digits}
 use Rattle.std.specs.Int.Count.{count_trailing_zeros}
-use Rattle.std.specs.Fmt.{decimal}
-use Rattle.std.proofs.lemmas.Bool.{cases_lt}
-use Rattle.std.proofs.lemmas.Fmt.{decimal_digit}
-use Rattle.std.proofs.lemmas.Nat.{mod-pow-add}
-use Rattle.itoa.proofs.Decimal.{decimal_two}
-use Rattle.line_text.specs.Words.{six_digits}
 use Rattle.line_text.proofs.Decimals.{decimal_of_three, decimal_of_four, decimal_of_five, decimal_of_six}
 
 even : (k n : ℕ) → n % 2 ≡ 0 → count_trailing_zeros (suc k) n ≡ suc (count_trailing_zeros k (n / 2))

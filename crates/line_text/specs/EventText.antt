@@ -69,9 +69,6 @@ IsEvent Status = Unit {0}
 abbrev pub Spells : List ℕ → Event → Type 0
 Spells line event = IsEvent event × (line ≡ event_text event)
 
-abbrev pub IsEventLine : List ℕ → Type 0
-IsEventLine line = (event : Event) × Spells line event
-
 abbrev pub NotACommand : List ℕ → Type 0
 NotACommand line = (event : Event) → Spells line event → ⊥
 

@@ -4,3 +4,4 @@ pub mod ReplyText
 pub mod EntryText
 pub mod Parsing
 pub mod BaseText
+pub mod ReadBack

@@ -1,23 +1,6 @@
 -- A look at a board, and the log that the board shows.
-use Rattle.std.proofs.Common.{◌≡◌, ℕ, ◌+◌, ◌<◌, ◌≤◌, ◌⊎◌, ⊎_elim, inl, inr, Bool, true, false, IsTrue, nat_le, slice_index_or, le-leb, List, [], ◌∷◌, ◌++◌, length, fold, Option, None, Some, IfSome, if◌then◌else◌, nat_lt, refl, sym, ap, ◌∙◌, subst, arith, length-append}
-use Rattle.std.specs.List.{slice_get}
-use Rattle.std.specs.Prelude.{replicate}
-use Rattle.std.proofs.lemmas.Bool.{and_from, and_left, and_right, lt-leb, ltb-true, ltb-false}
-use Rattle.std.proofs.lemmas.List.{length-replicate, get_or_append_left}
-use Rattle.std.proofs.lemmas.Option.{same_Some, none-some, slice_get-get_or, slice_get_within, get_or_from_slice_get}
+use Rattle.locked_net.proofs.Prelude.{◌≡◌, ℕ, ◌+◌, ◌<◌, ◌≤◌, ◌⊎◌, ⊎_elim, inl, inr, Bool, true, false, IsTrue, nat_le, slice_index_or, le-leb, List, [], ◌∷◌, ◌++◌, length, fold, Option, None, Some, IfSome, if◌then◌else◌, nat_lt, refl, sym, ap, ◌∙◌, subst, arith, length-append, slice_get, replicate, and_from, and_left, and_right, lt-leb, ltb-true, ltb-false, length-replicate, get_or_append_left, same_Some, none-some, slice_get-get_or, slice_get_within, get_or_from_slice_get, Network, present, State, pointer, RuleTable, Entry, Moment, beginning_with, Row, BoardShape, pointer_in, partner_in, row_effect, pointers_after, here_after, IsRun, held_in, found_after, BoardName, ReaderView, PublishedLog, run_names, run_pointers, effect_length, Receipt, ClerkView, noted, IsClerk, IsReceiptOf, NotesLast, StandsLastFrom, StandsLast, Shows}
 use mathlib.Core.List.{IsPrefix}
-use Rattle.rule_machine.specs.Network.{Network, present}
-use Rattle.rule_machine.specs.State.{State, pointer}
-use Rattle.rule_machine.specs.RuleTable.{RuleTable}
-use Rattle.rule_machine.specs.Run.{Entry, Moment, beginning_with}
-use Rattle.snapshots.specs.Row.{Row, BoardShape, pointer_in, partner_in, row_effect, pointers_after, here_after, IsRun}
-use Rattle.snapshots.specs.CopyViews.{held_in, found_after}
-use Rattle.snapshots.specs.Views.{BoardName, ReaderView, PublishedLog}
-use Rattle.snapshots.proofs.Machine.{run_names, run_pointers}
-use Rattle.snapshots.proofs.Rows.{effect_length}
-use Rattle.step_log.specs.declared.receipt.Receipt.{Receipt}
-use Rattle.locked_net.specs.Receipts.{ClerkView, noted, IsClerk, IsReceiptOf, NotesLast, StandsLastFrom, StandsLast}
-use Rattle.locked_net.specs.ReaderAnswers.{Shows}
 
 -- ---- the places
 

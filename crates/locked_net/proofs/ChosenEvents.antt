@@ -1,24 +1,8 @@
 -- Events that a daemon or an injector chose, and calls that fail.
-use Rattle.std.proofs.Common.{◌≡◌, ◌∷◌, ◌++◌, [], ℕ, Bool, List, Option, None, Some, Result, Ok, Err, IfOk, IfErr, IfSome, OnOk, IsNone, MatchOption, ◌↔◌, ◌+◌, ◌≤◌, length, refl, ap, sym, ◌∙◌, subst, arith}
-use Rattle.std.proofs.lemmas.Result.{IfErr-weaker}
-use Rattle.rule_machine.specs.declared.choice.Item.{Item}
-use Rattle.rule_machine.specs.declared.event.Event.{Event}
-use Rattle.rule_machine.specs.declared.event.Event.TheVariants.{Step}
-use Rattle.rule_machine.specs.declared.reply.Reply.{Reply}
-use Rattle.rule_machine.specs.Network.{node_count}
-use Rattle.rule_machine.specs.State.{State}
-use Rattle.rule_machine.specs.RuleTable.{RuleTable, enabled_names}
-use Rattle.step_log.specs.declared.receipt.Receipt.{Receipt}
+use Rattle.locked_net.proofs.Prelude.{◌≡◌, ◌∷◌, ◌++◌, [], ℕ, Bool, List, Option, None, Some, Result, Ok, Err, IfOk, IfErr, IfSome, OnOk, IsNone, MatchOption, ◌↔◌, ◌+◌, ◌<◌, ◌≤◌, length, refl, ap, sym, ◌∙◌, subst, arith, Item, Event, Step, Reply, node_count, State, RuleTable, enabled_names, Receipt, PublishedLog, Log, entry_of, recorded, receipt_of, ClerkView, front_of, seen_by, noted, PublishedJournalView, Setting, IsLogIn, call_fault, checkpoint_fault, RecordsEvent, Drives, Breaks, Keeps, KeepsStep, KeepsFault, some_of, HeldCall, Admits, AdmitsStep, ChoosesStep, ChoosesOn, ClerkTakes, HoldsAll, Refuses, RefusesCheckpoint, RefusesStep, CallFault, StepFault}
 use mathlib.Core.List.{IsPrefix}
-use Rattle.snapshots.specs.Views.{PublishedLog}
-use Rattle.step_log.specs.Log.{Log, entry_of, recorded, receipt_of}
-use Rattle.locked_net.specs.Receipts.{ClerkView, front_of, noted}
-use Rattle.locked_net.specs.Settings.{Setting, IsLogIn}
-use Rattle.locked_net.specs.Calls.{call_fault, checkpoint_fault, ExplainsCallFault, Breaks, KeepsFault, ExplainsStep}
-use Rattle.locked_net.specs.ChosenEvents.{ChoosesStep, ChoosesOn, TakesChoice, HoldsAll, Refuses, RefusesCheckpoint, RefusesStep}
-use Rattle.locked_net.specs.declared.call_fault.CallFault.{CallFault}
-use Rattle.locked_net.specs.declared.step_fault.StepFault.{StepFault}
-use Rattle.locked_net.proofs.ReceiptAddition.{seen_few}
+use Rattle.locked_net.proofs.CallFaults.{may_answer, may_answer_step, may_refuse_checkpoint}
+use Rattle.locked_net.proofs.ReceiptAddition.{seen_few, seen_at_checkpoint, front_free}
 
 -- a choice that was recorded
 pub choice_on : (t : RuleTable) (log : Log) (Chooses : List ℕ → Bool → Option (List Item) → Type 0) (names : List ℕ) (central : Bool) (found : Option (List Item)) (items : List Item) (old new : List Receipt) (reply : Reply)
@@ -34,53 +18,102 @@ choice_on t log Chooses names central found items old new reply enabled same som
 pub begins_in : (t : RuleTable) (log after : Log) (event : Event) (note : Option PublishedLog) → after ≡ recorded t log event → noted note ≡ after.entries → IsPrefix log.entries (noted note)
 begins_in t log after event note is tells = (entry_of t log event ∷ [], sym (tells ∙ ap (λ (l : Log). l.entries) is))
 
+if_some : {A : Type 0} (N P : Type 0) (told : Option A) → MatchOption told N (λ _. P) → IfSome told (λ _. P)
+if_some N P None idle = tt
+if_some N P (Some a) is = is
+
 -- on a log under the lock
-pub takes : (setting : Setting) (Chooses : State → Option Event → Type 0) (log : Log) (old new : List Receipt) (note : Option PublishedLog) (result : Result (Option Reply) CallFault) → IsLogIn setting log
-    → OnOk result (call_fault (front_of old) log ≡ None) → IfOk result (ChoosesOn setting.table log Chooses old new) → IfOk result (λ told. IfSome told (λ _. IsPrefix log.entries (noted note))) → IfOk result (TakesChoice setting Chooses old new note)
-takes setting Chooses log old new note (Ok told) own free taken begins = record { log = log; own = own; free = free; taken = taken; begins = begins }
-takes setting Chooses log old new note (Err fault) own free taken begins = tt
+pub takes : (setting : Setting) (Chooses : State → Option Event → Type 0) (before after : PublishedJournalView) (old new : ClerkView) (result : Result (Option Reply) CallFault) → IsLogIn setting before.log
+    → Admits (call_fault (seen_by old) before.log) result → IfOk result (ChoosesOn setting.table before.log Chooses old.receipts new.receipts) → HeldCall some_of before after old new result
+    → IfOk result (ClerkTakes setting Chooses old new)
+takes setting Chooses before after old new (Ok told) own free taken call = record {
+  log = before.log;
+  own = own;
+  free = front_free old before.log free;
+  taken = taken;
+  begins = if_some _ _ told call.begins;
+}
+takes setting Chooses before after old new (Err fault) own free taken call = tt
 
 -- nothing was chosen exactly if there is no node
-pub finds_none : (setting : Setting) (Chooses : State → Option Event → Type 0) (log : Log) (old new : List Receipt) (note : Option PublishedLog) (result : Result (Option Reply) CallFault) → IsLogIn setting log
-    → OnOk result (call_fault (front_of old) log ≡ None) → IfOk result (ChoosesOn setting.table log Chooses old new) → IfOk result (λ told. IsNone told ↔ (node_count log.state.network ≡ 0))
-    → IfOk result (λ told. IfSome told (λ _. IsPrefix log.entries (noted note))) → IfOk result (λ told. TakesChoice setting (λ s _. IsNone told ↔ (node_count s.network ≡ 0)) old new note told)
-finds_none setting Chooses log old new note (Ok told) own free taken none begins = record {
-  log = log;
+pub finds_none : (setting : Setting) (Chooses : State → Option Event → Type 0) (before after : PublishedJournalView) (old new : ClerkView) (result : Result (Option Reply) CallFault) → IsLogIn setting before.log
+    → Admits (call_fault (seen_by old) before.log) result → IfOk result (ChoosesOn setting.table before.log Chooses old.receipts new.receipts) → IfOk result (λ told. IsNone told ↔ (node_count before.log.state.network ≡ 0))
+    → HeldCall some_of before after old new result → IfOk result (λ told. ClerkTakes setting (λ s _. IsNone told ↔ (node_count s.network ≡ 0)) old new told)
+finds_none setting Chooses before after old new (Ok told) own free taken none call = record {
+  log = before.log;
   own = own;
-  free = free;
+  free = front_free old before.log free;
   taken = record { event = taken.event; chosen = none; is_told = taken.is_told };
-  begins = begins;
+  begins = if_some _ _ told call.begins;
 }
-finds_none setting Chooses log old new note (Err fault) own free taken none begins = tt
+finds_none setting Chooses before after old new (Err fault) own free taken none call = tt
+
+-- ---- receipts
+
+keeps : (t : RuleTable) (log after : Log) (old : ClerkView) (new : List Receipt) (event : Event) (reply : Reply) → call_fault (seen_by old) log ≡ None → RecordsEvent t log after old.receipts new event reply → Keeps old.receipts new event reply
+keeps t log after old new event reply free is =
+    let few = seen_few (front_of old.receipts) log (front_free old log free) in
+    record {
+      seq = length log.entries + 1;
+      above = omega (arith, few);
+      added = is.receipt ∙ ap (λ (r : Reply). old.receipts ++ record { seq = length log.entries + 1; event = event; reply = r } ∷ []) (sym is.reply_is);
+    }
+
+pub keeps_call : (t : RuleTable) (log after : Log) (old : ClerkView) (new : List Receipt) (event : Event) (result : Result Reply CallFault) → Admits (call_fault (seen_by old) log) result → IfOk result (RecordsEvent t log after old.receipts new event)
+    → IfOk result (Keeps old.receipts new event)
+keeps_call t log after old new event (Err fault) free is = tt
+keeps_call t log after old new event (Ok reply) free is = keeps t log after old new event reply free is
+
+pub keeps_judged : (t : RuleTable) (log after : Log) (old : ClerkView) (new : List Receipt) (event : Event) (workers : ℕ) (result : Result Reply StepFault) → AdmitsStep (call_fault (seen_by old) log) workers result → IfOk result (RecordsEvent t log after old.receipts new event)
+    → IfOk result (Keeps old.receipts new event)
+keeps_judged t log after old new event workers (Err fault) free is = tt
+keeps_judged t log after old new event workers (Ok reply) free is = keeps t log after old new event reply free.0 is
+
+pub some_workers : {A : Type 0} (found : Option CallFault) (workers : ℕ) (result : Result A StepFault) → AdmitsStep found workers result → OnOk result (0 < workers)
+some_workers found workers (Ok answer) is = is.1
+some_workers found workers (Err fault) is = tt
+
+-- a step that was recorded is kept
+pub keeps_step : (t : RuleTable) (log after : Log) (old new : ClerkView) (Same : Type 0) (result : Result (Option Reply) CallFault) → Admits (call_fault (seen_by old) log) result
+    → IfOk result (λ told. MatchOption told ((new ≡ old) × Same) (λ reply. Drives t log after old.receipts new.receipts reply)) → IfOk result (λ told. MatchOption told (new ≡ old) (KeepsStep t.central old.receipts new.receipts))
+keeps_step t log after old new Same (Err fault) free is = tt
+keeps_step t log after old new Same (Ok None) free is = is.0
+keeps_step t log after old new Same (Ok (Some reply)) free is = record {
+  items = is.items;
+  moves = is.moves;
+  kept = keeps t log after old new.receipts (Step is.items) reply free is.told;
+  moved = is.moved;
+  one = is.one;
+}
 
 -- a fault that was recorded is kept
-pub keeps_fault : (t : RuleTable) (log after : Log) (old new : ClerkView) (Same : Type 0) (result : Result (Option Reply) CallFault) → OnOk result (call_fault (front_of old.receipts) log ≡ None)
+pub keeps_fault : (t : RuleTable) (log after : Log) (old new : ClerkView) (Same : Type 0) (result : Result (Option Reply) CallFault) → Admits (call_fault (seen_by old) log) result
     → IfOk result (λ told. MatchOption told ((new ≡ old) × Same) (λ reply. Breaks t log after old.receipts new.receipts reply)) → IfOk result (λ told. MatchOption told (new ≡ old) (KeepsFault old.receipts new.receipts))
 keeps_fault t log after old new Same (Err fault) free is = tt
 keeps_fault t log after old new Same (Ok None) free is = is.0
 keeps_fault t log after old new Same (Ok (Some reply)) free is = record {
   event = is.event;
-  kept = record {
-    seq = length log.entries + 1;
-    above = let few = seen_few (front_of old.receipts) log free in omega (arith, few);
-    added = is.told.receipt ∙ ap (λ (r : Reply). old.receipts ++ record { seq = length log.entries + 1; event = is.event; reply = r } ∷ []) (sym is.told.reply_is);
-  };
+  kept = keeps t log after old new.receipts is.event reply free is.told;
   register = is.register;
   accepted = is.accepted;
 }
 
-pub refuses : {A : Type 0} (setting : Setting) (seen : ℕ) (log : Log) (result : Result A CallFault) → IsLogIn setting log → IfErr result (λ fault. ExplainsCallFault (call_fault seen log) fault) → IfErr result (Refuses setting seen)
-refuses setting seen log result own = IfErr-weaker result _ (Refuses setting seen) (λ fault explained. record { log = log; own = own; explained = explained })
+-- ---- faults
 
-pub refuses_step : {A : Type 0} (setting : Setting) (seen workers : ℕ) (log : Log) (result : Result A StepFault) → IsLogIn setting log → IfErr result (λ fault. ExplainsStep (call_fault seen log) workers fault)
-    → IfErr result (RefusesStep setting seen workers)
-refuses_step setting seen workers log result own = IfErr-weaker result _ (RefusesStep setting seen workers) (λ fault explained. record { log = log; own = own; explained = explained })
+pub refuses : {A : Type 0} (setting : Setting) (seen : ℕ) (log : Log) (result : Result A CallFault) → IsLogIn setting log → Admits (call_fault seen log) result → IfErr result (Refuses setting seen)
+refuses setting seen log (Ok answer) own is = tt
+refuses setting seen log (Err fault) own is = record { log = log; own = own; explained = is; may = may_answer seen log fault is }
+
+pub refuses_step : {A : Type 0} (setting : Setting) (seen workers : ℕ) (log : Log) (result : Result A StepFault) → IsLogIn setting log → AdmitsStep (call_fault seen log) workers result → IfErr result (RefusesStep setting seen workers)
+refuses_step setting seen workers log (Ok answer) own is = tt
+refuses_step setting seen workers log (Err fault) own is = record { log = log; own = own; explained = is; may = may_answer_step seen workers log fault is }
 
 -- ---- a checkpoint
 
-pub holds_all : (setting : Setting) (seen : ℕ) (log : Log) (result : Result ℕ CallFault) → IsLogIn setting log → IfOk result (λ number. number ≡ length log.entries) → IfOk result (λ number. seen ≤ number) → IfOk result (HoldsAll setting seen)
-holds_all setting seen log (Ok number) own count all = record { log = log; own = own; count = count; all = all }
-holds_all setting seen log (Err fault) own count all = tt
+pub holds_all : (setting : Setting) (seen : ℕ) (log : Log) (result : Result ℕ CallFault) → IsLogIn setting log → IfOk result (λ number. number ≡ length log.entries) → Admits (checkpoint_fault seen log) result → IfOk result (HoldsAll setting seen)
+holds_all setting seen log (Ok number) own count none = record { log = log; own = own; count = count; all = subst (λ n. seen ≤ n) (sym count) (seen_at_checkpoint seen log none) }
+holds_all setting seen log (Err fault) own count none = tt
 
-pub refuses_checkpoint : (setting : Setting) (seen : ℕ) (log : Log) (result : Result ℕ CallFault) → IsLogIn setting log → IfErr result (λ fault. ExplainsCallFault (checkpoint_fault seen log) fault) → IfErr result (RefusesCheckpoint setting seen)
-refuses_checkpoint setting seen log result own = IfErr-weaker result _ (RefusesCheckpoint setting seen) (λ fault explained. record { log = log; own = own; explained = explained })
+pub refuses_checkpoint : (setting : Setting) (seen : ℕ) (log : Log) (result : Result ℕ CallFault) → IsLogIn setting log → Admits (checkpoint_fault seen log) result → IfErr result (RefusesCheckpoint setting seen)
+refuses_checkpoint setting seen log (Ok number) own is = tt
+refuses_checkpoint setting seen log (Err fault) own is = record { log = log; own = own; explained = is; may = may_refuse_checkpoint seen log fault is }

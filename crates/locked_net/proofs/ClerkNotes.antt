@@ -1,18 +1,6 @@
 -- A clerk's note, a later note, and the log.
-use Rattle.std.proofs.Common.{◌≡◌, ℕ, ◌≤◌, List, [], ◌∷◌, ◌++◌, length, Option, None, Some, Result, Ok, Err, IfOk, IfErr, MatchOption, inl, inr, ⊎_elim, refl, sym, ap, subst, arith}
-use Rattle.std.specs.List.{All}
+use Rattle.locked_net.proofs.Prelude.{◌≡◌, ℕ, ◌≤◌, List, [], ◌∷◌, ◌++◌, length, Option, None, Some, Result, Ok, Err, IfOk, IfErr, MatchOption, inl, inr, ⊎_elim, refl, sym, ap, subst, arith, All, Entry, AreComparable, PublishedLog, prefix_self, prefix_whole, Receipt, ClerkView, front_from, front_of, noted, RiseAbove, IsClerk, IsPartNoted, IsPublished, Setting, Book, RetainedLog}
 use mathlib.Core.List.{IsPrefix}
-use Rattle.rule_machine.specs.Run.{Entry}
-use Rattle.snapshots.specs.History.{AreComparable}
-use Rattle.snapshots.specs.Views.{PublishedLog}
-use Rattle.snapshots.proofs.Fronts.{prefix_self, prefix_whole}
-use Rattle.step_log.specs.declared.receipt.Receipt.{Receipt}
-use Rattle.locked_net.specs.Receipts.{ClerkView, front_from, front_of, noted, RiseAbove, IsClerk}
-use Rattle.locked_net.specs.RetainedParts.{IsPartNoted}
-use Rattle.locked_net.specs.Looks.{IsPublished}
-use Rattle.locked_net.specs.Settings.{Setting}
-use Rattle.logbook.specs.Pages.{Book}
-use Rattle.step_log.specs.RetainedLogs.{RetainedLog}
 
 -- without a note, the empty log is a prefix of each log
 pub none_begins : (note : Option PublishedLog) (other : List Entry) → ((told : PublishedLog) → note ≡ Some told → ⊥) → AreComparable (noted note) other

@@ -1,15 +1,5 @@
 -- Events that a daemon chose.
-use Rattle.std.proofs.Common.{◌≡◌, Bool, List, ap, ◌∙◌}
-use Rattle.rule_machine.specs.declared.choice.Item.{Item}
-use Rattle.rule_machine.specs.declared.event.Event.TheVariants.{Step}
-use Rattle.rule_machine.specs.declared.reply.Reply.{Reply}
-use Rattle.rule_machine.specs.RuleTable.{RuleTable, enabled_names}
-use Rattle.rule_machine.specs.Least.{least_moves, reply_by}
-use Rattle.enabled_set.specs.Members.{members}
-use Rattle.daemon.specs.DaemonLaws.{IsLawful}
-use Rattle.step_log.specs.declared.receipt.Receipt.{Receipt}
-use Rattle.step_log.specs.Log.{Log}
-use Rattle.locked_net.specs.Calls.{RecordsEvent, Drives}
+use Rattle.locked_net.proofs.Prelude.{◌≡◌, Bool, List, ap, ◌∙◌, Item, Step, Reply, RuleTable, enabled_names, least_moves, reply_by, members, IsLawful, Receipt, Log, RecordsEvent, Drives}
 use Rattle.locked_net.proofs.DaemonSteps.{lawful_taken}
 
 -- a lawful choice is answered by its moves

@@ -1,24 +1,23 @@
 -- A daemon's choice among the enabled nodes is accepted as a step. Each item's node is enabled, hence present
 -- with a rule, and has no wish. Ascending nodes differ, so none was chosen before. There is an item, and only
 -- one if the daemon is central. A step is judged by nothing else.
-use Rattle.std.proofs.Common.{◌≡◌, ℕ, suc, ◌<◌, Bool, true, false, not, ◌&&◌, ◌||◌, List, [], ◌∷◌, ◌++◌, length, get_or, Option, None, Some, is_some, IsTrue, nat_eq, nat_lt, if◌then◌else◌, refl, sym, ap, ◌∙◌, subst, arith}
-use Rattle.std.specs.List.{list_any, range_with_len, AllByRecursion, IsDistinct}
-use Rattle.std.specs.Option.{option_or}
-use Rattle.std.proofs.lemmas.Bool.{eqb-true, ne_eqb, true≢false, cond-false}
-use Rattle.std.proofs.lemmas.List.Elements.{All-filter, filter_passes}
-use Rattle.std.proofs.lemmas.List.Folds.{Any-from_list_any, list_any-append}
-use Rattle.rule_machine.specs.declared.act.Act.{Act}
-use Rattle.rule_machine.specs.declared.choice.Item.{Item}
-use Rattle.rule_machine.specs.declared.refusal.Refusal.TheVariants.{UnknownNode, ChosenTwice, EmptyChoice, NotCentral}
-use Rattle.rule_machine.specs.Network.{present, names}
-use Rattle.rule_machine.specs.State.{State}
-use Rattle.rule_machine.specs.RuleTable.{RuleTable, rule_at, enabled_names}
-use Rattle.rule_machine.specs.Refuse.{wish_refusal, rule_refusal, item_refusal, items_refusal, step_refusal}
-use Rattle.enabled_set.specs.Members.{is_in, members}
-use Rattle.enabled_set.proofs.Members.{inside}
-use Rattle.daemon.specs.DaemonLaws.{nodes_of, IsLawful}
-use Rattle.rule_engine.proofs.GuardRefresh.{listed_in}
-use Rattle.step_log.proofs.AscendingNumbers.{rising_distinct}
+use Rattle.locked_net.proofs.Prelude.{◌≡◌, ℕ, suc, ◌<◌, Bool, true, false, not, ◌&&◌, ◌||◌, List, [], ◌∷◌, ◌++◌, length, get_or, Option, None, Some, is_some, IsTrue, nat_eq, nat_lt, if◌then◌else◌, refl, sym, ap, ◌∙◌, subst, arith, list_any, range_with_len, AllByRecursion, option_or, eqb-true, ne_eqb, true≢false, cond-false, All-filter, filter_passes, Any-from_list_any, list_any-append, Act, Item, UnknownNode, ChosenTwice, EmptyChoice, NotCentral, present, names, State, RuleTable, rule_at, enabled_names, wish_refusal, rule_refusal, item_refusal, items_refusal, step_refusal, is_in, members, inside, nodes_of, IsLawful, rising_distinct}
+use Rattle.std.specs.List.{IsDistinct}
+use Rattle.std.proofs.Common.{zero, cond, filter, ⊎_elim, ◌+◌, ◌≤◌}
+use Rattle.std.proofs.lemmas.Bool.{cases_eq, eq-eqb, or_right}
+
+-- a number of a range that passes is one of those that a filter keeps
+listed_in : (p : ℕ → Bool) (a n w : ℕ) → p w ≡ true → a ≤ w → w < a + n → list_any (nat_eq w) (filter p (range_with_len a n)) ≡ true
+listed_in p a zero w on low high = absurd (omega arith)
+listed_in p a (suc n) w on low high =
+    ⊎_elim
+    (λ (same : w ≡ a). ap (λ b. list_any (nat_eq w) (cond b (a ∷ filter p (range_with_len (a + 1) n)) (filter p (range_with_len (a + 1) n)))) (ap p (sym same) ∙ on) ∙ ap (λ b. b || list_any (nat_eq w) (filter p (range_with_len (a + 1) n))) (eq-eqb w a same))
+    (λ (apart : w ≡ a → ⊥). kept (p a) (listed_in p (a + 1) n w on (omega arith) (omega arith)))
+    (cases_eq w a)
+  where
+    kept : (b : Bool) → list_any (nat_eq w) (filter p (range_with_len (a + 1) n)) ≡ true → list_any (nat_eq w) (cond b (a ∷ filter p (range_with_len (a + 1) n)) (filter p (range_with_len (a + 1) n))) ≡ true
+    kept true h = or_right (nat_eq w a) (list_any (nat_eq w) (filter p (range_with_len (a + 1) n))) h
+    kept false h = h
 
 -- ---- the enabled nodes
 

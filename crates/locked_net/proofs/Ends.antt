@@ -1,11 +1,6 @@
 -- Rows of clerks that roamed in two parts.
-use Rattle.std.proofs.Common.{◌≡◌, ◌∙◌, ℕ, List, [], ◌∷◌, ◌++◌, Option, None, Some, inl, refl, sym, ap, subst}
-use Rattle.std.specs.Option.{option_or}
-use Rattle.logbook.specs.Pages.{Book}
-use Rattle.locked_net.specs.Settings.{Setting}
-use Rattle.locked_net.specs.declared.call_fault.CallFault.{CallFault}
-use Rattle.locked_net.specs.Receipts.{ClerkView}
-use Rattle.locked_net.specs.RoamResults.{AllEnd, AllKeepNotes}
+use Rattle.locked_net.proofs.Prelude.{◌≡◌, ◌∙◌, ℕ, List, [], ◌∷◌, ◌++◌, Option, None, Some, refl, sym, ap, subst, option_or, Book, Setting, CallFault, ClerkView, AllEnd, AllKeepNotes}
+use Rattle.locked_net.proofs.Turns.{stays}
 
 or_assoc : {A : Type 0} (a b c : Option A) → option_or (option_or a b) c ≡ option_or a (option_or b c)
 or_assoc None b c = refl
@@ -41,4 +36,4 @@ parts_kept book olds left right ours theirs whole kept rest =
 -- no note and no base changes if no clerk roams
 pub notes_stay : (book : Book) (clerks : List ClerkView) → AllKeepNotes book clerks clerks
 notes_stay book [] = tt
-notes_stay book (clerk ∷ clerks) = (record { note = inl refl; base = refl }, notes_stay book clerks)
+notes_stay book (clerk ∷ clerks) = (stays book clerk clerk refl, notes_stay book clerks)

@@ -1,8 +1,5 @@
 -- The front of a clerk is the number of its last receipt.
-use Rattle.std.proofs.Common.{◌≡◌, ℕ, zero, suc, ◌-◌, List, [], ◌∷◌, length, Some, refl, ap, subst, arith}
-use Rattle.std.specs.List.{slice_get}
-use Rattle.step_log.specs.declared.receipt.Receipt.{Receipt}
-use Rattle.locked_net.specs.Receipts.{front_from}
+use Rattle.locked_net.proofs.Prelude.{◌≡◌, ℕ, zero, suc, ◌-◌, List, [], ◌∷◌, length, Some, refl, ap, subst, arith, slice_get, Receipt, front_from}
 
 front_at : (front : ℕ) (receipts : List Receipt) (n : ℕ) (last : Receipt) → length receipts ≡ suc n → slice_get receipts n ≡ Some last → front_from front receipts ≡ last.seq
 front_at front [] n last len at = absurd (omega arith)

@@ -1,16 +1,5 @@
 -- A desk publishes a run of the rules, and stays a desk after the next entry and after a checkpoint.
-use Rattle.std.proofs.Common.{◌≡◌, ◌+◌, ◌<◌, ℕ, [], ◌∷◌, ◌++◌, length, Result, Ok, Err, OnOk, OnErr, refl, sym, ap, ◌∙◌, subst, arith}
-use Rattle.rule_machine.specs.declared.event.Event.{Event}
-use Rattle.rule_machine.specs.RuleTable.{RuleTable}
-use Rattle.rule_machine.specs.Run.{Entry, Run, beginning_with}
-use Rattle.machine_laws.specs.LeastMoves.{IsTable}
-use Rattle.snapshots.specs.Row.{BoardShape, IsRun}
-use Rattle.snapshots.specs.Views.{BoardView}
-use Rattle.step_log.specs.JournalViews.{JournalView, kept_of}
-use Rattle.step_log.specs.RetainedLogs.{RetainedLog, checkpointed, kept_with, last_number, next_entry}
-use Rattle.step_log.specs.Log.{recorded}
-use Rattle.locked_net.specs.RetainedParts.{log_over}
-use Rattle.locked_net.specs.PublishedJournals.{IsPublishedJournal}
+use Rattle.locked_net.proofs.Prelude.{◌≡◌, ◌+◌, ◌<◌, ℕ, [], ◌∷◌, ◌++◌, length, Result, Ok, Err, OnOk, OnErr, refl, sym, ap, ◌∙◌, subst, arith, Event, RuleTable, Entry, Run, beginning_with, IsTable, BoardShape, IsRun, BoardView, JournalView, kept_of, RetainedLog, checkpointed, kept_with, last_number, next_entry, recorded, log_over, IsPublishedJournal}
 use Rattle.locked_net.proofs.RetainedParts.{above_len, end_of, recorded_is_log, recorded_size, recorded_above, checkpoint_above}
 
 -- the board's entries and the next one are a run

@@ -1,22 +1,6 @@
 -- The step of an enabled node alone, with no wish, is answered by its one move. Its node is present and has a
 -- rule, there is one item, and no target is wished. So nothing refuses it, and its own move is the only one.
-use Rattle.std.proofs.Common.{◌≡◌, ℕ, ◌%◌, true, false, ◌&&◌, [], ◌∷◌, length, Option, None, Some, is_some, nat_lt, if◌then◌else◌, refl, sym, ap, ◌∙◌}
-use Rattle.std.specs.Option.{option_or}
-use Rattle.std.proofs.lemmas.Bool.{true≢false, cond-false}
-use Rattle.std.proofs.lemmas.Option.{get_or_from_slice_get, slice_get_within}
-use Rattle.rule_machine.specs.declared.act.Act.{Act}
-use Rattle.rule_machine.specs.declared.choice.Item.{Item}
-use Rattle.rule_machine.specs.declared.act.Moved.{Moved}
-use Rattle.rule_machine.specs.declared.verdict.Outcome.TheVariants.{Absent}
-use Rattle.rule_machine.specs.declared.refusal.Refusal.TheVariants.{NotCentral}
-use Rattle.rule_machine.specs.declared.reply.Reply.TheVariants.{Moves}
-use Rattle.rule_machine.specs.Network.{present}
-use Rattle.rule_machine.specs.State.{State}
-use Rattle.rule_machine.specs.RuleTable.{RuleTable, rule_at, enabled_names, least_target}
-use Rattle.rule_machine.specs.Refuse.{step_refusal, items_refusal, item_refusal}
-use Rattle.rule_machine.specs.Least.{move_in, outcome_of, outcome_at, least_moves, reply_of, reply_by}
-use Rattle.rule_engine.proofs.AscendingMoves.{one_least}
-use Rattle.locked_net.specs.RoamTurns.{mover, lone_items, lone_step}
+use Rattle.locked_net.proofs.Prelude.{◌≡◌, ℕ, ◌%◌, true, false, ◌&&◌, [], ◌∷◌, length, Option, None, Some, is_some, nat_lt, if◌then◌else◌, refl, sym, ap, ◌∙◌, option_or, true≢false, cond-false, get_or_from_slice_get, slice_get_within, Act, Item, Moved, Absent, NotCentral, Moves, present, State, RuleTable, rule_at, enabled_names, least_target, step_refusal, items_refusal, item_refusal, move_in, outcome_of, outcome_at, least_moves, reply_of, reply_by, one_least, mover, lone_items, lone_step}
 use Rattle.locked_net.proofs.DaemonSteps.{enabled_at, taken_by, few_alone}
 
 -- the move of a node by its rule

@@ -1,20 +1,6 @@
 -- A clerk that adds the receipt of an entry after all that it has seen, and a note of the log then, is a
 -- clerk.
-use Rattle.std.proofs.Common.{◌≡◌, ℕ, ◌+◌, ◌-◌, ◌<◌, ◌≤◌, Bool, true, false, List, [], ◌∷◌, ◌++◌, length, Option, None, Some, Result, Ok, Err, OnOk, if◌then◌else◌, nat_eq, nat_lt, refl, sym, ap, ◌∙◌, subst, arith, length-append}
-use Rattle.std.specs.List.{slice_get}
-use Rattle.std.proofs.lemmas.Bool.{ltb-false, le-ltb}
-use Rattle.std.proofs.lemmas.Option.{none-some, slice_get-get_or}
-use Rattle.std.proofs.Math.Seq.{get_or-append_seam}
-use Rattle.rule_machine.specs.declared.event.Event.{Event}
-use Rattle.rule_machine.specs.RuleTable.{RuleTable}
-use Rattle.rule_machine.specs.Run.{Entry}
-use Rattle.snapshots.specs.Views.{PublishedLog}
-use Rattle.step_log.specs.declared.receipt.Receipt.{Receipt}
-use Rattle.step_log.specs.Log.{Log, entry_of, recorded, receipt_of}
-use Rattle.locked_net.specs.Receipts.{front_from, front_of, noted, RiseAbove, IsReceiptOf, StandsLastFrom, StandsLast, NotesLast, IsClerk}
-use Rattle.locked_net.specs.declared.call_fault.CallFault.{CallFault}
-use Rattle.locked_net.specs.declared.call_fault.CallFault.TheVariants.{Behind, LogFull}
-use Rattle.locked_net.specs.Calls.{call_fault}
+use Rattle.locked_net.proofs.Prelude.{◌≡◌, ℕ, ◌+◌, ◌-◌, ◌<◌, ◌≤◌, Bool, true, false, List, [], ◌∷◌, ◌++◌, length, Option, None, Some, if◌then◌else◌, nat_eq, nat_lt, refl, sym, ap, ◌∙◌, subst, arith, length-append, slice_get, ltb-false, le-ltb, none-some, slice_get-get_or, get_or-append_seam, Event, RuleTable, Entry, PublishedLog, Receipt, Log, entry_of, recorded, receipt_of, ClerkView, front_from, front_of, seen_by, noted, RiseAbove, IsReceiptOf, StandsLastFrom, StandsLast, NotesLast, IsClerk, CallFault, Behind, LogFull, call_fault, checkpoint_fault}
 
 not_first : (b : Bool) (fault : CallFault) (other : Option CallFault) → (if b then Some fault else other) ≡ None → b ≡ false
 not_first true fault other e = absurd (none-some fault (sym e))
@@ -25,9 +11,9 @@ pub seen_few : (seen : ℕ) (log : Log) → call_fault seen log ≡ None → see
 seen_few seen log none =
     ltb-false (length log.entries) seen (not_first (nat_lt (length log.entries) seen) (Behind (length log.entries) seen) (if nat_eq (length log.entries) log.limit then Some LogFull else None) none)
 
-pub ok_few : {A E : Type 0} (seen : ℕ) (log : Log) (result : Result A E) → OnOk result (call_fault seen log ≡ None) → OnOk result (seen ≤ length log.entries)
-ok_few seen log (Ok done) none = seen_few seen log none
-ok_few seen log (Err fault) none = tt
+-- and the same before a checkpoint
+pub seen_at_checkpoint : (seen : ℕ) (log : Log) → checkpoint_fault seen log ≡ None → seen ≤ length log.entries
+seen_at_checkpoint seen log none = ltb-false (length log.entries) seen (not_first (nat_lt (length log.entries) seen) (Behind (length log.entries) seen) None none)
 
 -- and may call with less seen
 not_second : (b : Bool) (fault : CallFault) (other : Option CallFault) → (if b then Some fault else other) ≡ None → other ≡ None
@@ -42,9 +28,8 @@ less_seen less seen log few none =
     let low : nat_lt here less ≡ false = le-ltb here less (omega (arith, few, all)) in
     subst (λ (b : Bool). (if b then Some (Behind here less) else rest) ≡ None) (sym low) (not_second (nat_lt here seen) (Behind here seen) rest none)
 
-pub ok_less : {A E : Type 0} (less seen : ℕ) (log : Log) (result : Result A E) → less ≤ seen → OnOk result (call_fault seen log ≡ None) → OnOk result (call_fault less log ≡ None)
-ok_less less seen log (Ok done) few none = less_seen less seen log few none
-ok_less less seen log (Err fault) few none = tt
+pub front_free : (clerk : ClerkView) (log : Log) → call_fault (seen_by clerk) log ≡ None → call_fault (front_of clerk.receipts) log ≡ None
+front_free clerk log = less_seen (front_of clerk.receipts) (seen_by clerk) log (omega arith)
 
 -- one more receipt, with a number above the last
 rise_more : (low : ℕ) (receipts : List Receipt) (receipt : Receipt) → RiseAbove low receipts → front_from low receipts < receipt.seq → RiseAbove low (receipts ++ receipt ∷ [])

@@ -9,19 +9,7 @@
 -- At the end as many marks are set as there are receipts. That is as many as entries, so all marks are set:
 -- each entry has a receipt, and so a clerk. It has no second clerk, since of two receipts with one number the
 -- later would not agree.
-use Rattle.std.proofs.Common.{◌≡◌, ℕ, zero, suc, ◌+◌, ◌-◌, ◌<◌, ◌≤◌, ◌⊎◌, Bool, true, false, cond, List, [], ◌∷◌, length, take, set, get_or, Some, refl, sym, ap, subst, ◌∙◌, inl, inr, ⊎_elim, arith}
-use Rattle.std.specs.List.{slice_get, sum_by, count_by}
-use Rattle.std.proofs.lemmas.Bool.{cases_lt, cases_eq, cases_order, false≢true}
-use Rattle.std.proofs.lemmas.List.{get_or-set_same, get_or-set_other, length-set, take_all}
-use Rattle.std.proofs.lemmas.List.Sums.{sum_by-cons, sum_by-set, sum_by_more, get_or-le-sum_by, count_by-le-length}
-use Rattle.std.proofs.lemmas.Option.{slice_get_read, slice_get_within, get_or_from_slice_get, same_Some}
-use Rattle.rule_machine.specs.Base.{dropped}
-use Rattle.rule_machine.specs.Run.{Entry}
-use Rattle.step_log.specs.RetainedLogs.{RetainedLog, last_number}
-use Rattle.step_log.specs.declared.receipt.Receipt.{Receipt}
-use Rattle.locked_net.specs.Receipts.{ClerkView, RiseAbove}
-use Rattle.locked_net.specs.Settlements.{receipt_count, greatest_base, base_number, IsEntryAbove, StandsAt, Settlement, IsEarlierReceipt, Agrees, IsFirstStranger}
-use Rattle.locked_net.specs.Marks.{mark_of, AreReceiptMarks}
+use Rattle.locked_net.proofs.Prelude.{◌≡◌, ℕ, zero, suc, ◌+◌, ◌-◌, ◌<◌, ◌≤◌, ◌⊎◌, Bool, true, false, cond, List, [], ◌∷◌, length, take, set, get_or, Some, refl, sym, ap, subst, ◌∙◌, inl, inr, ⊎_elim, arith, slice_get, sum_by, count_by, cases_lt, cases_eq, cases_order, false≢true, get_or-set_same, get_or-set_other, length-set, take_all, sum_by-cons, sum_by-set, sum_by_more, get_or-le-sum_by, count_by-le-length, slice_get_read, slice_get_within, get_or_from_slice_get, same_Some, dropped, Entry, RetainedLog, last_number, Receipt, ClerkView, RiseAbove, receipt_count, greatest_base, base_number, IsEntryAbove, StandsAt, Settlement, IsEarlierReceipt, Agrees, IsFirstStranger, mark_of, AreReceiptMarks}
 
 -- ---- places
 

@@ -1,21 +1,6 @@
 -- What is kept of a whole log: its number of entries, the next receipt, and that it stays a part of the log
 -- after the next entry and after a checkpoint.
-use Rattle.std.proofs.Common.{◌≡◌, ℕ, ◌+◌, ◌<◌, [], ◌∷◌, ◌++◌, length, refl, sym, ap, ap₂, ◌∙◌, subst, append_assoc, length-append, arith}
-use Rattle.std.proofs.lemmas.List.{append-nil}
-use Rattle.rule_machine.specs.declared.event.Event.{Event}
-use Rattle.rule_machine.specs.State.{State, IsState}
-use Rattle.rule_machine.specs.RuleTable.{RuleTable}
-use Rattle.rule_machine.specs.Least.{reply_of, state_after, spent_by}
-use Rattle.rule_machine.specs.Run.{Entry, Moment, Run, beginning_with}
-use Rattle.rule_machine.specs.Base.{base_of}
-use Rattle.machine_laws.specs.LeastMoves.{IsTable}
-use Rattle.machine_laws.specs.LeastAnswers.{least_answers}
-use Rattle.machine_laws.specs.StatePreservation.{opening_is_state}
-use Rattle.machine_laws.specs.Runs.{runs_end_in_states, run_add}
-use Rattle.machine_laws.specs.Sizes.{runs_keep_size}
-use Rattle.step_log.specs.RetainedLogs.{RetainedLog, checkpointed, kept_with, last_number, moment_in, next_entry}
-use Rattle.step_log.specs.Log.{Log, IsLog, entry_of, recorded}
-use Rattle.locked_net.specs.RetainedParts.{IsLogAboveBase, TellsEnd}
+use Rattle.locked_net.proofs.Prelude.{◌≡◌, ℕ, ◌+◌, ◌<◌, [], ◌∷◌, ◌++◌, length, refl, sym, ap, ap₂, ◌∙◌, subst, append_assoc, length-append, arith, append-nil, Event, State, IsState, RuleTable, reply_of, state_after, spent_by, Entry, Moment, Run, beginning_with, base_of, IsTable, least_answers, opening_is_state, runs_end_in_states, run_add, runs_keep_size, RetainedLog, checkpointed, kept_with, last_number, moment_in, next_entry, Log, IsLog, entry_of, recorded, IsLogAboveBase, TellsEnd}
 
 -- the moment at a log's end
 abbrev pub end_of : Log → Moment

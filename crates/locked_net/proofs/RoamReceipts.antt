@@ -1,21 +1,6 @@
 -- The receipts of clerks that roamed turn by turn, and their fault.
-use Rattle.std.proofs.Common.{◌≡◌, ◌∙◌, ℕ, zero, suc, ◌+◌, ◌<◌, ◌≤◌, Bool, true, false, List, [], ◌∷◌, ◌++◌, length, take, drop, min, Option, None, Some, if◌then◌else◌, nat_eq, nat_lt, refl, sym, ap, subst, ⊎_elim, append_assoc, length-append, arith}
-use Rattle.std.specs.List.{All, slice_get}
-use Rattle.std.proofs.lemmas.Bool.{cases_lt, ltb-true}
-use Rattle.std.proofs.lemmas.List.{append-nil, drop_all, drop_at, nil_from_length, take_all, take_at}
-use Rattle.std.proofs.lemmas.Option.{same_Some, none-some}
-use Rattle.std.proofs.lemmas.List.Elements.{All-nil, All-cons, All-append}
-use Rattle.rule_machine.specs.RuleTable.{RuleTable}
-use Rattle.step_log.specs.declared.receipt.Receipt.{Receipt}
-use Rattle.step_log.specs.Log.{Log, receipt_of}
-use Rattle.locked_net.specs.Receipts.{ClerkView, front_of}
-use Rattle.locked_net.specs.Settings.{Setting}
-use Rattle.locked_net.specs.declared.call_fault.CallFault.{CallFault}
-use Rattle.locked_net.specs.declared.call_fault.CallFault.TheVariants.{Behind, LogFull, Memory}
-use Rattle.locked_net.specs.declared.roam_fault.RoamFault.{RoamFault}
-use Rattle.locked_net.specs.Calls.{ExplainsCallFault, MayAnswer}
-use Rattle.locked_net.specs.RoamTurns.{mover, lone_step, receipts_by, receipts_of_turn, FaultBy}
-use Rattle.locked_net.specs.RoamResults.{IsLoneStep, Roams, AllRoam, RoamResult, MayMeetRoamFault, TakesTurns, AllTakeTurns, MayEnd, AllEnd, roam_fault}
+use Rattle.locked_net.proofs.Prelude.{◌≡◌, ◌∙◌, ℕ, zero, suc, ◌+◌, ◌<◌, ◌≤◌, Bool, true, false, List, [], ◌∷◌, ◌++◌, length, take, drop, min, Option, None, Some, if◌then◌else◌, nat_eq, nat_lt, refl, sym, ap, subst, ⊎_elim, append_assoc, length-append, arith, All, slice_get, cases_lt, ltb-true, append-nil, drop_all, drop_at, nil_from_length, take_all, take_at, same_Some, none-some, All-nil, All-cons, All-append, RuleTable, Receipt, Log, receipt_of, ClerkView, seen_by, Setting, CallFault, Behind, LogFull, Memory, RoamFault, ExplainsCallFault, MayAnswer, mover, lone_step, receipts_by, receipts_of_turn, FaultBy, IsLoneStep, Roams, AllRoam, RoamResult, MayMeetRoamFault, TakesTurns, AllTakeTurns, MayEnd, AllEnd, roam_fault}
+use Rattle.locked_net.proofs.CallFaults.{may_answer}
 use Rattle.locked_net.proofs.Movers.{mover_answers}
 
 -- ---- receipts
@@ -46,17 +31,17 @@ turns_roam setting (suc turn) old new (before, taken, last) =
       lone = All-append IsLoneStep so_far.own told so_far.lone more.lone;
     }
 
-end_roams : (setting : Setting) (turns : ℕ) (old new : List Receipt) (fault : Option CallFault) → MayEnd setting turns old new fault → Roams turns old new
-end_roams setting turns old new None taken = turns_roam setting turns old new taken
+end_roams : (setting : Setting) (turns : ℕ) (old new : ClerkView) (fault : Option CallFault) → MayEnd setting turns old new fault → Roams turns old.receipts new.receipts
+end_roams setting turns old new None taken = turns_roam setting turns old.receipts new.receipts taken
 end_roams setting turns old new (Some fault) broken =
-    let some = turns_roam setting broken.turn old new broken.taken in
+    let some = turns_roam setting broken.turn old.receipts new.receipts broken.taken in
     record { own = some.own; added = some.added; few = omega (arith, some.few, broken.below); lone = some.lone }
 
 all_roam : (setting : Setting) (turns : ℕ) (olds news : List ClerkView) (fault : Option CallFault) → AllEnd setting turns olds news fault → AllRoam turns olds news
 all_roam setting turns [] [] fault ends = tt
 all_roam setting turns [] (new ∷ news) fault ends = absurd ends
 all_roam setting turns (old ∷ olds) [] fault ends = absurd ends
-all_roam setting turns (old ∷ olds) (new ∷ news) fault (own, others, is, ended, ends) = (end_roams setting turns old.receipts new.receipts own ended, all_roam setting turns olds news others ends)
+all_roam setting turns (old ∷ olds) (new ∷ news) fault (own, others, is, ended, ends) = (end_roams setting turns old new own ended, all_roam setting turns olds news others ends)
 
 -- ---- the first of them
 
@@ -120,15 +105,9 @@ first_taken setting turns count whole part new rest fault value size few same en
 
 -- ---- the fault
 
-explained : (seen : ℕ) (log : Log) (fault : CallFault) (behind full : Bool) → nat_lt (length log.entries) seen ≡ behind
-    → ExplainsCallFault (if behind then Some (Behind (length log.entries) seen) else (if full then Some LogFull else None)) fault → MayAnswer seen fault
-explained seen log fault true full less is = subst (MayAnswer seen) (sym is) (refl, ltb-true (length log.entries) seen less)
-explained seen log fault false true less is = subst (MayAnswer seen) (sym is) tt
-explained seen log fault false false less is = subst (MayAnswer seen) (sym is) tt
-
 met_answers : (seen : ℕ) (log : Log) (chosen : Option ℕ) (fault : CallFault) → FaultBy seen log chosen fault → MayAnswer seen fault
 met_answers seen log None fault met = absurd met
-met_answers seen log (Some v) fault met = explained seen log fault (nat_lt (length log.entries) seen) (nat_eq (length log.entries) log.limit) refl met
+met_answers seen log (Some v) fault met = may_answer seen log fault met
 
 -- one of these clerks met the fault
 record IsMet (clerks : List ClerkView) (workers : ℕ) (fault : CallFault) : Type 0 where
@@ -136,7 +115,7 @@ record IsMet (clerks : List ClerkView) (workers : ℕ) (fault : CallFault) : Typ
   view : ClerkView
   worker : clerk < workers
   has : slice_get clerks clerk ≡ Some view
-  may : MayAnswer (front_of view.receipts) fault
+  may : MayAnswer (seen_by view) fault
 
 fault_met : (setting : Setting) (turns : ℕ) (olds news rest : List ClerkView) (first : Option CallFault) (fault : CallFault) → AllEnd setting turns olds news first → first ≡ Some fault → IsMet (news ++ rest) (length olds) fault
 fault_met setting turns [] [] rest first fault ends is = absurd (none-some fault (sym ends ∙ is))
@@ -147,8 +126,8 @@ fault_met setting turns (old ∷ olds) (new ∷ news) rest first fault (None, ot
     record { clerk = suc later.clerk; view = later.view; worker = omega (arith, later.worker); has = later.has; may = later.may }
 fault_met setting turns (old ∷ olds) (new ∷ news) rest first fault (Some own, others, first_is, ended, ends) is =
     let same : own ≡ fault = same_Some own fault (sym first_is ∙ is) in
-    let may = met_answers (front_of new.receipts) ended.met.log (mover setting.table ended.met.log.state ended.turn) own ended.met.met in
-    record { clerk = 0; view = new; worker = omega arith; has = refl; may = subst (MayAnswer (front_of new.receipts)) same may }
+    let may = met_answers (seen_by new) ended.met.log (mover setting.table ended.met.log.state ended.turn) own ended.met.met in
+    record { clerk = 0; view = new; worker = omega arith; has = refl; may = subst (MayAnswer (seen_by new)) same may }
 
 stops : (clerks : List ClerkView) (workers : ℕ) (fault : CallFault) → workers ≤ 64 → IsMet clerks workers fault → MayMeetRoamFault clerks (roam_fault fault)
 stops clerks workers (Behind front seen) few met =

@@ -1,13 +1,6 @@
 -- A settled log has no stranger; a clerk whose numbers rise does not clash with itself.
-use Rattle.std.proofs.Common.{◌≡◌, ℕ, zero, suc, ◌<◌, ◌↔◌, List, [], ◌∷◌, Some, sym, subst, ◌∙◌, refl, inl, ⊎_elim, arith}
-use Rattle.std.specs.List.{slice_get}
-use Rattle.std.proofs.lemmas.Option.{same_Some}
-use Rattle.step_log.specs.RetainedLogs.{RetainedLog}
-use Rattle.step_log.specs.declared.receipt.Receipt.{Receipt}
-use Rattle.locked_net.specs.declared.settle_fault.SettleFault.{SettleFault}
-use Rattle.locked_net.specs.declared.settle_fault.SettleFault.TheVariants.{CountDiffers, BaseDiffers, Stranger, Memory}
-use Rattle.locked_net.specs.Receipts.{ClerkView, RiseAbove}
-use Rattle.locked_net.specs.Settlements.{StandsAt, HasReceiptNumber, IsEntryAbove, Agrees, Settlement, Unsettles}
+use Rattle.locked_net.proofs.Prelude.{◌≡◌, ℕ, zero, suc, ◌<◌, ◌↔◌, List, [], ◌∷◌, Some, sym, subst, ◌∙◌, refl, inl, ⊎_elim, arith, slice_get, same_Some, RetainedLog, Receipt, SettleFault, CountDiffers, BaseDiffers, Stranger, ClerkView, RiseAbove, StandsAt, HasReceiptNumber, IsEntryAbove, Agrees, Settlement, Unsettles}
+use Rattle.locked_net.specs.declared.settle_fault.SettleFault.TheVariants.{Memory}
 
 -- each number is above the start of the rise
 above : (low : ℕ) (receipts : List Receipt) (p : ℕ) (receipt : Receipt) → RiseAbove low receipts → slice_get receipts p ≡ Some receipt → low < receipt.seq

@@ -19,7 +19,7 @@ use Rattle.step_log.specs.Log.{Log, receipt_of}
 use Rattle.snapshots.specs.Views.{PublishedLog}
 use Rattle.locked_net.specs.Receipts.{ClerkView, front_of, noted}
 use Rattle.locked_net.specs.Settings.{Setting, IsLogIn}
-use Rattle.locked_net.specs.Calls.{call_fault, checkpoint_fault, ExplainsCallFault, ExplainsStep}
+use Rattle.locked_net.specs.Calls.{call_fault, checkpoint_fault, ExplainsCallFault, ExplainsStep, MayAnswer, MayAnswerStep, MayRefuseCheckpoint}
 use Rattle.locked_net.specs.declared.call_fault.CallFault.{CallFault}
 use Rattle.locked_net.specs.declared.step_fault.StepFault.{StepFault}
 
@@ -69,10 +69,12 @@ abbrev pub ClerkTakes : Setting → (State → Option Event → Type 0) → Cler
 ClerkTakes setting Chooses old new told = TakesChoice setting Chooses old.receipts new.receipts new.note told
 
 -- A log gives this fault to a clerk that has seen `seen` entries; `Memory` only if there is no other fault.
+-- `may` is what the clerk can expect without seeing the log.
 pub record Refuses (setting : Setting) (seen : ℕ) (fault : CallFault) : Type 0 where
   pub log : Log
   pub own : IsLogIn setting log
   pub explained : ExplainsCallFault (call_fault seen log) fault
+  pub may : MayAnswer seen fault
 
 -- A log of `number` entries includes all that the clerk has seen.
 pub record HoldsAll (setting : Setting) (seen number : ℕ) : Type 0 where
@@ -86,9 +88,11 @@ pub record RefusesCheckpoint (setting : Setting) (seen : ℕ) (fault : CallFault
   pub log : Log
   pub own : IsLogIn setting log
   pub explained : ExplainsCallFault (checkpoint_fault seen log) fault
+  pub may : MayRefuseCheckpoint seen fault
 
 -- A log gives this fault for a step that workers judge.
 pub record RefusesStep (setting : Setting) (seen workers : ℕ) (fault : StepFault) : Type 0 where
   pub log : Log
   pub own : IsLogIn setting log
   pub explained : ExplainsStep (call_fault seen log) workers fault
+  pub may : MayAnswerStep seen workers fault

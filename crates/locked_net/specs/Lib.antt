@@ -3,6 +3,7 @@ pub mod Settlements
 pub mod Settings
 pub mod RetainedParts
 pub mod Calls
+pub mod ClerkCalls
 pub mod ChosenEvents
 pub mod Marks
 pub mod PublishedJournals

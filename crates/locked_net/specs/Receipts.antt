@@ -36,9 +36,12 @@ abbrev pub base_from : Option ℕ → ℕ
 base_from None = 0
 base_from (Some number) = number
 
--- the greatest entry number that a clerk has seen, in its last receipt or from a checkpoint
+-- the greatest entry number that a clerk with this base has seen, in its last receipt or from a checkpoint
+abbrev pub seen_from : Option ℕ → List Receipt → ℕ
+seen_from base receipts = max (front_of receipts) (base_from base)
+
 abbrev pub seen_by : ClerkView → ℕ
-seen_by clerk = max (front_of clerk.receipts) (base_from clerk.base)
+seen_by clerk = seen_from clerk.base clerk.receipts
 
 -- a clerk that has made no call
 abbrev pub fresh : ClerkView

@@ -12,7 +12,7 @@ use Rattle.step_log.specs.declared.receipt.Receipt.{Receipt}
 use Rattle.logbook.specs.Pages.{Book}
 use Rattle.step_log.specs.Log.{Log}
 use Rattle.locked_net.specs.Settings.{Setting, IsLogIn}
-use Rattle.locked_net.specs.Receipts.{ClerkView, HasNoteOf, front_of}
+use Rattle.locked_net.specs.Receipts.{ClerkView, HasNoteOf, base_from, front_of, seen_by}
 use Rattle.locked_net.specs.RoamTurns.{lone_step, receipts_of_turn, fault_of_turn, FaultInTurn}
 use Rattle.locked_net.specs.declared.call_fault.CallFault.{CallFault}
 use Rattle.locked_net.specs.declared.call_fault.CallFault.TheVariants as call_fault
@@ -53,13 +53,15 @@ pub record IsBehind (clerks : List ClerkView) (front seen : ℕ) : Type 0 where
   pub view : ClerkView
   pub worker : clerk < 64
   pub has : slice_get clerks clerk ≡ Some view
-  pub own : seen ≡ front_of view.receipts
+  pub own : seen ≡ seen_by view
   pub fewer : front < seen
 
--- A clerk's note is unchanged or a note of this history; the clerk's base is unchanged.
+-- A clerk's note is unchanged or a note of this history; the clerk's base is unchanged, and each new receipt
+-- has a number above the base.
 pub record KeepsNote (book : Book) (old new : ClerkView) : Type 0 where
   pub note : (new.note ≡ old.note) ⊎ HasNoteOf book new
   pub base : new.base ≡ old.base
+  pub above : (own : List Receipt) × (new.receipts ≡ old.receipts ++ own) × All (λ receipt. base_from old.base < receipt.seq) own
 
 -- the same for each of these clerks
 abbrev pub AllKeepNotes : Book → List ClerkView → List ClerkView → Type 0
@@ -85,10 +87,10 @@ pub record TakesTurn (setting : Setting) (turn : ℕ) (old new : List Receipt) :
   pub added : new ≡ old ++ receipts_of_turn setting.table log turn
 
 -- A turn met a fault on a log.
-pub record MeetsFault (setting : Setting) (turn : ℕ) (receipts : List Receipt) (fault : CallFault) : Type 0 where
+pub record MeetsFault (setting : Setting) (turn : ℕ) (clerk : ClerkView) (fault : CallFault) : Type 0 where
   pub log : Log
   pub own : IsLogIn setting log
-  pub met : FaultInTurn setting.table (front_of receipts) log turn fault
+  pub met : FaultInTurn setting.table (seen_by clerk) log turn fault
 
 -- turns 0 to n - 1 were taken, for this number n
 abbrev pub TakesTurns : Setting → ℕ → List Receipt → List Receipt → Type 0
@@ -102,15 +104,15 @@ AllTakeTurns setting turns (old ∷ olds) (new ∷ news) = TakesTurns setting tu
 AllTakeTurns setting turns olds news = ⊥
 
 -- Fewer turns were taken, and the next turn met a fault.
-pub record BreaksOff (setting : Setting) (turns : ℕ) (old new : List Receipt) (fault : CallFault) : Type 0 where
+pub record BreaksOff (setting : Setting) (turns : ℕ) (old new : ClerkView) (fault : CallFault) : Type 0 where
   pub turn : ℕ
   pub below : turn < turns
-  pub taken : TakesTurns setting turn old new
+  pub taken : TakesTurns setting turn old.receipts new.receipts
   pub met : MeetsFault setting turn new fault
 
 -- a clerk took all its turns, or took turns up to a fault
-abbrev pub MayEnd : Setting → ℕ → List Receipt → List Receipt → Option CallFault → Type 0
-MayEnd setting turns old new None = TakesTurns setting turns old new
+abbrev pub MayEnd : Setting → ℕ → ClerkView → ClerkView → Option CallFault → Type 0
+MayEnd setting turns old new None = TakesTurns setting turns old.receipts new.receipts
 MayEnd setting turns old new (Some fault) = BreaksOff setting turns old new fault
 
 -- Each clerk roamed. The fault is the first that a clerk met, in the clerks' order; none if each clerk took
@@ -118,7 +120,7 @@ MayEnd setting turns old new (Some fault) = BreaksOff setting turns old new faul
 abbrev pub AllEnd : Setting → ℕ → List ClerkView → List ClerkView → Option CallFault → Type 0
 AllEnd setting turns [] [] fault = fault ≡ None
 AllEnd setting turns (old ∷ olds) (new ∷ news) fault =
-    (own : Option CallFault) × (others : Option CallFault) × (fault ≡ option_or own others) × MayEnd setting turns old.receipts new.receipts own × AllEnd setting turns olds news others
+    (own : Option CallFault) × (others : Option CallFault) × (fault ≡ option_or own others) × MayEnd setting turns old new own × AllEnd setting turns olds news others
 AllEnd setting turns olds news fault = ⊥
 
 -- a call's fault as a fault of roaming

@@ -68,7 +68,8 @@ abbrev pub IsEarlierReceipt : ℕ → ℕ → ℕ → ℕ → Type 0
 IsEarlierReceipt d q c p = (d < c) ⊎ ((d ≡ c) × (q < p))
 
 -- The receipt at place p of clerk c agrees: it is the log's entry with its number, if that entry is kept,
--- and no receipt before it has the same number.
+-- and no receipt before it has the same number. `own_numbers_never_clash` proves that only earlier clerks can
+-- have the number, if each clerk's numbers rise.
 pub record Agrees (kept : RetainedLog) (clerks : List ClerkView) (c p : ℕ) (receipt : Receipt) : Type 0 where
   pub entry : IsEntryAbove kept receipt
   pub new : (d q : ℕ) (other : Receipt) → IsEarlierReceipt d q c p → StandsAt clerks d q other → other.seq ≢ receipt.seq
@@ -81,7 +82,8 @@ pub record IsFirstStranger (kept : RetainedLog) (clerks : List ClerkView) (c p :
   pub first : (d q : ℕ) (other : Receipt) → IsEarlierReceipt d q c p → StandsAt clerks d q other → Agrees kept clerks d q other
 
 -- Why the log and the clerks were not settled. A difference in numbers comes first, then a differing base,
--- then a stranger. `Memory` says nothing about these three.
+-- then a stranger. `Memory` says nothing about these three. `settling_is_exact` proves that a settled log has
+-- none of these three.
 abbrev pub Unsettles : RetainedLog → List ClerkView → SettleFault → Type 0
 Unsettles kept clerks CountDiffers = receipt_count clerks ≢ last_number kept
 Unsettles kept clerks BaseDiffers = (receipt_count clerks ≡ last_number kept) × (base_number kept.base ≢ greatest_base clerks)

@@ -15,7 +15,6 @@ mod judged;
 mod locked;
 mod seeing;
 
-pub(crate) use calls::admit;
 pub(crate) use checkpoint::greater;
 
 /// A caller of a network. Contracts see three things:

@@ -57,9 +57,8 @@ pub(crate) struct RecordedEvent {
 }
 
 impl<R: Rules> PublishedJournal<R> {
-    pub(crate) fn new<W: Wait>(
+    pub(crate) fn new(
         alloc: Global,
-        rt: &W,
         nodes: u32,
         present: u32,
         limit: u32,
@@ -73,7 +72,7 @@ impl<R: Rules> PublishedJournal<R> {
         ensures fault { IfErr result (λ fault. ExplainsGraphFault (nodes_fault nodes) fault) }
     {
         let journal = Journal::with_present(alloc, nodes, present, limit)?;
-        match Board::new(alloc, rt, nodes as usize + 1, present, READERS) {
+        match Board::new(alloc, nodes as usize + 1, present, READERS) {
             Ok(board) => Ok(PublishedJournal { journal, board }),
             Err(_) => Err(GraphFault::Memory),
         }
@@ -84,6 +83,13 @@ impl<R: Rules> PublishedJournal<R> {
         ensures run { IsLog R.table self.now.log }
     {
         self.journal.len()
+    }
+
+    /// Runs no code.
+    pub(crate) fn is_run(&self)
+        ensures { IsLog R.table self.now.log }
+    {
+        let _journal = &self.journal;
     }
 
     pub(crate) fn is_full(&self) -> bool
@@ -170,13 +176,13 @@ impl<R: Rules> PublishedJournal<R> {
         self.journal.checkpoint()
     }
 
-    pub(crate) fn reader(&mut self) -> Result<Reader<Runs<R>>, NoPlace>
+    pub(crate) fn reader<W: Wait>(&mut self, rt: &W) -> Result<Reader<Runs<R>>, NoPlace>
         ensures kept { self.new ≡ self.old }
         ensures name { IfOk result (λ reader. reader.name ≡ self.old.name) }
         ensures seen { IfOk result (λ reader. (reader.list ≡ self.old.log.entries) × (reader.learnt ≡ self.old.log.entries)) }
         ensures run { IsLog R.table self.old.log }
     {
-        self.board.reader()
+        self.board.reader(rt)
     }
 
     pub(crate) fn close<W: Wait>(self, rt: &W) -> Journal<R>
@@ -192,6 +198,7 @@ impl<R: Rules> PublishedJournal<R> {
 }
 
 /// After the entry is posted nothing fails.
+#[inline(always)]
 fn finish<R: Rules, W: Wait>(
     journal: &mut Journal<R>,
     board: &mut Board<Runs<R>>,
@@ -210,9 +217,10 @@ fn finish<R: Rules, W: Wait>(
     ensures kept { OnErr result ((kept_of journal.new ≡ kept_of journal.old) × (board.new.list ≡ board.old.list)) }
 {
     let reply = prepared.receipt().reply.clone()?;
-    board.post(prepared.entry())?;
+    let entry = prepared.entry();
+    board.post(entry)?;
+    let note = board.publish(rt, entry);
     let receipt = journal.commit(prepared);
-    let note = board.publish(rt);
     Ok(RecordedEvent {
         receipt,
         reply,

@@ -25,8 +25,8 @@ mod reach;
 /// board's name.
 pub struct HeldNet<'a, R: Rules> {
     net: &'a LockedNet<R>,
-    desk: PublishedJournal<R>,
-    hold: Hold<PublishedJournal<R>, NetKey>,
+    desk: Box<PublishedJournal<R>>,
+    hold: Hold<Box<PublishedJournal<R>>, NetKey>,
 }
 
 impl<'a, R: Rules> Model for HeldNet<'a, R> {
@@ -41,9 +41,9 @@ impl<'a, R: Rules> Model for HeldNet<'a, R> {
 
     ghost coded = { Prim.hlevel (codes, state_code, book_coded) };
 
-    ghost view = { λ h. h.desk };
+    ghost view = { λ h. h.desk.value };
 
-    ghost invariant = { λ h. IsOfKey (net_key_of h.net.now) h.desk × IsHoldOf h.net.now.lock h.hold };
+    ghost invariant = { λ h. IsOfKey (net_key_of h.net.now) h.desk.value × IsHoldOf h.net.now.lock h.hold };
 }
 
 impl<R: Rules> LockedNet<R> {
@@ -53,8 +53,7 @@ impl<R: Rules> LockedNet<R> {
         ensures name { result.name ≡ name_of self.now }
     {
         let (desk, hold) = self.take(rt);
-        // Called only for the contract: the log is a run.
-        let _count = desk.len();
+        desk.is_run();
         HeldNet {
             net: self,
             desk,

@@ -18,8 +18,8 @@ pub(crate) struct NetKey {
 /// The log under the lock has the key's sizes, and the board of the key's note publishes this log.
 pub(crate) struct KeyInvariant;
 
-impl<R: Rules> Invariant<PublishedJournal<R>, NetKey> for KeyInvariant {
+impl<R: Rules> Invariant<Box<PublishedJournal<R>>, NetKey> for KeyInvariant {
     ghost use Rattle.locked_net.specs.PublishedJournals.{IsOfKey};
 
-    ghost holds = { λ key desk. IsOfKey key desk };
+    ghost holds = { λ key desk. IsOfKey key desk.value };
 }

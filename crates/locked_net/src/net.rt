@@ -3,6 +3,7 @@
 ghost use Rattle.std.specs.Prelude.{◌≡◌, ◌≤◌, min, IfOk, IfErr, OnOk};
 ghost use Rattle.step_log.specs.Log.{max_entries};
 ghost use Rattle.graph_store.specs.Fault.{nodes_fault, ExplainsGraphFault};
+ghost use Rattle.graph_store.specs.declared.fault.GraphFault.TheVariants.{Memory};
 
 use crate::desk::PublishedJournal;
 use crate::key::{KeyInvariant, NetKey};
@@ -23,7 +24,7 @@ use step_log::{Journal, MAX_ENTRIES};
 /// network cannot be dropped: `into_journal` ends it.
 pub struct LockedNet<R: Rules> {
     alloc: Global,
-    lock: KeyedLock<PublishedJournal<R>, NetKey, KeyInvariant>,
+    lock: KeyedLock<Box<PublishedJournal<R>>, NetKey, KeyInvariant>,
 }
 
 impl<R: Rules> LockedNet<R> {
@@ -81,7 +82,11 @@ impl<R: Rules> LockedNet<R> {
         ensures small { OnOk result (nodes ≤ 65535) }
         ensures fault { IfErr result (λ fault. ExplainsGraphFault (nodes_fault nodes) fault) }
     {
-        let desk = PublishedJournal::new(alloc, rt, nodes, present, limit)?;
+        let desk = boxed(
+            alloc,
+            rt,
+            PublishedJournal::new(alloc, nodes, present, limit)?,
+        )?;
         let key = NetKey {
             nodes,
             present,
@@ -91,7 +96,7 @@ impl<R: Rules> LockedNet<R> {
         match KeyedLock::new(alloc, desk, &key) {
             Ok(lock) => Ok(LockedNet { alloc, lock }),
             Err(AllocFailed { value: desk }) => {
-                desk.close(rt);
+                Box::into_inner(desk).close(rt);
                 Err(GraphFault::Memory)
             }
         }
@@ -106,14 +111,15 @@ impl<R: Rules> LockedNet<R> {
 
     /// A reader of this network that has seen the present log. Waits for the network's lock.
     /// At most 64 readers have a place at once; a reader keeps its place until the reader is dropped.
-    /// `NoPlace` if no place is found; when that happens is unspecified.
+    /// `NoPlace` if no place is found; when that happens is unspecified. The first reader takes the memory of
+    /// two copies of the pointers; from then on a call takes that of a copy of its entry.
     pub fn reader<W: Wait>(&self, rt: &W) -> Result<BoardReader<R>, ReaderFault>
         ensures name { IfOk result (λ reader. reader.name ≡ name_of self.now) }
         ensures seen { IfOk result (λ reader. HasSeenLog R.table self.now reader) }
         ensures fault { IfErr result (λ fault. fault ≡ NoPlace) }
     {
         let mut held = self.hold(rt);
-        let place = held.reader();
+        let place = held.reader(rt);
         held.free();
         match place {
             Ok(reader) => Ok(BoardReader::over(reader)),
@@ -128,15 +134,22 @@ impl<R: Rules> LockedNet<R> {
     pub(crate) fn take<W: Wait>(
         &self,
         rt: &W,
-    ) -> (PublishedJournal<R>, Hold<PublishedJournal<R>, NetKey>)
-        ensures key { IsOfKey (net_key_of self.now) result.0 }
+    ) -> (
+        Box<PublishedJournal<R>>,
+        Hold<Box<PublishedJournal<R>>, NetKey>,
+    )
+        ensures key { IsOfKey (net_key_of self.now) result.0.value }
         ensures hold { IsHoldOf self.now.lock result.1 }
     {
         self.lock.take(rt)
     }
 
-    pub(crate) fn give(&self, hold: Hold<PublishedJournal<R>, NetKey>, desk: PublishedJournal<R>)
-        requires key { IsOfKey (net_key_of self.now) desk }
+    pub(crate) fn give(
+        &self,
+        hold: Hold<Box<PublishedJournal<R>>, NetKey>,
+        desk: Box<PublishedJournal<R>>,
+    )
+        requires key { IsOfKey (net_key_of self.now) desk.value }
         requires hold { IsHoldOf self.now.lock hold }
     {
         self.lock.give(hold, desk);
@@ -174,6 +187,24 @@ impl<R: Rules> LockedNet<R> {
         ensures { IsOfKey (net_key_of self) result }
     {
         let LockedNet { alloc: _, lock } = self;
-        lock.into_inner(rt)
+        Box::into_inner(lock.into_inner(rt))
+    }
+}
+
+/// Boxed, so that taking the lock moves an address.
+fn boxed<R: Rules, W: Wait>(
+    alloc: Global,
+    rt: &W,
+    desk: PublishedJournal<R>,
+) -> Result<Box<PublishedJournal<R>>, GraphFault>
+    ensures ok { IfOk result (λ boxed. boxed.value ≡ desk) }
+    ensures fault { IfErr result (λ fault. fault ≡ Memory) }
+{
+    match Box::new(alloc, desk) {
+        Ok(boxed) => Ok(boxed),
+        Err(AllocFailed { value: desk }) => {
+            desk.close(rt);
+            Err(GraphFault::Memory)
+        }
     }
 }

@@ -6,7 +6,7 @@ ghost use Rattle.locked_net.specs.Nets.{book_of, setting_of};
 ghost use Rattle.locked_net.specs.RoamResults.{KeepsNote, TakesTurn, MeetsFault, MayEnd};
 
 use crate::{CallFault, Clerk, LockedNet};
-use rule_engine::Rules;
+use rule_engine::{Reply, Rules};
 use std::sync::Wait;
 use steal_pool::Gate;
 
@@ -22,9 +22,9 @@ fn take_turn<R: Rules, W: Wait>(
     net: &LockedNet<R>,
     clerk: &mut Clerk,
     turn: u32,
-) -> Result<(), CallFault>
+) -> Result<Option<Reply>, CallFault>
     ensures turn { OnOk result (TakesTurn (setting_of R.table net.now) turn clerk.old.receipts clerk.new.receipts) }
-    ensures fault { IfErr result (λ fault. MeetsFault (setting_of R.table net.now) turn clerk.old.receipts fault) }
+    ensures fault { IfErr result (λ fault. MeetsFault (setting_of R.table net.now) turn clerk.old fault) }
     ensures note { KeepsNote (book_of net.now) clerk.old clerk.new }
     ensures kept { OnErr result (clerk.new ≡ clerk.old) }
 {
@@ -41,7 +41,7 @@ pub(crate) fn take_turns<R: Rules, G: Gate, W: Wait>(
     worker: u32,
     clerk: &mut Clerk,
 ) -> Result<(), CallFault>
-    ensures turns { MayEnd (setting_of R.table round.now.net.now) round.now.turns clerk.old.receipts clerk.new.receipts (result_err result) }
+    ensures turns { MayEnd (setting_of R.table round.now.net.now) round.now.turns clerk.old clerk.new (result_err result) }
     ensures note { KeepsNote (book_of round.now.net.now) clerk.old clerk.new }
 {
     for turn in 0..round.turns {

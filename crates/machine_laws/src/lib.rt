@@ -1,7 +1,7 @@
 //! Laws of the rule machine: invariants of its states, steps and runs, answers with the least
 //! targets, and maximal matchings.
 //!
-//! Laws only: each public function is empty and its contract is the law. `specs/` has the lemmas that other
+//! Laws only: each public function is empty and its contract is the law. `proofs/` has the lemmas that other
 //! crates cite.
 //!
 //! The main laws:

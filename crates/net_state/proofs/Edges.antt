@@ -1,18 +1,5 @@
 -- The ends of a new edge, and pointers that do not cross it.
-use Rattle.std.proofs.Common.{◌≡◌, ℕ, false, cond, not, ◌&&◌, ◌||◌, None, Result, Ok, Err, OnOk, OnErr, IsTrue, nat_eq, sym, ap, subst, ◌∙◌, ⊎_elim, arith}
-use Rattle.std.specs.Ordering.{eq_by_cmp}
-use Rattle.std.proofs.lemmas.Bool.{true≢false, false_from_ne_true, eq-eqb, ne_eqb}
-use Rattle.std.proofs.lemmas.Map.Views.{tells_apart}
-use Rattle.rule_machine.specs.Network.{Network, IsNetwork, pair_cmp, edge, present, linked, with_edge, without_edge}
-use Rattle.rule_machine.specs.State.{Registers, IsState, points, pointer_of, with_pointer}
-use Rattle.rule_machine.specs.Disturbance.{without_pointer}
-use Rattle.rule_machine.specs.Refuse.{link_refusal, unlink_refusal}
-use Rattle.machine_laws.specs.Edges.{pair_exact, contains-insert, contains-remove, edge_ends}
-use Rattle.machine_laws.specs.StatePreservation.{link_keeps}
-use Rattle.machine_laws.specs.Neighbours.{linked_back, linked_apart, linked_present}
-use Rattle.machine_laws.specs.Writes.{some_from_is_at, without_pointer_was, without_pointer_gone}
-use Rattle.graph_store.specs.Fault.{link_fault}
-use Rattle.net_state.specs.StateViews.{state_of}
+use Rattle.net_state.proofs.Prelude.{◌≡◌, ℕ, false, cond, not, ◌&&◌, ◌||◌, None, Result, Ok, Err, OnOk, OnErr, IsTrue, nat_eq, sym, ap, subst, ◌∙◌, ⊎_elim, arith, eq_by_cmp, true≢false, false_from_ne_true, eq-eqb, ne_eqb, tells_apart, Network, IsNetwork, pair_cmp, edge, present, linked, with_edge, without_edge, Registers, IsState, points, pointer_of, with_pointer, without_pointer, link_refusal, unlink_refusal, pair_exact, contains-insert, contains-remove, edge_ends, link_keeps, linked_back, linked_apart, linked_present, some_from_is_at, without_pointer_was, without_pointer_gone, link_fault, state_of}
 
 -- what two names are that an edge may be put between
 pub record IsNewEdge (net : Network) (a b : ℕ) : Type 0 where

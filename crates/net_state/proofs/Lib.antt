@@ -1,3 +1,7 @@
+pub mod Prelude
+pub mod ChangedRounds
 pub mod Edges
 pub mod NodeRecords
 pub mod Rounds
+pub mod NetworkBuilding
+pub mod LineOrders

@@ -1,14 +1,6 @@
 -- The surroundings of a name in two states (its registers, its neighbours, the nodes that point at it), and
 -- which writes leave them as they are.
-use Rattle.std.proofs.Common.{◌≡◌, ◌≢◌, ℕ, ◌<◌, Bool, ◌&&◌, length, set, filter, find, Option, is_some, sym, refl, ap, ◌∙◌, ⊎_elim}
-use Rattle.std.proofs.lemmas.Bool.{cases_eq}
-use Rattle.rule_machine.specs.Network.{Network, PairSet, IsNetwork, linked, names, neighbours, present, with_edge, without_edge}
-use Rattle.rule_machine.specs.State.{State, Registers, is_at, partner, pointer, flag, points, married, has_suitor, with_pointer}
-use Rattle.rule_machine.specs.Disturbance.{after_point, after_flag}
-use Rattle.machine_laws.specs.Edges.{present_other}
-use Rattle.machine_laws.specs.Neighbours.{neighbours_range}
-use Rattle.machine_laws.specs.Writes.{pointer-with_pointer_other, pointer-with_pointer_same, flag-with_flag_other}
-use Rattle.net_state.specs.StateViews.{IsUntouchedBy}
+use Rattle.net_state.proofs.Prelude.{◌≡◌, ◌≢◌, ℕ, ◌<◌, Bool, ◌&&◌, length, set, filter, find, Option, is_some, sym, refl, ap, ◌∙◌, ⊎_elim, cases_eq, Network, PairSet, IsNetwork, linked, names, neighbours, present, with_edge, without_edge, State, Registers, is_at, partner, pointer, flag, points, married, has_suitor, with_pointer, after_point, after_flag, present_other, neighbours_range, pointer-with_pointer_other, pointer-with_pointer_same, flag-with_flag_other, IsUntouchedBy}
 use Rattle.net_state.proofs.Edges.{linked_with_other, linked_without_other}
 
 -- two states have the same round a name

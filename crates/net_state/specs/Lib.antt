@@ -1,1 +1,4 @@
+pub mod AffectedNames
+pub mod BaseLines
+pub mod Changes
 pub mod StateViews

@@ -1,182 +1,205 @@
-//! Disturbances and moves that consist of several writes, for any type that stores a state.
+//! Edits that an observer follows, and the disturbances and moves that consist of several of them.
 
-ghost use Rattle.std.specs.Prelude.{◌≡◌, All, IfSome, IsTrue, List, MatchOption, None, [], false, fold};
-ghost use Rattle.graph_store.specs.declared.ends.EdgeStance.{EdgeStance};
+ghost use Rattle.std.specs.Prelude.{◌≡◌, ◌≤◌, All, IfSome, IsTrue, MatchOption, None, [], false, fold};
+ghost use Rattle.graph_store.specs.Fault.{link_fault};
+ghost use Rattle.graph_store.specs.Graph.{HasRoomFor};
 ghost use Rattle.rule_machine.specs.Network.{present, linked, neighbours, without_edge};
-ghost use Rattle.rule_machine.specs.State.{State, IsState, flag, points};
-ghost use Rattle.rule_machine.specs.Disturbance.{after_unlink, after_point, after_flag, after_leave, without_pointer};
+ghost use Rattle.rule_machine.specs.State.{IsState, flag, points};
+ghost use Rattle.rule_machine.specs.Disturbance.{after_link, after_join, after_unlink, after_point, after_flag, after_leave, without_pointer};
 ghost use Rattle.rule_machine.specs.Refuse.{unlink_refusal};
 ghost use Rattle.rule_machine.specs.Step.{after_moves};
-ghost use Rattle.machine_laws.specs.StatePreservation.{IsMoveIn};
-ghost use Rattle.machine_laws.specs.TwoPasses.{flag_read, pointer_written};
+ghost use Rattle.machine_laws.specs.TwoPasses.{IsMoveIn, flag_read, pointer_written};
 ghost use Rattle.net_state.specs.StateViews.{without_place};
 
-use crate::NetState;
+use crate::{NetState, Observer};
 use rule_machine::{Act, Moved, Node};
 
-/// A type that stores a state; each write changes the state and updates what depends on it.
-pub trait StateWriter {
-    /// The state.
-    ghost state: { Self → State };
-
-    /// The stance of each name towards its edges.
-    ghost ends: { Self → List EdgeStance };
-
-    /// The network with its registers.
-    fn net(&self) -> &NetState
-        ensures state { result.now.state ≡ state self.now }
-        ensures sound { IsState (state self.now) };
-
-    /// Writes a node's pointer, to null or to a neighbour. Takes no memory.
-    fn set_pointer(&mut self, v: Node, target: Option<Node>)
-        requires present { IsTrue (present (state self.old).network v) }
-        requires near { IfSome target (λ w. IsTrue (linked (state self.old).network v w)) }
-        ensures value { state self.new ≡ after_point (state self.old) v target }
-        ensures sound { IsState (state self.new) };
-
-    /// Writes a node's flag. Takes no memory.
-    fn set_flag(&mut self, v: Node, value: bool)
-        requires { IsTrue (present (state self.old).network v) }
-        ensures value { state self.new ≡ after_flag (state self.old) v value }
-        ensures sound { IsState (state self.new) };
-
-    /// Removes an edge that no pointer crosses.
-    ///
-    /// Cost: a shift in two neighbour lists; no memory.
-    fn remove_edge(&mut self, a: Node, b: Node)
-        requires linked { IsTrue (linked (state self.old).network a b) }
-        requires not_there { points (state self.old).registers a b ≡ false }
-        requires not_back { points (state self.old).registers b a ≡ false }
-        ensures value { state self.new ≡ record (state self.old) { network = without_edge (state self.old).network a b } }
-        ensures ends { ends self.new ≡ ends self.old }
-        ensures sound { IsState (state self.new) };
-
-    /// Frees the name of a node that has no edge and whose flag is false. Takes no memory.
-    fn remove_node(&mut self, v: Node)
-        requires present { IsTrue (present (state self.old).network v) }
-        requires alone { neighbours (state self.old).network v ≡ [] }
-        requires unflagged { flag (state self.old) v ≡ false }
-        ensures value { state self.new ≡ without_place (state self.old) v }
-        ensures ends { ends self.new ≡ ends self.old }
-        ensures sound { IsState (state self.new) };
+/// Adds the edge between two nodes that have room for it. Takes no memory.
+pub fn link_reserved<O: Observer>(net: &mut NetState, seen: &mut O, a: Node, b: Node)
+    requires free { link_fault net.old.state.network a b ≡ None }
+    requires room { HasRoomFor net.old.room a b }
+    requires fits { O.fits net.old seen.old }
+    ensures state { net.new.state ≡ after_link net.old.state a b }
+    ensures fits { O.fits net.new seen.new }
+{
+    let change = net.link_reserved(a, b);
+    seen.saw(net, change);
 }
 
-fn last_neighbour<D: StateWriter>(it: &D, v: Node) -> Option<Node>
-    requires { IsTrue (present (D.state it.now).network v) }
-    ensures last { MatchOption result (neighbours (D.state it.now).network v ≡ []) (λ w. IsTrue (linked (D.state it.now).network v w)) }
-    ensures sound { IsState (D.state it.now) }
+/// Writes a node's pointer, to null or to a neighbour. Takes no memory.
+#[inline(always)]
+pub fn set_pointer<O: Observer>(net: &mut NetState, seen: &mut O, v: Node, target: Option<Node>)
+    requires present { IsTrue (present net.old.state.network v) }
+    requires near { IfSome target (λ w. IsTrue (linked net.old.state.network v w)) }
+    requires fits { O.fits net.old seen.old }
+    ensures value { net.new.state ≡ after_point net.old.state v target }
+    ensures fits { O.fits net.new seen.new }
 {
-    it.net().neighbours(v).last().copied()
+    let change = net.set_pointer(v, target);
+    seen.saw(net, change);
 }
 
-fn clear_pointer<D: StateWriter>(it: &mut D, v: Node, w: Node)
-    requires { IsTrue (present (D.state it.old).network v) }
-    ensures { D.state it.new ≡ record (D.state it.old) { registers = without_pointer (D.state it.old).registers v w } }
+/// Writes a node's flag. Takes no memory. If the flag has the value already, there is no change to observe.
+#[inline(always)]
+pub fn set_flag<O: Observer>(net: &mut NetState, seen: &mut O, v: Node, value: bool)
+    requires present { IsTrue (present net.old.state.network v) }
+    requires fits { O.fits net.old seen.old }
+    ensures value { net.new.state ≡ after_flag net.old.state v value }
+    ensures sound { IsState net.new.state }
+    ensures fits { O.fits net.new seen.new }
 {
-    if it.net().points(v, w) {
-        it.set_pointer(v, None);
+    // Gives the prover `IsState`.
+    let _ = net.registers();
+    if net.flag(v) == value {
+        return;
+    }
+    let change = net.set_flag(v, value);
+    seen.saw(net, change);
+}
+
+/// Removes an edge that no pointer crosses. Takes no memory.
+pub fn remove_edge<O: Observer>(net: &mut NetState, seen: &mut O, a: Node, b: Node)
+    requires linked { IsTrue (linked net.old.state.network a b) }
+    requires not_there { points net.old.state.registers a b ≡ false }
+    requires not_back { points net.old.state.registers b a ≡ false }
+    requires fits { O.fits net.old seen.old }
+    ensures value { net.new.state ≡ record net.old.state { network = without_edge net.old.state.network a b } }
+    ensures fits { O.fits net.new seen.new }
+{
+    let change = net.remove_edge(a, b);
+    seen.saw(net, change);
+}
+
+/// Frees the name of a node that has no edge and whose flag is false. Takes no memory.
+pub fn remove_node<O: Observer>(net: &mut NetState, seen: &mut O, v: Node)
+    requires present { IsTrue (present net.old.state.network v) }
+    requires alone { neighbours net.old.state.network v ≡ [] }
+    requires unflagged { flag net.old.state v ≡ false }
+    requires fits { O.fits net.old seen.old }
+    ensures value { net.new.state ≡ without_place net.old.state v }
+    ensures fits { O.fits net.new seen.new }
+{
+    let change = net.remove_node(v);
+    seen.saw(net, change);
+}
+
+/// Adds a node without an edge; its pointer is null and its flag false. Takes no memory.
+pub fn join<O: Observer>(net: &mut NetState, seen: &mut O, v: Node)
+    requires within { v ≤ net.old.state.network.size }
+    requires absent { present net.old.state.network v ≡ false }
+    requires fits { O.fits net.old seen.old }
+    ensures state { net.new.state ≡ after_join net.old.state v }
+    ensures fits { O.fits net.new seen.new }
+{
+    let change = net.join(v);
+    seen.saw(net, change);
+}
+
+fn last_neighbour(net: &NetState, v: Node) -> Option<Node>
+    requires { IsTrue (present net.now.state.network v) }
+    ensures last { MatchOption result (neighbours net.now.state.network v ≡ []) (λ w. IsTrue (linked net.now.state.network v w)) }
+    ensures sound { IsState net.now.state }
+{
+    // Gives the prover `IsState`.
+    let _ = net.registers();
+    net.neighbours(v).last().copied()
+}
+
+fn clear_pointer<O: Observer>(net: &mut NetState, seen: &mut O, v: Node, w: Node)
+    requires present { IsTrue (present net.old.state.network v) }
+    requires fits { O.fits net.old seen.old }
+    ensures value { net.new.state ≡ record net.old.state { registers = without_pointer net.old.state.registers v w } }
+    ensures fits { O.fits net.new seen.new }
+{
+    if net.points(v, w) {
+        set_pointer(net, seen, v, None);
     }
 }
 
 /// Removes the edge between two nodes, and sets to null the pointers that crossed it.
 ///
 /// Cost: a shift in two neighbour lists; no memory.
-pub fn unlink<D: StateWriter>(it: &mut D, a: Node, b: Node)
-    requires { unlink_refusal (D.state it.old).network a b ≡ None }
-    ensures { D.state it.new ≡ after_unlink (D.state it.old) a b }
+pub fn unlink<O: Observer>(net: &mut NetState, seen: &mut O, a: Node, b: Node)
+    requires accepted { unlink_refusal net.old.state.network a b ≡ None }
+    requires fits { O.fits net.old seen.old }
+    ensures value { net.new.state ≡ after_unlink net.old.state a b }
+    ensures fits { O.fits net.new seen.new }
 {
     // Gives the prover `IsState`.
-    let _ = it.net();
-    clear_pointer(it, a, b);
-    clear_pointer(it, b, a);
-    it.remove_edge(a, b);
+    let _ = net.registers();
+    clear_pointer(net, seen, a, b);
+    clear_pointer(net, seen, b, a);
+    remove_edge(net, seen, a, b);
 }
 
-fn unlink_all<D: StateWriter>(it: &mut D, v: Node)
-    requires { IsTrue (present (D.state it.old).network v) }
-    ensures left { after_leave (D.state it.new) v ≡ after_leave (D.state it.old) v }
-    ensures present { IsTrue (present (D.state it.new).network v) }
-    ensures alone { neighbours (D.state it.new).network v ≡ [] }
+fn unlink_all<O: Observer>(net: &mut NetState, seen: &mut O, v: Node)
+    requires present { IsTrue (present net.old.state.network v) }
+    requires fits { O.fits net.old seen.old }
+    ensures left { after_leave net.new.state v ≡ after_leave net.old.state v }
+    ensures present { IsTrue (present net.new.state.network v) }
+    ensures alone { neighbours net.new.state.network v ≡ [] }
+    ensures fits { O.fits net.new seen.new }
 {
     // From the end, so that the node's own list never shifts.
-    while let Some(w) = last_neighbour(it, v) {
-        unlink(it, v, w);
+    while let Some(w) = last_neighbour(net, v) {
+        unlink(net, seen, v, w);
     }
 }
 
 /// Makes a node absent: removes its edges, resets its registers, and sets pointers at it to null.
 ///
 /// Cost: for each neighbour a look-up and a shift in the neighbour's list; no memory.
-pub fn leave<D: StateWriter>(it: &mut D, v: Node)
-    requires { IsTrue (present (D.state it.old).network v) }
-    ensures { D.state it.new ≡ after_leave (D.state it.old) v }
+pub fn leave<O: Observer>(net: &mut NetState, seen: &mut O, v: Node)
+    requires present { IsTrue (present net.old.state.network v) }
+    requires fits { O.fits net.old seen.old }
+    ensures value { net.new.state ≡ after_leave net.old.state v }
+    ensures fits { O.fits net.new seen.new }
 {
-    unlink_all(it, v);
-    it.set_flag(v, false);
-    it.remove_node(v);
+    unlink_all(net, seen, v);
+    set_flag(net, seen, v, false);
+    remove_node(net, seen, v);
 }
 
-fn write_flags<D: StateWriter>(it: &mut D, moves: &[Moved])
-    requires { All (IsMoveIn (D.state it.old).network) moves.now }
-    ensures registers { (D.state it.new).registers ≡ fold flag_read (D.state it.old).registers moves.now }
-    ensures network { (D.state it.new).network ≡ (D.state it.old).network }
+fn write_flags<O: Observer>(net: &mut NetState, seen: &mut O, moves: &[Moved])
+    requires moves { All (IsMoveIn net.old.state.network) moves.now }
+    requires fits { O.fits net.old seen.old }
+    ensures registers { net.new.state.registers ≡ fold flag_read net.old.state.registers moves.now }
+    ensures network { net.new.state.network ≡ net.old.state.network }
+    ensures fits { O.fits net.new seen.new }
 {
     for moved in moves {
         if moved.act == Act::Update {
-            let married = it.net().registers().married(moved.node);
-            it.set_flag(moved.node, married);
+            let married = net.registers().married(moved.node);
+            set_flag(net, seen, moved.node, married);
         }
     }
 }
 
-fn write_pointers<D: StateWriter>(it: &mut D, moves: &[Moved])
-    requires { All (IsMoveIn (D.state it.old).network) moves.now }
-    ensures registers { (D.state it.new).registers ≡ fold pointer_written (D.state it.old).registers moves.now }
-    ensures network { (D.state it.new).network ≡ (D.state it.old).network }
+fn write_pointers<O: Observer>(net: &mut NetState, seen: &mut O, moves: &[Moved])
+    requires moves { All (IsMoveIn net.old.state.network) moves.now }
+    requires fits { O.fits net.old seen.old }
+    ensures registers { net.new.state.registers ≡ fold pointer_written net.old.state.registers moves.now }
+    ensures network { net.new.state.network ≡ net.old.state.network }
+    ensures fits { O.fits net.new seen.new }
 {
     for moved in moves {
         match moved.act {
             Act::Update => {}
-            Act::Marry | Act::Seduce => it.set_pointer(moved.node, moved.target),
-            Act::Abandon => it.set_pointer(moved.node, None),
+            Act::Marry | Act::Seduce => set_pointer(net, seen, moved.node, moved.target),
+            Act::Abandon => set_pointer(net, seen, moved.node, None),
         }
     }
 }
 
 /// Carries out the moves of one step. Each new flag is computed from the pointers before the step.
-pub fn make_moves<D: StateWriter>(it: &mut D, moves: &[Moved])
-    requires { All (IsMoveIn (D.state it.old).network) moves.now }
-    ensures { D.state it.new ≡ after_moves (D.state it.old) moves.now }
+pub fn make_moves<O: Observer>(net: &mut NetState, seen: &mut O, moves: &[Moved])
+    requires moves { All (IsMoveIn net.old.state.network) moves.now }
+    requires fits { O.fits net.old seen.old }
+    ensures value { net.new.state ≡ after_moves net.old.state moves.now }
+    ensures fits { O.fits net.new seen.new }
 {
-    let _ = it.net();
-    write_flags(it, moves);
-    write_pointers(it, moves);
-}
-
-impl StateWriter for NetState {
-    ghost state = { λ n. n.state };
-
-    ghost ends = { λ n. n.ends };
-
-    fn net(&self) -> &NetState {
-        // Reading a field gives the prover the invariant, `IsState`.
-        let _ = &self.store;
-        self
-    }
-
-    fn set_pointer(&mut self, v: Node, target: Option<Node>) {
-        NetState::set_pointer(self, v, target);
-    }
-
-    fn set_flag(&mut self, v: Node, value: bool) {
-        NetState::set_flag(self, v, value);
-    }
-
-    fn remove_edge(&mut self, a: Node, b: Node) {
-        self.store.remove_edge(a, b);
-    }
-
-    fn remove_node(&mut self, v: Node) {
-        self.store.part(v);
-    }
+    // Gives the prover `IsState`.
+    let _ = net.registers();
+    write_flags(net, seen, moves);
+    write_pointers(net, seen, moves);
 }

@@ -1,27 +1,38 @@
-//! A network with its registers: a state of the rule machine, and the writes that change it.
+//! A network with its registers: a state of the rule machine, and the edits that change it.
 //!
 //! A `NetState` is a valid state before and after each call: every pointer is null or at a neighbour, and an
 //! absent name has no edge, a null pointer and a false flag. `NetState` does not check the preconditions of
 //! its calls: its callers refuse events.
 //!
-//! `StateWriter` has four write steps: a pointer, a flag, the removal of an edge, the release of a name.
-//! `unlink`, `leave` and `make_moves` are built from these four. The judge, the index, the indexed state
-//! and the engine share the three functions.
+//! Only `NetState` edits a state. Each edit returns the `Change` that it made: a pointer, a flag, an edge or a
+//! node. An `Observer` of a state stores values that depend on it, and updates them after each change. The free
+//! functions make an edit and pass its change to the observer; `unlink`, `leave` and `make_moves` consist of
+//! several edits.
 //!
-//! Only `with_present`, `reserve_link`, `link`, `list_edges` and `list_places` take memory.
+//! A base's lines become a state by `NetState::from_lines`, if a state has them.
+//!
+//! Only `with_present`, `from_lines`, `reserve_link`, `link`, `list_edges` and `list_places` take memory.
 //!
 //! ```rust
 //! net.reserve_link(a, b)?;                          // may refuse, and changes nothing
-//! net.link_reserved(a, b);
-//! net.set_pointer(a, Some(b));
-//! unlink(&mut net, a, b);                           // and the pointer is null again
+//! link_reserved(&mut net, &mut observer, a, b);
+//! set_pointer(&mut net, &mut observer, a, Some(b));
+//! unlink(&mut net, &mut observer, a, b);            // and the pointer is null again
 //! ```
 #![tactic(auto)]
 
+mod change;
 mod disturb;
+mod lines;
 mod net;
+mod observer;
 mod places;
 mod steps;
 
-pub use disturb::{StateWriter, leave, make_moves, unlink};
+pub use change::Change;
+pub use disturb::{
+    join, leave, link_reserved, make_moves, remove_edge, remove_node, set_flag, set_pointer, unlink,
+};
+pub use lines::{edges_ascend, has_flag, names_rise};
 pub use net::NetState;
+pub use observer::Observer;

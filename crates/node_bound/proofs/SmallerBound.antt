@@ -3,9 +3,9 @@ use Rattle.std.proofs.Common.{◌≡◌, ℕ, Option, None, Some, refl, arith}
 use Rattle.rule_machine.specs.Network.{node_count}
 use Rattle.rule_machine.specs.State.{State, IsState}
 use Rattle.rule_machine.specs.RuleTable.{RuleTable}
-use Rattle.machine_laws.specs.LeastMoves.{IsTable}
+use Rattle.machine_laws.proofs.LeastMoves.{IsTable}
 use Rattle.charge_laws.specs.ChargeWords.{IsCharged}
-use Rattle.charge_laws.specs.Laws.{moves_are_paid}
+use Rattle.charge_laws.proofs.Laws.{moves_are_paid}
 use Rattle.node_bound.specs.MovesLeft.{moves_left, BoundsMoves, BoundsByNodes}
 
 pub smaller_bounds : (t : RuleTable) (weight : ℕ) → IsTable t → IsCharged t weight → (most : ℕ → Option ℕ) → BoundsByNodes t most → (s : State) (spent : ℕ) → IsState s → BoundsMoves t s spent (moves_left (t.charge s) (most (node_count s.network)))

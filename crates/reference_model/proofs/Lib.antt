@@ -1,5 +1,3 @@
-pub mod PairSets
-pub mod Names
-mod PassCounts
-mod Passes
-mod Charges
+pub mod Prelude
+pub mod Charges
+pub mod EdgeLists

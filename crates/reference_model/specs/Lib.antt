@@ -1,2 +1,3 @@
+pub mod Charges
 pub mod Lists
-pub mod Rules
+pub mod Scans

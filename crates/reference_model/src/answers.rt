@@ -3,10 +3,12 @@
 ghost use Rattle.std.specs.Prelude.{◌≡◌, None, IfOk, OnOk, OnErr};
 ghost use Rattle.rule_machine.specs.Least.{reply_of, state_after, accepted_reply, accepted_state};
 ghost use Rattle.rule_machine.specs.Refuse.{refusal_of};
+ghost use Rattle.rule_machine.specs.RuleTable.{enabled};
+ghost use Rattle.rule_machine.specs.Stable.{mutual_pairs, pair_above};
 ghost use Rattle.rule_machine.specs.Tables.{table_of};
 
 use crate::PlainNet;
-use rule_machine::{Event, Listing, Reply, RuleSet, Want};
+use rule_machine::{Act, Edge, Event, Listing, Node, Reply, RuleSet, Want};
 use std::alloc::Global;
 
 impl PlainNet {
@@ -48,10 +50,10 @@ impl PlainNet {
         match event {
             Event::Link(a, b) => self.link(*a, *b)?,
             Event::Unlink(a, b) => self.unlink(*a, *b),
-            Event::Point(v, target) => self.point(*v, *target),
+            Event::Point(v, target) => self.set_pointer(*v, *target),
             Event::Flag(v, value) => self.set_flag(*v, *value),
-            Event::Join(v) => self.join(*v),
-            Event::Leave(v) => self.leave(*v),
+            Event::Join(v) => self.mark(*v, true),
+            Event::Leave(v) => self.leave(alloc, *v)?,
             Event::Step(choice) => {
                 let moves = self.step(alloc, rules, choice.items())?;
                 return Ok(Reply::Moves(Listing::from_vec(moves)));
@@ -68,5 +70,37 @@ impl PlainNet {
             Event::Status => return Ok(Reply::Counts(self.counts(rules, spent))),
         }
         Ok(Reply::Accepted)
+    }
+
+    fn enabled(&self, alloc: Global, rules: RuleSet) -> Result<Vec<(Node, Act)>, Want>
+        ensures { IfOk result (λ nodes. nodes.items ≡ enabled (table_of rules) self.now) }
+    {
+        self.names()
+            .iter()
+            .copied()
+            .filter(|v| self.has(*v))
+            .filter_map(|v| self.rule_at(rules, v).map(|act| (v, act)))
+            .collect(alloc)
+    }
+
+    fn mutual_pairs(&self, alloc: Global) -> Result<Vec<Edge>, Want>
+        ensures { IfOk result (λ pairs. pairs.items ≡ mutual_pairs self.now) }
+    {
+        self.names()
+            .iter()
+            .copied()
+            .filter(|v| self.has(*v))
+            .filter_map(|v| pair_above(v, self.partner(v)))
+            .collect(alloc)
+    }
+}
+
+/// The pair of `v` and its partner, if `v` is the lower end.
+pub(crate) fn pair_above(v: Node, partner: Option<Node>) -> Option<Edge>
+    ensures { result ≡ pair_above v partner }
+{
+    match partner {
+        Some(w) if v < w => Edge::new(v, w),
+        _ => None,
     }
 }

@@ -1,16 +1,14 @@
 //! The counts of a network.
 
-ghost use Rattle.std.specs.Prelude.{◌≡◌, ◌&&◌, length, is_some};
+ghost use Rattle.std.specs.Prelude.{◌≡◌, ◌≤◌, not, count_by};
 ghost use Rattle.rule_machine.specs.Answer.{counts_of};
-ghost use Rattle.rule_machine.specs.Network.{node_count, present};
-ghost use Rattle.rule_machine.specs.RuleTable.{enabled_names};
-ghost use Rattle.rule_machine.specs.Stable.{mutual_pairs, pair_above};
-ghost use Rattle.rule_machine.specs.State.{partner};
+ghost use Rattle.rule_machine.specs.Network.{edge_list};
 ghost use Rattle.rule_machine.specs.Tables.{table_of};
+ghost use Rattle.reference_model.specs.Charges.{is_closed};
 
 use crate::PlainNet;
-use crate::lists::pair_above;
-use rule_machine::{Counts, Node, RuleSet};
+use crate::answers::pair_above;
+use rule_machine::{Counts, RuleSet};
 
 impl PlainNet {
     /// The counts of the network, with `spent` moves since the last accepted disturbance.
@@ -19,55 +17,36 @@ impl PlainNet {
     pub fn counts(&self, rules: RuleSet, spent: u32) -> Counts
         ensures { result ≡ counts_of (table_of rules) self.now spent }
     {
+        let (mut nodes, mut pairs, mut enabled) = (0, 0, 0);
+        let mut charge = 2 * self.open_edges(rules);
+        for &v in self.names() {
+            if self.has(v) {
+                nodes += 1;
+                pairs += u32::from(pair_above(v, self.partner(v)).is_some());
+                enabled += u32::from(self.rule_at(rules, v).is_some());
+                charge += self.node_charge(rules, v);
+            }
+        }
         Counts {
-            nodes: self.node_count(),
+            nodes,
             edges: self.edges().len() as u32,
-            pairs: self.pair_count(),
-            enabled: self.enabled_count(rules),
-            charge: self.charge(rules) as u32,
+            pairs,
+            enabled,
+            charge,
             spent,
         }
     }
 
-    fn node_count(&self) -> u32
-        ensures { result ≡ node_count self.now.network }
+    fn open_edges(&self, rules: RuleSet) -> u32
+        ensures count { result ≡ count_by (λ e. not (is_closed rules self.now e)) (edge_list self.now.network) }
+        ensures few { result ≤ 1048576 }
     {
-        let mut nodes = 0;
-        for &v in self.all_names() {
-            if self.has(v) {
-                nodes += 1;
+        let mut open = 0;
+        for &e in self.edges() {
+            if !self.is_closed(rules, e) {
+                open += 1;
             }
         }
-        nodes
-    }
-
-    fn pair_count(&self) -> u32
-        ensures { result ≡ length (mutual_pairs self.now) }
-    {
-        let mut pairs = 0;
-        for &v in self.all_names() {
-            if self.heads_pair(v) {
-                pairs += 1;
-            }
-        }
-        pairs
-    }
-
-    fn heads_pair(&self, v: Node) -> bool
-        ensures { result ≡ (present self.now.network v && is_some (pair_above v (partner self.now v))) }
-    {
-        self.has(v) && pair_above(v, self.partner(v)).is_some()
-    }
-
-    fn enabled_count(&self, rules: RuleSet) -> u32
-        ensures { result ≡ length (enabled_names (table_of rules) self.now) }
-    {
-        let mut enabled = 0;
-        for &v in self.all_names() {
-            if self.has(v) && self.rule_at(rules, v).is_some() {
-                enabled += 1;
-            }
-        }
-        enabled
+        open
     }
 }

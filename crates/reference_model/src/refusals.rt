@@ -1,28 +1,29 @@
 //! Why an event is refused.
 
-ghost use Rattle.std.specs.Prelude.{◌≡◌, ◌&&◌, [], nat_eq};
+ghost use Rattle.std.specs.Prelude.{◌≡◌, [], Some, nat_eq};
 ghost use Rattle.std.specs.List.{list_any};
-ghost use Rattle.rule_machine.specs.RuleTable.{rule_at};
 ghost use Rattle.rule_machine.specs.Refuse as refuse;
 ghost use Rattle.rule_machine.specs.Tables.{table_of};
 
 use crate::PlainNet;
 use crate::rules::{is_central, uses_flags};
-use rule_machine::{Act, Event, Item, MAX_EDGES, Node, Refusal, RuleSet};
+use rule_machine::{Event, Item, MAX_EDGES, Node, Refusal, RuleSet};
 
 impl PlainNet {
     /// The first reason, in a fixed order, to refuse an event, if any.
-    pub fn refusal(&self, rules: RuleSet, event: &Event) -> Option<Refusal>
+    pub(crate) fn refusal(&self, rules: RuleSet, event: &Event) -> Option<Refusal>
         ensures { result ≡ refuse.refusal_of (table_of rules) self.now event.now }
     {
         match event {
             Event::Link(a, b) => self.link_refusal(*a, *b),
             Event::Unlink(a, b) => self.unlink_refusal(*a, *b),
-            Event::Point(v, target) => self.point_refusal(*v, *target),
-            Event::Flag(v, _) => self.flag_refusal(rules, *v),
+            Event::Point(v, Some(w)) => self.point_refusal(*v, *w),
+            Event::Flag(_, _) if !uses_flags(rules) => Some(Refusal::NoFlag),
+            Event::Point(v, None) | Event::Flag(v, _) | Event::Show(v) | Event::Leave(v) => {
+                self.show_refusal(*v)
+            }
             Event::Join(v) => self.join_refusal(*v),
             Event::Step(choice) => self.step_refusal(rules, choice.items()),
-            Event::Show(v) | Event::Leave(v) => self.show_refusal(*v),
             Event::Enabled | Event::Matching | Event::Status => None,
         }
     }
@@ -57,31 +58,22 @@ impl PlainNet {
         }
     }
 
-    fn point_refusal(&self, v: Node, target: Option<Node>) -> Option<Refusal>
-        ensures { result ≡ refuse.point_refusal self.now.network v target }
+    fn point_refusal(&self, v: Node, w: Node) -> Option<Refusal>
+        ensures { result ≡ refuse.point_refusal self.now.network v (Some w) }
     {
-        match target {
-            Some(w) if !(self.has(v) && self.has(w)) => Some(Refusal::UnknownNode),
-            Some(w) if !self.linked(v, w) => Some(Refusal::NotNeighbour),
-            Some(_) => None,
-            None => self.show_refusal(v),
-        }
-    }
-
-    fn flag_refusal(&self, rules: RuleSet, v: Node) -> Option<Refusal>
-        ensures { result ≡ refuse.flag_refusal (table_of rules) self.now.network v }
-    {
-        if uses_flags(rules) {
-            self.show_refusal(v)
+        if !(self.has(v) && self.has(w)) {
+            Some(Refusal::UnknownNode)
+        } else if self.linked(v, w) {
+            None
         } else {
-            Some(Refusal::NoFlag)
+            Some(Refusal::NotNeighbour)
         }
     }
 
     fn join_refusal(&self, v: Node) -> Option<Refusal>
         ensures { result ≡ refuse.join_refusal self.now.network v }
     {
-        if v.name() > self.capacity() {
+        if !self.is_name(v) {
             Some(Refusal::UnknownNode)
         } else if self.has(v) {
             Some(Refusal::AlreadyPresent)
@@ -129,26 +121,14 @@ impl PlainNet {
         ensures { result ≡ refuse.item_refusal (table_of rules) self.now earlier.now item }
     {
         if !self.has(item.node) {
-            Some(Refusal::UnknownNode)
-        } else if names_node(earlier, item.node) {
-            Some(Refusal::ChosenTwice)
-        } else {
-            self.rule_refusal(rules, item)
+            return Some(Refusal::UnknownNode);
         }
-    }
-
-    fn rule_refusal(&self, rules: RuleSet, item: Item) -> Option<Refusal>
-        ensures { result ≡ refuse.rule_refusal (table_of rules) self.now item (rule_at (table_of rules) self.now item.node) }
-    {
-        match self.rule_at(rules, item.node) {
-            Some(act) => self.wish_refusal(rules, act, item),
-            None => Some(Refusal::NotEnabled),
+        if names_node(earlier, item.node) {
+            return Some(Refusal::ChosenTwice);
         }
-    }
-
-    fn wish_refusal(&self, rules: RuleSet, act: Act, item: Item) -> Option<Refusal>
-        ensures { result ≡ refuse.wish_refusal ((table_of rules).allowed self.now item.node act) item.wish }
-    {
+        let Some(act) = self.rule_at(rules, item.node) else {
+            return Some(Refusal::NotEnabled);
+        };
         match item.wish {
             Some(w) if !self.is_allowed(rules, item.node, act, w) => Some(Refusal::BadTarget),
             _ => None,
@@ -159,10 +139,5 @@ impl PlainNet {
 fn names_node(items: &[Item], v: Node) -> bool
     ensures { result ≡ list_any (λ item. nat_eq item.node v) items.now }
 {
-    for item in items {
-        if item.node == v {
-            return true;
-        }
-    }
-    false
+    items.iter().any(|item| item.node == v)
 }

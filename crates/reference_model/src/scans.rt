@@ -1,17 +1,48 @@
 //! Scans of a node's neighbours.
 
-ghost use Rattle.std.specs.Prelude.{◌≡◌};
+ghost use Rattle.std.specs.Prelude.{◌≡◌, find};
+ghost use Rattle.rule_machine.specs.Network.{neighbours};
 ghost use Rattle.rule_machine.specs.State as state;
+ghost use Rattle.rule_machine.specs.Manne.{may_court};
+ghost use Rattle.reference_model.specs.Scans.{is_sought};
 
 use crate::PlainNet;
 use rule_machine::Node;
 
+/// What a scan of the neighbours of `v` looks for.
+#[derive(Clone, Copy)]
+pub(crate) enum Sought {
+    /// One that points at `v`.
+    Suitor,
+    /// One that points at `v` and at which `v` points.
+    Partner,
+    /// One whose pointer is null.
+    Null,
+    /// One that `v` may court by Manne's rules.
+    Courtable,
+    /// One above this node that `v` may court.
+    CourtableAbove(Node),
+}
+
 impl PlainNet {
-    pub(crate) fn first_suitor(&self, v: Node) -> Option<Node>
-        ensures { result ≡ state.first_suitor self.now v }
+    fn is_sought(&self, sought: &Sought, v: Node, w: Node) -> bool
+        ensures { result ≡ is_sought self.now sought.now v w }
     {
-        for &w in self.all_names() {
-            if self.has(w) && self.linked(v, w) && self.points(w, v) {
+        match sought {
+            Sought::Suitor => self.points(w, v),
+            Sought::Partner => self.points(v, w) && self.points(w, v),
+            Sought::Null => self.pointer(w).is_none(),
+            Sought::Courtable => self.may_court(v, w),
+            Sought::CourtableAbove(x) => self.may_court(v, w) && *x < w,
+        }
+    }
+
+    /// The first neighbour of `v` that is sought.
+    pub(crate) fn first(&self, sought: Sought, v: Node) -> Option<Node>
+        ensures { result ≡ find (is_sought self.now sought v) (neighbours self.now.network v) }
+    {
+        for &w in self.names() {
+            if self.has(w) && self.linked(v, w) && self.is_sought(&sought, v, w) {
                 return Some(w);
             }
         }
@@ -21,18 +52,13 @@ impl PlainNet {
     pub(crate) fn has_suitor(&self, v: Node) -> bool
         ensures { result ≡ state.has_suitor self.now v }
     {
-        self.first_suitor(v).is_some()
+        self.first(Sought::Suitor, v).is_some()
     }
 
     pub(crate) fn partner(&self, v: Node) -> Option<Node>
         ensures { result ≡ state.partner self.now v }
     {
-        for &w in self.all_names() {
-            if self.has(w) && self.linked(v, w) && self.points(v, w) && self.points(w, v) {
-                return Some(w);
-            }
-        }
-        None
+        self.first(Sought::Partner, v)
     }
 
     pub(crate) fn married(&self, v: Node) -> bool
@@ -41,12 +67,10 @@ impl PlainNet {
         self.partner(v).is_some()
     }
 
-    pub(crate) fn is_unanswered(&self, v: Node) -> bool
-        ensures { result ≡ state.is_unanswered self.now v }
+    /// Whether `w` is above `v`, has a null pointer and is not flagged.
+    pub(crate) fn may_court(&self, v: Node, w: Node) -> bool
+        ensures { result ≡ may_court self.now v w }
     {
-        match self.pointer(v) {
-            Some(w) => !self.points(w, v),
-            None => false,
-        }
+        self.pointer(w).is_none() && !self.flag(w) && v < w
     }
 }

@@ -1,20 +1,5 @@
 -- Lists of facts about names, by ascending names: a list as long as all facts has all of them.
-use Rattle.std.proofs.Common.{◌≡◌, ℕ, ◌+◌, ◌<◌, ◌≤◌, ◌↔◌, zero, suc, Bool, true, false, cond, nat_lt, List, [], ◌∷◌, drop, get_or, length, filter_map, Option, None, Some, is_some, IsTrue, refl, sym, ap, subst, ◌∙◌, ⊎_elim, arith, lt-ltb}
-use Rattle.std.specs.Option.{option_map}
-use Rattle.std.specs.List.{range_with_len, cons_option}
-use Rattle.std.proofs.lemmas.Bool.{cases_lt, true≢false}
-use Rattle.std.proofs.lemmas.List.{drop_all, drop_more}
-use Rattle.std.proofs.lemmas.List.Sums.{length-filter}
-use Rattle.std.proofs.lemmas.Option.{none-some, cond_some}
-use Rattle.rule_machine.specs.declared.act.Act.{Act}
-use Rattle.rule_machine.specs.Network.{names, present}
-use Rattle.rule_machine.specs.State.{State, IsState, partner, points}
-use Rattle.rule_machine.specs.Stable.{mutual_pairs, pair_above}
-use Rattle.rule_machine.specs.RuleTable.{RuleTable, enabled, enabled_names, rule_at}
-use Rattle.machine_laws.specs.Neighbours.{present_range, linked_present, option_cases}
-use Rattle.machine_laws.specs.Pointers.{partner_from, partner_some, points_from, points_true, pointer_linked}
-use Rattle.charge_laws.specs.ListCounts.{sum_agree}
-use Rattle.reply_checker.specs.AscendingLists.{AreRising, lower_end_pair, ruled_node}
+use Rattle.reply_checker.proofs.Prelude.{◌≡◌, ℕ, ◌+◌, ◌<◌, ◌≤◌, ◌↔◌, zero, suc, Bool, true, false, cond, nat_lt, List, [], ◌∷◌, drop, get_or, length, filter_map, Option, None, Some, is_some, IsTrue, refl, sym, ap, subst, ◌∙◌, ⊎_elim, arith, lt-ltb, option_map, range_with_len, cons_option, cases_lt, true≢false, drop_all, drop_more, length-filter, none-some, cond_some, Act, names, present, State, IsState, partner, points, mutual_pairs, pair_above, RuleTable, enabled, enabled_names, rule_at, present_range, linked_present, option_cases, partner_from, partner_some, points_from, points_true, pointer_linked, sum_agree, AreRising, lower_end_pair, ruled_node}
 use Rattle.reply_checker.proofs.NodeCounts.{kept_values, length_filter_map}
 
 nil_of : {X : Type 0} (xs : List X) → length xs ≤ 0 → [] ≡ xs

@@ -1,12 +1,5 @@
 -- The neighbours that ask for a node become due one after another.
-use Rattle.std.proofs.Common.{◌≡◌, ◌≢◌, ℕ, ◌+◌, ◌<◌, ◌≤◌, Bool, true, false, cond, List, ◌∷◌, length, find, drop, get_or, set, nat_eq, Some, is_some, IsTrue, refl, sym, ap, ◌∙◌, ⊎_elim, arith}
-use Rattle.std.proofs.lemmas.Bool.{cases_eq, eq-eqb, ne_eqb, false_from_ne_true, true≢false}
-use Rattle.std.proofs.lemmas.List.{drop_all, drop_more, get_or-set_other, get_or-set_same, length-set}
-use Rattle.enabled_set.specs.Members.{is_in}
-use Rattle.rule_machine.specs.Network.{linked, neighbours, present}
-use Rattle.rule_machine.specs.State.{State, IsState}
-use Rattle.machine_laws.specs.Neighbours.{linked_back, linked_present, near_found}
-use Rattle.reply_checker.specs.Contributions.{asks, AreAsking, AddsMember}
+use Rattle.reply_checker.proofs.Prelude.{◌≡◌, ◌≢◌, ℕ, ◌+◌, ◌<◌, ◌≤◌, Bool, true, false, cond, List, ◌∷◌, length, find, drop, get_or, set, nat_eq, Some, is_some, IsTrue, refl, sym, ap, ◌∙◌, ⊎_elim, arith, cases_eq, eq-eqb, ne_eqb, false_from_ne_true, true≢false, drop_all, drop_more, get_or-set_other, get_or-set_same, length-set, is_in, linked, neighbours, present, State, IsState, linked_back, linked_present, near_found, asks, AreAsking, AddsMember}
 
 -- v and the neighbours that ask for it are marked, except for some that are to come
 pub record AreAskingBut (s : State) (v : ℕ) (was is : List Bool) (rest : List ℕ) : Type 0 where

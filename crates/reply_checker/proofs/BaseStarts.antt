@@ -1,23 +1,5 @@
 -- A run that begins at a base: the state of the base's lines, and what is tested there.
-use Rattle.std.proofs.Common.{◌≡◌, ℕ, ◌+◌, ◌-◌, ◌≤◌, true, false, List, [], ◌∷◌, map, Option, Some, is_some, IfSome, nat_le, find, refl, sym, ap, ◌∙◌, subst, ⊎_elim, arith}
-use Rattle.std.specs.List.{list_any}
-use Rattle.std.proofs.lemmas.Bool.{true≢false, false_from_ne_true, le-leb, leb-true}
-use Rattle.charge_laws.specs.ChargeWords.{charge_bound}
-use Rattle.charge_laws.specs.Bounds.{hsu_huang_bounded, manne_bounded}
-use Rattle.rule_machine.specs.declared.rules.RuleSet.{RuleSet}
-use Rattle.rule_machine.specs.declared.rules.RuleSet.TheVariants.{Hh, Manne}
-use Rattle.rule_machine.specs.declared.base.Base.{Base}
-use Rattle.rule_machine.specs.declared.base.NodeRecord.{NodeRecord}
-use Rattle.rule_machine.specs.Base.{IsBaseMoment, base_of, node_record_at, node_records}
-use Rattle.rule_machine.specs.Network.{Network, names}
-use Rattle.rule_machine.specs.State.{State, IsState, flag}
-use Rattle.rule_machine.specs.RuleTable.{RuleTable}
-use Rattle.rule_machine.specs.Run.{Moment}
-use Rattle.rule_machine.specs.Tables.{table_of, weight_of}
-use Rattle.machine_laws.specs.Bases.{base_tells}
-use Rattle.machine_laws.specs.Neighbours.{option_cases, names_none, names_fails}
-use Rattle.net_state.specs.StateViews.{StateView}
-use Rattle.reply_checker.specs.Bases.{HasLines}
+use Rattle.reply_checker.proofs.Prelude.{◌≡◌, ℕ, ◌+◌, ◌-◌, ◌≤◌, true, false, List, [], ◌∷◌, map, Option, Some, is_some, IfSome, nat_le, find, refl, sym, ap, ◌∙◌, subst, ⊎_elim, arith, list_any, true≢false, false_from_ne_true, le-leb, leb-true, charge_bound, hsu_huang_bounded, manne_bounded, RuleSet, Hh, Manne, Base, NodeRecord, IsBaseMoment, base_of, node_record_at, node_records, Network, names, State, IsState, flag, RuleTable, Moment, table_of, weight_of, base_tells, option_cases, names_none, names_fails, StateView, HasLines}
 
 -- the charge alone is within the bound
 pub charge_within : (rules : RuleSet) (s : State) → (table_of rules).charge s ≤ charge_bound (weight_of rules) s.network

@@ -1,26 +1,6 @@
 -- The charge from the stances of the ends and from the counts of the names.
-use Rattle.std.proofs.Common.{◌≡◌, ℕ, ◌+◌, ◌*◌, Bool, true, false, cond, not, ◌&&◌, length, List, [], ◌∷◌, None, is_some, count_by, sum_by, refl, sym, ap, ap₂, ◌∙◌, arith}
-use Rattle.std.specs.List.{range_with_len}
-use Rattle.std.proofs.lemmas.List.Sums.{sum_by-cons}
-use Rattle.rule_machine.specs.declared.rules.RuleSet.{RuleSet}
-use Rattle.rule_machine.specs.declared.rules.RuleSet.TheVariants.{Hh, Manne}
-use Rattle.rule_machine.specs.Network.{present, names, edge_list}
-use Rattle.rule_machine.specs.State.{State, IsState, is_unanswered, married, partner}
-use Rattle.rule_machine.specs.Charge.{is_courted}
-use Rattle.rule_machine.specs.RuleTable.{enabled_names, rule_at}
-use Rattle.rule_machine.specs.Stable.{mutual_pairs, pair_above}
-use Rattle.rule_machine.specs.Tables.{table_of}
-use Rattle.charge_laws.specs.ClosedByPointers.{hsu_huang_apart, hsu_huang_split, manne_apart, manne_split}
-use Rattle.charge_laws.specs.ListCounts.{sum_add, sum_agree}
-use Rattle.charge_laws.specs.EdgesByEnds.{edges_agree}
-use Rattle.graph_store.specs.declared.ends.EdgeStance.{EdgeStance}
-use Rattle.graph_store.specs.declared.ends.EdgeStance.TheVariants.{Shut, Courted, Free}
-use Rattle.graph_store.specs.EdgeStances.{are_open, end_at, open_edges}
-use Rattle.reply_checker.specs.declared.share.Contribution.{Contribution}
-use Rattle.reply_checker.specs.AscendingLists.{lower_end_pair}
-use Rattle.reply_checker.specs.Contributions.{edge_stance_by, closes, flag_charge, adds, absent_contribution, AreFresh, AreStatusSums, AreExactIfFresh, IsContributionAt}
+use Rattle.reply_checker.proofs.Prelude.{◌≡◌, ℕ, ◌+◌, ◌*◌, Bool, true, false, cond, not, ◌&&◌, length, List, [], ◌∷◌, None, is_some, count_by, sum_by, refl, sym, ap, ap₂, ◌∙◌, arith, range_with_len, sum_by-cons, RuleSet, Hh, Manne, present, names, edge_list, State, IsState, is_unanswered, married, partner, is_courted, enabled_names, rule_at, mutual_pairs, pair_above, table_of, hsu_huang_apart, manne_apart, hsu_huang_split, manne_split, sum_add, sum_agree, edges_agree, EdgeStance, Shut, Courted, Free, are_open, end_at, open_edges, Contribution, lower_end_pair, edge_stance_by, closes, flag_charge, adds, absent_contribution, AreFresh, AreStatusSums, AreExactIfFresh, IsContributionAt, summed}
 use Rattle.reply_checker.proofs.NodeCounts.{kept_count, kept_sum, kept_values, length_filter_map}
-use Rattle.enabled_set.proofs.Sums.{summed}
 
 -- each node's stance is the state's
 abbrev pub AreTurned : RuleSet → State → List EdgeStance → Type 0

@@ -1,10 +1,6 @@
 -- Contributions and their sums, if all are empty.
-use Rattle.std.proofs.Common.{◌≡◌, ℕ, replicate, subst, ◌*◌, ◌≤◌, Bool, true, false, cond, List, sum_by, is_some, sym, refl, ap, ◌∙◌, arith}
+use Rattle.reply_checker.proofs.Prelude.{◌≡◌, ℕ, replicate, subst, ◌*◌, ◌≤◌, Bool, true, false, cond, List, sum_by, is_some, sym, refl, ap, ◌∙◌, arith, get_or-replicate, length-replicate, sum_by-replicate, Contribution, absent_contribution, AreStatusSums, FitsTwoBits}
 use Rattle.std.specs.List.{All}
-use Rattle.std.proofs.lemmas.List.{get_or-replicate, length-replicate}
-use Rattle.std.proofs.lemmas.List.Folds.{sum_by-replicate}
-use Rattle.reply_checker.specs.declared.share.Contribution.{Contribution}
-use Rattle.reply_checker.specs.Contributions.{absent_contribution, AreStatusSums, FitsTwoBits}
 
 pub few_tests : (b : Bool) → cond {A = ℕ} b 1 0 ≤ 3
 few_tests true = omega arith

@@ -1,13 +1,5 @@
 -- How many edges are at a name.
-use Rattle.std.proofs.Common.{◌≡◌, ℕ, ◌≤◌, false, is_some, sym, ap, ◌∙◌, arith}
-use Rattle.std.specs.List.{range_with_len}
-use Rattle.std.proofs.lemmas.Bool.{true≢false, false_from_ne_true}
-use Rattle.std.proofs.lemmas.List.FromFn.{length-range_with_len}
-use Rattle.std.proofs.lemmas.List.Sums.{count_by-le-length, length-filter}
-use Rattle.rule_machine.specs.Network.{Network, IsNetwork, names, present, linked}
-use Rattle.rule_machine.specs.State.{State, IsState, suits, has_suitor}
-use Rattle.machine_laws.specs.Neighbours.{linked_present, near_fails}
-use Rattle.charge_laws.specs.Degrees.{degree, none_count}
+use Rattle.reply_checker.proofs.Prelude.{◌≡◌, ℕ, ◌≤◌, false, is_some, sym, ap, ◌∙◌, arith, range_with_len, true≢false, false_from_ne_true, length-range_with_len, count_by-le-length, length-filter, Network, IsNetwork, names, present, linked, State, IsState, suits, has_suitor, linked_present, near_fails, degree, none_count}
 
 -- at most as many as names
 pub few_edges : (net : Network) (v : ℕ) → net.size ≤ 65535 → degree net v ≤ 65535

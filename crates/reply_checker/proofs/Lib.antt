@@ -1,3 +1,4 @@
+pub mod Prelude
 pub mod StepMoves
 pub mod ExactAnswers
 pub mod AscendingLists
@@ -9,6 +10,5 @@ pub mod AskingNeighbours
 pub mod StoredContributions
 pub mod ContributionSums
 pub mod ChargeSums
-pub mod NetworkBuilding
 pub mod BaseStarts
 mod Degrees

@@ -1,9 +1,5 @@
 -- Counts over the nodes in turn.
-use Rattle.std.proofs.Common.{rules, ◌≡◌, ℕ, ◌+◌, Bool, cond, nat_lt, List, [], ◌∷◌, length, filter, filter_map, sum_by, Option, None, Some, is_some, refl, ◌∙◌, arith}
-use Rattle.std.specs.List.{cons_option}
-use Rattle.std.specs.Ordering.{is_lt, nat_cmp}
-use Rattle.std.proofs.lemmas.List.Sums.{sum_by-cons, length-filter}
-use Rattle.charge_laws.specs.ListCounts.{sum_agree}
+use Rattle.reply_checker.proofs.Prelude.{rules, ◌≡◌, ℕ, ◌+◌, Bool, cond, nat_lt, List, [], ◌∷◌, length, filter, filter_map, sum_by, Option, None, Some, is_some, refl, ◌∙◌, arith, cons_option, is_lt, nat_cmp, sum_by-cons, length-filter, sum_agree}
 
 longer : {Y : Type 0} (o : Option Y) (ys : List Y) → length (cons_option o ys) ≡ cond (is_some o) 1 0 + length ys
 longer None ys = omega arith

@@ -1,14 +1,5 @@
 -- Facts of a node from its pointer.
-use Rattle.std.proofs.Common.{◌≡◌, ℕ, Bool, true, false, cond, not, ◌&&◌, ◌||◌, nat_lt, None, Some, is_some, is_none, IsTrue, refl, sym, ap, ap₂, ◌∙◌, arith}
-use Rattle.std.proofs.lemmas.Bool.{and_right, ne_eqb, true≢false}
-use Rattle.rule_machine.specs.declared.rules.RuleSet.TheVariants.{Manne}
-use Rattle.rule_machine.specs.Network.{linked, present}
-use Rattle.rule_machine.specs.State.{State, IsState, flag, holds_at, married, partner, pointer, points}
-use Rattle.rule_machine.specs.Stable.{pair_above}
-use Rattle.machine_laws.specs.Neighbours.{linked_apart}
-use Rattle.machine_laws.specs.Pointers.{married_from, none_is, null_unmarried, partner_from, points_from, points_true, unanswered_unmarried}
-use Rattle.reply_checker.specs.AscendingLists.{lower_end_pair}
-use Rattle.reply_checker.specs.Contributions.{asks, closes}
+use Rattle.reply_checker.proofs.Prelude.{◌≡◌, ℕ, Bool, true, false, cond, not, ◌&&◌, ◌||◌, nat_lt, None, Some, is_some, is_none, IsTrue, refl, sym, ap, ap₂, ◌∙◌, arith, and_right, ne_eqb, true≢false, Manne, linked, present, State, IsState, flag, holds_at, married, partner, pointer, points, pair_above, linked_apart, married_from, none_is, null_unmarried, partner_from, points_from, points_true, unanswered_unmarried, lower_end_pair, asks, closes}
 
 -- it is the lower end of a pair if its target is above it and points back
 pub lower_end : (s : State) (v w : ℕ) → IsState s → IsTrue (present s.network v) → pointer s v ≡ Some w → (b : Bool) → points s.registers w v ≡ b → is_some (lower_end_pair s v) ≡ (nat_lt v w && b)

@@ -1,25 +1,5 @@
 -- A name's contribution depends only on the surroundings of the names that it asks.
-use Rattle.std.proofs.Common.{◌≡◌, ℕ, ◌+◌, Bool, true, false, cond, not, ◌&&◌, ◌||◌, List, length, set, find, nat_eq, nat_lt, nat_le, Option, None, Some, is_some, is_none, IsTrue, refl, sym, ap, ap₂, subst, ◌∙◌}
-use Rattle.std.proofs.lemmas.Bool.{eq-eqb, or_left, or_right, and_from}
-use Rattle.enabled_set.specs.Members.{is_in}
-use Rattle.rule_machine.specs.declared.act.Act.{Act}
-use Rattle.rule_machine.specs.declared.act.Act.TheVariants.{Update, Marry, Seduce, Abandon}
-use Rattle.rule_machine.specs.declared.rules.RuleSet.{RuleSet}
-use Rattle.rule_machine.specs.declared.rules.RuleSet.TheVariants.{Hh, Manne}
-use Rattle.rule_machine.specs.Network.{linked, neighbours}
-use Rattle.rule_machine.specs.State.{State, IsState, is_at, holds_at, is_unanswered, pointer, flag, points, married, has_suitor}
-use Rattle.rule_machine.specs.HsuHuang.{hsu_huang, hsu_huang_opens}
-use Rattle.rule_machine.specs.Manne.{manne, may_court}
-use Rattle.rule_machine.specs.RuleTable.{is_open, rule_at}
-use Rattle.rule_machine.specs.Stable.{pair_above}
-use Rattle.rule_machine.specs.Tables.{table_of}
-use Rattle.machine_laws.specs.Neighbours.{near_agree}
-use Rattle.machine_laws.specs.Pointers.{points_from, pointer_linked}
-use Rattle.graph_store.specs.declared.ends.EdgeStance.{EdgeStance}
-use Rattle.graph_store.specs.declared.ends.EdgeStance.TheVariants.{Shut, Courted, Free}
-use Rattle.net_state.proofs.Rounds.{IsSameRound, round_seated, same_suitors, same_partner, same_marriage}
-use Rattle.reply_checker.specs.declared.share.Contribution.{Contribution}
-use Rattle.reply_checker.specs.Contributions.{asks, closes, edge_stance_by, flag_charge, contribution_of_name, AddsMember, IsContributionAt, AreExactIfFresh}
+use Rattle.reply_checker.proofs.Prelude.{◌≡◌, ℕ, ◌+◌, Bool, true, false, cond, not, ◌&&◌, ◌||◌, List, length, find, nat_eq, nat_lt, nat_le, Option, None, Some, is_some, is_none, IsTrue, refl, sym, ap, ap₂, subst, ◌∙◌, eq-eqb, or_left, or_right, and_from, is_in, Act, Update, Marry, Seduce, Abandon, RuleSet, Hh, Manne, linked, neighbours, State, IsState, is_at, holds_at, is_unanswered, pointer, flag, points, married, has_suitor, hsu_huang, hsu_huang_opens, manne, may_court, is_open, rule_at, pair_above, table_of, near_agree, points_from, pointer_linked, EdgeStance, Shut, Courted, Free, IsSameRound, same_suitors, same_partner, same_marriage, Contribution, asks, closes, edge_stance_by, flag_charge, IsContributionAt, AreExactIfFresh}
 
 -- two states are the same round all that a name asks
 abbrev pub AreSameRounds : State → State → ℕ → Type 0
@@ -147,34 +127,20 @@ told_again rules s u ends each v good rounds told =
       end = λ here. told.end (round.here ∙ here) ∙ ends_alike rules s u v round;
     }
 
--- and so is all that is fresh, if only this changed
-pub told_after : {t : State} (rules : RuleSet) (s u : State) (ends ends' : List EdgeStance) (each each' : List Contribution) (touched touched' due due' : List Bool) → IsState u → u ≡ t → t.network.size ≡ s.network.size → ends' ≡ ends → each' ≡ each → due' ≡ due → length touched' ≡ length touched → ((v : ℕ) → is_in touched' v ≡ false → (is_in touched v ≡ false) × IsSameRound s t v) → AreExactIfFresh rules s ends each touched due → AreExactIfFresh rules u ends' each' touched' due'
-told_after {t = t} rules s u ends ends' each each' touched touched' due due' good now size same_ends same_each same_due same_places elsewhere told = record {
+-- and so is all that is fresh, if only what is round a touched name changed
+pub told_after : (rules : RuleSet) (s u : State) (ends ends' : List EdgeStance) (each : List Contribution) (touched touched' due : List Bool) → IsState u → u.network.size ≡ s.network.size → ends' ≡ ends → length touched' ≡ length touched → ((v : ℕ) → is_in touched' v ≡ false → (is_in touched v ≡ false) × IsSameRound s u v) → AreExactIfFresh rules s ends each touched due → AreExactIfFresh rules u ends' each touched' due
+told_after rules s u ends ends' each touched touched' due good size same_ends same_places elsewhere told = record {
   sound = good;
-  places = ap length same_each ∙ told.places ∙ sym (ap (λ n. n + 1) sizes);
-  touched_places = same_places ∙ told.touched_places ∙ sym (ap (λ n. n + 1) sizes);
-  due_places = ap length same_due ∙ told.due_places ∙ sym (ap (λ n. n + 1) sizes);
-  nobody = ap (λ l. contribution_of_name l 0) same_each ∙ told.nobody;
+  places = told.places ∙ places;
+  touched_places = same_places ∙ told.touched_places ∙ places;
+  due_places = told.due_places ∙ places;
+  nobody = told.nobody;
   told = λ v fresh.
-      let here = (round_of v (fresh.untouched v (itself u v))).1 in
-      let away : (w : ℕ) → asks s v w ≡ true → (is_in touched w ≡ false) × IsSameRound s u w = λ w asked. round_of w (fresh.untouched w (sym (same_asks s u v w here) ∙ asked)) in
-      let was = told.told v (record { not_due = ap (λ l. is_in l v) (sym same_due) ∙ fresh.not_due; untouched = λ w asked. (away w asked).0 }) in
-      subst (λ (l : List Contribution). IsContributionAt rules u ends' l v) (sym same_each)
-      (subst (λ (l : List EdgeStance). IsContributionAt rules u l each v) (sym same_ends)
-      (told_again rules s u ends each v told.sound (λ w asked. (away w asked).1) was));
+      let here = (elsewhere v (fresh.untouched v (itself u v))).1 in
+      let away : (w : ℕ) → asks s v w ≡ true → (is_in touched w ≡ false) × IsSameRound s u w = λ w asked. elsewhere w (fresh.untouched w (sym (same_asks s u v w here) ∙ asked)) in
+      let was = told.told v (record { not_due = fresh.not_due; untouched = λ w asked. (away w asked).0 }) in
+      subst (λ (l : List EdgeStance). IsContributionAt rules u l each v) (sym same_ends)
+      (told_again rules s u ends each v told.sound (λ w asked. (away w asked).1) was);
 } where
-  sizes : u.network.size ≡ s.network.size
-  sizes = ap (λ (x : State). x.network.size) now ∙ size
-
-  round_of : (v : ℕ) → is_in touched' v ≡ false → (is_in touched v ≡ false) × IsSameRound s u v
-  round_of v fresh = let it = elsewhere v fresh in (it.0, subst (λ x. IsSameRound s x v) (sym now) it.1)
-
--- if a name became present or absent, without an edge
-pub told_seated : (rules : RuleSet) (s u : State) (v : ℕ) (b : Bool) (ends ends' : List EdgeStance) (each each' : List Contribution) (touched touched' due due' : List Bool) → IsState u → u ≡ record s { network = record s.network { here = set s.network.here v b } } → ends' ≡ ends → each' ≡ each → due' ≡ due → AddsMember touched touched' v → AreExactIfFresh rules s ends each touched due → AreExactIfFresh rules u ends' each' touched' due'
-told_seated rules s u v b ends ends' each each' touched touched' due due' good now same_ends same_each same_due marked told =
-    let kept = subst IsState now good in
-    told_after rules s u ends ends' each each' touched touched' due due' good now refl same_ends same_each same_due marked.places
-    (λ w none.
-    let fact = marked.others w none in
-    (fact.0, round_seated s.network s.registers v b w told.sound.is_network kept.is_network fact.1))
-    told
+  places : s.network.size + 1 ≡ u.network.size + 1
+  places = sym (ap (λ (n : ℕ). n + 1) size)

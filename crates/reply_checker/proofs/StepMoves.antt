@@ -1,27 +1,5 @@
 -- The moves of a step are of present nodes, to neighbours.
-use Rattle.std.proofs.Common.{◌≡◌, ℕ, ◌&&◌, not, List, [], Any, All, Option, None, Some, IsSomeAnd, IsTrue, is_some, nat_lt, find, sym, subst, ◌∙◌}
-use Rattle.std.proofs.lemmas.Bool.{and_parts}
-use Rattle.std.proofs.lemmas.List.Elements.{All-weaker}
-use Rattle.std.proofs.lemmas.Option.{none-some}
-use Rattle.rule_machine.specs.declared.act.Act.{Act}
-use Rattle.rule_machine.specs.declared.act.Act.TheVariants.{Update, Marry, Seduce, Abandon}
-use Rattle.rule_machine.specs.declared.choice.Item.{Item}
-use Rattle.rule_machine.specs.declared.act.Moved.{Moved}
-use Rattle.rule_machine.specs.declared.event.Event.{Event}
-use Rattle.rule_machine.specs.declared.event.Event.TheVariants.{Link, Unlink, Point, Flag, Step, Show, Enabled, Matching, Status, Join, Leave}
-use Rattle.rule_machine.specs.declared.reply.Reply.{Reply}
-use Rattle.rule_machine.specs.declared.reply.Reply.TheVariants.{Moves}
-use Rattle.rule_machine.specs.declared.rules.RuleSet.{RuleSet}
-use Rattle.rule_machine.specs.declared.rules.RuleSet.TheVariants.{Hh, Manne}
-use Rattle.rule_machine.specs.Network.{linked, present, neighbours}
-use Rattle.rule_machine.specs.State.{State}
-use Rattle.rule_machine.specs.Manne.{may_court}
-use Rattle.rule_machine.specs.Tables.{table_of}
-use Rattle.rule_machine.specs.Step.{IsTarget, IsMoveOf, IsStep}
-use Rattle.rule_machine.specs.Refuse.{refusal_of, step_refusal}
-use Rattle.rule_machine.specs.Answer.{Does}
-use Rattle.machine_laws.specs.StatePreservation.{IsMoveIn}
-use Rattle.machine_laws.specs.AcceptedEvents.{IsStepChoice, choice_from_none, taken_at}
+use Rattle.reply_checker.proofs.Prelude.{◌≡◌, ℕ, ◌&&◌, not, List, [], Any, All, Option, None, Some, IsSomeAnd, IsTrue, is_some, nat_lt, find, sym, subst, ◌∙◌, and_parts, All-weaker, none-some, Act, Update, Marry, Seduce, Abandon, Item, Moved, Event, Link, Unlink, Point, Flag, Step, Show, Enabled, Matching, Status, Join, Leave, Reply, Moves, RuleSet, Hh, Manne, linked, present, neighbours, State, may_court, table_of, IsTarget, IsMoveOf, IsStep, refusal_of, step_refusal, Does, IsMoveIn, IsStepChoice, choice_from_none, taken_at}
 
 allowed_near : (rules : RuleSet) (s : State) (v : ℕ) (act : Act) (w : ℕ) → IsTrue ((table_of rules).allowed s v act w) → IsTrue (linked s.network v w)
 allowed_near Hh s v Update w h = absurd cc

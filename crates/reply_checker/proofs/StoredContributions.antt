@@ -1,18 +1,5 @@
 -- What is kept of each name: at first, as what depends on a name becomes due, and after a look.
-use Rattle.std.proofs.Common.{◌≡◌, ◌≢◌, ℕ, ◌+◌, ◌≤◌, Bool, true, false, cond, List, length, set, None, is_some, IsTrue, sym, ap, subst, ◌∙◌, ⊎_elim, arith}
-use Rattle.std.proofs.lemmas.Bool.{cases_eq, lt-leb, true≢false}
-use Rattle.std.proofs.lemmas.List.{get_or_past, get_or-set_other, get_or-set_same, length-set}
-use Rattle.enabled_set.specs.Members.{is_in}
-use Rattle.graph_store.specs.declared.ends.EdgeStance.{EdgeStance}
-use Rattle.graph_store.specs.EdgeStances.{end_at}
-use Rattle.rule_machine.specs.declared.rules.RuleSet.{RuleSet}
-use Rattle.rule_machine.specs.Network.{present}
-use Rattle.rule_machine.specs.RuleTable.{rule_at}
-use Rattle.rule_machine.specs.Stable.{pair_above}
-use Rattle.rule_machine.specs.State.{State, IsState, partner}
-use Rattle.rule_machine.specs.Tables.{table_of}
-use Rattle.reply_checker.specs.declared.share.Contribution.{Contribution}
-use Rattle.reply_checker.specs.Contributions.{adds, asks, closes, edge_stance_by, absent_contribution, contribution_of_name, AreAsking, IsShare, IsContributionAt, AreExactIfFresh}
+use Rattle.reply_checker.proofs.Prelude.{◌≡◌, ◌≢◌, ℕ, ◌+◌, ◌≤◌, Bool, true, false, cond, List, length, set, None, is_some, IsTrue, sym, ap, subst, ◌∙◌, ⊎_elim, arith, cases_eq, lt-leb, true≢false, get_or_past, get_or-set_other, get_or-set_same, length-set, is_in, EdgeStance, end_at, RuleSet, present, rule_at, pair_above, State, IsState, partner, table_of, Contribution, adds, asks, closes, edge_stance_by, absent_contribution, contribution_of_name, AreAsking, IsShare, IsContributionAt, AreExactIfFresh}
 
 -- of a name without a node no value is kept
 told_nowhere : (rules : RuleSet) (s : State) (ends : List EdgeStance) (each : List Contribution) (v : ℕ) → present s.network v ≡ false → contribution_of_name each v ≡ absent_contribution → IsContributionAt rules s ends each v

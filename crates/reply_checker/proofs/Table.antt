@@ -1,25 +1,6 @@
 -- A table of the items of a choice with their rules.
-use Rattle.std.proofs.Common.{◌≡◌, ℕ, zero, suc, ◌+◌, ◌<◌, Bool, true, false, cond, ◌&&◌, ◌||◌, List, [], ◌∷◌, ◌++◌, length, get_or, take, drop, set, find, Option, None, Some, is_some, is_none, option_map, nat_eq, IfSome, IsTrue, refl, sym, ap, ◌∙◌, subst, ⊎_elim, arith, eq-eqb, eqb-true}
-use Rattle.std.specs.List.{list_any, list_all}
-use Rattle.std.specs.Option.{option_or}
-use Rattle.std.specs.Cmp.{both_ways}
-use Rattle.std.proofs.lemmas.Bool.{or_parts, or_from, or_left, or_right, or_cases, cases_eq, ne_eqb, and_parts}
-use Rattle.std.proofs.lemmas.List.{get_or-set_same, get_or-set_other, take_more, drop_more}
-use Rattle.std.proofs.lemmas.List.Folds.{find-append}
-use Rattle.rule_machine.specs.declared.act.Act.{Act}
-use Rattle.rule_machine.specs.declared.choice.Item.{Item}
-use Rattle.rule_machine.specs.declared.act.Moved.{Moved}
-use Rattle.rule_machine.specs.Network.{present}
-use Rattle.rule_machine.specs.State.{State}
-use Rattle.rule_machine.specs.RuleTable.{RuleTable}
-use Rattle.rule_machine.specs.declared.refusal.Refusal.{Refusal}
-use Rattle.rule_machine.specs.Refuse.{step_refusal, items_refusal}
-use Rattle.rule_machine.specs.Least.{item_of}
-use Rattle.machine_laws.specs.AcceptedEvents.{choice_from_none, taken_at}
-use Rattle.machine_laws.specs.Pointers.{none_is}
-use Rattle.machine_laws.specs.MoveTests.{is_move_of, is_asked, is_answered}
-use Rattle.reply_checker.specs.declared.choices.RuledItem.{RuledItem}
-use Rattle.reply_checker.specs.Choices.{ruled_at, item_at, IsRuled, HasChosenItems, is_item_node, is_mover, HasOnlyItemsOf, refused_item, is_move_by}
+use Rattle.reply_checker.proofs.Prelude.{◌≡◌, ℕ, zero, suc, ◌+◌, ◌<◌, Bool, true, false, cond, ◌&&◌, ◌||◌, List, [], ◌∷◌, ◌++◌, length, get_or, take, drop, set, find, Option, None, Some, is_some, is_none, nat_eq, IfSome, IsTrue, refl, sym, ap, ◌∙◌, subst, ⊎_elim, arith, eqb-true, list_any, list_all, option_or, both_ways, or_parts, or_from, or_left, or_right, or_cases, cases_eq, ne_eqb, and_parts, get_or-set_same, get_or-set_other, take_more, drop_more, find-append, Act, Item, Moved, present, State, RuleTable, Refusal, step_refusal, items_refusal, item_of, choice_from_none, taken_at, none_is, is_move_of, is_asked, is_answered, RuledItem, ruled_at, item_at, IsRuled, HasChosenItems, is_item_node, is_mover, HasOnlyItemsOf, refused_item, is_move_by}
+use Rattle.std.proofs.Common.{option_map, eq-eqb}
 
 -- ---- searches
 

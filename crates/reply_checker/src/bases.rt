@@ -1,31 +1,19 @@
 //! Begins a judge at a base, and returns the base of a judge's state.
 
 ghost use Rattle.std.specs.Prelude.{◌≡◌, ◌≤◌, ◌+◌, ◌↔◌, ℕ, IfOk, IfSome, IsTrue, None, false, length, nat_le};
-ghost use Rattle.std.specs.List.{list_any};
 ghost use Rattle.charge_laws.specs.ChargeWords.{charge_bound};
 ghost use Rattle.rule_machine.specs.Base.{base_of, node_records};
 ghost use Rattle.rule_machine.specs.State.{IsState, flag};
 ghost use Rattle.rule_machine.specs.Tables.{table_of, weight_of};
-ghost use Rattle.reply_checker.specs.Bases.{BeginsInState, BeginsNowhere, NamesRise, EdgesAscend};
+ghost use Rattle.net_state.specs.BaseLines.{NamesRise, EdgesAscend};
+ghost use Rattle.reply_checker.specs.Bases.{BeginsInState, BeginsNowhere};
 
-use crate::lines::from_lines;
 use crate::rules::uses_flags;
 use crate::{CountedNet, Judge};
 use graph_store::MAX_EDGES;
-use net_state::NetState;
+use net_state::{NetState, has_flag};
 use rule_machine::{Base, Listing, NodeRecord, RuleSet, Want};
 use std::alloc::Global;
-
-fn has_flag(nodes: &[NodeRecord]) -> bool
-    ensures { result ≡ list_any (λ p. p.flagged) nodes.now }
-{
-    for place in nodes {
-        if place.flagged {
-            return true;
-        }
-    }
-    false
-}
 
 /// The bound on moves spent plus charge: twice the number of edges plus the rules' weight per node.
 fn bound(net: &NetState, rules: RuleSet) -> u64
@@ -85,7 +73,7 @@ impl Judge {
         if edges.len() > MAX_EDGES as usize {
             return Ok(None);
         }
-        let Some(net) = from_lines(alloc, size, nodes, edges)? else {
+        let Some(net) = NetState::from_lines(alloc, size, nodes, edges)? else {
             return Ok(None);
         };
         let mut survey = CountedNet::new(alloc, net)?;

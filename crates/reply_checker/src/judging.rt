@@ -9,7 +9,6 @@ ghost use Rattle.machine_laws.specs.StatesAfterReplies.{followed, disturbed};
 ghost use Rattle.reply_checker.specs.Choices.{HasChosenItems, HasOnlyItemsOf, IsClearTable};
 ghost use Rattle.reply_checker.specs.ReplyVerdicts.{DoesWrong, IsRightReply, IsWrong, IsAcceptedLink, is_link, items_of};
 
-use crate::edits::point;
 use crate::questions::{are_enabled, are_mutual, has_counts};
 use crate::reads::pointer;
 use crate::refusals::{
@@ -18,7 +17,7 @@ use crate::refusals::{
 use crate::replies::{is_accepted, is_refusal, is_shown};
 use crate::steps::{is_step, step_refusal};
 use crate::{ChosenItems, CountedNet};
-use net_state::{NetState, StateWriter, leave, make_moves, unlink};
+use net_state::{NetState, join, leave, make_moves, set_flag, unlink};
 use rule_machine::{Event, Item, Refusal, Reply, RuleSet, Want};
 
 /// As `Judge::replay`; afterwards `chosen` may contain items of the event, if the event is a step.
@@ -156,7 +155,9 @@ fn follow(survey: &mut CountedNet, rules: RuleSet, event: &Event, reply: &Reply)
 {
     match reply {
         Reply::Accepted => disturb(survey, event)?,
-        Reply::Moves(moves) => make_moves(survey, moves.as_slice()),
+        Reply::Moves(moves) => {
+            make_moves(&mut survey.net, &mut survey.shares, moves.as_slice());
+        }
         _ => {}
     }
     Ok(())
@@ -170,11 +171,11 @@ fn disturb(survey: &mut CountedNet, event: &Event) -> Result<(), Want>
 {
     match event {
         Event::Link(a, b) => survey.link(*a, *b)?,
-        Event::Unlink(a, b) => unlink(survey, *a, *b),
-        Event::Point(v, target) => point(survey, *v, *target),
-        Event::Flag(v, value) => survey.set_flag(*v, *value),
-        Event::Join(v) => survey.join(*v),
-        Event::Leave(v) => leave(survey, *v),
+        Event::Unlink(a, b) => unlink(&mut survey.net, &mut survey.shares, *a, *b),
+        Event::Point(v, target) => survey.point(*v, *target),
+        Event::Flag(v, value) => set_flag(&mut survey.net, &mut survey.shares, *v, *value),
+        Event::Join(v) => join(&mut survey.net, &mut survey.shares, *v),
+        Event::Leave(v) => leave(&mut survey.net, &mut survey.shares, *v),
         Event::Step(_) | Event::Show(_) | Event::Enabled | Event::Matching | Event::Status => {}
     }
     Ok(())

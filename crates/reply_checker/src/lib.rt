@@ -19,7 +19,6 @@ mod choices;
 mod edits;
 mod hsu_huang;
 mod judging;
-mod lines;
 mod looks;
 mod manne;
 mod questions;

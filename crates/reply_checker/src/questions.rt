@@ -30,7 +30,7 @@ pub(crate) fn are_enabled(survey: &mut CountedNet, rules: RuleSet, reply: &Reply
 #[inline(never)]
 fn are_ruled(survey: &CountedNet, given: &[(Node, Act)]) -> bool
     requires { AreFresh survey.now.shares.touched survey.now.shares.due }
-    ensures { IsTrue result ↔ AreRising (ruled_node (table_of survey.now.rules) survey.now.net.state) 0 given.now }
+    ensures { IsTrue result ↔ AreRising (ruled_node (table_of survey.now.shares.rules) survey.now.net.state) 0 given.now }
 {
     let mut last = 0;
     for item in given {
@@ -46,7 +46,7 @@ fn are_ruled(survey: &CountedNet, given: &[(Node, Act)]) -> bool
 #[inline(always)]
 fn has_rule(survey: &CountedNet, v: Node, act: Act) -> bool
     requires { AreFresh survey.now.shares.touched survey.now.shares.due }
-    ensures { IsTrue result ↔ (ruled_node (table_of survey.now.rules) survey.now.net.state v ≡ Some (v, act)) }
+    ensures { IsTrue result ↔ (ruled_node (table_of survey.now.shares.rules) survey.now.net.state v ≡ Some (v, act)) }
 {
     match survey.rule_of(v) {
         Some(rule) => rule == act,

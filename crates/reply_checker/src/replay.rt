@@ -10,6 +10,7 @@ use crate::edits::opened;
 use crate::judging::judge_reply;
 use crate::rules::cost_of;
 use crate::{ChosenItems, CountedNet};
+use net_state::NetState;
 use rule_machine::{Event, Reply, RuleSet, Want};
 use std::alloc::Global;
 use std::marker::Model;
@@ -106,6 +107,13 @@ impl Judge {
             self.chosen.clear(choice.items());
         }
         right
+    }
+
+    /// The network in the judge's present state.
+    pub fn into_net(self) -> NetState
+        ensures { result.state ≡ self }
+    {
+        self.survey.net
     }
 
     /// How much an event may add to the charge if the present state accepts the event.

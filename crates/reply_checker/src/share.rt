@@ -1,6 +1,6 @@
 //! What a name contributes to the totals of its network.
 
-ghost use Rattle.std.specs.Prelude.{◌≡◌, ◌≤◌, IsTrue, MatchOption, None, cond, false, is_some};
+ghost use Rattle.std.specs.Prelude.{◌≡◌, ◌≤◌, IsTrue, None, cond, false, is_some};
 ghost use Rattle.rule_machine.specs.Network.{present};
 ghost use Rattle.rule_machine.specs.RuleTable as table;
 ghost use Rattle.rule_machine.specs.State as state;
@@ -80,20 +80,15 @@ fn is_unanswered(net: &NetState, v: Node) -> bool
     }
 }
 
-/// `None` if `v` is absent. `rule` is the rule enabled at `v`.
+/// A node's stance towards its edges; `Shut` for an absent name. `rule` is the rule enabled at `v`.
 #[inline(always)]
-pub(crate) fn end_at(
-    net: &NetState,
-    rules: RuleSet,
-    v: Node,
-    rule: Option<Act>,
-) -> Option<EdgeStance>
+pub(crate) fn end_at(net: &NetState, rules: RuleSet, v: Node, rule: Option<Act>) -> EdgeStance
     requires within { v ≤ net.now.state.network.size }
     requires rule { rule ≡ cond (present net.now.state.network v) (table.rule_at (table_of rules) net.now.state v) None }
-    ensures { MatchOption result (present net.now.state.network v ≡ false) (λ end. end ≡ edge_stance_by rules net.now.state v) }
+    ensures { IsTrue (present net.now.state.network v) → result ≡ edge_stance_by rules net.now.state v }
 {
     if !net.has(v) {
-        return None;
+        return EdgeStance::Shut;
     }
-    Some(end_of(net, rules, v, rule))
+    end_of(net, rules, v, rule)
 }

@@ -1,21 +1,22 @@
 //! What each name contributes to the totals of its network, as of the last look at the name.
 
-ghost use Rattle.std.specs.Prelude.{◌≡◌, All, ℕ, ◌+◌, ◌<◌, ◌≤◌, true, false, length, replicate, slice_set, IfOk, IfSome};
+ghost use Rattle.std.specs.Prelude.{◌≡◌, All, ℕ, ◌+◌, ◌<◌, ◌≤◌, true, false, length, replicate, slice_set, IfOk};
 ghost use Rattle.enabled_set.specs.Members.{is_in};
-ghost use Rattle.reply_checker.specs.Contributions.{absent_contribution, AreStatusSums, FitsTwoBits, AddsMember};
-ghost use Rattle.net_state.specs.StateViews.{IsUntouchedBy};
+ghost use Rattle.reply_checker.specs.Contributions.{absent_contribution, AreExactIfFresh, AreStatusSums, FitsTwoBits};
 
 use crate::share::{Contribution, NO_SHARE};
 use enabled_set::Marks;
-use rule_machine::{Node, Want};
+use net_state::{Change, NetState, Observer};
+use rule_machine::{Node, RuleSet, Want};
 use std::alloc::Global;
 
-/// What each name contributed at the last look, with the sums.
+/// What each name contributed at the last look by these rules, with the sums.
 ///
 /// A name that changed is touched until the names whose contributions depend on that name are marked as
 /// due. A due name needs a new look.
 #[derive(Drop)]
 pub(crate) struct Contributions {
+    pub(crate) rules: RuleSet,
     pub(crate) each: Vec<Contribution>,
     pub(crate) pairs: u32,
     pub(crate) enabled: u32,
@@ -29,7 +30,9 @@ pub(crate) struct Contributions {
 }
 
 impl Contributions {
-    /// Creates empty contributions; all names up to `nodes` are due. Takes eleven bytes a name.
+    /// Creates empty contributions by Hsu and Huang's rules; all names up to `nodes` are due.
+    ///
+    /// Takes eleven bytes a name.
     pub(crate) fn new(alloc: Global, nodes: u32) -> Result<Contributions, Want>
         requires { nodes ≤ 65535 }
         ensures each { IfOk result (λ it. it.each.items ≡ replicate (nodes + 1) absent_contribution) }
@@ -42,6 +45,7 @@ impl Contributions {
         let mut due = Marks::new(alloc, nodes)?;
         due.mark_all();
         Ok(Contributions {
+            rules: RuleSet::Hh,
             each,
             pairs: 0,
             enabled: 0,
@@ -52,37 +56,11 @@ impl Contributions {
         })
     }
 
-    #[inline(always)]
-    pub(crate) fn touch(&mut self, v: Node)
-        requires { v < length self.old.touched }
-        ensures kept { (self.new.each.items ≡ self.old.each.items) × (self.new.due ≡ self.old.due) }
-        ensures marked { AddsMember self.old.touched self.new.touched v }
-    {
-        self.touched.mark(v);
-    }
-
-    #[inline(always)]
-    pub(crate) fn touch_pointer(&mut self, v: Node, was: Option<Node>, is: Option<Node>)
-        requires node { v < length self.old.touched }
-        requires was { IfSome was (λ w. w < length self.old.touched) }
-        requires is { IfSome is (λ w. w < length self.old.touched) }
-        ensures kept { (self.new.each.items ≡ self.old.each.items) × (self.new.due ≡ self.old.due) }
-        ensures places { length self.new.touched ≡ length self.old.touched }
-        ensures marked { (w : ℕ) → is_in self.new.touched w ≡ false → (is_in self.old.touched w ≡ false) × IsUntouchedBy v was is w }
-    {
-        self.touch(v);
-        if let Some(w) = was {
-            self.touch(w);
-        }
-        if let Some(w) = is {
-            self.touch(w);
-        }
-    }
-
     pub(crate) fn put(&mut self, v: Node, share: Contribution)
         requires share { v < length self.old.each.items }
         requires light { FitsTwoBits share }
         ensures each { self.new.each.items ≡ slice_set self.old.each.items v share }
+        ensures rules { self.new.rules ≡ self.old.rules }
         ensures kept { (self.new.touched ≡ self.old.touched) × (self.new.due ≡ self.old.due) }
     {
         let was = self.each[v.place()];
@@ -93,12 +71,24 @@ impl Contributions {
         self.closing = self.closing - u32::from(was.closes) + u32::from(share.closes);
     }
 
-    pub(crate) fn call_all(&mut self)
+    /// Goes by other rules; all names are due.
+    pub(crate) fn go_by(&mut self, rules: RuleSet)
+        ensures rules { self.new.rules ≡ rules }
         ensures kept { (self.new.each.items ≡ self.old.each.items) × (self.new.touched ≡ self.old.touched) }
         ensures places { length self.new.due ≡ length self.old.due }
         ensures due { (v : ℕ) → 1 ≤ v → v < length self.old.due → is_in self.new.due v ≡ true }
     {
+        self.rules = rules;
         self.due.mark_all();
+    }
+}
+
+impl Observer for Contributions {
+    ghost fits = { λ net it. AreExactIfFresh it.rules net.state net.ends it.each.items it.touched it.due };
+
+    #[inline(always)]
+    fn saw(&mut self, _net: &NetState, change: Change) {
+        change.mark_names(&mut self.touched);
     }
 }
 

@@ -56,7 +56,7 @@ fn mark_around(net: &NetState, v: Node, due: &mut Marks)
 impl CountedNet {
     /// Marks as due the names that depend on touched names.
     fn spread(&mut self)
-        ensures kept { (self.new.net.state ≡ self.old.net.state) × (self.new.rules ≡ self.old.rules) }
+        ensures kept { (self.new.net.state ≡ self.old.net.state) × (self.new.shares.rules ≡ self.old.shares.rules) }
         ensures none { (v : ℕ) → is_in self.new.shares.touched v ≡ false }
     {
         while let Some(v) = self.shares.touched.take() {
@@ -66,34 +66,31 @@ impl CountedNet {
 
     /// Updates the contribution of each due name.
     fn look(&mut self)
-        ensures kept { (self.new.net.state ≡ self.old.net.state) × (self.new.rules ≡ self.old.rules) }
+        ensures kept { (self.new.net.state ≡ self.old.net.state) × (self.new.shares.rules ≡ self.old.shares.rules) }
         ensures touched { self.new.shares.touched ≡ self.old.shares.touched }
         ensures none { (v : ℕ) → is_in self.new.shares.due v ≡ false }
     {
         while let Some(v) = self.shares.due.take() {
-            let share = share_of(&self.net, self.rules, v);
-            let end = end_at(&self.net, self.rules, v, share.rule);
+            let share = share_of(&self.net, self.shares.rules, v);
+            let end = end_at(&self.net, self.shares.rules, v, share.rule);
             self.shares.put(v, share);
-            if let Some(end) = end {
-                self.net.set_stance(v, end);
-            }
+            self.net.set_stance(v, end);
         }
     }
 
     fn use_rules(&mut self, rules: RuleSet)
-        ensures rules { self.new.rules ≡ rules }
+        ensures rules { self.new.shares.rules ≡ rules }
         ensures kept { self.new.net.state ≡ self.old.net.state }
     {
-        if self.rules != rules {
-            self.shares.call_all();
-            self.rules = rules;
+        if self.shares.rules != rules {
+            self.shares.go_by(rules);
         }
     }
 
     pub(crate) fn totals(&mut self, rules: RuleSet) -> Totals
         ensures value { AreTotals rules self.old.net.state result }
         ensures kept { self.new.net.state ≡ self.old.net.state }
-        ensures rules { self.new.rules ≡ rules }
+        ensures rules { self.new.shares.rules ≡ rules }
         ensures fresh { AreFresh self.new.shares.touched self.new.shares.due }
     {
         self.use_rules(rules);
@@ -105,7 +102,7 @@ impl CountedNet {
     /// An edge that is open by the stances of its ends adds 2 to the charge, unless a pointer closes it.
     fn count(&self) -> Totals
         requires { AreFresh self.now.shares.touched self.now.shares.due }
-        ensures { AreTotals self.now.rules self.now.net.state result }
+        ensures { AreTotals self.now.shares.rules self.now.net.state result }
     {
         let shares = &self.shares;
         let charge = 2 * self.net.open_edges() + shares.added - 2 * shares.closing;
@@ -119,7 +116,7 @@ impl CountedNet {
     #[inline(always)]
     pub(crate) fn rule_of(&self, v: Node) -> Option<Act>
         requires { AreFresh self.now.shares.touched self.now.shares.due }
-        ensures { result ≡ cond (present self.now.net.state.network v) (table.rule_at (table_of self.now.rules) self.now.net.state v) None }
+        ensures { result ≡ cond (present self.now.net.state.network v) (table.rule_at (table_of self.now.shares.rules) self.now.net.state v) None }
     {
         match self.shares.each.get(v.place()) {
             Some(share) => share.rule,

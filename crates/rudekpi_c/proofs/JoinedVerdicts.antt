@@ -1,8 +1,7 @@
 -- What a joined verdict means.
-use Rattle.std.proofs.Common.{◌≤◌, ◌≡◌, ◌⊎◌, ◌++◌, ◌∙◌, ℕ, List, Ok, Err, inl, inr, refl, sym, ap, subst}
-use Rattle.auditor.specs.declared.damage.Damage.{Damage}
-use Rattle.auditor.specs.declared.damage.Damage.TheVariants.{BadHeader, NotALine, OutOfOrder, NotTheMachines, BadBase}
-use Rattle.auditor.specs.declared.damage.JudgeFault.TheVariants.{Damaged, Memory}
+use Rattle.std.proofs.Common.{◌≤◌, ◌≡◌, ◌≢◌, ◌⊎◌, ◌++◌, ◌∙◌, ℕ, List, Ok, Err, inl, inr, refl, sym, ap, subst, arith}
+use Rattle.auditor.specs.declared.fault.AuditFault.{AuditFault}
+use Rattle.auditor.specs.declared.fault.AuditFault.TheVariants.{Read, Memory}
 use Rattle.auditor.specs.declared.summary.Summary.{Summary}
 use Rattle.auditor.specs.Damage.{IsDamage, line_feeds}
 use Rattle.auditor.specs.AcceptedRuns.{IsAccepted}
@@ -21,32 +20,65 @@ pub record Found (bytes : List ℕ) (v : Verdict) : Type 0 where
   pub is : v ≡ audit_verdict found
   pub judged : IsJudged bytes found
 
+damage_judged : (bytes : List ℕ) (d : AuditFault) → IsDamage bytes d → IsJudged bytes (Err d)
+damage_judged bytes Memory is = tt
+damage_judged bytes d is = is
+
 pub found_as : (bytes : List ℕ) (v : Verdict) → JudgedAs bytes v → Found bytes v
 found_as bytes v judged = by judged.says
   where
-    by : ((c : Summary) × IsAccepted bytes c × (v ≡ accepted c)) ⊎ ((d : Damage) × IsDamage bytes d × (v ≡ damaged d)) ⊎ (v ≡ unjudged) → Found bytes v
+    by : ((c : Summary) × IsAccepted bytes c × (v ≡ accepted c)) ⊎ ((d : AuditFault) × IsDamage bytes d × (v ≡ damaged d)) ⊎ (v ≡ unjudged) → Found bytes v
     by (inl (c, is, e)) = record { found = Ok c; is = e; judged = is }
-    by (inr (inl (d, is, e))) = record { found = Err (Damaged d); is = e; judged = is }
+    by (inr (inl (d, is, e))) = record { found = Err d; is = e; judged = damage_judged bytes d is }
     by (inr (inr e)) = record { found = Err Memory; is = e; judged = tt }
 
-lines_before : (lines : ℕ) (own : List ℕ) (old next : Verdict) (v w : seams.Verdict) → old ≡ audit_verdict v → next ≡ audit_verdict w → ((c : Summary) (d : Damage) → old ≡ accepted c → next ≡ damaged d → lines ≡ line_feeds own) → AreLinesBefore lines own v w
+lines_before : (lines : ℕ) (own : List ℕ) (old next : Verdict) (v w : seams.Verdict) → old ≡ audit_verdict v → next ≡ audit_verdict w → ((c : Summary) (d : AuditFault) → old ≡ accepted c → next ≡ damaged d → next ≢ unjudged → lines ≡ line_feeds own) → AreLinesBefore lines own v w
 lines_before lines own old next (Ok c) (Ok d) e f before = tt
-lines_before lines own old next (Ok c) (Err (Damaged d)) e f before = before c d e f
+lines_before lines own old next (Ok c) (Err Read) e f before = tt
 lines_before lines own old next (Ok c) (Err Memory) e f before = tt
+lines_before lines own old next (Ok c) (Err d) e f before = before c d e f (λ none. let kinds = ap (λ (v : Verdict). v.kind) (sym f ∙ none) in omega (arith, kinds))
 lines_before lines own old next (Err fault) w e f before = tt
 
--- the verdict of a result gives the result back
-said_once : (said : seams.Verdict) → said_by (audit_verdict said) ≡ said
-said_once (Ok c) = refl
-said_once (Err (Damaged BadHeader)) = refl
-said_once (Err (Damaged (NotALine line))) = refl
-said_once (Err (Damaged (OutOfOrder line))) = refl
-said_once (Err (Damaged (NotTheMachines line))) = refl
-said_once (Err (Damaged (BadBase line))) = refl
-said_once (Err Memory) = refl
+-- a failed read, which no verdict of bytes is, leaves them unjudged as want of memory does
+abbrev heard : seams.Verdict → seams.Verdict
+heard (Ok c) = Ok c
+heard (Err Read) = Err Memory
+heard (Err fault) = Err fault
 
-reads : (v : Verdict) (found said : seams.Verdict) → found ≡ said_by v → v ≡ audit_verdict said → found ≡ said
+heard_verdict : (v : seams.Verdict) → audit_verdict (heard v) ≡ audit_verdict v
+heard_verdict (Ok c) = refl
+heard_verdict (Err Read) = refl
+heard_verdict (Err fault) = refl
+
+heard_fits : (v : seams.Verdict) → FitsFields v → FitsFields (heard v)
+heard_fits (Ok c) fits = fits
+heard_fits (Err Read) fits = fits
+heard_fits (Err fault) fits = fits
+
+heard_judged : (bytes : List ℕ) (v : seams.Verdict) → IsJudged bytes v → heard v ≡ v
+heard_judged bytes (Ok c) judged = refl
+heard_judged bytes (Err Read) judged = absurd judged
+heard_judged bytes (Err fault) judged = refl
+
+heard_joined : (v w : seams.Verdict) (lines : ℕ) → heard (seams.joined_verdict v lines w) ≡ seams.joined_verdict (heard v) lines (heard w)
+heard_joined (Ok c) (Ok d) lines = refl
+heard_joined (Ok c) (Err Read) lines = refl
+heard_joined (Ok c) (Err fault) lines = refl
+heard_joined (Err Read) w lines = refl
+heard_joined (Err fault) w lines = refl
+
+-- the verdict of a result gives the result back
+said_once : (said : seams.Verdict) → said_by (audit_verdict said) ≡ heard said
+said_once (Ok c) = refl
+said_once (Err Read) = refl
+said_once (Err fault) = refl
+
+reads : (v : Verdict) (found said : seams.Verdict) → found ≡ said_by v → v ≡ audit_verdict said → found ≡ heard said
 reads v found said is e = is ∙ ap said_by e ∙ said_once said
+
+joined_reads : (lines : ℕ) (old next : Verdict) (first second v w : seams.Verdict) → first ≡ said_by old → second ≡ said_by next → old ≡ audit_verdict v → next ≡ audit_verdict w → seams.joined_verdict first lines second ≡ heard (seams.joined_verdict v lines w)
+joined_reads lines old next first second v w had also e f =
+    ap (λ (z : seams.Verdict). seams.joined_verdict z lines second) (reads old first v had e) ∙ ap (λ (z : seams.Verdict). seams.joined_verdict (heard v) lines z) (reads next second w also f) ∙ sym (heard_joined v w lines)
 
 pub was_joined : (lines : ℕ) (old next new : Verdict) (first second both : seams.Verdict) → (old.kind ≤ 6) × (next.kind ≤ 6) → first ≡ said_by old → second ≡ said_by next → new ≡ audit_verdict both → both ≡ seams.joined_verdict first lines second
     → ((former latter : List ℕ) (m : seams.Meets former latter) → AreLinesBefore lines m.own first second → IsJudged former first → IsJudged latter second → IsJudged (m.own ++ latter) both)
@@ -56,16 +88,16 @@ was_joined lines old next new first second both known had also told is judged = 
   judged = λ former latter m before x y.
       let v = found_as former old x in
       let w = found_as latter next y in
-      let same = reads old first v.found had v.is in
-      let same' = reads next second w.found also w.is in
+      let same = reads old first v.found had v.is ∙ heard_judged former v.found v.judged in
+      let same' = reads next second w.found also w.is ∙ heard_judged latter w.found w.judged in
       let lines_are = subst (λ (z : seams.Verdict). AreLinesBefore lines m.own z second) (sym same) (subst (AreLinesBefore lines m.own v.found) (sym same') (lines_before lines m.own old next v.found w.found v.is w.is before)) in
       let whole = judged former latter m lines_are (subst (IsJudged former) (sym same) v.judged) (subst (IsJudged latter) (sym same') w.judged) in
       judged_as (m.own ++ latter) both new told whole (judged_accepts (m.own ++ latter) both whole) (judged_names (m.own ++ latter) both whole);
-  is = λ v w e f. told ∙ ap audit_verdict (is ∙ ap (λ (z : seams.Verdict). seams.joined_verdict z lines second) (reads old first v had e) ∙ ap (λ (z : seams.Verdict). seams.joined_verdict v lines z) (reads next second w also f));
+  is = λ v w e f. told ∙ ap audit_verdict (is ∙ joined_reads lines old next first second v w had also e f) ∙ heard_verdict (seams.joined_verdict v lines w);
 }
 
 pub was_not_joined : (lines : ℕ) (old next new : Verdict) (first second : seams.Verdict) → new ≡ old → first ≡ said_by old → second ≡ said_by next → (FitsFields (seams.joined_verdict first lines second) → ⊥) → IsUnjoined lines old next new
 was_not_joined lines old next new first second kept had also misfits = record {
   kept = kept;
-  why = inr (inr (λ v w e f fits. misfits (subst FitsFields (ap (λ (z : seams.Verdict). seams.joined_verdict z lines w) (sym (reads old first v had e)) ∙ ap (λ (z : seams.Verdict). seams.joined_verdict first lines z) (sym (reads next second w also f))) fits)));
+  why = inr (inr (λ v w e f fits. misfits (subst FitsFields (sym (joined_reads lines old next first second v w had also e f)) (heard_fits (seams.joined_verdict v lines w) fits))));
 }

@@ -12,4 +12,5 @@ pub mod JoinedVerdicts
 pub mod AuditVerdicts
 pub mod NameOutput
 pub mod Partners
+pub mod Resumption
 pub mod RowOutput

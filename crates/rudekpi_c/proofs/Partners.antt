@@ -2,7 +2,7 @@
 use Rattle.std.proofs.Common.{◌≡◌, ◌∙◌, ℕ, true, false, None, Some, sym}
 use Rattle.std.proofs.lemmas.Bool.{true≢false}
 use Rattle.rule_machine.specs.State.{State, IsState, pointer, points, partner}
-use Rattle.machine_laws.specs.Pointers.{none_is, null_unmarried, unanswered_unmarried, partner_from, points_true, points_from}
+use Rattle.machine_laws.proofs.Pointers.{none_is, null_unmarried, unanswered_unmarried, partner_from, points_true, points_from}
 
 pub points_nowhere : (s : State) (v : ℕ) → pointer s v ≡ None → partner s v ≡ None
 points_nowhere s v null = none_is (partner s v) (null_unmarried s v null)

@@ -1,8 +1,7 @@
 -- What C's calls do to an audit that it feeds in pieces, status by status.
-use Rattle.std.specs.Prelude.{◌≡◌, ◌⊎◌, ◌++◌, ℕ, List, [], Option, None, Some, Result, Ok, Err}
-use Rattle.auditor.specs.declared.damage.Damage.{Damage}
-use Rattle.auditor.specs.declared.damage.JudgeFault.{JudgeFault}
-use Rattle.auditor.specs.declared.damage.JudgeFault.TheVariants.{Damaged, Memory}
+use Rattle.std.specs.Prelude.{◌≡◌, ◌≢◌, ◌⊎◌, ◌++◌, ℕ, List, [], Option, None, Some, Result, Ok, Err}
+use Rattle.auditor.specs.declared.fault.AuditFault.{AuditFault}
+use Rattle.auditor.specs.declared.fault.AuditFault.TheVariants.{Memory}
 use Rattle.auditor.specs.declared.pieces.PieceAudit.{PieceAudit}
 use Rattle.auditor.specs.Damage.{IsDamage}
 use Rattle.auditor.specs.AuditPieces.{HasReadPieces}
@@ -22,10 +21,10 @@ abbrev pub AuditBegun : ℕ → Option PieceAudit → Type 0
 AuditBegun status new = ((status ≡ 0) × IsAuditBegun new) ⊎ ((status ≡ 3) × (new ≡ None))
 
 -- 0: no fault was found; 7: a damage was found; 3: memory ran out
-abbrev pub found_status : {A : Type 0} → Result A JudgeFault → ℕ
+abbrev pub found_status : {A : Type 0} → Result A AuditFault → ℕ
 found_status (Ok fine) = 0
-found_status (Err (Damaged d)) = 7
 found_status (Err Memory) = 3
+found_status (Err damage) = 7
 
 -- the audit was fed the piece after all pieces before. A damage found is the damage of every text that begins
 -- with these pieces. A fault that was found stays.
@@ -34,8 +33,8 @@ pub record IsAuditFed (piece : List ℕ) (status : ℕ) (a : PieceAudit) (new : 
   pub is : new ≡ Some b
   pub fed : (bytes : List ℕ) → HasReadPieces bytes a → HasReadPieces (bytes ++ piece) b
   pub status_is : status ≡ found_status (found_by b.fault)
-  pub damaged : (d : Damage) → b.fault ≡ Some (Damaged d) → (bytes more : List ℕ) → HasReadPieces bytes a → IsDamage (bytes ++ piece ++ more) d
-  pub for_good : (fault : JudgeFault) → a.fault ≡ Some fault → b.fault ≡ Some fault
+  pub damaged : (d : AuditFault) → d ≢ Memory → b.fault ≡ Some d → (bytes more : List ℕ) → HasReadPieces bytes a → IsDamage (bytes ++ piece ++ more) d
+  pub for_good : (fault : AuditFault) → a.fault ≡ Some fault → b.fault ≡ Some fault
 
 -- 4: there is no audit
 abbrev pub AuditFed : List ℕ → ℕ → Option PieceAudit → Option PieceAudit → Type 0

@@ -1,5 +1,5 @@
 -- What a call with a command in numbers does to a session, status by status.
-use Rattle.std.specs.Prelude.{◌≡◌, ℕ, Bool, true, false, zero, suc, ◌⊎◌, List, map, Option, None, Some, Result, Ok, Err, SomeIff}
+use Rattle.std.specs.Prelude.{◌≡◌, ℕ, zero, suc, ◌⊎◌, List, map, Option, None, Some, Result, Ok, Err, SomeIff}
 use Rattle.rule_machine.specs.declared.choice.Item.{Item}
 use Rattle.rule_machine.specs.declared.event.Event.{Event}
 use Rattle.rule_machine.specs.declared.event.Event.TheVariants.{Step}
@@ -8,6 +8,8 @@ use Rattle.rule_machine.specs.declared.reply.Reply.TheVariants.{Accepted}
 use Rattle.rule_machine.specs.Least.{reply_of}
 use Rattle.rule_machine.specs.RuleTable.{RuleTable}
 use Rattle.rule_machine.specs.Tables.{table_of}
+use Rattle.step_log.specs.declared.fault.RecordFault.{RecordFault}
+use Rattle.step_log.specs.declared.fault.RecordFault.TheVariants.{LogFull, Memory}
 use Rattle.script_text.specs.declared.command.Command.{Command}
 use Rattle.script_text.specs.declared.command.Command.TheVariants.{Tell}
 use Rattle.script_text.specs.Command.{IsCommand}
@@ -49,20 +51,20 @@ number_left (Tell event) count = 0
 number_left other count = count
 
 -- the number returned with this result, if there are this many entries after the command
-abbrev pub number_at : {E : Type 0} → Command → ℕ → Result Bool E → ℕ
-number_at command count (Ok true) = count
-number_at command count other = number_left command count
+abbrev pub number_at : Command → ℕ → Result Unit RecordFault → ℕ
+number_at command count (Ok done) = count
+number_at command count (Err fault) = number_left command count
 
 -- the reply that is kept with this result
-abbrev pub reply_kept : {E : Type 0} → RuleTable → Command → Progress → Result Bool E → Reply
-reply_kept t command before (Ok true) = reply_at t command before
-reply_kept t command before other = Accepted
+abbrev pub reply_kept : RuleTable → Command → Progress → Result Unit RecordFault → Reply
+reply_kept t command before (Ok done) = reply_at t command before
+reply_kept t command before (Err fault) = Accepted
 
 -- the status of a command
-abbrev pub command_status : {E : Type 0} → Reply → Result Bool E → ℕ
-command_status reply (Ok true) = entry_status reply
-command_status reply (Ok false) = 2
-command_status reply (Err want) = 3
+abbrev pub command_status : Reply → Result Unit RecordFault → ℕ
+command_status reply (Ok done) = entry_status reply
+command_status reply (Err LogFull) = 2
+command_status reply (Err Memory) = 3
 
 -- 0, or 6 if the machine refuses the event: the command was carried out; 2: the command met a full log; 3:
 -- memory ran out, and at most some first turns were taken

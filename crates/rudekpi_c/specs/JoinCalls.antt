@@ -1,29 +1,28 @@
 -- What C's call that joins two verdicts does, status by status.
-use Rattle.std.specs.Prelude.{◌≡◌, ◌≤◌, ◌⊎◌, ◌++◌, ℕ, List, Ok, Err, nat_eq, if◌then◌else◌}
-use Rattle.auditor.specs.declared.damage.Damage.{Damage}
-use Rattle.auditor.specs.declared.damage.Damage.TheVariants.{BadHeader, NotALine, OutOfOrder, NotTheMachines, BadBase}
-use Rattle.auditor.specs.declared.damage.JudgeFault.TheVariants.{Damaged, Memory}
+use Rattle.std.specs.Prelude.{◌≡◌, ◌≢◌, ◌≤◌, ◌⊎◌, ◌++◌, ℕ, List, Ok, Err, nat_eq, if◌then◌else◌}
+use Rattle.auditor.specs.declared.fault.AuditFault.{AuditFault}
+use Rattle.auditor.specs.declared.fault.AuditFault.TheVariants.{BadHeader, NotALine, OutOfOrder, NotTheMachines, BadBase, Memory}
 use Rattle.auditor.specs.declared.summary.Summary.{Summary}
 use Rattle.auditor.specs.Damage.{line_feeds}
 use Rattle.audit_parts.specs.FieldRanges.{FitsFields}
 use Rattle.audit_parts.specs.Seams as seams
 use Rattle.rudekpi_c.specs.declared.judged.Verdict.{Verdict}
-use Rattle.rudekpi_c.specs.AuditVerdicts.{JudgedAs, accepted, damaged, audit_verdict}
+use Rattle.rudekpi_c.specs.AuditVerdicts.{JudgedAs, accepted, damaged, unjudged, audit_verdict}
 
 -- the result that a verdict encodes, by its kind
 abbrev pub said_by : Verdict → seams.Verdict
 said_by v =
     if nat_eq v.kind 0 then Ok (record { entries = v.entries; epochs = v.epochs; moves = v.moves })
-    else (if nat_eq v.kind 1 then Err (Damaged BadHeader)
-    else (if nat_eq v.kind 2 then Err (Damaged (NotALine v.line))
-    else (if nat_eq v.kind 3 then Err (Damaged (OutOfOrder v.line))
-    else (if nat_eq v.kind 4 then Err (Damaged (NotTheMachines v.line))
-    else (if nat_eq v.kind 5 then Err (Damaged (BadBase v.line)) else Err Memory)))))
+    else (if nat_eq v.kind 1 then Err BadHeader
+    else (if nat_eq v.kind 2 then Err (NotALine v.line)
+    else (if nat_eq v.kind 3 then Err (OutOfOrder v.line)
+    else (if nat_eq v.kind 4 then Err (NotTheMachines v.line)
+    else (if nat_eq v.kind 5 then Err (BadBase v.line) else Err Memory)))))
 
 -- the new verdict is the joined one; if two texts meet and `lines` is right, it is that of the joined text
 pub record IsJoined (lines : ℕ) (old next new : Verdict) : Type 0 where
   pub known : (old.kind ≤ 6) × (next.kind ≤ 6)
-  pub judged : (former latter : List ℕ) (m : seams.Meets former latter) → ((c : Summary) (d : Damage) → old ≡ accepted c → next ≡ damaged d → lines ≡ line_feeds m.own)
+  pub judged : (former latter : List ℕ) (m : seams.Meets former latter) → ((c : Summary) (d : AuditFault) → old ≡ accepted c → next ≡ damaged d → next ≢ unjudged → lines ≡ line_feeds m.own)
       → JudgedAs former old → JudgedAs latter next → JudgedAs (m.own ++ latter) new
   pub is : (first second : seams.Verdict) → old ≡ audit_verdict first → next ≡ audit_verdict second → new ≡ audit_verdict (seams.joined_verdict first lines second)
 

@@ -8,6 +8,7 @@ pub mod JoinCalls
 pub mod AuditVerdicts
 pub mod SessionQuestions
 pub mod ReachCalls
+pub mod Resumption
 pub mod Session
 pub mod Slot
 pub mod ReplyNumbers

@@ -1,12 +1,13 @@
 -- The state of a session, and what is done to it.
-use Rattle.std.specs.Prelude.{◌≡◌, ℕ, Bool, true, false, List, [], Option, Result}
+use Rattle.std.specs.Prelude.{◌≡◌, ℕ, Bool, true, false, List, [], Result}
 use Rattle.rule_machine.specs.declared.rules.RuleSet.{RuleSet}
 use Rattle.rule_machine.specs.declared.rules.RuleSet.TheVariants as rules
 use Rattle.rule_machine.specs.Tables.{table_of}
 use Rattle.script_text.specs.declared.command.Command.{Command}
 use Rattle.script_text.specs.Script.{Progress}
 use Rattle.run_session.specs.Line.{progress, LineEnds, CommandEnds}
-use Rattle.run_session.specs.declared.stop.LineError.{LineError}
+use Rattle.step_log.specs.declared.fault.RecordFault.{RecordFault}
+use Rattle.run_session.specs.declared.line_error.LineError.{LineError}
 use Rattle.rudekpi_c.specs.declared.session.Machine.{Machine}
 use Rattle.rudekpi_c.specs.declared.session.Machine.TheVariants.{Hh, Manne}
 use Rattle.rudekpi_c.specs.declared.session.Session.{Session}
@@ -47,8 +48,8 @@ pub record GoesOn (s t : Session) : Type 0 where
   pub keeps : t.keeps ≡ s.keeps
 
 -- how carrying out a line ends under these rules
-abbrev pub LineEnded : {E : Type 0} → RuleSet → ℕ → ℕ → List ℕ → Progress → Progress → Result (Option LineError) E → Type 0
+abbrev pub LineEnded : RuleSet → ℕ → ℕ → List ℕ → Progress → Progress → Result Unit LineError → Type 0
 LineEnded r = LineEnds (table_of r)
 
-abbrev pub CommandEnded : {E : Type 0} → RuleSet → ℕ → Command → Progress → Progress → Result Bool E → Type 0
+abbrev pub CommandEnded : RuleSet → ℕ → Command → Progress → Progress → Result Unit RecordFault → Type 0
 CommandEnded r = CommandEnds (table_of r)

@@ -7,8 +7,9 @@ use Rattle.rule_machine.specs.Tables.{table_of}
 use Rattle.script_text.specs.Script.{Progress, LineDoes, IsBadLine, MeetsFullLog}
 use Rattle.run_session.specs.RunStart.{first_progress}
 use Rattle.run_session.specs.Line.{LineBegins}
-use Rattle.run_session.specs.declared.stop.LineError.{LineError}
-use Rattle.run_session.specs.declared.stop.LineError.TheVariants.{BadLine, LogFull}
+use Rattle.step_log.specs.declared.fault.RecordFault.TheVariants.{LogFull, Memory}
+use Rattle.run_session.specs.declared.line_error.LineError.{LineError}
+use Rattle.run_session.specs.declared.line_error.LineError.TheVariants.{BadLine, Record}
 use Rattle.rudekpi_c.specs.Session.{stands, rules_of, limit_of, with_text_if, GoesOn}
 use Rattle.rudekpi_c.specs.SilentDrives.{LineSilences}
 use Rattle.rudekpi_c.specs.declared.session.Session.{Session}
@@ -57,11 +58,11 @@ pub record IsNext (number : ℕ) (s t : Session) : Type 0 where
   pub answer_is : t.answer ≡ s.answer
 
 -- the status of a line
-abbrev pub line_status : {E : Type 0} → Result (Option LineError) E → ℕ
-line_status (Ok None) = 0
-line_status (Ok (Some (BadLine n))) = 1
-line_status (Ok (Some LogFull)) = 2
-line_status (Err want) = 3
+abbrev pub line_status : Result Unit LineError → ℕ
+line_status (Ok done) = 0
+line_status (Err (BadLine n)) = 1
+line_status (Err (Record LogFull)) = 2
+line_status (Err (Record Memory)) = 3
 
 -- 0: the line was carried out; 1: it is neither empty nor a command, and nothing was done; 2: it met a full
 -- log; 3: memory ran out, and at most some first turns were taken

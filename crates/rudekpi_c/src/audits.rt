@@ -6,7 +6,7 @@ ghost use Rattle.rudekpi_c.specs.AuditCalls.{AuditBegun, AuditEnded, AuditFed, f
 use crate::audit_slot::AuditSlot;
 use crate::judged::{Verdict, told, unsaid};
 use crate::status::{DAMAGED, DONE, MEMORY, NO_SESSION};
-use auditor::{JudgeFault, PieceAudit};
+use auditor::{AuditFault, PieceAudit};
 use std::alloc::Global;
 
 /// Begins an audit that has been fed nothing, in place of the slot's old audit.
@@ -66,12 +66,12 @@ pub extern "C" fn rudekpi_audit_free(alloc: Global, slot: &mut AuditSlot)
     slot.take(alloc);
 }
 
-fn status_of(found: Result<(), JudgeFault>) -> u32
+pub(crate) fn status_of(found: Result<(), AuditFault>) -> u32
     ensures { result ≡ found_status found }
 {
     match found {
         Ok(()) => DONE,
-        Err(JudgeFault::Damaged(_)) => DAMAGED,
-        Err(JudgeFault::Memory) => MEMORY,
+        Err(AuditFault::Memory) => MEMORY,
+        Err(_) => DAMAGED,
     }
 }

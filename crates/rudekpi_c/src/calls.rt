@@ -14,18 +14,19 @@ use crate::counted::{StatusCounts, counted_of};
 use crate::slot::Slot;
 use crate::status::{BAD_ARGUMENT, DONE, LOG_FULL, MEMORY, NO_SESSION, REFUSED};
 use crate::told::CallResult;
-use rule_machine::{Event, Reply, Want};
+use rule_machine::{Event, Reply};
 use script_text::Command;
 use std::alloc::Global;
+use step_log::RecordFault;
 
-fn status_of(done: &Result<bool, Want>, reply: &Reply) -> u32
-    ensures { result ≡ command_status reply.now done.now }
+fn status_of(done: Result<(), RecordFault>, reply: &Reply) -> u32
+    ensures { result ≡ command_status reply.now done }
 {
     match (done, reply) {
-        (Ok(true), Reply::Refused(_)) => REFUSED,
-        (Ok(true), _) => DONE,
-        (Ok(false), _) => LOG_FULL,
-        (Err(_), _) => MEMORY,
+        (Ok(()), Reply::Refused(_)) => REFUSED,
+        (Ok(()), _) => DONE,
+        (Err(RecordFault::LogFull), _) => LOG_FULL,
+        (Err(RecordFault::Memory), _) => MEMORY,
     }
 }
 
@@ -41,7 +42,7 @@ fn call(alloc: Global, slot: &mut Slot, command: Option<Command>, told: &mut Cal
         return NO_SESSION;
     };
     let done = session.follow(alloc, &command);
-    let status = status_of(&done, &session.answer.reply);
+    let status = status_of(done, &session.answer.reply);
     *told = CallResult::of(&session.answer);
     slot.put_back(session);
     status

@@ -1,6 +1,6 @@
 //! Carrying out a command in a run.
 
-ghost use Rattle.std.specs.Prelude.{◌≡◌, IfOk, IsTrue};
+ghost use Rattle.std.specs.Prelude.{◌≡◌, OnOk};
 ghost use Rattle.rule_engine.specs.Costs.{disturbance_cost};
 ghost use Rattle.rule_machine.specs.State.{partner, pointer_of};
 ghost use Rattle.run_session.specs.Line.{recording_moment, progress_of, CommandEnds};
@@ -11,32 +11,28 @@ ghost use Rattle.rudekpi_c.specs.CostCalls.{GrowsBy};
 ghost use Rattle.rudekpi_c.specs.SilentDrives.{Silences};
 
 use registers::Registers;
-use rule_machine::{Event, Node, Reply, Want};
+use rule_machine::{Event, Node, Reply};
 use rules_api::Rules;
 use run_session::Run;
 use script_text::Command;
 use std::alloc::Global;
-use step_log::Answer;
+use step_log::{Answer, RecordFault};
 
 /// Carries out an event and stores its answer; the answer is empty if the event made no entry.
-fn tell<R: Rules>(run: &mut Run<R>, event: &Event, answer: &mut Answer) -> Result<bool, Want>
+fn tell<R: Rules>(run: &mut Run<R>, event: &Event, answer: &mut Answer) -> Result<(), RecordFault>
     ensures ends { CommandEnds R.table run.old.recorder.limit (Tell event.now) (progress_of run.old) (progress_of run.new) result }
     ensures number { answer.new.seq ≡ number_at (Tell event.now) run.new.recorder.len result }
     ensures reply { answer.new.reply ≡ reply_kept R.table (Tell event.now) (progress_of run.old) result }
     ensures limit { run.new.recorder.limit ≡ run.old.recorder.limit }
 {
     match run.log(event, None, &mut answer.reply) {
-        Ok(true) => {
+        Ok(()) => {
             answer.seq = run.recorder.len();
-            Ok(true)
+            Ok(())
         }
-        Ok(false) => {
+        Err(fault) => {
             *answer = unanswered(0);
-            Ok(false)
-        }
-        Err(want) => {
-            *answer = unanswered(0);
-            Err(want)
+            Err(fault)
         }
     }
 }
@@ -64,9 +60,9 @@ pub(crate) fn follow<R: Rules>(
     alloc: Global,
     command: &Command,
     answer: &mut Answer,
-) -> Result<bool, Want>
+) -> Result<(), RecordFault>
     ensures ends { CommandEnds R.table run.old.recorder.limit command.now (progress_of run.old) (progress_of run.new) result }
-    ensures silent { IfOk result (λ done. IsTrue done → Silences R.table command.now run.old.recorder.state run.new.recorder.state) }
+    ensures silent { OnOk result (Silences R.table command.now run.old.recorder.state run.new.recorder.state) }
     ensures number { answer.new.seq ≡ number_at command.now run.new.recorder.len result }
     ensures reply { answer.new.reply ≡ reply_kept R.table command.now (progress_of run.old) result }
     ensures limit { run.new.recorder.limit ≡ run.old.recorder.limit }
@@ -91,12 +87,11 @@ pub(crate) fn follow<R: Rules>(
     }
 }
 
-fn checkpoint<R: Rules>(run: &mut Run<R>) -> Result<bool, Want>
+fn checkpoint<R: Rules>(run: &mut Run<R>) -> Result<(), RecordFault>
     ensures ends { CommandEnds R.table run.old.recorder.limit Checkpoint (progress_of run.old) (progress_of run.new) result }
     ensures limit { run.new.recorder.limit ≡ run.old.recorder.limit }
 {
-    run.checkpoint()?;
-    Ok(true)
+    Ok(run.checkpoint()?)
 }
 
 /// A node's pointer; `None` for a name above the capacity.

@@ -6,9 +6,9 @@ ghost use Rattle.rudekpi_c.specs.JoinCalls.{AuditJoined, said_by};
 use crate::judged::{Verdict, told};
 use crate::status::{BAD_ARGUMENT, DONE};
 use audit_parts::join;
-use auditor::{Damage, JudgeFault, Summary};
+use auditor::{AuditFault, Summary};
 
-fn found_in(verdict: Verdict) -> Option<Result<Summary, JudgeFault>>
+fn found_in(verdict: Verdict) -> Option<Result<Summary, AuditFault>>
     ensures { MatchOption result (7 ≤ verdict.kind) (λ found. (verdict.kind ≤ 6) × (found ≡ said_by verdict)) }
 {
     let Verdict {
@@ -25,16 +25,15 @@ fn found_in(verdict: Verdict) -> Option<Result<Summary, JudgeFault>>
             moves,
         }));
     }
-    let damage = match kind {
-        1 => Damage::BadHeader,
-        2 => Damage::NotALine { line },
-        3 => Damage::OutOfOrder { line },
-        4 => Damage::NotTheMachines { line },
-        5 => Damage::BadBase { line },
-        6 => return Some(Err(JudgeFault::Memory)),
-        _ => return None,
-    };
-    Some(Err(JudgeFault::Damaged(damage)))
+    match kind {
+        1 => Some(Err(AuditFault::BadHeader)),
+        2 => Some(Err(AuditFault::NotALine { line })),
+        3 => Some(Err(AuditFault::OutOfOrder { line })),
+        4 => Some(Err(AuditFault::NotTheMachines { line })),
+        5 => Some(Err(AuditFault::BadBase { line })),
+        6 => Some(Err(AuditFault::Memory)),
+        _ => None,
+    }
 }
 
 /// Joins the verdict of a text with that of the next.

@@ -3,7 +3,7 @@
 ghost use Rattle.std.specs.Prelude.{◌≡◌};
 ghost use Rattle.rudekpi_c.specs.AuditVerdicts.{JudgedAs, accepted, damaged, refused, unjudged, audit_verdict};
 
-use auditor::{Damage, JudgeFault, Summary, audit_bytes};
+use auditor::{AuditFault, Summary, audit_bytes};
 use std::alloc::Global;
 
 /// The verdict of an audit.
@@ -53,15 +53,16 @@ fn told_refused(kind: u32, line: u64) -> Verdict
     }
 }
 
-fn told_damaged(damage: Damage) -> Verdict
-    ensures { result ≡ damaged damage }
+fn told_fault(fault: AuditFault) -> Verdict
+    ensures { result ≡ damaged fault }
 {
-    match damage {
-        Damage::BadHeader => told_refused(1, 1),
-        Damage::NotALine { line } => told_refused(2, line),
-        Damage::OutOfOrder { line } => told_refused(3, line),
-        Damage::NotTheMachines { line } => told_refused(4, line),
-        Damage::BadBase { line } => told_refused(5, line),
+    match fault {
+        AuditFault::BadHeader => told_refused(1, 1),
+        AuditFault::NotALine { line } => told_refused(2, line),
+        AuditFault::OutOfOrder { line } => told_refused(3, line),
+        AuditFault::NotTheMachines { line } => told_refused(4, line),
+        AuditFault::BadBase { line } => told_refused(5, line),
+        AuditFault::Read | AuditFault::Memory => unsaid(),
     }
 }
 
@@ -72,13 +73,12 @@ pub(crate) fn unsaid() -> Verdict
     told_refused(6, 0)
 }
 
-pub(crate) fn told(found: Result<Summary, JudgeFault>) -> Verdict
+pub(crate) fn told(found: Result<Summary, AuditFault>) -> Verdict
     ensures { result ≡ audit_verdict found }
 {
     match found {
         Ok(counted) => told_accepted(counted),
-        Err(JudgeFault::Damaged(damage)) => told_damaged(damage),
-        Err(JudgeFault::Memory) => unsaid(),
+        Err(fault) => told_fault(fault),
     }
 }
 

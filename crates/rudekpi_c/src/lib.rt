@@ -31,6 +31,7 @@ mod left;
 mod looks;
 mod parts;
 mod reach;
+mod resume;
 mod row;
 mod session;
 mod sessions;

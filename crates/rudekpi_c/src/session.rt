@@ -1,6 +1,6 @@
 //! A session: a network, and the run of its commands.
 
-ghost use Rattle.std.specs.Prelude.{◌≡◌, ◌≤◌, ◌+◌, ◌^◌, ◌-◌, true, false, None, Ok, IfOk, IsTrue, min};
+ghost use Rattle.std.specs.Prelude.{◌≡◌, ◌≤◌, ◌+◌, ◌^◌, ◌-◌, true, false, IfOk, IsOk, OnOk, min};
 ghost use Rattle.run_session.specs.RunStart.{first_progress};
 ghost use Rattle.rule_machine.specs.declared.reply.Reply.TheVariants.{Accepted};
 ghost use Rattle.rule_machine.specs.State.{partner};
@@ -19,7 +19,7 @@ use rules_manne::Manne;
 use run_session::{LineError, Run};
 use script_text::Command;
 use std::alloc::Global;
-use step_log::{Answer, MAX_ENTRIES};
+use step_log::{Answer, MAX_ENTRIES, RecordFault};
 
 #[derive(Drop)]
 pub(crate) enum Machine {
@@ -68,9 +68,9 @@ impl Session {
         })
     }
 
-    pub(crate) fn feed(&mut self, alloc: Global, line: &[u8]) -> Result<Option<LineError>, Want>
+    pub(crate) fn feed(&mut self, alloc: Global, line: &[u8]) -> Result<(), LineError>
         ensures ends { LineEnded (rules_of self.old) (limit_of self.old) self.new.lines line.now (stands self.old) (stands self.new) result }
-        ensures silent { result ≡ Ok None → LineSilences (table_of (rules_of self.old)) line.now (stands self.old).moment.state (stands self.new).moment.state }
+        ensures silent { IsOk result → LineSilences (table_of (rules_of self.old)) line.now (stands self.old).moment.state (stands self.new).moment.state }
         ensures lines { self.new.lines ≡ min (self.old.lines + 1) (2 ^ 64 - 1) }
         ensures rules { rules_of self.new ≡ rules_of self.old }
         ensures limit { limit_of self.new ≡ limit_of self.old }
@@ -84,9 +84,9 @@ impl Session {
         }
     }
 
-    pub(crate) fn follow(&mut self, alloc: Global, command: &Command) -> Result<bool, Want>
+    pub(crate) fn follow(&mut self, alloc: Global, command: &Command) -> Result<(), RecordFault>
         ensures ends { CommandEnded (rules_of self.old) (limit_of self.old) command.now (stands self.old) (stands self.new) result }
-        ensures silent { IfOk result (λ done. IsTrue done → Silences (table_of (rules_of self.old)) command.now (stands self.old).moment.state (stands self.new).moment.state) }
+        ensures silent { OnOk result (Silences (table_of (rules_of self.old)) command.now (stands self.old).moment.state (stands self.new).moment.state) }
         ensures number { self.new.answer.seq ≡ number_at command.now (stands self.new).count result }
         ensures reply { self.new.answer.reply ≡ reply_kept (table_of (rules_of self.old)) command.now (stands self.old) result }
         ensures rules { rules_of self.new ≡ rules_of self.old }

@@ -6,9 +6,10 @@ ghost use Rattle.rudekpi_c.specs.Slot.{OpensSession, AnswersFeed, Handed, line_s
 use crate::session::Session;
 use crate::slot::Slot;
 use crate::status::{BAD_ARGUMENT, BAD_LINE, DONE, LOG_FULL, MEMORY, NO_SESSION};
-use rule_machine::{MAX_NAME, RuleSet, Want};
+use rule_machine::{MAX_NAME, RuleSet};
 use run_session::LineError;
 use std::alloc::Global;
+use step_log::RecordFault;
 
 fn rules_named(rules: u32) -> RuleSet
     ensures { result ≡ named rules }
@@ -117,13 +118,13 @@ pub extern "C" fn rudekpi_session_free(alloc: Global, slot: &mut Slot)
     slot.take(alloc);
 }
 
-fn status_of(done: Result<Option<LineError>, Want>) -> u32
+fn status_of(done: Result<(), LineError>) -> u32
     ensures { result ≡ line_status done }
 {
     match done {
-        Ok(None) => DONE,
-        Ok(Some(LineError::BadLine { line: _ })) => BAD_LINE,
-        Ok(Some(LineError::LogFull)) => LOG_FULL,
-        Err(_) => MEMORY,
+        Ok(()) => DONE,
+        Err(LineError::BadLine { line: _ }) => BAD_LINE,
+        Err(LineError::Record(RecordFault::LogFull)) => LOG_FULL,
+        Err(LineError::Record(RecordFault::Memory)) => MEMORY,
     }
 }

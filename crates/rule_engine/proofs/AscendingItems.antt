@@ -1,11 +1,5 @@
 -- Items that ascend: none is named twice.
-use Rattle.std.proofs.Common.{◌≡◌, ℕ, ◌<◌, false, List, length, get_or, take, nat_eq, ap, ◌∙◌, arith}
-use Rattle.std.proofs.lemmas.Bool.{ne_eqb}
-use Rattle.std.proofs.lemmas.List.{get_or-take, length-take-le}
-use Rattle.std.proofs.lemmas.List.Elements.{All-from_get_or}
-use Rattle.std.proofs.lemmas.List.Folds.{list_any_none}
-use Rattle.rule_machine.specs.declared.choice.Item.{Item}
-use Rattle.rule_engine.specs.Marks.{Ascend, is_named}
+use Rattle.rule_engine.proofs.Prelude.{◌≡◌, ℕ, ◌<◌, false, List, length, get_or, take, nat_eq, ap, ◌∙◌, arith, ne_eqb, get_or-take, length-take-le, All-from_get_or, list_any_none, Item, Ascend, is_named}
 
 -- no item names the node of an earlier one
 pub unnamed : (items : List Item) (k : ℕ) (item : Item) → Ascend items → k < length items → item ≡ get_or items k item → is_named (take k items) item.node ≡ false

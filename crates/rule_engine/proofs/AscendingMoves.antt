@@ -1,30 +1,8 @@
 -- The moves of a choice in the order of their nodes are its least moves: both rise, and have the same
 -- members.
-use Rattle.std.proofs.Common.{◌≡◌, ℕ, suc, ◌+◌, ◌<◌, Bool, false, List, [], ◌∷◌, ◌++◌, map, filter_map, get_or, Contains, Option, None, Some, is_some, option_and_then, IsTrue, eqb-true, nat_eq, refl, sym, ap, ap₂, ◌∙◌, subst, ⊎_elim, arith}
-use Rattle.std.specs.List.{list_any, AllByRecursion, IsDistinct, cons_option}
-use Rattle.std.specs.List.Sorted.{IsPermutation, IsStrictlyIncreasing, IsNonDecreasing, IsNonDecreasingBy}
-use Rattle.std.specs.Option.{option_or}
-use Rattle.std.proofs.lemmas.Bool.{or_parts}
-use Rattle.std.proofs.lemmas.List.{get_or-map, length-map}
-use Rattle.std.proofs.lemmas.List.Folds.{list_any-append}
-use Rattle.std.proofs.lemmas.List.Kept.{AllPairs-from_increasing, IsStrictlyIncreasing-filter}
-use Rattle.std.proofs.lemmas.List.Sorted.{IsPermutation-refl, IsPermutation-map, IsPermutation-sym, Contains-permutation}
-use Rattle.std.proofs.lemmas.Map.Keys.{IsDistinct-IsPermutation, IsStrictlyIncreasing-from_distinct}
-use Rattle.std.proofs.lemmas.Cmp.{nat_eq_equiv}
-use Rattle.std.proofs.lemmas.Option.{option_and_then_some}
-use Rattle.rule_machine.specs.declared.act.Act.TheVariants.{Abandon}
-use Rattle.rule_machine.specs.declared.choice.Item.{Item}
-use Rattle.rule_machine.specs.declared.act.Moved.{Moved}
-use Rattle.rule_machine.specs.Network.{names, present}
-use Rattle.rule_machine.specs.State.{State}
-use Rattle.rule_machine.specs.RuleTable.{RuleTable}
-use Rattle.rule_machine.specs.Refuse.{item_refusal, items_refusal}
-use Rattle.rule_machine.specs.Least.{outcome_of, move_in, item_of, least_moves}
-use Rattle.machine_laws.specs.Pairs.{contains_first, contains_rest, contains_empty, contains_cases, filter_map_from}
-use Rattle.machine_laws.specs.LeastMoves.{makes_from_outcome, move_at, find_passes}
-use Rattle.machine_laws.specs.LeastAnswers.{find_contains, filter_map_contains, filter_map_nodes, names_increasing, names_contains}
-use Rattle.machine_laws.specs.AcceptedEvents.{taken_from_none, taken_at, choice_from_none}
-use Rattle.rule_engine.specs.ChoiceMoves.{verdicts_from, verdicts_of, verdict_moves, moves_by, AreLeast}
+use Rattle.rule_engine.proofs.Prelude.{◌≡◌, ℕ, suc, ◌+◌, ◌<◌, Bool, false, List, [], ◌∷◌, ◌++◌, map, filter_map, get_or, Contains, Option, None, Some, is_some, option_and_then, IsTrue, nat_eq, refl, sym, ap, ap₂, ◌∙◌, subst, ⊎_elim, arith, list_any, AllByRecursion, cons_option, IsPermutation, IsStrictlyIncreasing, IsNonDecreasing, IsNonDecreasingBy, option_or, or_parts, get_or-map, length-map, list_any-append, AllPairs-from_increasing, IsStrictlyIncreasing-filter, IsPermutation-refl, IsPermutation-map, IsPermutation-sym, Contains-permutation, IsDistinct-IsPermutation, IsStrictlyIncreasing-from_distinct, nat_eq_equiv, option_and_then_some, Abandon, Item, Moved, names, present, State, RuleTable, item_refusal, items_refusal, outcome_of, move_in, item_of, least_moves, contains_first, contains_rest, contains_empty, contains_cases, filter_map_from, makes_from_outcome, move_at, find_passes, find_contains, filter_map_contains, filter_map_nodes, names_increasing, names_contains, taken_from_none, taken_at, choice_from_none, verdicts_from, verdicts_of, verdict_moves, moves_by, AreLeast}
+use Rattle.std.proofs.Common.{eqb-true}
+use Rattle.std.specs.List.{IsDistinct}
 
 abbrev node_of : Moved → ℕ
 node_of m = m.node

@@ -1,18 +1,5 @@
 -- The neighbours that ask for a node come before the first that does not.
-use Rattle.std.proofs.Common.{◌≡◌, ◌≢◌, ℕ, ◌+◌, ◌<◌, ◌≤◌, Bool, true, false, ◌&&◌, ◌||◌, List, length, take, drop, get_or, nat_eq, sym, ap, ◌∙◌, subst, ⊎_elim, arith}
-use Rattle.std.proofs.Math.Bool.{or-false}
-use Rattle.std.specs.List.{list_any}
-use Rattle.std.specs.List.Sorted.{IsStrictlyIncreasing}
-use Rattle.std.proofs.lemmas.Bool.{and_right, cases_eq, le-ltb, ltb-false}
-use Rattle.std.proofs.lemmas.List.{get_or_default, get_or-drop, length-drop, take-append-drop}
-use Rattle.std.proofs.lemmas.List.Folds.{list_any-append, list_any_none}
-use Rattle.std.proofs.lemmas.List.Kept.{AllPairs-from_increasing, IsStrictlyIncreasing-filter}
-use Rattle.rule_machine.specs.Network.{Network, IsNetwork, linked, names, neighbours}
-use Rattle.rule_machine.specs.State.{State}
-use Rattle.rule_machine.specs.RuleTable.{RuleTable}
-use Rattle.machine_laws.specs.LeastAnswers.{names_increasing}
-use Rattle.rules_api.specs.LocalViews.{asks_for}
-use Rattle.rule_engine.specs.GuardRefresh.{IsRefreshed}
+use Rattle.rule_engine.proofs.Prelude.{◌≡◌, ◌≢◌, ℕ, ◌+◌, ◌<◌, ◌≤◌, Bool, true, false, ◌&&◌, ◌||◌, List, length, take, drop, get_or, nat_eq, sym, ap, ◌∙◌, subst, ⊎_elim, arith, or-false, list_any, IsStrictlyIncreasing, and_right, cases_eq, le-ltb, ltb-false, get_or_default, get_or-drop, length-drop, take-append-drop, list_any-append, list_any_none, AllPairs-from_increasing, IsStrictlyIncreasing-filter, Network, IsNetwork, linked, names, neighbours, State, RuleTable, names_increasing, asks_for, IsRefreshed}
 use Rattle.rule_engine.proofs.GuardRefresh.{looked_alike, looked_neighbours}
 
 -- if no later item passes, those so far settle the answer

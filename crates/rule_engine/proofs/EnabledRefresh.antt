@@ -1,20 +1,5 @@
 -- Looks again near a change keep the set of enabled nodes.
-use Rattle.std.proofs.Common.{◌≡◌, ℕ, suc, ◌+◌, ◌≤◌, Bool, true, false, cond, ◌&&◌, ◌||◌, List, [], ◌∷◌, length, filter, find, replicate, Option, None, is_some, nat_eq, refl, sym, ap, ◌∙◌, subst, ⊎_elim, arith}
-use Rattle.std.specs.List.{range_with_len}
-use Rattle.std.proofs.lemmas.Bool.{cases_Bool, cond-true, cond-false, eqb-true, eq-eqb}
-use Rattle.std.proofs.lemmas.List.{length-replicate, nil_from_length}
-use Rattle.std.proofs.lemmas.List.Elements.{filter_agree}
-use Rattle.rule_machine.specs.declared.act.Act.{Act}
-use Rattle.rule_machine.specs.Network.{Network, present}
-use Rattle.rule_machine.specs.State.{State, IsState}
-use Rattle.rule_machine.specs.RuleTable.{RuleTable, acts, rule_at, enabled_names}
-use Rattle.rules_api.specs.Target.{SameAt}
-use Rattle.machine_laws.specs.EnabledNodes.{quiet_at, act_none}
-use Rattle.enabled_set.specs.Members.{is_in, members}
-use Rattle.rule_engine.specs.EngineStates.{is_enabled_at, AreOn, IsEngineState}
-use Rattle.rule_engine.specs.GuardRefresh.{IsRefreshed}
-use Rattle.rule_engine.proofs.GuardRefresh.{looked_both}
-use Rattle.indexed_state.proofs.NodeScans.{kept_twice}
+use Rattle.rule_engine.proofs.Prelude.{◌≡◌, ℕ, suc, ◌+◌, Bool, true, false, cond, ◌&&◌, ◌||◌, List, [], ◌∷◌, length, filter, find, replicate, Option, None, is_some, nat_eq, refl, sym, ap, ◌∙◌, subst, ⊎_elim, arith, range_with_len, cases_Bool, cond-true, cond-false, eqb-true, eq-eqb, length-replicate, nil_from_length, filter_agree, Act, Network, present, State, IsState, RuleTable, acts, rule_at, enabled_names, SameAt, quiet_at, act_none, is_in, members, is_enabled_at, AreOn, IsRefreshed, kept_twice}
 use Rattle.rule_engine.proofs.OpeningState.{blank_at}
 
 -- a guard depends only on what its node shows
@@ -29,26 +14,20 @@ same_on t local s u v good good' here same =
 
 -- a change that keeps the number of names; each name that shows something else, or whose presence changed,
 -- was looked at
-pub kept_again : (t : RuleTable) → IsLocal t → (s u : State) (looked : ℕ → Bool) (bits bits' : List Bool) {marks : List Bool} → IsEngineState t s bits marks → IsState u → u.network.size ≡ s.network.size → ((v : ℕ) → looked v ≡ false → present u.network v ≡ present s.network v) → ((v : ℕ) → looked v ≡ false → SameAt s u v) → IsRefreshed t u looked bits bits' → IsEngineState t u bits' marks
-kept_again t local s u looked bits bits' kept good size here far done = record {
-  is_state = good;
-  enabled = record {
-    places = done.places ∙ kept.enabled.places ∙ ap (λ n. n + 1) (sym size);
-    each = λ v. done.each v ∙ ⊎_elim
-        (λ (near : looked v ≡ true). cond-true (looked v) (is_enabled_at t u v) (is_in bits v) near)
-        (λ (apart : looked v ≡ false). cond-false (looked v) (is_enabled_at t u v) (is_in bits v) apart ∙ kept.enabled.each v ∙ same_on t local s u v kept.is_state good (here v apart) (far v apart))
-        (cases_Bool (looked v));
-  };
-  unmarked = kept.unmarked ∙ ap (λ n. replicate (n + 1) false) (sym size);
-  few = omega (arith, kept.few, size);
+pub kept_again : (t : RuleTable) → IsLocal t → (s u : State) (looked : ℕ → Bool) (bits bits' : List Bool) → IsState s → AreOn t s bits → IsState u → u.network.size ≡ s.network.size → ((v : ℕ) → looked v ≡ false → present u.network v ≡ present s.network v) → ((v : ℕ) → looked v ≡ false → SameAt s u v) → IsRefreshed t u looked bits bits' → AreOn t u bits'
+kept_again t local s u looked bits bits' was kept good size here far done = record {
+  places = done.places ∙ kept.places ∙ ap (λ n. n + 1) (sym size);
+  each = λ v. done.each v ∙ ⊎_elim
+      (λ (near : looked v ≡ true). cond-true (looked v) (is_enabled_at t u v) (is_in bits v) near)
+      (λ (apart : looked v ≡ false). cond-false (looked v) (is_enabled_at t u v) (is_in bits v) apart ∙ kept.each v ∙ same_on t local s u v was good (here v apart) (far v apart))
+      (cases_Bool (looked v));
 }
 
 -- after a change of edges that shows at two ends only, a look at both
-pub kept_ends : (t : RuleTable) → IsLocal t → (s u : State) (net : Network) (a b : ℕ) (bits one two : List Bool) {marks : List Bool} → IsEngineState t s bits marks → IsState u → u ≡ record s { network = net } → net.size ≡ s.network.size → ((x : ℕ) → present net x ≡ present s.network x) → ((v : ℕ) → (nat_eq v a || nat_eq v b) ≡ false → SameAt s (record s { network = net }) v) → IsRefreshed t u (λ w. nat_eq w a) bits one → IsRefreshed t u (λ w. nat_eq w b) one two → IsEngineState t u two marks
-kept_ends t local s u net a b bits one two kept good is size here far first next =
-    kept_again t local s u (λ w. nat_eq w a || nat_eq w b) bits two kept good (ap (λ q. q.network.size) is ∙ size) (λ x _. ap (λ q. present q.network x) is ∙ here x)
+pub kept_ends : (t : RuleTable) → IsLocal t → (s u : State) (net : Network) (a b : ℕ) (bits bits' : List Bool) → IsState s → AreOn t s bits → IsState u → u ≡ record s { network = net } → net.size ≡ s.network.size → ((x : ℕ) → present net x ≡ present s.network x) → ((v : ℕ) → (nat_eq v a || nat_eq v b) ≡ false → SameAt s (record s { network = net }) v) → IsRefreshed t u (λ w. nat_eq w a || nat_eq w b) bits bits' → AreOn t u bits'
+kept_ends t local s u net a b bits bits' was kept good is size here far =
+    kept_again t local s u (λ w. nat_eq w a || nat_eq w b) bits bits' was kept good (ap (λ q. q.network.size) is ∙ size) (λ x _. ap (λ q. present q.network x) is ∙ here x)
     (λ v apart. subst (λ q. SameAt s q v) (sym is) (far v apart))
-    (looked_both t u (λ w. nat_eq w a) (λ w. nat_eq w b) bits one two first next)
 
 -- a rule that only present nodes have
 by_presence : {X : Type 0} (here : Bool) (o : Option X) → is_some (cond here o None) ≡ (here && is_some o)
@@ -69,16 +48,11 @@ none_on : (t : RuleTable) (s : State) (v : ℕ) (b : Bool) → present s.network
 none_on t s v true has quiet = ap is_some (act_none (t.guard s v) (quiet_at t s quiet v has))
 none_on t s v false has quiet = refl
 
--- if no rule is enabled, two empty sets are kept
-pub kept_quiet : (t : RuleTable) (s : State) (bits marks : List Bool) → IsState s → enabled_names t s ≡ [] → bits ≡ replicate (s.network.size + 1) false → marks ≡ replicate (s.network.size + 1) false → s.network.size ≤ 65535 → IsEngineState t s bits marks
-kept_quiet t s bits marks good quiet empty unmarked few = record {
-  is_state = good;
-  enabled = record {
-    places = ap length empty ∙ length-replicate (s.network.size + 1) false;
-    each = λ v. ap (λ l. is_in l v) empty ∙ blank_at (s.network.size + 1) v false ∙ sym (none_on t s v (present s.network v) refl quiet);
-  };
-  unmarked = unmarked;
-  few = few;
+-- if no rule is enabled, an empty set is kept
+pub kept_quiet : (t : RuleTable) (s : State) (bits : List Bool) → enabled_names t s ≡ [] → bits ≡ replicate (s.network.size + 1) false → AreOn t s bits
+kept_quiet t s bits quiet empty = record {
+  places = ap length empty ∙ length-replicate (s.network.size + 1) false;
+  each = λ v. ap (λ l. is_in l v) empty ∙ blank_at (s.network.size + 1) v false ∙ sym (none_on t s v (present s.network v) refl quiet);
 }
 
 -- it counts no members exactly if no rule is enabled

@@ -1,11 +1,5 @@
 -- An event that disturbs is not refused.
-use Rattle.std.proofs.Common.{◌≡◌, true, Option, None, Some, is_none, refl, sym}
-use Rattle.std.proofs.lemmas.Bool.{and_parts, true≢false}
-use Rattle.rule_machine.specs.declared.event.Event.{Event}
-use Rattle.rule_machine.specs.State.{State}
-use Rattle.rule_machine.specs.RuleTable.{RuleTable}
-use Rattle.rule_machine.specs.Refuse.{refusal_of}
-use Rattle.rule_engine.specs.Costs.{disturbs, may_disturb}
+use Rattle.rule_engine.proofs.Prelude.{◌≡◌, true, Option, None, Some, is_none, refl, sym, and_parts, true≢false, Event, State, RuleTable, refusal_of, disturbs, may_disturb}
 
 none_is : {X : Type 0} (o : Option X) → is_none o ≡ true → o ≡ None
 none_is None h = refl

@@ -1,12 +1,5 @@
 -- A node far from a change shows the same as before.
-use Rattle.std.proofs.Common.{◌≡◌, ℕ, Bool, false, ◌||◌, List, nat_eq, refl, sym, ◌∙◌}
-use Rattle.std.proofs.lemmas.Bool.{eq-eqb, or_parts, true≢false}
-use Rattle.rule_machine.specs.Network.{Network, linked, neighbours, with_edge, without_edge}
-use Rattle.rule_machine.specs.State.{State, IsState}
-use Rattle.rule_machine.specs.Disturbance.{after_link}
-use Rattle.rules_api.specs.Target.{SameAt}
-use Rattle.machine_laws.specs.Neighbours.{neighbours_range}
-use Rattle.net_state.proofs.Rounds.{round_linked, round_unlinked}
+use Rattle.rule_engine.proofs.Prelude.{◌≡◌, ℕ, Bool, false, ◌||◌, List, nat_eq, refl, sym, ◌∙◌, eq-eqb, or_parts, true≢false, Network, linked, neighbours, with_edge, without_edge, State, IsState, after_link, SameAt, neighbours_range, round_linked, round_unlinked}
 
 pub not_same : (v w : ℕ) → nat_eq w v ≡ false → w ≡ v → ⊥
 not_same v w apart same = true≢false (sym (eq-eqb w v same) ∙ apart)

@@ -1,10 +1,5 @@
 -- Lists that grow by one at their end.
-use Rattle.std.proofs.Common.{◌≡◌, ℕ, ◌+◌, ◌<◌, List, [], ◌∷◌, ◌++◌, length, get_or, take, drop, Option, None, Some, option_to_list, nat_eq, refl, sym, ap, ◌∙◌, arith}
-use Rattle.std.specs.List.{list_any, cons_option}
-use Rattle.std.specs.Option.{option_or}
-use Rattle.std.proofs.lemmas.List.{drop_more, take_more}
-use Rattle.rule_machine.specs.declared.verdict.Verdict.{Verdict}
-use Rattle.rule_engine.specs.ChoiceMoves.{refused_by, verdicts_refusal}
+use Rattle.rule_engine.proofs.Prelude.{◌≡◌, ℕ, ◌+◌, ◌<◌, List, [], ◌∷◌, ◌++◌, length, get_or, take, drop, Option, None, Some, option_to_list, nat_eq, refl, sym, ap, ◌∙◌, arith, list_any, cons_option, option_or, drop_more, take_more, Verdict, refused_by, verdicts_refusal}
 
 pub one_found : {X : Type 0} (o : Option X) → cons_option o [] ≡ option_to_list o
 one_found None = refl

@@ -1,15 +1,6 @@
 -- Looks again at several nodes.
-use Rattle.std.proofs.Common.{◌≡◌, ℕ, zero, suc, ◌+◌, ◌<◌, ◌≤◌, Bool, true, false, cond, ◌&&◌, ◌||◌, List, [], ◌∷◌, length, take, get_or, filter, find, Some, is_some, nat_eq, refl, sym, ap, ap₂, ◌∙◌, ⊎_elim, arith}
-use Rattle.std.proofs.Math.Bool.{or_assoc}
-use Rattle.std.specs.List.{list_any, range_with_len}
-use Rattle.std.proofs.lemmas.Bool.{and_right, cases_Bool, cases_eq, eq-eqb, eqb-true, ne_eqb, or_parts, or_right, true≢false}
-use Rattle.std.proofs.lemmas.List.Folds.{list_any_more}
-use Rattle.rule_machine.specs.Network.{Network, IsNetwork, linked, neighbours}
-use Rattle.rule_machine.specs.State.{State, suits, has_suitor}
-use Rattle.rule_machine.specs.RuleTable.{RuleTable}
-use Rattle.machine_laws.specs.Neighbours.{present_range, linked_present, linked_back, neighbours_range}
-use Rattle.rule_engine.specs.EngineStates.{is_enabled_at}
-use Rattle.rule_engine.specs.GuardRefresh.{is_suitor, IsRefreshed}
+use Rattle.rule_engine.proofs.Prelude.{◌≡◌, ℕ, ◌+◌, ◌<◌, Bool, true, false, cond, ◌&&◌, ◌||◌, List, [], ◌∷◌, length, take, get_or, find, Some, is_some, nat_eq, refl, sym, ap, ap₂, ◌∙◌, arith, or_assoc, list_any, and_right, eqb-true, or_parts, list_any_more, IsNetwork, linked, neighbours, State, suits, has_suitor, RuleTable, is_enabled_at, is_suitor, IsRefreshed}
+use Rattle.suitor_index.proofs.NeighbourSums.{listed_is_linked}
 
 -- no look
 pub looked_none : (t : RuleTable) (s : State) (bits : List Bool) → IsRefreshed t s (λ w. false) bits bits
@@ -23,10 +14,7 @@ looked_both t s p q a b c first next = record {
 }
   where
     by_tests : (p q x y : Bool) → cond q x (cond p x y) ≡ cond (p || q) x y
-    by_tests true true x y = refl
-    by_tests true false x y = refl
-    by_tests false true x y = refl
-    by_tests false false x y = refl
+    by_tests p q x y = grind arith
 
 -- the same nodes, named by another test
 pub looked_alike : (t : RuleTable) (s : State) (p q : ℕ → Bool) (a b : List Bool) → ((w : ℕ) → p w ≡ q w) → IsRefreshed t s p a b → IsRefreshed t s q a b
@@ -34,42 +22,6 @@ looked_alike t s p q a b agree looked = record {
   places = looked.places;
   each = λ w. looked.each w ∙ ap (λ x. cond x (is_enabled_at t s w) (get_or a w false)) (agree w);
 }
-
--- a number of a range that passes is one of those that a filter keeps
-pub listed_in : (p : ℕ → Bool) (a n w : ℕ) → p w ≡ true → a ≤ w → w < a + n → list_any (nat_eq w) (filter p (range_with_len a n)) ≡ true
-listed_in p a zero w on low high = absurd (omega arith)
-listed_in p a (suc n) w on low high =
-    ⊎_elim
-    (λ (same : w ≡ a). ap (λ b. list_any (nat_eq w) (cond b (a ∷ filter p (range_with_len (a + 1) n)) (filter p (range_with_len (a + 1) n)))) (ap p (sym same) ∙ on) ∙ ap (λ b. b || list_any (nat_eq w) (filter p (range_with_len (a + 1) n))) (eq-eqb w a same))
-    (λ (apart : w ≡ a → ⊥). kept (p a) (listed_in p (a + 1) n w on (omega arith) (omega arith)))
-    (cases_eq w a)
-  where
-    kept : (b : Bool) → list_any (nat_eq w) (filter p (range_with_len (a + 1) n)) ≡ true → list_any (nat_eq w) (cond b (a ∷ filter p (range_with_len (a + 1) n)) (filter p (range_with_len (a + 1) n))) ≡ true
-    kept true h = or_right (nat_eq w a) (list_any (nat_eq w) (filter p (range_with_len (a + 1) n))) h
-    kept false h = h
-
--- one that fails is none of them
-listed_out : (p : ℕ → Bool) (w : ℕ) (xs : List ℕ) → p w ≡ false → list_any (nat_eq w) (filter p xs) ≡ false
-listed_out p w [] off = refl
-listed_out p w (x ∷ xs) off =
-    ⊎_elim
-    (λ (on : p x ≡ true).
-    ap (λ b. list_any (nat_eq w) (cond b (x ∷ filter p xs) (filter p xs))) on
-    ∙ ap (λ b. b || list_any (nat_eq w) (filter p xs)) (ne_eqb w x (λ same. true≢false (sym on ∙ ap p (sym same) ∙ off)))
-    ∙ listed_out p w xs off)
-    (λ (no : p x ≡ false). ap (λ b. list_any (nat_eq w) (cond b (x ∷ filter p xs) (filter p xs))) no ∙ listed_out p w xs off)
-    (cases_Bool (p x))
-
--- the list of a node's neighbours has exactly the nodes linked to it
-pub listed_neighbours : (net : Network) (v w : ℕ) → IsNetwork net → list_any (nat_eq w) (neighbours net v) ≡ linked net v w
-listed_neighbours net v w good =
-    ap (list_any (nat_eq w)) (neighbours_range net v good)
-    ∙ ⊎_elim
-    (λ (on : linked net v w ≡ true).
-    let bounds = present_range net w (linked_present net w v good (linked_back net w v ∙ on)) in
-    listed_in (linked net v) 1 net.size w on bounds.0 (omega arith) ∙ sym on)
-    (λ (off : linked net v w ≡ false). listed_out (linked net v) w (range_with_len 1 net.size) off ∙ sym off)
-    (cases_Bool (linked net v w))
 
 -- one more of the nodes that a test names by one item of a list
 pub looked_more : {X : Type 0} (t : RuleTable) (s : State) (p : ℕ → Bool) (q : X → ℕ → Bool) (xs : List X) (i : ℕ) (x : X) (a b c : List Bool) → i < length xs → x ≡ get_or xs i x → IsRefreshed t s (λ w. p w || list_any (λ y. q y w) (take i xs)) a b → IsRefreshed t s (q x) b c → IsRefreshed t s (λ w. p w || list_any (λ y. q y w) (take (i + 1) xs)) a c
@@ -84,16 +36,8 @@ any_at c w [] = refl
 any_at c w (y ∷ ys) =
     ap (λ b. (nat_eq w y && c y) || b) (any_at c w ys) ∙ shared (nat_eq w y) (list_any (nat_eq w) ys) (c y) (c w) (λ same. ap c (sym (eqb-true w y same)))
   where
-    absorbed : (b x y : Bool) → x ≡ y → (x || (b && y)) ≡ y
-    absorbed b true true e = refl
-    absorbed b true false e = absurd (true≢false e)
-    absorbed b false true e = absurd (true≢false (sym e))
-    absorbed true false false e = refl
-    absorbed false false false e = refl
-
     shared : (e b x y : Bool) → (e ≡ true → x ≡ y) → ((e && x) || (b && y)) ≡ ((e || b) && y)
-    shared true b x y h = absorbed b x y (h refl)
-    shared false b x y h = refl
+    shared e b x y h = grind arith
 
 -- a search finds an item exactly if one passes
 pub found_any : (p : ℕ → Bool) (xs : List ℕ) → is_some (find p xs) ≡ list_any p xs
@@ -114,11 +58,11 @@ none_at c w (y ∷ ys) e =
 pub looked_unsuited : (t : RuleTable) (s : State) (v : ℕ) (bits : List Bool) → IsNetwork s.network → has_suitor s v ≡ false → IsRefreshed t s (is_suitor s v) bits bits
 looked_unsuited t s v bits good none =
     looked_alike t s (λ w. false) (is_suitor s v) bits bits
-    (λ w. sym (sym (ap (λ b. b && suits s v w) (listed_neighbours s.network v w good)) ∙ sym (any_at (suits s v) w (neighbours s.network v)) ∙ none_at (suits s v) w (neighbours s.network v) (sym (found_any (suits s v) (neighbours s.network v)) ∙ none)))
+    (λ w. sym (sym (ap (λ b. b && suits s v w) (listed_is_linked s.network v w good)) ∙ sym (any_at (suits s v) w (neighbours s.network v)) ∙ none_at (suits s v) w (neighbours s.network v) (sym (found_any (suits s v) (neighbours s.network v)) ∙ none)))
     (looked_none t s bits)
 
 -- looks at those neighbours that pass, one after another
 pub looked_neighbours : (t : RuleTable) (s : State) (v : ℕ) (c : ℕ → Bool) (list : List ℕ) (a b : List Bool) → IsNetwork s.network → list ≡ neighbours s.network v → IsRefreshed t s (λ w. list_any (λ y. nat_eq w y && c y) list) a b → IsRefreshed t s (λ w. linked s.network v w && c w) a b
 looked_neighbours t s v c list a b good is looked =
     looked_alike t s (λ w. list_any (λ y. nat_eq w y && c y) list) (λ w. linked s.network v w && c w) a b
-    (λ w. ap (list_any (λ y. nat_eq w y && c y)) is ∙ any_at c w (neighbours s.network v) ∙ ap (λ b. b && c w) (listed_neighbours s.network v w good)) looked
+    (λ w. ap (list_any (λ y. nat_eq w y && c y)) is ∙ any_at c w (neighbours s.network v) ∙ ap (λ b. b && c w) (listed_is_linked s.network v w good)) looked

@@ -1,20 +1,6 @@
 -- What verdicts say of the items that they are of.
-use Rattle.std.proofs.Common.{◌≡◌, ℕ, suc, ◌+◌, Bool, true, false, cond, not, ◌&&◌, ◌||◌, List, [], ◌∷◌, ◌++◌, length, Option, None, Some, nat_eq, nat_lt, refl, sym, ap, ◌∙◌}
-use Rattle.std.specs.List.{list_any}
-use Rattle.std.proofs.lemmas.List.Folds.{list_any-append}
-use Rattle.std.specs.Option.{option_or}
-use Rattle.rule_machine.specs.declared.act.Act.{Act}
-use Rattle.rule_machine.specs.declared.choice.Item.{Item}
-use Rattle.rule_machine.specs.declared.refusal.Refusal.{Refusal}
-use Rattle.rule_machine.specs.declared.refusal.Refusal.TheVariants.{UnknownNode, ChosenTwice, BadTarget, EmptyChoice, NotCentral}
-use Rattle.rule_machine.specs.declared.verdict.Verdict.{Verdict}
+use Rattle.rule_engine.proofs.Prelude.{◌≡◌, ℕ, suc, ◌+◌, Bool, true, false, cond, not, ◌&&◌, ◌||◌, List, [], ◌∷◌, ◌++◌, length, Option, None, Some, nat_eq, nat_lt, refl, sym, ap, ◌∙◌, list_any, list_any-append, option_or, Act, Item, Refusal, UnknownNode, ChosenTwice, BadTarget, EmptyChoice, NotCentral, Verdict, present, State, RuleTable, rule_at, item_refusal, items_refusal, step_refusal, rule_refusal, wish_refusal, outcome_of, outcome_at, outcome_by, verdict_of, verdicts_from, verdicts_of, refused_by, verdicts_refusal, size_refusal}
 use Rattle.rule_machine.specs.declared.verdict.Outcome.TheVariants as outcome
-use Rattle.rule_machine.specs.Network.{present}
-use Rattle.rule_machine.specs.State.{State}
-use Rattle.rule_machine.specs.RuleTable.{RuleTable, rule_at}
-use Rattle.rule_machine.specs.Refuse.{item_refusal, items_refusal, step_refusal, rule_refusal, wish_refusal}
-use Rattle.rule_machine.specs.Least.{outcome_of, outcome_at, outcome_by}
-use Rattle.rule_engine.specs.ChoiceMoves.{verdict_of, verdicts_from, verdicts_of, refused_by, verdicts_refusal, size_refusal}
 
 by_wish : (t : RuleTable) (s : State) (v : ℕ) (act : Act) (wish : Option ℕ) → wish_refusal (t.allowed s v act) wish ≡ refused_by (outcome_by t s v act wish) false
 by_wish t s v act None = refl

@@ -1,16 +1,5 @@
 -- Nodes that join and leave: what the others show, and the set of enabled nodes.
-use Rattle.std.proofs.Common.{◌≡◌, ℕ, ◌<◌, ◌≤◌, Bool, true, false, cond, is_some, List, length, set, get_or, nat_eq, None, IsTrue, sym, ap, ◌∙◌, subst, ⊎_elim, arith}
-use Rattle.std.proofs.lemmas.Bool.{and_parts, and_from, cases_lt, false_from_ne_true, le-leb, true≢false}
-use Rattle.std.proofs.lemmas.List.{get_or-set_same, get_or_past, length-set}
-use Rattle.rule_machine.specs.Network.{Network, IsNetwork, present, with_node}
-use Rattle.rule_machine.specs.State.{State, IsState}
-use Rattle.rule_machine.specs.RuleTable.{RuleTable, rule_at}
-use Rattle.rule_machine.specs.Disturbance.{after_join}
-use Rattle.rules_api.specs.Target.{SameAt}
-use Rattle.machine_laws.specs.Edges.{present_other}
-use Rattle.machine_laws.specs.StatePreservation.{join_keeps}
-use Rattle.rule_engine.specs.EngineStates.{is_enabled_at, IsEngineState}
-use Rattle.rule_engine.specs.GuardRefresh.{IsRefreshed}
+use Rattle.rule_engine.proofs.Prelude.{◌≡◌, ℕ, ◌<◌, ◌≤◌, Bool, true, false, cond, is_some, List, length, set, get_or, nat_eq, None, IsTrue, sym, ap, ◌∙◌, subst, ⊎_elim, arith, and_parts, and_from, cases_lt, false_from_ne_true, le-leb, true≢false, get_or-set_same, get_or_past, length-set, Network, IsNetwork, present, with_node, State, IsState, RuleTable, rule_at, after_join, SameAt, present_other, join_keeps, is_enabled_at, AreOn, IsRefreshed}
 use Rattle.rule_engine.proofs.EnabledRefresh.{IsLocal, kept_again}
 use Rattle.rule_engine.proofs.FarNodes.{not_same, seat_far}
 
@@ -22,12 +11,12 @@ joined_present net v good low high =
     and_from _ _ (le-leb 1 v low) (and_from _ _ (le-leb v net.size high) (get_or-set_same net.here v true false (let l = good.here_len in omega (arith, l, high))))
 
 -- after a join, a look at the node
-pub kept_joined : (t : RuleTable) → IsLocal t → (s u : State) (v : ℕ) (bits bits' : List Bool) {marks : List Bool} → IsEngineState t s bits marks → 1 ≤ v → u ≡ after_join s v → IsRefreshed t u (λ w. nat_eq w v) bits bits' → IsEngineState t u bits' marks
-kept_joined t local s u v bits bits' kept low is done =
-    let good = join_keeps s v low kept.is_state in
-    kept_again t local s u (λ w. nat_eq w v) bits bits' kept (subst IsState (sym is) good) (ap (λ q. q.network.size) is)
+pub kept_joined : (t : RuleTable) → IsLocal t → (s u : State) (v : ℕ) (bits bits' : List Bool) → IsState s → AreOn t s bits → 1 ≤ v → u ≡ after_join s v → IsRefreshed t u (λ w. nat_eq w v) bits bits' → AreOn t u bits'
+kept_joined t local s u v bits bits' was kept low is done =
+    let good = join_keeps s v low was in
+    kept_again t local s u (λ w. nat_eq w v) bits bits' was kept (subst IsState (sym is) good) (ap (λ q. q.network.size) is)
     (λ x apart. ap (λ q. present q.network x) is ∙ present_other s.network v true x (not_same v x apart))
-    (λ w _. subst (λ q. SameAt s q w) (sym is) (seat_far s (set s.network.here v true) w kept.is_state good)) done
+    (λ w _. subst (λ q. SameAt s q w) (sym is) (seat_far s (set s.network.here v true) w was good)) done
 
 -- ---- a node that leaves
 

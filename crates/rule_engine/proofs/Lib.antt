@@ -1,3 +1,4 @@
+pub mod Prelude
 pub mod GrowingLists
 pub mod ItemVerdicts
 pub mod NodeScans
@@ -20,3 +21,5 @@ pub mod Moments
 pub mod ScanSums
 pub mod EventCosts
 pub mod ReachLists
+pub mod EnabledNames
+pub mod NetworkStarts

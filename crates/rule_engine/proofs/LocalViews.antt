@@ -1,19 +1,8 @@
 -- What a write of one node's registers leaves unchanged in a glance at another.
-use Rattle.std.proofs.Common.{◌≡◌, ℕ, Bool, true, false, not, ◌&&◌, ◌||◌, List, [], ◌∷◌, reverse, Option, None, Some, is_some, is_none, find, nat_eq, nat_lt, IsTrue, refl, sym, ap, ap₂, ◌∙◌, ◌⊎◌, inl, inr, ⊎_elim}
-use Rattle.std.proofs.Math.Bool.{and-false, or-false, or-true, or_assoc, or_comm}
-use Rattle.std.specs.List.{list_any}
-use Rattle.std.proofs.lemmas.Bool.{and_right, cases_Bool, cases_eq, eq-eqb, false_from_ne_true, ne_eqb, or_parts, true≢false}
-use Rattle.std.proofs.lemmas.List.{reverse-append}
-use Rattle.std.proofs.lemmas.List.Folds.{list_any-append}
-use Rattle.rule_machine.specs.Network.{linked, neighbours}
-use Rattle.rule_machine.specs.State.{State, Registers, IsState, pointer, flag, points, is_at, married, has_suitor}
-use Rattle.rule_machine.specs.RuleTable.{is_open}
-use Rattle.rules_api.specs.LocalViews.{AgreesLocally, asks_for, reaches, is_reached, reaches_beside}
-use Rattle.machine_laws.specs.Edges.{linked_comm}
-use Rattle.machine_laws.specs.Writes.{if_some_at, is_at_from_some, some_from_is_at}
-use Rattle.rule_engine.specs.GuardRefresh.{is_suitor, may_turn, may_change_guard}
+use Rattle.rule_engine.proofs.Prelude.{◌≡◌, ℕ, Bool, true, false, not, ◌&&◌, ◌||◌, List, [], ◌∷◌, reverse, Option, None, Some, is_some, is_none, find, nat_eq, nat_lt, IsTrue, refl, sym, ap, ap₂, ◌∙◌, ◌⊎◌, inl, inr, ⊎_elim, and-false, or-false, or-true, or_assoc, or_comm, list_any, and_right, cases_Bool, cases_eq, eq-eqb, false_from_ne_true, ne_eqb, or_parts, true≢false, reverse-append, list_any-append, linked, neighbours, State, Registers, IsState, pointer, flag, points, is_at, married, has_suitor, is_open, AgreesLocally, asks_for, reaches, is_reached, reaches_beside, linked_comm, if_some_at, is_at_from_some, some_from_is_at, is_suitor, may_turn, may_change_guard}
 use Rattle.rule_engine.proofs.FarNodes.{not_same}
-use Rattle.rule_engine.proofs.GuardRefresh.{found_any, listed_neighbours}
+use Rattle.rule_engine.proofs.GuardRefresh.{found_any}
+use Rattle.suitor_index.proofs.NeighbourSums.{listed_is_linked}
 
 -- the state of the same network with these registers
 abbrev pub with_registers : State → Registers → State
@@ -58,7 +47,7 @@ reach_beside : (above : Bool) (opens : Option ℕ → Bool → Bool) (s : State)
 reach_beside above opens s v w good =
     reach_any above opens s w
     ∙ any_beside (is_reached above opens s w) v (neighbours s.network w)
-    ∙ ap₂ (λ (b c : Bool). b || (c && is_reached above opens s w v)) (sym (found_any (λ x. not (nat_eq x v) && is_reached above opens s w x) (neighbours s.network w))) (listed_neighbours s.network w v good.is_network)
+    ∙ ap₂ (λ (b c : Bool). b || (c && is_reached above opens s w v)) (sym (found_any (λ x. not (nat_eq x v) && is_reached above opens s w x) (neighbours s.network w))) (listed_is_linked s.network w v good.is_network)
 
 -- a node that is not asked for is not reached
 never_asked : (above : Bool) (opens : Option ℕ → Bool → Bool) (s : State) (v w : ℕ) → asks_for above w v ≡ false → is_reached above opens s w v ≡ false

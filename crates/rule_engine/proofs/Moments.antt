@@ -1,26 +1,5 @@
 -- The moments that a network goes through.
-use Rattle.std.proofs.Common.{◌≡◌, ℕ, ◌+◌, ◌<◌, List, [], ◌∷◌, ◌++◌, length, take, drop, get_or, zip, Some, None, Result, Ok, Err, OnErr, IsSomeAnd, IsTrue, inl, inr, refl, sym, ap, ◌∙◌, subst, arith}
-use Rattle.std.proofs.lemmas.Option.{slice_get-get_or}
-use Rattle.std.proofs.lemmas.List.{take_more, drop_more, append_assoc}
-use Rattle.rule_machine.specs.declared.event.Event.{Event}
-use Rattle.rule_machine.specs.declared.reply.Reply.{Reply}
-use Rattle.rule_machine.specs.State.{State, IsState}
-use Rattle.rule_machine.specs.RuleTable.{RuleTable}
-use Rattle.rule_machine.specs.Refuse.{refusal_of}
-use Rattle.rule_machine.specs.Answer.{Answers, spent_after}
-use Rattle.rule_machine.specs.Least.{reply_of, state_after, replies_of}
-use Rattle.rule_machine.specs.Run.{Moment, Run, beginning_with, moment_after}
-use Rattle.machine_laws.specs.StatePreservation.{opening_is_state}
-use Rattle.machine_laws.specs.LeastMoves.{IsTable}
-use Rattle.machine_laws.specs.AcceptedEvents.{state_after_keeps}
-use Rattle.machine_laws.specs.LeastAnswers.{least_answers}
-use Rattle.machine_laws.specs.Runs.{answers_keep}
-use Rattle.charge_laws.specs.ChargeWords.{IsCharged}
-use Rattle.charge_laws.specs.Laws.{beginning_is_within}
-use Rattle.charge_laws.specs.Runs.{answer_within}
-use Rattle.rule_engine.specs.EventReplies.{IsWithinBudget, StopsForMemory, moment_after_all, takes_memory}
-use Rattle.rule_engine.specs.EngineStates.{moment}
-use Rattle.rule_engine.specs.PreparedEvents.{NetView, IsPrepared}
+use Rattle.rule_engine.proofs.Prelude.{◌≡◌, ℕ, ◌+◌, ◌<◌, List, [], ◌∷◌, ◌++◌, length, take, drop, get_or, zip, Some, None, Result, Ok, Err, OnErr, IsSomeAnd, IsTrue, inl, inr, refl, sym, ap, ◌∙◌, subst, arith, slice_get-get_or, take_more, drop_more, append_assoc, Event, Reply, State, IsState, RuleTable, refusal_of, Answers, spent_after, reply_of, state_after, replies_of, Moment, Run, beginning_with, moment_after, opening_is_state, IsTable, state_after_keeps, least_answers, answers_keep, IsCharged, beginning_is_within, answer_within, IsWithinBudget, StopsForMemory, moment_after_all, takes_memory, moment, NetView, IsPrepared}
 
 -- ---- what is spent
 

@@ -1,27 +1,9 @@
 -- Marks that are made and cleared one by one.
-use Rattle.std.proofs.Common.{◌≡◌, ℕ, zero, suc, ◌+◌, ◌<◌, Bool, true, false, cond, ◌||◌, List, [], ◌∷◌, ◌++◌, length, get_or, replicate, take, drop, set, All, None, Some, is_some, IsSome, nat_eq, refl, sym, ap, ◌∙◌, subst, ⊎_elim, arith, eq-eqb}
-use Rattle.std.proofs.Math.Bool.{or-false, or-true}
-use Rattle.std.specs.List.{list_any}
-use Rattle.std.specs.Option.{option_or}
-use Rattle.std.proofs.lemmas.Bool.{cases_Bool, cases_eq, ne_eqb, true≢false}
-use Rattle.std.proofs.lemmas.List.{ext_get_or, get_or-set_same, get_or-set_other, drop_more, length-set}
-use Rattle.std.proofs.lemmas.List.Folds.{list_any_more}
-use Rattle.rule_machine.specs.declared.choice.Item.{Item}
-use Rattle.rule_machine.specs.declared.refusal.Refusal.{Refusal}
-use Rattle.rule_machine.specs.declared.verdict.Verdict.{Verdict}
-use Rattle.rule_machine.specs.declared.verdict.Outcome.{Outcome}
+use Rattle.rule_engine.proofs.Prelude.{◌≡◌, ℕ, zero, suc, ◌+◌, ◌<◌, Bool, true, false, cond, ◌||◌, List, [], ◌∷◌, ◌++◌, length, get_or, take, drop, set, All, IsTrue, None, option_to_list, Some, is_some, IsSome, nat_eq, refl, sym, ap, ◌∙◌, subst, ⊎_elim, arith, or-false, or-true, list_any, option_or, cases_Bool, cases_eq, ne_eqb, true≢false, get_or-set_same, get_or-set_other, drop_more, length-set, list_any_more, Item, Moved, Refusal, Verdict, Outcome, present, State, RuleTable, rule_at, items_refusal, move_in, outcome_of, outcome_at, present_range, is_in, moves_by, refused_by, verdicts_refusal, verdicts_from, verdicts_of, AreMarks, HasPlace, is_named, is_judged}
+use Rattle.std.proofs.Common.{eq-eqb}
 use Rattle.rule_machine.specs.declared.verdict.Outcome.TheVariants as outcome
-use Rattle.rule_machine.specs.Network.{present}
-use Rattle.rule_machine.specs.State.{State}
-use Rattle.rule_machine.specs.RuleTable.{RuleTable, rule_at}
-use Rattle.rule_machine.specs.Refuse.{items_refusal}
-use Rattle.rule_machine.specs.Least.{move_in, outcome_of, outcome_at}
-use Rattle.machine_laws.specs.Neighbours.{present_range}
-use Rattle.enabled_set.specs.Members.{is_in}
-use Rattle.rule_engine.specs.ChoiceMoves.{refused_by, verdicts_refusal, verdicts_from, verdicts_of}
-use Rattle.rule_engine.specs.Marks.{AreClear, AreMarks, HasPlace, is_named, is_judged}
-use Rattle.rule_engine.proofs.OpeningState.{blank_at}
 use Rattle.rule_engine.proofs.GrowingLists.{push_is_take}
+use Rattle.rule_engine.proofs.NodeScans.{found_next}
 use Rattle.rule_engine.proofs.ItemVerdicts.{item_refusal-outcome}
 
 -- an outcome that is not refused is a move
@@ -85,12 +67,24 @@ item_refused t s items k item twice refusal within is judged named =
     ∙ ap (items_refusal t s (take k items)) (sym (drop_more items k item within))
 
 -- one more item that is not refused
-pub items_refusal_more : (t : RuleTable) (s : State) (items : List Item) (k : ℕ) (item : Item) → k < length items → item ≡ get_or items k item → refused_by (outcome_of t s item) (is_named (take k items) item.node) ≡ None → items_refusal t s (take (k + 1) items) (drop (k + 1) items) ≡ items_refusal t s (take k items) (drop k items)
+items_refusal_more : (t : RuleTable) (s : State) (items : List Item) (k : ℕ) (item : Item) → k < length items → item ≡ get_or items k item → refused_by (outcome_of t s item) (is_named (take k items) item.node) ≡ None → items_refusal t s (take (k + 1) items) (drop (k + 1) items) ≡ items_refusal t s (take k items) (drop k items)
 items_refusal_more t s items k item within is none =
     ap (λ front. items_refusal t s front (drop (k + 1) items)) (sym (push_is_take items k item within is))
     ∙ ap (λ o. option_or o (items_refusal t s (take k items ++ item ∷ []) (drop (k + 1) items))) (sym (item_refusal-outcome t s (take k items) item ∙ none))
     ∙ ap (λ i. items_refusal t s (take k items) (i ∷ drop (k + 1) items)) is
     ∙ ap (items_refusal t s (take k items)) (sym (drop_more items k item within))
+
+-- the items before the index are not refused, and these are their moves, if memory has lasted
+pub record AreTaken (t : RuleTable) (s : State) (items : List Item) (k : ℕ) (whole : Bool) (made : List Moved) : Type 0 where
+  pub rest : items_refusal t s (take k items) (drop k items) ≡ items_refusal t s [] items
+  pub moves : IsTrue whole → made ≡ moves_by t s (take k items)
+
+pub taken_more : (t : RuleTable) (s : State) (items : List Item) (k : ℕ) (item : Item) (o : Outcome) (whole whole' : Bool) (made made' : List Moved) → k < length items → item ≡ get_or items k item → o ≡ outcome_of t s item → refused_by o (is_named (take k items) item.node) ≡ None → (IsTrue whole' → IsTrue whole) → (IsTrue whole' → made' ≡ made ++ option_to_list (move_in o)) → AreTaken t s items k whole made → AreTaken t s items (k + 1) whole' made'
+taken_more t s items k item o whole whole' made made' within at is accepted lasts added so_far = record {
+  rest = items_refusal_more t s items k item within at (ap (λ (q : Outcome). refused_by q (is_named (take k items) item.node)) (sym is) ∙ accepted) ∙ so_far.rest;
+  moves = λ yes.
+      found_next (λ (i : Item). move_in (outcome_of t s i)) made made' items k item within at (so_far.moves (lasts yes)) (added yes ∙ ap (λ (q : Outcome). made ++ option_to_list (move_in q)) is);
+}
 
 -- the node of an item that moves is present, and so has a place
 pub item_placed : (t : RuleTable) (s : State) (item : Item) (places : ℕ) → places ≡ s.network.size + 1 → HasPlace places item.node (outcome_of t s item)
@@ -109,11 +103,3 @@ verdicts_placed_from t s place (item ∷ items) places count (suc k) d below = v
 pub verdicts_placed : (t : RuleTable) (s : State) (items : List Item) (verdicts : List Verdict) (places : ℕ) → verdicts ≡ verdicts_of t s items → places ≡ s.network.size + 1 → All (λ d. HasPlace places d.node d.outcome) verdicts
 verdicts_placed t s items verdicts places is count =
     subst (All (λ (d : Verdict). HasPlace places d.node d.outcome)) (sym is) (verdicts_placed_from t s 0 items places count)
-
--- if every place is false, no node is marked
-pub blank_clear : (places : ℕ) (marks : List Bool) → marks ≡ replicate places false → AreClear marks
-blank_clear places marks is v = ap (λ l. is_in l v) is ∙ blank_at places v false
-
--- clear marks of as many places are the same
-pub clear_same : (marks marks' : List Bool) → length marks' ≡ length marks → AreClear marks → AreClear marks' → marks' ≡ marks
-clear_same marks marks' len clear clear' = ext_get_or false marks' marks len (λ i below. clear' i ∙ sym (clear i))

@@ -1,12 +1,5 @@
 -- The opening state is stable.
-use Rattle.std.proofs.Common.{◌≡◌, ℕ, ◌+◌, ◌<◌, ◌≤◌, Bool, false, None, Some, replicate, get_or, IfSome, sym, ◌∙◌, subst, ⊎_elim, arith}
-use Rattle.std.proofs.lemmas.Bool.{cases_lt, true≢false}
-use Rattle.std.proofs.lemmas.List.{length-replicate, get_or-replicate, get_or_past}
-use Rattle.rule_machine.specs.Network.{edge}
-use Rattle.rule_machine.specs.State.{opening_with, pointer}
-use Rattle.rule_machine.specs.Stable.{IsStable}
-use Rattle.machine_laws.specs.Pointers.{null_unmarried}
-use Rattle.machine_laws.specs.Edges.{contains-empty}
+use Rattle.rule_engine.proofs.Prelude.{◌≡◌, ℕ, ◌+◌, ◌<◌, ◌≤◌, Bool, false, None, Some, replicate, get_or, IfSome, sym, ◌∙◌, subst, ⊎_elim, arith, cases_lt, true≢false, length-replicate, get_or-replicate, get_or_past, edge, opening_with, pointer, IsStable, null_unmarried, contains-empty}
 
 -- a table of one value
 pub blank_at : {X : Type 0} (n v : ℕ) (x : X) → get_or (replicate n x) v x ≡ x

@@ -1,27 +1,5 @@
 -- The list of the nodes that an event would reach.
-use Rattle.std.proofs.Common.{◌≡◌, ℕ, ◌≤◌, Bool, true, false, cond, ◌&&◌, Option, None, Some, is_none, List, [], ◌∷◌, Contains, IsTrue, filter, length, inl, inr, ⊎_elim, refl, sym, ap, ◌∙◌, subst, arith}
-use Rattle.std.proofs.lemmas.Bool.{cases_Bool, and_from}
-use Rattle.std.proofs.lemmas.List.Elements.{filter_agree}
-use Rattle.std.proofs.lemmas.List.Sums.{length-filter}
-use Rattle.rule_machine.specs.declared.event.Event.{Event}
-use Rattle.rule_machine.specs.declared.event.Event.TheVariants.{Link, Unlink, Point, Flag, Step, Show, Enabled, Matching, Status, Join, Leave}
-use Rattle.rule_machine.specs.declared.refusal.Refusal.{Refusal}
-use Rattle.rule_machine.specs.declared.reply.Reply.TheVariants.{Accepted}
-use Rattle.rule_machine.specs.Answer.{Answers, AnswersBy}
-use Rattle.rule_machine.specs.Network.{names}
-use Rattle.rule_machine.specs.Refuse.{refusal_of}
-use Rattle.machine_laws.specs.LeastMoves.{IsTable}
-use Rattle.machine_laws.specs.Pairs.{contains_first, contains_rest}
-use Rattle.charge_laws.specs.ListCounts.{IsIn}
-use Rattle.charge_laws.specs.Members.{in_names}
-use Rattle.containment_laws.specs.AtRest.{rest_is, rest_from}
-use Rattle.containment_laws.specs.Containment.{disturbed_rests}
-use Rattle.rule_machine.specs.RuleTable.{RuleTable}
-use Rattle.rule_machine.specs.State.{State, IsState}
-use Rattle.containment_laws.specs.Reach.{is_in_reach, reach_size}
-use Rattle.containment_laws.specs.ReachSize.{reach_is_small}
-use Rattle.rule_engine.specs.Costs.{disturbs, may_disturb}
-use Rattle.rule_engine.specs.DisturbanceReach.{would_reach, reach_of, Spares}
+use Rattle.rule_engine.proofs.Prelude.{◌≡◌, ℕ, ◌≤◌, Bool, true, false, cond, ◌&&◌, Option, None, Some, is_none, List, [], ◌∷◌, Contains, IsTrue, filter, length, inl, inr, ⊎_elim, refl, sym, ap, ◌∙◌, subst, arith, cases_Bool, and_from, filter_agree, length-filter, Event, Link, Unlink, Point, Flag, Step, Show, Enabled, Matching, Status, Join, Leave, Refusal, Accepted, Answers, AnswersBy, names, refusal_of, IsTable, contains_first, contains_rest, IsIn, in_names, rest_is, rest_from, disturbed_rests, RuleTable, State, IsState, is_in_reach, reach_size, reach_is_small, disturbs, may_disturb, would_reach, reach_of, Spares}
 
 pub accepted_reach : (t : RuleTable) (s : State) (event : Event) → disturbs t s event ≡ true → filter (is_in_reach s event) (names s.network) ≡ reach_of t s event
 accepted_reach t s event accepted = filter_agree (is_in_reach s event) (would_reach t s event) (λ v. ap (λ b. b && is_in_reach s event v) (sym accepted)) (names s.network)

@@ -1,17 +1,5 @@
 -- The moves in a reply are of present nodes, to neighbours.
-use Rattle.std.proofs.Common.{◌≡◌, ℕ, List, [], Option, None, Some, All, ap}
-use Rattle.rule_machine.specs.declared.event.Event.{Event}
-use Rattle.rule_machine.specs.declared.event.Event.TheVariants.{Link, Unlink, Point, Flag, Step, Show, Enabled, Matching, Status, Join, Leave}
-use Rattle.rule_machine.specs.declared.act.Moved.{Moved}
-use Rattle.rule_machine.specs.declared.refusal.Refusal.{Refusal}
-use Rattle.rule_machine.specs.declared.reply.Reply.{Reply}
-use Rattle.rule_machine.specs.declared.reply.Reply.TheVariants.{Moves}
-use Rattle.rule_machine.specs.State.{State}
-use Rattle.rule_machine.specs.RuleTable.{RuleTable}
-use Rattle.rule_machine.specs.Refuse.{refusal_of}
-use Rattle.rule_machine.specs.Least.{accepted_reply, reply_by, reply_of, least_moves}
-use Rattle.machine_laws.specs.StatePreservation.{IsMoveIn}
-use Rattle.machine_laws.specs.LeastMoves.{IsTable}
+use Rattle.rule_engine.proofs.Prelude.{◌≡◌, ℕ, List, [], Option, None, Some, All, ap, Event, Link, Unlink, Point, Flag, Step, Show, Enabled, Matching, Status, Join, Leave, Moved, Refusal, Reply, Moves, State, RuleTable, refusal_of, accepted_reply, reply_by, reply_of, least_moves, IsMoveIn, IsTable}
 use Rattle.rule_engine.proofs.VerdictEffects.{moves_in}
 
 moves_told : Reply → List Moved

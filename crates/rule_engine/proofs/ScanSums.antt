@@ -1,12 +1,5 @@
 -- Counts and sums that grow by one name, and what they come to.
-use Rattle.std.proofs.Common.{◌≡◌, ℕ, ◌+◌, ◌*◌, ◌≤◌, Bool, cond, count_by, sum_by, arith}
-use Rattle.std.proofs.lemmas.Nat.{mul-le}
-use Rattle.rule_machine.specs.Network.{Network, names, node_count, edge_count, edge_list}
-use Rattle.rule_machine.specs.State.{State, is_unanswered}
-use Rattle.rules_api.specs.ChargeInputs.{ends_open}
-use Rattle.charge_laws.specs.ChargeWords.{charge_bound}
-use Rattle.charge_laws.specs.ListCounts.{sum_add}
-use Rattle.indexed_state.specs.Contributions.{node_part}
+use Rattle.rule_engine.proofs.Prelude.{◌≡◌, ℕ, ◌+◌, ◌*◌, ◌≤◌, Bool, cond, count_by, sum_by, arith, mul-le, Network, names, node_count, edge_count, edge_list, State, is_unanswered, ends_open, charge_bound, sum_add, node_part}
 
 -- what was counted comes to the charge
 pub charge_counted : (courted_close : Bool) (closes : ℕ → Bool) (adds : ℕ → ℕ) (s : State) (charge open_ones added closing : ℕ) → charge + 2 * count_by closes (names s.network) ≡ 2 * count_by (ends_open courted_close s) (edge_list s.network) + count_by (is_unanswered s) (names s.network) + sum_by adds (names s.network) → open_ones ≡ count_by (ends_open courted_close s) (edge_list s.network) → added ≡ sum_by (node_part adds s) (names s.network) → closing ≡ count_by closes (names s.network) → charge + 2 * closing ≡ 2 * open_ones + added

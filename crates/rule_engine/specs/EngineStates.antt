@@ -1,9 +1,9 @@
--- What a network keeps with its state.
-use Rattle.std.specs.Prelude.{◌≡◌, ℕ, ◌+◌, ◌≤◌, Bool, false, IfSome, IsTrue, List, length, replicate, Option, Some, None, is_some, option_map, if◌then◌else◌}
+-- The enabled nodes of a state, and moments.
+use Rattle.std.specs.Prelude.{◌≡◌, ℕ, ◌+◌, Bool, IfSome, IsTrue, List, length, Option, Some, None, is_some, option_map, if◌then◌else◌}
 use Rattle.enabled_set.specs.Members.{is_in}
 use Rattle.rule_machine.specs.declared.act.Act.{Act}
 use Rattle.rule_machine.specs.Network.{present}
-use Rattle.rule_machine.specs.State.{State, IsState, pointer, flag, married}
+use Rattle.rule_machine.specs.State.{State, pointer, flag, married}
 use Rattle.rule_machine.specs.Run.{Moment}
 use Rattle.rule_machine.specs.RuleTable.{RuleTable, rule_at}
 
@@ -19,13 +19,6 @@ is_enabled_at t s v = is_some (guard_at t s v)
 pub record AreOn (t : RuleTable) (s : State) (bits : List Bool) : Type 0 where
   pub places : length bits ≡ s.network.size + 1
   pub each : (v : ℕ) → is_in bits v ≡ is_enabled_at t s v
-
--- the state is valid, `bits` is the set of the state's enabled nodes, and the set `marks` is empty
-pub record IsEngineState (t : RuleTable) (s : State) (bits marks : List Bool) : Type 0 where
-  pub is_state : IsState s
-  pub enabled : AreOn t s bits
-  pub unmarked : marks ≡ replicate (s.network.size + 1) false
-  pub few : s.network.size ≤ 65535
 
 -- v with the rule enabled at v, if any
 abbrev pub marked_at : RuleTable → State → ℕ → Option (ℕ × Act)

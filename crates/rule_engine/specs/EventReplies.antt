@@ -9,7 +9,7 @@ use Rattle.rule_machine.specs.Refuse.{refusal_of}
 use Rattle.rule_machine.specs.Least.{reply_of}
 use Rattle.rule_machine.specs.Run.{Moment, moment_after}
 use Rattle.charge_laws.specs.ChargeWords.{IsWithinBound}
-use Rattle.indexed_state.specs.IndexedViews.{IndexedView}
+use Rattle.net_state.specs.StateViews.{StateView}
 use Rattle.rule_engine.specs.PreparedEvents.{HasRoomTo}
 
 -- whether an event may take memory if it is not refused
@@ -33,7 +33,7 @@ stored_reply (Err e) reply = Err e
 
 -- The reply is the machine's, with `spent` moves spent, and there is room for what the event adds. An error
 -- comes only for an event that may take memory and is not refused. The state does not change.
-pub record Prepares {E : Type 0} (t : RuleTable) (n : IndexedView) (spent : ℕ) (event : Event) (result : Result Reply E) (n' : IndexedView) : Type 0 where
+pub record Prepares {E : Type 0} (t : RuleTable) (n : StateView) (spent : ℕ) (event : Event) (result : Result Reply E) (n' : StateView) : Type 0 where
   pub reply : IfOk result (λ r. r ≡ reply_of t n.state spent event)
   pub room : IfOk result (λ r. HasRoomTo event r n'.room)
   pub kept : n'.state ≡ n.state

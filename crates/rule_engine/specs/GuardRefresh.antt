@@ -1,6 +1,6 @@
 -- The set of enabled nodes after some nodes were looked at again; the guards that a write at a node may
 -- change.
-use Rattle.std.specs.Prelude.{◌≡◌, ℕ, Bool, true, false, not, ◌&&◌, ◌||◌, List, Option, is_none, length, nat_eq, nat_lt, if◌then◌else◌}
+use Rattle.std.specs.Prelude.{◌≡◌, ℕ, Bool, not, ◌&&◌, ◌||◌, List, Option, is_none, length, nat_eq, if◌then◌else◌}
 use Rattle.enabled_set.specs.Members.{is_in}
 use Rattle.rule_machine.specs.Network.{linked}
 use Rattle.rule_machine.specs.State.{State, pointer, points, is_at}

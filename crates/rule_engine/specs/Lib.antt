@@ -1,4 +1,5 @@
 pub mod EngineStates
+pub mod DerivedValues
 pub mod GuardRefresh
 pub mod ChoiceMoves
 pub mod Marks
@@ -7,3 +8,4 @@ pub mod EventReplies
 pub mod PreparedEvents
 pub mod Costs
 pub mod DisturbanceReach
+pub mod BaseFaults

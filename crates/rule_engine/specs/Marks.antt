@@ -1,15 +1,16 @@
 -- Marks of the nodes named by items.
-use Rattle.std.specs.Prelude.{◌≡◌, ℕ, ◌<◌, Bool, false, List, IsSome, length, nat_eq, slice_index_or}
+use Rattle.std.specs.Prelude.{◌≡◌, ℕ, ◌+◌, ◌<◌, Bool, List, IsSome, length, nat_eq, slice_index_or}
 use Rattle.std.specs.List.{list_any}
+use Rattle.rule_machine.specs.State.{State}
 use Rattle.rule_machine.specs.declared.choice.Item.{Item}
 use Rattle.rule_machine.specs.declared.verdict.Verdict.{Verdict}
 use Rattle.rule_machine.specs.declared.verdict.Outcome.{Outcome}
 use Rattle.rule_machine.specs.Least.{move_in}
 use Rattle.enabled_set.specs.Members.{is_in}
 
--- no node is marked
-abbrev pub AreClear : List Bool → Type 0
-AreClear marks = (v : ℕ) → is_in marks v ≡ false
+-- the marks have a place for each name of the state
+abbrev pub HasMarks : State → List Bool → Type 0
+HasMarks s marks = length marks ≡ s.network.size + 1
 
 -- exactly the nodes that pass the test are marked
 abbrev pub AreMarks : (ℕ → Bool) → List Bool → Type 0

@@ -6,10 +6,12 @@ ghost use Rattle.rule_machine.specs.Answer.{spent_after};
 ghost use Rattle.rule_machine.specs.Network.{names, edge_list};
 ghost use Rattle.rule_machine.specs.Stable.{mutual_pairs};
 ghost use Rattle.rules_api.specs.ChargeInputs.{ends_open};
+ghost use Rattle.rule_machine.specs.State.{IsState};
 ghost use Rattle.indexed_state.specs.Contributions.{node_part};
 
+use crate::Derived;
 use graph_store::{EdgeStore, MAX_EDGES};
-use indexed_state::IndexedState;
+use net_state::{NetState, Observer};
 use rule_machine::{MAX_NAME, Reply};
 use rules_api::Rules;
 
@@ -19,29 +21,31 @@ pub(crate) struct Totals {
     pub(crate) charge: u32,
 }
 
-fn charge_by<R: Rules>(state: &IndexedState<R>, open_edges: u32, added: u32, closing: u32) -> u32
-    requires open { open_edges ≡ count_by (ends_open R.COURTED_PAIR_CLOSES_EDGE state.now.state) (edge_list state.now.state.network) }
-    requires added { added ≡ sum_by (node_part (R.adds state.now.state) state.now.state) (names state.now.state.network) }
-    requires closing { closing ≡ count_by (R.closes state.now.state) (names state.now.state.network) }
-    ensures { result ≡ R.table.charge state.now.state }
+fn charge_by<R: Rules>(net: &NetState, open_edges: u32, added: u32, closing: u32) -> u32
+    requires open { open_edges ≡ count_by (ends_open R.COURTED_PAIR_CLOSES_EDGE net.now.state) (edge_list net.now.state.network) }
+    requires added { added ≡ sum_by (node_part (R.adds net.now.state) net.now.state) (names net.now.state.network) }
+    requires closing { closing ≡ count_by (R.closes net.now.state) (names net.now.state.network) }
+    ensures { result ≡ R.table.charge net.now.state }
 {
     // Called only for the contract: the state is sound.
-    let _ = state.registers();
-    prove!(state.store().edges() <= MAX_EDGES);
+    let _ = net.capacity();
+    prove!(net.edges() <= MAX_EDGES);
     (2 * u64::from(open_edges) + u64::from(added) - 2 * u64::from(closing)) as u32
 }
 
 /// Looks at the nodes whose contribution may have changed since the last call.
-pub(crate) fn totals_of<R: Rules>(state: &mut IndexedState<R>) -> Totals
-    ensures state { state.new.state ≡ state.old.state }
-    ensures room { state.new.room ≡ state.old.room }
-    ensures pairs { result.pairs ≡ length (mutual_pairs state.old.state) }
-    ensures charge { result.charge ≡ R.table.charge state.old.state }
+pub(crate) fn totals_of<R: Rules>(net: &mut NetState, derived: &mut Derived<R>) -> Totals
+    requires derived { ⟦<Derived<R> as Observer>⟧.fits net.old derived.old }
+    ensures state { net.new.state ≡ net.old.state }
+    ensures room { net.new.room ≡ net.old.room }
+    ensures derived { ⟦<Derived<R> as Observer>⟧.fits net.new derived.new }
+    ensures pairs { result.pairs ≡ length (mutual_pairs net.old.state) }
+    ensures charge { result.charge ≡ R.table.charge net.old.state }
 {
-    let all = state.totals();
+    let all = derived.shares.totals(net, &derived.suitors);
     Totals {
         pairs: all.pairs,
-        charge: charge_by(state, all.open_edges, all.added, all.closing),
+        charge: charge_by::<R>(net, all.open_edges, all.added, all.closing),
     }
 }
 

@@ -8,9 +8,9 @@ ghost use Rattle.rule_engine.specs.Marks.{Ascend};
 use crate::guard::outcome;
 use crate::moves::CollectedMoves;
 use crate::taking::accepted;
-use indexed_state::IndexedState;
 use rule_machine::{Item, Refusal};
 use rules_api::Rules;
+use suitor_index::IndexedNet;
 
 /// Whether each item names a higher node than the item before.
 pub(crate) fn ascend(items: &[Item]) -> bool
@@ -29,7 +29,7 @@ pub(crate) fn ascend(items: &[Item]) -> bool
 
 /// Gathers the moves of items that ascend, or returns the first refusal.
 pub(crate) fn take_ascending<R: Rules>(
-    state: &IndexedState<R>,
+    state: &IndexedNet<'_, R>,
     gathered: &mut CollectedMoves,
     items: &[Item],
 ) -> Option<Refusal>

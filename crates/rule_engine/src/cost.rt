@@ -4,13 +4,13 @@ ghost use Rattle.std.specs.Prelude.{◌≡◌};
 ghost use Rattle.rule_engine.specs.Costs.{disturbs, disturbance_cost};
 
 use crate::edits::{refused_flag, refused_join, refused_leave, refused_point};
-use indexed_state::IndexedState;
 use rule_machine::{Event, Node};
 use rules_api::{Local, Rules, Touched};
+use suitor_index::IndexedNet;
 
 #[derive(Drop)]
 struct TouchedNodes<'a, R: Rules> {
-    state: &'a IndexedState<R>,
+    state: &'a IndexedNet<'a, R>,
 }
 
 impl<R: Rules> Touched for TouchedNodes<'_, R> {
@@ -35,7 +35,7 @@ impl<R: Rules> Touched for TouchedNodes<'_, R> {
     }
 }
 
-pub(crate) fn is_disturbance<R: Rules>(state: &IndexedState<R>, event: &Event) -> bool
+pub(crate) fn is_disturbance<R: Rules>(state: &IndexedNet<'_, R>, event: &Event) -> bool
     ensures { result ≡ disturbs R.table state.now.state event.now }
 {
     let store = state.store();
@@ -52,7 +52,7 @@ pub(crate) fn is_disturbance<R: Rules>(state: &IndexedState<R>, event: &Event) -
 }
 
 #[tactic(auto, using(crate::proofs::EventCosts::not_refused))]
-pub(crate) fn cost_of<R: Rules>(state: &IndexedState<R>, event: &Event) -> u32
+pub(crate) fn cost_of<R: Rules>(state: &IndexedNet<'_, R>, event: &Event) -> u32
     ensures { result ≡ disturbance_cost R.table R.cost state.now.state event.now }
 {
     // Called only for the contract: the state is sound.

@@ -1,15 +1,14 @@
 //! The state of a network under a rule set, and the code that carries out events on it.
 
-ghost use Rattle.std.specs.Prelude.{◌≡◌, ◌<◌, ◌≤◌, ◌↔◌, ℕ, [], IfOk, IfErr, IfSome, OnOk, IsTrue, None, false, length, slice_get};
+ghost use Rattle.std.specs.Prelude.{All, ◌≡◌, ◌<◌, ◌≤◌, ◌↔◌, ℕ, [], IfOk, IfErr, IfSome, OnOk, IsTrue, None, false, length, slice_get};
 ghost use Rattle.enabled_set.specs.Members.{members};
 ghost use Rattle.graph_store.specs.Fault.{nodes_fault, ExplainsGraphFault};
-ghost use Rattle.graph_store.specs.Graph.{HasRoomFor};
-ghost use Rattle.rule_machine.specs.Network.{present};
 ghost use Rattle.rule_machine.specs.State.{opening_with, IsState};
 ghost use Rattle.rule_machine.specs.RuleTable.{enabled_names};
-ghost use Rattle.rule_machine.specs.Disturbance.{after_link, after_join};
-ghost use Rattle.rule_machine.specs.Refuse.{refusal_of, link_refusal};
+ghost use Rattle.rule_machine.specs.Refuse.{refusal_of};
 ghost use Rattle.rule_machine.specs.Least.{reply_of, state_after};
+ghost use Rattle.rule_machine.specs.Step.{after_moves};
+ghost use Rattle.machine_laws.specs.TwoPasses.{IsMoveIn};
 ghost use Rattle.rule_machine.specs.Stable.{IsStable, IsMaximalMatching, mutual_pairs};
 ghost use Rattle.machine_laws.specs.StatesAfterReplies.{disturbed};
 ghost use Rattle.rule_machine.specs.declared.event.Event.TheVariants.{Link, Step, Show, Enabled, Matching, Status, Join, Leave};
@@ -23,6 +22,7 @@ ghost use Rattle.containment_laws.specs.Rest.{is_at_rest};
 ghost use Rattle.rule_engine.specs.PreparedEvents.{HasRoomTo};
 ghost use Rattle.rule_engine.specs.ChoiceMoves.{verdict_of, verdicts_of};
 
+use crate::Derived;
 use crate::charge::totals_of;
 use crate::cost::cost_of;
 use crate::edits::{
@@ -31,40 +31,42 @@ use crate::edits::{
 };
 use crate::guard::{outcome, put_reply_to_one, rule_enabled, take_items};
 use crate::listing::{enabled_rules, mutual_edges};
-use crate::look::{look_after_write, look_at, look_at_target};
 use crate::moves::{CollectedMoves, step_reply};
 use crate::reach::{reach_of, would_reach};
 use crate::taking::{refused_size, take_verdicts};
 use enabled_set::{EnabledSet, Marks};
 use graph_store::{EdgeStore, GraphFault};
-use indexed_state::IndexedState;
-use net_state::{NetState, StateWriter, leave, make_moves, unlink};
+use net_state::{NetState, join, leave, link_reserved, make_moves, set_flag, set_pointer, unlink};
 use registers::Registers;
-use rule_machine::{Act, Choice, Counts, Event, Listing, Node, Refusal, Reply, Verdict, Want};
+use rule_machine::{
+    Act, Choice, Counts, Event, Listing, Moved, Node, Refusal, Reply, Verdict, Want,
+};
 use rules_api::Rules;
 use std::alloc::{AllocError, Global};
 use std::marker::Model;
+use suitor_index::IndexedNet;
 
 /// Contracts see the state of the rule machine and the room for more neighbours.
 #[derive(Drop)]
 pub(crate) struct Engine<R: Rules> {
     alloc: Global,
-    pub(crate) state: IndexedState<R>,
-    enabled: EnabledSet,
+    net: NetState,
+    derived: Derived<R>,
     chosen: Marks,
 }
 
 impl<R: Rules> Model for Engine<R> {
-    ghost use Rattle.indexed_state.specs.IndexedViews.{IndexedView, indexed_code};
-    ghost use Rattle.rule_engine.specs.EngineStates.{IsEngineState};
+    ghost use Rattle.net_state.specs.StateViews.{StateView, held_code};
+    ghost use Rattle.rule_engine.specs.DerivedValues.{IsDerived};
+    ghost use Rattle.rule_engine.specs.Marks.{HasMarks};
 
-    ghost Value = { IndexedView };
+    ghost Value = { StateView };
 
-    ghost coded = { indexed_code };
+    ghost coded = { held_code };
 
-    ghost view = { λ n. n.state };
+    ghost view = { λ n. n.net };
 
-    ghost invariant = { λ n. IsEngineState R.table n.state.state n.enabled n.chosen };
+    ghost invariant = { λ n. IsDerived R.COURTS_HIGHER_ONLY R.COURTED_PAIR_CLOSES_EDGE R.table R.closes R.adds n.net n.derived.suitors.tallies.items n.derived.shares.each.items n.derived.shares.lower_ends n.derived.shares.stale n.derived.enabled × HasMarks n.net.state n.chosen };
 }
 
 impl<R: Rules> Engine<R> {
@@ -78,39 +80,61 @@ impl<R: Rules> Engine<R> {
         ensures small { OnOk result (nodes ≤ 65535) }
         ensures fault { IfErr result (λ fault. ExplainsGraphFault (nodes_fault nodes) fault) }
     {
-        let state = IndexedState::with_present(alloc, nodes, present)?;
-        let Ok(enabled) = EnabledSet::new(alloc, nodes) else {
-            return Err(GraphFault::Memory);
-        };
-        let Ok(chosen) = Marks::new(alloc, nodes) else {
-            return Err(GraphFault::Memory);
-        };
+        let net = NetState::with_present(alloc, nodes, present)?;
+        match Engine::of(alloc, net) {
+            Ok(engine) => Ok(engine),
+            Err(_) => Err(GraphFault::Memory),
+        }
+    }
+
+    /// The engine of a state.
+    pub(crate) fn of(alloc: Global, net: NetState) -> Result<Engine<R>, Want>
+        ensures { IfOk result (λ engine. engine.state ≡ net.state) }
+    {
+        let derived = Derived::of(alloc, &net)?;
+        let chosen = Marks::new(alloc, net.capacity())?;
         Ok(Engine {
             alloc,
-            state,
-            enabled,
+            net,
+            derived,
             chosen,
         })
+    }
+
+    #[inline(always)]
+    pub(crate) fn net(&self) -> &NetState
+        ensures value { result.now ≡ self.now }
+        ensures state { IsState self.now.state }
+    {
+        &self.net
+    }
+
+    /// The network with its counts, for look-ups.
+    #[inline(always)]
+    pub(crate) fn index(&self) -> IndexedNet<'_, R>
+        ensures { result ≡ self.now }
+    {
+        IndexedNet::new(&self.net, &self.derived.suitors)
     }
 
     pub(crate) fn store(&self) -> &EdgeStore
         ensures network { result.now.network ≡ self.now.state.network }
         ensures room { result.now.room ≡ self.now.room }
     {
-        self.state.store()
+        self.net.store()
     }
 
     pub(crate) fn registers(&self) -> &Registers
         ensures value { result.now ≡ self.now.state.registers }
         ensures state { IsState self.now.state }
     {
-        self.state.registers()
+        self.net.registers()
     }
 
     pub(crate) fn enabled(&self) -> &EnabledSet
         ensures { members result.now ≡ enabled_names R.table self.now.state }
     {
-        &self.enabled
+        &self.derived.enabled
     }
 
     pub(crate) fn is_quiet(&self) -> bool
@@ -119,38 +143,38 @@ impl<R: Rules> Engine<R> {
         ensures matching { IsTrue result → IsMaximalMatching self.now.state.network (mutual_pairs self.now.state) }
         ensures only_stable { IsAnswered R.table.flags self.now.state → IsMaximalMatching self.now.state.network (mutual_pairs self.now.state) → IsTrue result }
     {
-        self.enabled.count() == 0
+        self.derived.enabled.count() == 0
     }
 
     pub(crate) fn cost_of(&self, event: &Event) -> u32
         ensures { result ≡ disturbance_cost R.table R.cost self.now.state event.now }
     {
-        cost_of(&self.state, event)
+        cost_of(&self.index(), event)
     }
 
     pub(crate) fn would_reach(&self, event: &Event, v: Node) -> bool
         ensures { result ≡ would_reach R.table self.now.state event.now v }
     {
-        would_reach(&self.state, event, v)
+        would_reach(&self.index(), event, v)
     }
 
     pub(crate) fn reach_of(&self, event: &Event) -> Result<Vec<Node>, Want>
         ensures reach { IfOk result (λ list. list.items ≡ reach_of R.table self.now.state event.now) }
         ensures few { IfOk result (λ list. length list.items ≤ reach_size self.now.state event.now) }
     {
-        reach_of(self.alloc, &self.state, event)
+        reach_of(self.alloc, &self.index(), event)
     }
 
     pub(crate) fn is_at_rest(&self, v: Node) -> bool
         ensures { result ≡ is_at_rest R.table.flags self.now.state v }
     {
-        containment::is_at_rest(self.state.net(), R::FLAGS, v)
+        containment::is_at_rest(&self.net, R::FLAGS, v)
     }
 
     pub(crate) fn guard(&self, v: Node) -> Option<Act>
         ensures { result ≡ guard_at R.table self.now.state v }
     {
-        rule_enabled(&self.state, v)
+        rule_enabled(&self.index(), v)
     }
 
     pub(crate) fn verdict(&self, choice: &Choice, place: u32) -> Verdict
@@ -161,7 +185,7 @@ impl<R: Rules> Engine<R> {
         Verdict {
             place,
             node: item.node,
-            outcome: outcome(&self.state, item),
+            outcome: outcome(&self.index(), item),
         }
     }
 
@@ -170,7 +194,7 @@ impl<R: Rules> Engine<R> {
         ensures state { self.new.state ≡ self.old.state }
         ensures room { self.new.room ≡ self.old.room }
     {
-        totals_of(&mut self.state).charge
+        totals_of(&mut self.net, &mut self.derived).charge
     }
 
     /// Writes the reply to an event into `reply`, and takes all memory that `commit` needs.
@@ -208,7 +232,7 @@ impl<R: Rules> Engine<R> {
     fn prepare_link(&mut self, a: Node, b: Node, reply: &mut Reply) -> Result<(), Want>
         ensures { (spent : ℕ) → Prepares R.table self.old spent (Link a b) (stored_reply result reply.new) self.new }
     {
-        let Err(fault) = self.state.reserve_link(a, b) else {
+        let Err(fault) = self.net.reserve_link(a, b) else {
             return put_edit(reply, None);
         };
         let refusal = refusal_of(fault);
@@ -223,14 +247,15 @@ impl<R: Rules> Engine<R> {
     {
         let items = choice.items();
         if items.len() == 1 {
-            put_reply_to_one(reply, &self.state, items[0]);
+            put_reply_to_one(reply, &self.index(), items[0]);
             return Ok(());
         }
         if let Some(refusal) = refused_size(R::CENTRAL, items.len()) {
             return put_edit(reply, Some(refusal));
         }
         let mut gathered = CollectedMoves::new(self.alloc, items.len());
-        let refused = take_items(&self.state, &mut self.chosen, &mut gathered, items);
+        let index = IndexedNet::new(&self.net, &self.derived.suitors);
+        let refused = take_items(&index, &mut self.chosen, &mut gathered, items);
         put(reply, step_reply(refused, gathered))
     }
 
@@ -254,11 +279,11 @@ impl<R: Rules> Engine<R> {
     fn show(&self, v: Node, reply: &mut Reply)
         ensures { (spent : ℕ) → reply.new ≡ reply_of R.table self.now.state spent (Show v) }
     {
-        if !self.state.store().has(v) {
+        if !self.net.has(v) {
             *reply = Reply::Refused(Refusal::UnknownNode);
             return;
         }
-        *reply = Reply::Shown(self.state.registers().pointer(v));
+        *reply = Reply::Shown(self.net.pointer(v));
     }
 
     // A separate function, so that other events reserve no stack for the results of this one.
@@ -278,8 +303,8 @@ impl<R: Rules> Engine<R> {
     fn list_enabled(&self) -> Result<Reply, Want>
         ensures { (spent : ℕ) → IfOk result (λ reply. reply ≡ reply_of R.table self.now.state spent Enabled) }
     {
-        let nodes = self.enabled.to_list()?;
-        let rules = enabled_rules(self.alloc, &self.state, &nodes)?;
+        let nodes = self.derived.enabled.to_list()?;
+        let rules = enabled_rules(self.alloc, &self.index(), &nodes)?;
         Ok(Reply::EnabledAre(Listing::from_vec(rules)))
     }
 
@@ -287,7 +312,7 @@ impl<R: Rules> Engine<R> {
         ensures reply { (spent : ℕ) → IfOk result (λ reply. reply ≡ reply_of R.table self.old.state spent Matching) }
         ensures state { self.new.state ≡ self.old.state }
     {
-        let pairs = mutual_edges(self.alloc, &mut self.state)?;
+        let pairs = mutual_edges(self.alloc, &mut self.net, &mut self.derived)?;
         Ok(Reply::Pairs(Listing::from_vec(pairs)))
     }
 
@@ -295,12 +320,12 @@ impl<R: Rules> Engine<R> {
         ensures reply { reply.new ≡ reply_of R.table self.old.state spent Status }
         ensures state { self.new.state ≡ self.old.state }
     {
-        let totals = totals_of(&mut self.state);
+        let totals = totals_of(&mut self.net, &mut self.derived);
         *reply = Reply::Counts(Counts {
-            nodes: self.state.store().nodes(),
-            edges: self.state.store().edges(),
+            nodes: self.net.nodes(),
+            edges: self.net.edges(),
             pairs: totals.pairs,
-            enabled: self.enabled.count(),
+            enabled: self.derived.enabled.count(),
             charge: totals.charge,
             spent,
         });
@@ -315,7 +340,7 @@ impl<R: Rules> Engine<R> {
     {
         match reply {
             Reply::Accepted => self.disturb(event),
-            Reply::Moves(moves) => make_moves(self, moves.as_slice()),
+            Reply::Moves(moves) => self.take_step(moves.as_slice()),
             _ => {}
         }
     }
@@ -325,8 +350,16 @@ impl<R: Rules> Engine<R> {
         ensures { self.new.state ≡ state_after R.table self.old.state (Step choice.now) }
     {
         if let Reply::Moves(moves) = reply {
-            make_moves(self, moves.as_slice());
+            self.take_step(moves.as_slice());
         }
+    }
+
+    #[inline(always)]
+    fn take_step(&mut self, moves: &[Moved])
+        requires { All (IsMoveIn self.old.state.network) moves.now }
+        ensures { self.new.state ≡ after_moves self.old.state moves.now }
+    {
+        make_moves(&mut self.net, &mut self.derived, moves);
     }
 
     fn disturb(&mut self, event: &Event)
@@ -334,71 +367,15 @@ impl<R: Rules> Engine<R> {
         requires room { HasRoomTo event.now Accepted self.old.room }
         ensures { self.new.state ≡ disturbed self.old.state event.now }
     {
+        let (net, derived) = (&mut self.net, &mut self.derived);
         match event {
-            Event::Link(a, b) => self.link(*a, *b),
-            Event::Unlink(a, b) => unlink(self, *a, *b),
-            Event::Point(v, target) => self.set_pointer(*v, *target),
-            Event::Flag(v, value) => self.set_flag(*v, *value),
-            Event::Join(v) => self.join(*v),
-            Event::Leave(v) => leave(self, *v),
+            Event::Link(a, b) => link_reserved(net, derived, *a, *b),
+            Event::Unlink(a, b) => unlink(net, derived, *a, *b),
+            Event::Point(v, target) => set_pointer(net, derived, *v, *target),
+            Event::Flag(v, value) => set_flag(net, derived, *v, *value),
+            Event::Join(v) => join(net, derived, *v),
+            Event::Leave(v) => leave(net, derived, *v),
             Event::Step(_) | Event::Show(_) | Event::Enabled | Event::Matching | Event::Status => {}
         }
-    }
-
-    fn link(&mut self, a: Node, b: Node)
-        requires accepted { link_refusal self.old.state.network a b ≡ None }
-        requires room { HasRoomFor self.old.room a b }
-        ensures { self.new.state ≡ after_link self.old.state a b }
-    {
-        self.state.link_reserved(a, b);
-        look_at(&self.state, &mut self.enabled, a);
-        look_at(&self.state, &mut self.enabled, b);
-    }
-
-    /// Takes no memory. Looks at no other node.
-    pub(crate) fn join(&mut self, v: Node)
-        requires within { v ≤ self.old.state.network.size }
-        requires absent { present self.old.state.network v ≡ false }
-        ensures { self.new.state ≡ after_join self.old.state v }
-    {
-        prove!(v.name() >= 1);
-        self.state.join(v);
-        look_at(&self.state, &mut self.enabled, v);
-    }
-}
-
-impl<R: Rules> StateWriter for Engine<R> {
-    ghost state = { λ n. n.state };
-
-    ghost ends = { λ n. n.ends };
-
-    fn net(&self) -> &NetState {
-        self.state.net()
-    }
-
-    fn set_pointer(&mut self, v: Node, target: Option<Node>) {
-        // Copied: the prover drops facts about a value that is passed on.
-        let courted = target;
-        let change = self.state.write_pointer(v, target);
-        let left = change.left;
-        look_at_target(&self.state, &mut self.enabled, left);
-        look_at_target(&self.state, &mut self.enabled, courted);
-        look_after_write(&self.state, &mut self.enabled, v, change.turned);
-    }
-
-    fn set_flag(&mut self, v: Node, value: bool) {
-        let turned = self.state.write_flag(v, value);
-        look_after_write(&self.state, &mut self.enabled, v, turned);
-    }
-
-    fn remove_edge(&mut self, a: Node, b: Node) {
-        self.state.remove_edge(a, b);
-        look_at(&self.state, &mut self.enabled, a);
-        look_at(&self.state, &mut self.enabled, b);
-    }
-
-    fn remove_node(&mut self, v: Node) {
-        self.state.remove_node(v);
-        self.enabled.remove(v);
     }
 }

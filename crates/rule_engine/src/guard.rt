@@ -6,17 +6,16 @@ ghost use Rattle.rule_machine.specs.Refuse.{items_refusal};
 ghost use Rattle.rule_machine.specs.Least.{outcome_of};
 ghost use Rattle.rule_engine.specs.EngineStates.{guard_at};
 ghost use Rattle.rule_engine.specs.ChoiceMoves.{IsToldOf, moves_by};
-ghost use Rattle.rule_engine.specs.Marks.{AreClear};
 
 use crate::climbing::{ascend, take_ascending};
 use crate::moves::CollectedMoves;
 use crate::taking::{accepted, take_outcome};
 use enabled_set::Marks;
-use indexed_state::IndexedState;
 use rule_machine::{Act, Item, Listing, Moved, Node, Outcome, Refusal, Reply};
 use rules_api::Rules;
+use suitor_index::IndexedNet;
 
-pub(crate) fn rule_at<R: Rules>(state: &IndexedState<R>, v: Node) -> Option<Act>
+pub(crate) fn rule_at<R: Rules>(state: &IndexedNet<'_, R>, v: Node) -> Option<Act>
     requires { IsTrue (present state.now.state.network v) }
     ensures { result ≡ guard_at R.table state.now.state v }
 {
@@ -24,7 +23,7 @@ pub(crate) fn rule_at<R: Rules>(state: &IndexedState<R>, v: Node) -> Option<Act>
     R::guard(&state.at(v), v)
 }
 
-pub(crate) fn rule_enabled<R: Rules>(state: &IndexedState<R>, v: Node) -> Option<Act>
+pub(crate) fn rule_enabled<R: Rules>(state: &IndexedNet<'_, R>, v: Node) -> Option<Act>
     ensures { result ≡ guard_at R.table state.now.state v }
 {
     if !state.store().has(v) {
@@ -33,7 +32,7 @@ pub(crate) fn rule_enabled<R: Rules>(state: &IndexedState<R>, v: Node) -> Option
     rule_at(state, v)
 }
 
-pub(crate) fn outcome<R: Rules>(state: &IndexedState<R>, item: Item) -> Outcome
+pub(crate) fn outcome<R: Rules>(state: &IndexedNet<'_, R>, item: Item) -> Outcome
     ensures { result ≡ outcome_of R.table state.now.state item }
 {
     if !state.store().has(item.node) {
@@ -53,19 +52,26 @@ pub(crate) fn outcome<R: Rules>(state: &IndexedState<R>, item: Item) -> Outcome
     }
 }
 
-fn take_up_to_refusal<R: Rules>(
-    state: &IndexedState<R>,
+/// Gathers the moves of items, or returns the first refusal.
+/// Looks at the items up to the first refused one. If an item's target is free, searches the neighbours of
+/// the item's node.
+/// If the items do not ascend, clears the marks and marks the items' nodes, to find a node named twice.
+pub(crate) fn take_items<R: Rules>(
+    state: &IndexedNet<'_, R>,
     chosen: &mut Marks,
     gathered: &mut CollectedMoves,
     items: &[Item],
 ) -> Option<Refusal>
     requires places { length chosen.old ≡ state.now.state.network.size + 1 }
-    requires clear { AreClear chosen.old }
     requires none { gathered.old.moves.items ≡ [] }
     ensures refusal { result ≡ items_refusal R.table state.now.state [] items.now }
     ensures moves { result ≡ None → IsTrue gathered.new.whole → gathered.new.moves.items ≡ moves_by R.table state.now.state items.now }
     ensures len { length chosen.new ≡ length chosen.old }
 {
+    if ascend(items) {
+        return take_ascending(state, gathered, items);
+    }
+    chosen.clear();
     for item in items {
         let outcome = outcome(state, *item);
         if let Some(refusal) = take_outcome(chosen, gathered, item.node, outcome) {
@@ -75,33 +81,8 @@ fn take_up_to_refusal<R: Rules>(
     None
 }
 
-/// Gathers the moves of items, or returns the first refusal.
-/// Looks at the items up to the first refused one. If an item's target is free, searches the neighbours of
-/// the item's node.
-/// If the items do not ascend, marks their nodes, to find a node named twice. At the end no node is marked.
-pub(crate) fn take_items<R: Rules>(
-    state: &IndexedState<R>,
-    chosen: &mut Marks,
-    gathered: &mut CollectedMoves,
-    items: &[Item],
-) -> Option<Refusal>
-    requires places { length chosen.old ≡ state.now.state.network.size + 1 }
-    requires clear { AreClear chosen.old }
-    requires none { gathered.old.moves.items ≡ [] }
-    ensures refusal { result ≡ items_refusal R.table state.now.state [] items.now }
-    ensures moves { result ≡ None → IsTrue gathered.new.whole → gathered.new.moves.items ≡ moves_by R.table state.now.state items.now }
-    ensures kept { chosen.new ≡ chosen.old }
-{
-    if ascend(items) {
-        return take_ascending(state, gathered, items);
-    }
-    let refusal = take_up_to_refusal(state, chosen, gathered, items);
-    chosen.clear();
-    refusal
-}
-
 /// Needs no mark and no memory.
-pub(crate) fn put_reply_to_one<R: Rules>(reply: &mut Reply, state: &IndexedState<R>, item: Item)
+pub(crate) fn put_reply_to_one<R: Rules>(reply: &mut Reply, state: &IndexedNet<'_, R>, item: Item)
     ensures { IsToldOf (items_refusal R.table state.now.state [] (item ∷ [])) (moves_by R.table state.now.state (item ∷ [])) reply.new }
 {
     match accepted(outcome(state, item), false) {

@@ -8,7 +8,7 @@
 //!
 //! `apply` is `prepare`, which takes all the memory, then `commit`, which cannot fail. A step costs a look at
 //! each chosen node and the writes of its moves, whatever the size of the network. The crate names no rule
-//! set, keeps no log and parses no text.
+//! set, keeps no log and parses no text. `Net::from_base` begins where a run ended, at a base.
 //!
 //! ```rust
 //! let mut net = Net::<Manne>::new(alloc, 2)?;
@@ -18,11 +18,15 @@
 //! ```
 #![tactic(auto)]
 
+mod base_fault;
 mod charge;
 mod climbing;
 mod cost;
+mod derived;
 mod edits;
 mod engine;
+mod from_base;
+mod from_state;
 mod guard;
 mod left;
 mod listing;
@@ -30,9 +34,12 @@ mod look;
 mod moves;
 mod net;
 mod reach;
+mod refresh;
 mod silence;
 mod taking;
 
+pub use base_fault::BaseFault;
+pub(crate) use derived::Derived;
 pub use enabled_set::EnabledSet;
 pub use graph_store::{Edge, GraphFault, Node};
 pub use net::Net;

@@ -5,16 +5,18 @@ ghost use Rattle.rule_machine.specs.RuleTable.{enabled_names, enabled};
 ghost use Rattle.rule_machine.specs.Stable.{mutual_pairs, pair_above};
 ghost use Rattle.indexed_state.specs.Contributions.{answered_by, is_lower_end};
 
+use crate::Derived;
 use crate::guard::rule_enabled;
-use indexed_state::IndexedState;
+use net_state::{NetState, Observer};
 use registers::Registers;
 use rule_machine::{Act, Edge, Node, Want};
 use rules_api::Rules;
 use std::alloc::Global;
+use suitor_index::IndexedNet;
 
 pub(crate) fn enabled_rules<R: Rules>(
     alloc: Global,
-    state: &IndexedState<R>,
+    state: &IndexedNet<'_, R>,
     nodes: &[Node],
 ) -> Result<Vec<(Node, Act)>, Want>
     requires { nodes.now ≡ enabled_names R.table state.now.state }
@@ -57,12 +59,15 @@ fn pairs_of(alloc: Global, registers: &Registers, ends: &[Node]) -> Result<Vec<E
 /// call.
 pub(crate) fn mutual_edges<R: Rules>(
     alloc: Global,
-    state: &mut IndexedState<R>,
+    net: &mut NetState,
+    derived: &mut Derived<R>,
 ) -> Result<Vec<Edge>, Want>
-    ensures state { state.new.state ≡ state.old.state }
-    ensures room { state.new.room ≡ state.old.room }
-    ensures pairs { IfOk result (λ pairs. pairs.items ≡ mutual_pairs state.old.state) }
+    requires derived { ⟦<Derived<R> as Observer>⟧.fits net.old derived.old }
+    ensures state { net.new.state ≡ net.old.state }
+    ensures room { net.new.room ≡ net.old.room }
+    ensures derived { ⟦<Derived<R> as Observer>⟧.fits net.new derived.new }
+    ensures pairs { IfOk result (λ pairs. pairs.items ≡ mutual_pairs net.old.state) }
 {
-    let ends = state.lower_ends()?;
-    pairs_of(alloc, state.registers(), &ends)
+    let ends = derived.shares.lower_ends(net, &derived.suitors)?;
+    pairs_of(alloc, net.registers(), &ends)
 }

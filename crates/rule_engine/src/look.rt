@@ -7,11 +7,11 @@ ghost use Rattle.rule_engine.specs.GuardRefresh.{is_null_target, is_suitor, may_
 
 use crate::guard::rule_at;
 use enabled_set::EnabledSet;
-use indexed_state::IndexedState;
 use rule_machine::Node;
 use rules_api::{Local, Rules, asks_for};
+use suitor_index::IndexedNet;
 
-pub(crate) fn look_at<R: Rules>(state: &IndexedState<R>, enabled: &mut EnabledSet, v: Node)
+pub(crate) fn look_at<R: Rules>(state: &IndexedNet<'_, R>, enabled: &mut EnabledSet, v: Node)
     requires has { IsTrue (present state.now.state.network v) }
     requires places { length enabled.old ≡ state.now.state.network.size + 1 }
     ensures { IsRefreshed R.table state.now.state (λ w. nat_eq w v) enabled.old enabled.new }
@@ -23,7 +23,7 @@ pub(crate) fn look_at<R: Rules>(state: &IndexedState<R>, enabled: &mut EnabledSe
     }
 }
 
-fn look_if<R: Rules>(state: &IndexedState<R>, enabled: &mut EnabledSet, v: Node, asked: bool)
+fn look_if<R: Rules>(state: &IndexedNet<'_, R>, enabled: &mut EnabledSet, v: Node, asked: bool)
     requires has { IsTrue (present state.now.state.network v) }
     requires places { length enabled.old ≡ state.now.state.network.size + 1 }
     ensures { IsRefreshed R.table state.now.state (λ w. nat_eq w v && asked) enabled.old enabled.new }
@@ -35,7 +35,7 @@ fn look_if<R: Rules>(state: &IndexedState<R>, enabled: &mut EnabledSet, v: Node,
 
 /// Evaluates the guard of a pointer's old or new target again, if that target points nowhere.
 pub(crate) fn look_at_target<R: Rules>(
-    state: &IndexedState<R>,
+    state: &IndexedNet<'_, R>,
     enabled: &mut EnabledSet,
     target: Option<Node>,
 )
@@ -49,7 +49,7 @@ pub(crate) fn look_at_target<R: Rules>(
 }
 
 /// Searches only if several neighbours point at `v`.
-fn look_at_suitors<R: Rules>(state: &IndexedState<R>, enabled: &mut EnabledSet, v: Node)
+fn look_at_suitors<R: Rules>(state: &IndexedNet<'_, R>, enabled: &mut EnabledSet, v: Node)
     requires has { IsTrue (present state.now.state.network v) }
     requires places { length enabled.old ≡ state.now.state.network.size + 1 }
     ensures { IsRefreshed R.table state.now.state (is_suitor state.now.state v) enabled.old enabled.new }
@@ -67,7 +67,7 @@ fn look_at_suitors<R: Rules>(state: &IndexedState<R>, enabled: &mut EnabledSet, 
 }
 
 /// Whether `w` points nowhere and sees an open node exactly if `v` is open.
-fn turns_with<R: Rules>(state: &IndexedState<R>, w: Node, v: Node, is_open: bool) -> bool
+fn turns_with<R: Rules>(state: &IndexedNet<'_, R>, w: Node, v: Node, is_open: bool) -> bool
     requires has { IsTrue (present state.now.state.network w) }
     requires linked { IsTrue (linked state.now.state.network w v) }
     requires open { is_open ≡ RuleTable.is_open R.table.opens state.now.state v }
@@ -82,12 +82,12 @@ fn turns_with<R: Rules>(state: &IndexedState<R>, w: Node, v: Node, is_open: bool
 
 /// Evaluates guards again at neighbours that point nowhere and see an open node exactly if `v` is open.
 /// If guards ask for higher names only, stops at the first neighbour that is not below `v`.
-fn look_where_turned<R: Rules>(state: &IndexedState<R>, enabled: &mut EnabledSet, v: Node)
+fn look_where_turned<R: Rules>(state: &IndexedNet<'_, R>, enabled: &mut EnabledSet, v: Node)
     requires has { IsTrue (present state.now.state.network v) }
     requires places { length enabled.old ≡ state.now.state.network.size + 1 }
     ensures { IsRefreshed R.table state.now.state (may_turn R.COURTS_HIGHER_ONLY R.table.opens state.now.state v) enabled.old enabled.new }
 {
-    let is_open = state.is_open(v);
+    let is_open = state.is_open_at(v);
     for &w in state.store().neighbours(v) {
         if !asks_for::<R>(w, v) {
             return;
@@ -101,7 +101,7 @@ fn look_where_turned<R: Rules>(state: &IndexedState<R>, enabled: &mut EnabledSet
 /// and sees no open node except `v`.
 /// Does not look at the old and new target of the pointer: `look_at_target` does.
 pub(crate) fn look_after_write<R: Rules>(
-    state: &IndexedState<R>,
+    state: &IndexedNet<'_, R>,
     enabled: &mut EnabledSet,
     v: Node,
     turned: bool,

@@ -3,6 +3,7 @@
 ghost use Rattle.std.specs.Prelude.{◌≡◌, ◌<◌, ◌≤◌, ◌+◌, ◌*◌, ◌↔◌, ℕ, List, [], IfOk, IfErr, IfSome, OnOk, OnErr, IsTrue, None, length, zip, slice_get};
 ghost use Rattle.enabled_set.specs.Members.{members};
 ghost use Rattle.graph_store.specs.Fault.{nodes_fault, ExplainsGraphFault};
+ghost use Rattle.charge_laws.specs.ChargeWords.{charge_bound};
 ghost use Rattle.rule_machine.specs.Base.{base_of};
 ghost use Rattle.rule_machine.specs.Network.{node_count, edge_count};
 ghost use Rattle.rule_machine.specs.State.{IsState};
@@ -27,7 +28,7 @@ use crate::charge::spent_after;
 use crate::engine::Engine;
 use enabled_set::EnabledSet;
 use graph_store::{EdgeStore, GraphFault};
-use net_state::StateWriter;
+use net_state::NetState;
 use registers::Registers;
 use rule_machine::{Act, Base, Choice, Event, Listing, Node, Reply, Verdict, Want};
 use rules_api::Rules;
@@ -39,9 +40,9 @@ use std::marker::Model;
 /// and each name's room for more neighbours.
 #[derive(Drop)]
 pub struct Net<R: Rules> {
-    alloc: Global,
+    pub(crate) alloc: Global,
     pub(crate) engine: Engine<R>,
-    spent: u32,
+    pub(crate) spent: u32,
 }
 
 impl<R: Rules> Model for Net<R> {
@@ -84,6 +85,24 @@ impl<R: Rules> Net<R> {
             alloc,
             engine,
             spent: 0,
+        })
+    }
+
+    /// The network in a given state, after `spent` moves since the last accepted disturbance.
+    ///
+    /// `Want` if memory runs out. Cost: one pass over each node's neighbours, and a guard a node. Takes about
+    /// thirty bytes a name.
+    pub fn of_state(alloc: Global, net: NetState, spent: u32) -> Result<Net<R>, Want>
+        requires within { spent + R.table.charge net.state ≤ charge_bound R.NODE_WEIGHT net.state.network }
+        ensures { IfOk result (λ made. net_moment made ≡ record { state = net.state; spent = spent }) }
+    {
+        // Gives the prover `IsState`.
+        let _ = net.registers();
+        let engine = Engine::of(alloc, net)?;
+        Ok(Net {
+            alloc,
+            engine,
+            spent,
         })
     }
 

@@ -5,13 +5,12 @@ ghost use Rattle.containment_laws.specs.Reach.{reach_size};
 ghost use Rattle.rule_engine.specs.DisturbanceReach.{would_reach, reach_of};
 
 use crate::cost::is_disturbance;
-use indexed_state::IndexedState;
-use net_state::StateWriter;
 use rule_machine::{Event, Node, Want};
 use rules_api::Rules;
 use std::alloc::Global;
+use suitor_index::IndexedNet;
 
-pub(crate) fn would_reach<R: Rules>(state: &IndexedState<R>, event: &Event, v: Node) -> bool
+pub(crate) fn would_reach<R: Rules>(state: &IndexedNet<'_, R>, event: &Event, v: Node) -> bool
     ensures { result ≡ would_reach R.table state.now.state event.now v }
 {
     is_disturbance(state, event) && containment::is_in_reach(state.net(), event, v)
@@ -19,7 +18,7 @@ pub(crate) fn would_reach<R: Rules>(state: &IndexedState<R>, event: &Event, v: N
 
 pub(crate) fn reach_of<R: Rules>(
     alloc: Global,
-    state: &IndexedState<R>,
+    state: &IndexedNet<'_, R>,
     event: &Event,
 ) -> Result<Vec<Node>, Want>
     ensures reach { IfOk result (λ list. list.items ≡ reach_of R.table state.now.state event.now) }

@@ -7,13 +7,12 @@ ghost use Rattle.silent_cost.specs.FromSilence.{BoundsMovesAfter};
 
 use crate::Net;
 use crate::cost::is_disturbance;
-use indexed_state::IndexedState;
-use net_state::StateWriter;
 use rule_machine::Event;
 use silent_cost::SilentCost;
+use suitor_index::IndexedNet;
 
 #[tactic(auto, using(crate::proofs::EventCosts::not_refused))]
-fn silent_cost_of<R: SilentCost>(state: &IndexedState<R>, event: &Event) -> u32
+fn silent_cost_of<R: SilentCost>(state: &IndexedNet<'_, R>, event: &Event) -> u32
     ensures { result ≡ disturbance_cost R.table R.silent_cost state.now.state event.now }
 {
     // Called only for the contract: the state is sound.
@@ -42,7 +41,7 @@ impl<R: SilentCost> Net<R> {
         // Called only for the contract: the state is sound.
         let _ = self.registers();
         if self.is_quiet() {
-            Some(silent_cost_of(&self.engine.state, event))
+            Some(silent_cost_of(&self.engine.index(), event))
         } else {
             None
         }

@@ -4,7 +4,7 @@ ghost use Rattle.std.specs.Prelude.{◌≡◌, ◌++◌, [], All, None, Some, Ma
 ghost use Rattle.enabled_set.specs.Members.{is_in};
 ghost use Rattle.rule_machine.specs.Least.{move_in};
 ghost use Rattle.rule_engine.specs.ChoiceMoves.{verdict_moves, refused_by, size_refusal, verdicts_refusal};
-ghost use Rattle.rule_engine.specs.Marks.{AreClear, HasPlace};
+ghost use Rattle.rule_engine.specs.Marks.{HasPlace};
 
 use crate::moves::CollectedMoves;
 use enabled_set::Marks;
@@ -59,41 +59,24 @@ pub(crate) fn take_outcome(
     }
 }
 
-fn take_up_to_refusal(
+/// Gathers the moves of verdicts, or returns the first refusal.
+/// Clears the marks, and marks the nodes. Looks once at each verdict up to the first refused one.
+pub(crate) fn take_verdicts(
     chosen: &mut Marks,
     gathered: &mut CollectedMoves,
     verdicts: &[Verdict],
 ) -> Option<Refusal>
-    requires clear { AreClear chosen.old }
     requires placed { All (λ d. HasPlace (length chosen.old) d.node d.outcome) verdicts.now }
     requires none { gathered.old.moves.items ≡ [] }
     ensures refusal { result ≡ verdicts_refusal [] verdicts.now }
     ensures moves { result ≡ None → IsTrue gathered.new.whole → gathered.new.moves.items ≡ verdict_moves verdicts.now }
     ensures len { length chosen.new ≡ length chosen.old }
 {
+    chosen.clear();
     for verdict in verdicts {
         if let Some(refusal) = take_outcome(chosen, gathered, verdict.node, verdict.outcome) {
             return Some(refusal);
         }
     }
     None
-}
-
-/// Gathers the moves of verdicts, or returns the first refusal. At the end no node is marked.
-/// Looks once at each verdict up to the first refused one.
-pub(crate) fn take_verdicts(
-    chosen: &mut Marks,
-    gathered: &mut CollectedMoves,
-    verdicts: &[Verdict],
-) -> Option<Refusal>
-    requires clear { AreClear chosen.old }
-    requires placed { All (λ d. HasPlace (length chosen.old) d.node d.outcome) verdicts.now }
-    requires none { gathered.old.moves.items ≡ [] }
-    ensures refusal { result ≡ verdicts_refusal [] verdicts.now }
-    ensures moves { result ≡ None → IsTrue gathered.new.whole → gathered.new.moves.items ≡ verdict_moves verdicts.now }
-    ensures kept { chosen.new ≡ chosen.old }
-{
-    let refusal = take_up_to_refusal(chosen, gathered, verdicts);
-    chosen.clear();
-    refusal
 }

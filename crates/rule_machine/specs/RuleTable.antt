@@ -36,10 +36,6 @@ enabled_names t s = filter (λ v. is_some (rule_at t s v)) (names s.network)
 abbrev pub enabled : RuleTable → State → List (ℕ × Act)
 enabled t s = filter_map (λ v. option_map (λ act. (v, act)) (rule_at t s v)) (names s.network)
 
--- the targets that the rule allows at v, ascending
-abbrev pub allowed_targets : RuleTable → State → ℕ → Act → List ℕ
-allowed_targets t s v act = filter (t.allowed s v act) (neighbours s.network v)
-
 -- the least target that the rule allows at v
 abbrev pub least_target : RuleTable → State → ℕ → Act → Option ℕ
 least_target t s v act = find (t.allowed s v act) (neighbours s.network v)

@@ -1,11 +1,12 @@
 -- How the charge is counted. By these rules a node adds to the charge only by its pointer.
-use Rattle.std.proofs.Common.{◌≡◌, ℕ, ◌+◌, ◌*◌, ◌≤◌, true, false, List, [], ◌∷◌, None, Some, is_none, count_by, sum_by, refl, sym, ap, ◌∙◌, arith}
+use Rattle.std.proofs.Common.{◌≡◌, ℕ, ◌+◌, ◌*◌, ◌≤◌, true, false, List, [], ◌∷◌, None, Some, is_none, count_by, sum_by, refl, ap, arith}
 use Rattle.std.proofs.lemmas.List.Sums.{sum_by-cons}
 use Rattle.rule_machine.specs.Network.{names, edge_list}
 use Rattle.rule_machine.specs.State.{State, IsState, pointer, holds_at, is_unanswered}
 use Rattle.rule_machine.specs.Charge.{hsu_huang_charge}
+use Rattle.charge_laws.specs.ClosedByPointers.{hsu_huang_closes}
 use Rattle.rules_api.specs.ChargeInputs.{ends_open, IsSameChargeInput}
-use Rattle.charge_laws.specs.ClosedByPointers.{hsu_huang_closes, hsu_huang_split}
+use Rattle.charge_laws.proofs.ClosedByPointers.{hsu_huang_split}
 
 abbrev pub no_flag_charge : State → ℕ → ℕ
 no_flag_charge s v = 0
@@ -25,8 +26,7 @@ hsu_huang_null_closes s v null = ap (holds_at (λ w. is_none (pointer s w))) nul
 
 -- whether a pointer closes an edge depends on the pointer of its target
 pub hsu_huang_closes_alike : (s u : State) (v w : ℕ) → IsState s → IsState u → pointer s v ≡ Some w → pointer u v ≡ Some w → IsSameChargeInput s u w → hsu_huang_closes s v ≡ hsu_huang_closes u v
-hsu_huang_closes_alike s u v w good also at still same =
-    ap (holds_at (λ x. is_none (pointer s x))) at ∙ ap is_none same.points ∙ sym (ap (holds_at (λ x. is_none (pointer u x))) still)
+hsu_huang_closes_alike s u v w good also at still same = grind arith
 
 pub hsu_huang_weight_is_small : 1 ≤ 3
 hsu_huang_weight_is_small = omega arith

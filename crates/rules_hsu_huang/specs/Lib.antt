@@ -1,5 +1,4 @@
 pub mod Rule
-pub mod Target
 pub mod Quiet
 pub mod Charge
 pub mod NodeBound

@@ -1,9 +1,10 @@
 -- A run without a disturbance has at most as many moves as the number of nodes alone allows.
-use Rattle.std.proofs.Common.{◌≡◌, ℕ, Some, subst}
+use Rattle.std.proofs.Common.{Some, subst}
 use Rattle.std.proofs.lemmas.Option.{same_Some}
 use Rattle.rule_machine.specs.HsuHuang.{hsu_huang}
 use Rattle.rule_machine.specs.Network.{node_count}
-use Rattle.dense_laws.specs.Bound.{dense_bound, within_bound}
+use Rattle.dense_laws.specs.Bound.{dense_bound}
+use Rattle.dense_laws.proofs.Bound.{within_bound}
 use Rattle.node_bound.specs.MovesLeft.{BoundsByNodes, BoundsMoves}
 
 pub bounded_by_nodes : BoundsByNodes hsu_huang (λ n. Some (dense_bound n))

@@ -1,16 +1,17 @@
 -- If no rule is enabled the network is stable, and conversely.
-use Rattle.std.proofs.Common.{◌≡◌, ◌≢◌, ℕ, Bool, true, false, not, ◌&&◌, [], Option, None, Some, is_some, is_none, IsTrue, refl, sym, ap, ap₂, ◌∙◌, ⊎_elim}
-use Rattle.std.proofs.lemmas.Bool.{and_cases, and_from, and_right, and_left, not-false, cases_Bool}
+use Rattle.std.proofs.Common.{◌≡◌, ◌≢◌, ℕ, true, false, not, ◌&&◌, [], None, Some, is_some, is_none, IsTrue, refl, sym, ap, ap₂, ◌∙◌, ⊎_elim, arith}
+use Rattle.std.proofs.lemmas.Bool.{and_from, not-false, cases_Bool}
 use Rattle.rule_machine.specs.declared.act.Act.TheVariants.{Update, Marry, Seduce, Abandon}
 use Rattle.rule_machine.specs.Network.{linked}
-use Rattle.rule_machine.specs.State.{State, IsState, pointer, points, holds_at, has_suitor}
+use Rattle.rule_machine.specs.State.{State, IsState, pointer, holds_at, has_suitor}
 use Rattle.rule_machine.specs.RuleTable.{enabled_names, is_open}
 use Rattle.rule_machine.specs.HsuHuang.{hsu_huang, hsu_huang_opens}
 use Rattle.rule_machine.specs.Stable.{IsStable}
-use Rattle.machine_laws.specs.Neighbours.{option_cases, linked_back, linked_present, near_found, near_fails}
-use Rattle.machine_laws.specs.Pointers.{points_true, points_from, pointer_linked, suitor_from, suitor_some}
-use Rattle.machine_laws.specs.Writes.{if_some_at, if_some_from}
-use Rattle.machine_laws.specs.EnabledNodes.{quiet_at, quiet_from}
+use Rattle.machine_laws.proofs.Neighbours.{option_cases, linked_back, linked_present, near_found, near_fails}
+use Rattle.machine_laws.proofs.Pointers.{points_true, points_from, pointer_linked, suitor_from, suitor_some}
+use Rattle.machine_laws.proofs.Writes.{if_some_from}
+use Rattle.machine_laws.proofs.EnabledNodes.{quiet_at, quiet_from}
+use Rattle.std.proofs.lemmas.Bool.{and_cases}
 use Rattle.rules_hsu_huang.specs.Rule.{is_taken, has_open}
 
 module _ (s : State) (is_state : IsState s) (quiet : enabled_names hsu_huang s ≡ []) where
@@ -66,41 +67,13 @@ hsu_huang_stable_from_quiet s is_state quiet = record {
 -- A suitor is answered, so its target's pointer is not null. A free neighbour of a free node would be an
 -- uncovered edge. The target of a node points back.
 pub hsu_huang_quiet_from_stable : (s : State) → IsState s → IsStable false s → enabled_names hsu_huang s ≡ []
-hsu_huang_quiet_from_stable s is_state stable = quiet_from hsu_huang s (λ v here. elim [ Update ↦ refl | Marry ↦ no_marry v | Seduce ↦ no_seduce v | Abandon ↦ no_abandon v (pointer s v) refl ])
+hsu_huang_quiet_from_stable s is_state stable = quiet_from hsu_huang s (λ v here. elim [ Update ↦ refl | Marry ↦ no_marry v | Seduce ↦ no_seduce v | Abandon ↦ no_abandon v ])
   where
     no_marry : (v : ℕ) → (is_none (pointer s v) && has_suitor s v) ≡ false
-    no_marry v =
-        ⊎_elim
-        (
-        λ suitor. let w = suitor_some s v suitor in
-        let back = if_some_at (pointer s w.0) (λ x. pointer s x ≡ Some w.0) v w.1 (stable.answered w.0) in
-        and_left (is_none (pointer s v)) (has_suitor s v) (ap is_none back)
-        )
-        (λ none. and_right (is_none (pointer s v)) (has_suitor s v) none)
-        (cases_Bool (has_suitor s v))
-
-    last_fails : (a b c : Bool) → c ≡ false → (a && b && c) ≡ false
-    last_fails true true c e = e
-    last_fails true false c e = refl
-    last_fails false b c e = refl
+    no_marry v = let answered = stable.answered in grind (arith, suitor_some, cases_Bool)
 
     no_seduce : (v : ℕ) → (is_none (pointer s v) && not (has_suitor s v) && has_open s v) ≡ false
-    no_seduce v =
-        ⊎_elim
-        (
-        λ null. let fails = near_fails s.network (is_open hsu_huang_opens s) v (
-        λ w h. ⊎_elim
-        (λ other. absurd (stable.covered v w h null other))
-        (λ some. ap is_none some.1)
-        (option_cases (pointer s w))
-        ) in
-        last_fails (is_none (pointer s v)) (not (has_suitor s v)) (has_open s v) (ap is_some fails)
-        )
-        (λ some. ap (λ o. is_none o && not (has_suitor s v) && has_open s v) some.1)
-        (option_cases (pointer s v))
+    no_seduce v = let covered = stable.covered v in grind (arith, near_fails, option_cases)
 
-    no_abandon : (v : ℕ) (o : Option ℕ) → pointer s v ≡ o → holds_at (is_taken s v) o ≡ false
-    no_abandon v None e = refl
-    no_abandon v (Some w) e =
-        let back = if_some_at (pointer s v) (λ x. pointer s x ≡ Some v) w e (stable.answered v) in
-        and_right (is_some (pointer s w)) (not (points s.registers w v)) (ap not (points_from s w v back))
+    no_abandon : (v : ℕ) → holds_at (is_taken s v) (pointer s v) ≡ false
+    no_abandon v = let answered = stable.answered v in grind (arith, points_from, option_cases)

@@ -5,7 +5,7 @@ use Rattle.rule_machine.specs.State.{State}
 use Rattle.rule_machine.specs.HsuHuang.{hsu_huang}
 use Rattle.charge_laws.specs.Costs.{hsu_huang_cost}
 use Rattle.silence_laws.specs.Costs.{silent_cost}
-use Rattle.silence_laws.specs.CostComparison.{silent_cost_is_less}
+use Rattle.silence_laws.proofs.CostComparison.{silent_cost_is_less}
 use Rattle.silent_cost.specs.FromSilence.{ExceedsAtMost}
 
 abbrev pub no_excess : State → Event → ℕ

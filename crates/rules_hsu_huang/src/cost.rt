@@ -32,7 +32,7 @@ pub(crate) fn unlink_cost<T: Touched>(touched: &T, a: Node, b: Node) -> u32
     2 * (other_edges(touched, a, b) + other_edges(touched, b, a))
 }
 
-#[tactic(auto, using(charge_laws::specs::PresentNodes::target_present))]
+#[tactic(auto, using(charge_laws::proofs::PresentNodes::target_present))]
 pub(crate) fn point_cost<T: Touched>(touched: &T, v: Node) -> u32
     requires state { IsState (T.state touched.now) }
     requires present { IsTrue (present (T.state touched.now).network v) }
@@ -46,7 +46,7 @@ pub(crate) fn point_cost<T: Touched>(touched: &T, v: Node) -> u32
     }
 }
 
-#[tactic(auto, using(charge_laws::specs::PresentNodes::target_present))]
+#[tactic(auto, using(charge_laws::proofs::PresentNodes::target_present))]
 pub(crate) fn leave_cost<T: Touched>(touched: &T, v: Node) -> u32
     requires state { IsState (T.state touched.now) }
     requires present { IsTrue (present (T.state touched.now).network v) }

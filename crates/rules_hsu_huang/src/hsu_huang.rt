@@ -88,7 +88,7 @@ impl Rules for HsuHuang {
         0
     }
 
-    #[tactic(auto, using(charge_laws::specs::PresentNodes::first_present, charge_laws::specs::PresentNodes::second_present, charge_laws::specs::PresentNodes::pointer_present, charge_laws::specs::PresentNodes::leaver_present))]
+    #[tactic(auto, using(charge_laws::proofs::PresentNodes::first_present, charge_laws::proofs::PresentNodes::second_present, charge_laws::proofs::PresentNodes::pointer_present, charge_laws::proofs::PresentNodes::leaver_present))]
     fn cost<T: Touched>(touched: &T, event: &Event) -> u32 {
         match event {
             Event::Link(_, _) => 2,

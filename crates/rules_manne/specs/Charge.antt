@@ -1,14 +1,16 @@
 -- How the charge is counted.
-use Rattle.std.proofs.Common.{◌≡◌, ℕ, ◌+◌, ◌*◌, ◌≤◌, Bool, true, false, cond, not, ◌&&◌, None, Some, count_by, sum_by, nat_lt, refl, sym, ap, ◌∙◌, subst, arith}
-use Rattle.std.proofs.lemmas.Bool.{and_right, true≢false}
+use Rattle.std.proofs.Common.{◌≡◌, ℕ, ◌+◌, ◌*◌, ◌≤◌, Bool, true, false, cond, not, ◌&&◌, None, Some, count_by, sum_by, nat_lt, sym, ◌∙◌, arith}
+use Rattle.std.proofs.lemmas.Bool.{true≢false}
 use Rattle.rule_machine.specs.Network.{names, edge_list}
-use Rattle.rule_machine.specs.State.{State, IsState, pointer, flag, holds_at, is_unanswered, married}
+use Rattle.rule_machine.specs.State.{State, IsState, pointer, flag, is_unanswered, married}
 use Rattle.rule_machine.specs.Charge.{manne_node_charge, manne_charge}
+use Rattle.machine_laws.proofs.Pointers.{married_from, married_some}
+use Rattle.charge_laws.specs.ClosedByPointers.{manne_apart, manne_closes}
+use Rattle.std.proofs.lemmas.Bool.{and_right}
 use Rattle.rules_api.specs.ChargeInputs.{ends_open, IsSameChargeInput, IsChargeInput}
 use Rattle.rules_api.specs.declared.standing.ChargeInput.{ChargeInput}
-use Rattle.machine_laws.specs.Pointers.{married_from, married_some}
-use Rattle.charge_laws.specs.ListCounts.{count_agree}
-use Rattle.charge_laws.specs.ClosedByPointers.{manne_apart, manne_closes, manne_split}
+use Rattle.charge_laws.proofs.ListCounts.{count_agree}
+use Rattle.charge_laws.proofs.ClosedByPointers.{manne_split}
 
 -- computed from the stances and the pointers
 pub charge_is_counted : (s : State) → IsState s → manne_charge s + 2 * count_by (manne_closes s) (names s.network) ≡ 2 * count_by (ends_open false s) (edge_list s.network) + count_by (is_unanswered s) (names s.network) + sum_by (manne_node_charge s) (names s.network)
@@ -22,25 +24,11 @@ charge_is_counted s good =
 
 -- a null pointer closes nothing
 pub manne_null_closes : (s : State) (v : ℕ) → pointer s v ≡ None → manne_closes s v ≡ false
-manne_null_closes s v null =
-    and_right (not (married s v)) _ (ap (holds_at (λ w. nat_lt v w && not (flag s w) && not (married s w))) null)
+manne_null_closes s v null = grind (arith, and_right)
 
 -- a pointer at w closes its edge if w is higher, unflagged and unmarried: then its own node is unmarried too
 pub closes_at : (s : State) (v w : ℕ) → IsState s → pointer s v ≡ Some w → manne_closes s v ≡ (nat_lt v w && not (flag s w) && not (married s w))
-closes_at s v w good at =
-    ap (λ o. not (married s v) && holds_at (λ x. nat_lt v x && not (flag s x) && not (married s x)) o) at
-    ∙ by_target (married s v) (nat_lt v w) (not (flag s w)) (married s w) (λ paired. let both = married_some s v paired in married_from s w v good (subst (λ x. pointer s x ≡ Some v) (some_same (sym both.1 ∙ at)) both.2) at)
-  where
-    some_same : {a b : ℕ} → Some a ≡ Some b → a ≡ b
-    some_same e = cc
-
-    none : (p f : Bool) → false ≡ (p && f && false)
-    none p f = grind arith
-
-    by_target : (m p f n : Bool) → (m ≡ true → n ≡ true) → (not m && (p && f && not n)) ≡ (p && f && not n)
-    by_target false p f n h = refl
-    by_target true p f true h = none p f
-    by_target true p f false h = absurd (true≢false (sym (h refl)))
+closes_at s v w good at = grind (arith, married_some, married_from, true≢false)
 
 -- whether a pointer closes an edge depends on its target's registers
 pub manne_closes_alike : (s u : State) (v w : ℕ) → IsState s → IsState u → pointer s v ≡ Some w → pointer u v ≡ Some w → IsSameChargeInput s u w → manne_closes s v ≡ manne_closes u v

@@ -1,15 +1,16 @@
 -- The greatest neighbour that a node may court.
-use Rattle.std.proofs.Common.{◌≡◌, ℕ, zero, suc, ◌+◌, ◌<◌, ◌≤◌, Bool, true, false, cond, ◌&&◌, List, [], ◌∷◌, reverse, Option, None, Some, is_some, find, filter, IsTrue, refl, sym, ap, ◌∙◌, subst, inl, inr, ⊎_elim, ◌⊎◌, arith}
-use Rattle.std.specs.Option.{option_or}
+use Rattle.std.proofs.Common.{◌≡◌, ℕ, zero, suc, ◌+◌, ◌<◌, ◌≤◌, Bool, true, false, cond, ◌&&◌, List, [], ◌∷◌, Option, None, Some, is_some, find, filter, IsTrue, refl, sym, ap, ◌∙◌, subst, inl, inr, ⊎_elim, ◌⊎◌, arith}
 use Rattle.std.specs.List.{range_with_len}
-use Rattle.std.proofs.lemmas.List.{reverse-append}
-use Rattle.std.proofs.lemmas.List.Folds.{find-append}
 use Rattle.std.proofs.lemmas.Bool.{and_parts, cases_eq}
 use Rattle.rule_machine.specs.Network.{IsNetwork, linked, neighbours, names, present}
 use Rattle.rule_machine.specs.State.{State}
-use Rattle.rule_machine.specs.RuleTable.{last_open_above}
 use Rattle.rule_machine.specs.Manne.{manne_opens, may_court}
-use Rattle.machine_laws.specs.Neighbours.{option_cases, present_range, linked_back, linked_present, near_found, near_fails}
+use Rattle.machine_laws.proofs.Neighbours.{option_cases, present_range, linked_back, linked_present, near_found, near_fails}
+use Rattle.std.proofs.Common.{reverse}
+use Rattle.std.specs.Option.{option_or}
+use Rattle.std.proofs.lemmas.List.{reverse-append}
+use Rattle.std.proofs.lemmas.List.Folds.{find-append}
+use Rattle.rule_machine.specs.RuleTable.{last_open_above}
 
 -- the last item that passes
 abbrev pub last : {X : Type 0} → (X → Bool) → List X → Option X
@@ -31,8 +32,7 @@ last-filter p q (x ∷ xs) =
     ]
   where
     no_more : {Y : Type 0} (o : Option Y) → o ≡ option_or o None
-    no_more None = refl
-    no_more (Some y) = refl
+    no_more o = grind arith
 
 -- the last is the last of the rest, or the first if none of the rest passes
 or-none : {X : Type 0} (o : Option X) (b : Bool) (x : X) → option_or o (cond b (Some x) None) ≡ None → (o ≡ None) × (b ≡ false)

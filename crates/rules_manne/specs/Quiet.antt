@@ -1,16 +1,18 @@
 -- If no rule is enabled the network is stable, and conversely.
-use Rattle.std.proofs.Common.{◌≡◌, ◌≢◌, ℕ, zero, suc, ◌+◌, ◌<◌, Bool, true, false, not, ◌&&◌, ◌||◌, [], Option, None, Some, is_some, is_none, nat_lt, nat_le, IsTrue, refl, sym, ap, ap₂, ◌∙◌, ⊎_elim, arith, lt-ltb, leb-false}
-use Rattle.std.proofs.lemmas.Bool.{and_from, and_right, and_left, or_parts, not-false, cases_Bool, cases_order}
+use Rattle.std.proofs.Common.{◌≡◌, ◌≢◌, ℕ, zero, suc, ◌+◌, ◌<◌, Bool, true, false, not, ◌&&◌, ◌||◌, [], Option, None, Some, is_some, is_none, nat_lt, nat_le, IsTrue, refl, sym, ap, ap₂, ◌∙◌, ⊎_elim, arith}
+use Rattle.std.proofs.lemmas.Bool.{and_from, and_left, or_parts, not-false, cases_Bool, cases_order}
 use Rattle.rule_machine.specs.declared.act.Act.TheVariants.{Update, Marry, Seduce, Abandon}
 use Rattle.rule_machine.specs.Network.{linked, present}
 use Rattle.rule_machine.specs.State.{State, IsState, pointer, flag, points, holds_at, has_suitor, married, is_settled}
 use Rattle.rule_machine.specs.RuleTable.{enabled_names, is_open}
 use Rattle.rule_machine.specs.Manne.{manne, manne_opens, may_court}
 use Rattle.rule_machine.specs.Stable.{IsStable}
-use Rattle.machine_laws.specs.Neighbours.{option_cases, present_range, linked_back, linked_present, linked_apart, near_found, near_fails}
-use Rattle.machine_laws.specs.Pointers.{points_true, points_from, pointer_linked, suitor_from, suitor_some, married_from, null_unmarried}
-use Rattle.machine_laws.specs.Writes.{if_some_at, if_some_from}
-use Rattle.machine_laws.specs.EnabledNodes.{quiet_at, quiet_from}
+use Rattle.machine_laws.proofs.Neighbours.{option_cases, present_range, linked_back, linked_present, linked_apart, near_found, near_fails}
+use Rattle.machine_laws.proofs.Pointers.{points_true, points_from, pointer_linked, suitor_from, suitor_some, married_from, null_unmarried}
+use Rattle.machine_laws.proofs.Writes.{if_some_from}
+use Rattle.machine_laws.proofs.EnabledNodes.{quiet_at, quiet_from}
+use Rattle.std.proofs.Common.{lt-ltb, leb-false}
+use Rattle.std.proofs.lemmas.Bool.{and_right}
 use Rattle.rules_manne.specs.Rule.{is_lost, courts, flag_from_settled, settled_from_flag}
 
 -- a test of four parts
@@ -30,8 +32,7 @@ module _ (s : State) (is_state : IsState s) (quiet : enabled_names manne s ≡ [
   tail_present v w there = linked_present s.network v w is_state.is_network (pointer_linked s v w is_state there)
 
   head_present : (v w : ℕ) → pointer s v ≡ Some w → IsTrue (present s.network w)
-  head_present v w there =
-      linked_present s.network w v is_state.is_network (linked_back s.network w v ∙ pointer_linked s v w is_state there)
+  head_present v w there = grind (arith, linked_present, linked_back, pointer_linked)
 
   -- a node w that is pointed at points somewhere, since it could marry
   courted_points : (v w : ℕ) → pointer s v ≡ Some w → pointer s w ≢ None
@@ -123,15 +124,7 @@ manne_quiet_from_stable s is_state stable = quiet_from manne s (λ v here. elim 
     no_update v here = ap not (settled_from_flag (married s v) (flag s v) (stable.flagged refl v here))
 
     no_marry : (v : ℕ) → (is_settled s v && is_none (pointer s v) && has_suitor s v) ≡ false
-    no_marry v =
-        ⊎_elim
-        (
-        λ suitor. let w = suitor_some s v suitor in
-        let back = if_some_at (pointer s w.0) (λ x. pointer s x ≡ Some w.0) v w.1 (stable.answered w.0) in
-        and_left (is_settled s v && is_none (pointer s v)) (has_suitor s v) (and_right (is_settled s v) (is_none (pointer s v)) (ap is_none back))
-        )
-        (λ none. and_right (is_settled s v && is_none (pointer s v)) (has_suitor s v) none)
-        (cases_Bool (has_suitor s v))
+    no_marry v = grind (arith, suitor_some, and_left, and_right, cases_Bool)
 
     no_court : (v : ℕ) → pointer s v ≡ None → courts s v ≡ false
     no_court v null =
@@ -156,10 +149,7 @@ manne_quiet_from_stable s is_state stable = quiet_from manne s (λ v here. elim 
         (option_cases (pointer s v))
 
     not_left : (v : ℕ) (o : Option ℕ) → pointer s v ≡ o → holds_at (is_lost s v) o ≡ false
-    not_left v None e = refl
-    not_left v (Some w) e =
-        let back = if_some_at (pointer s v) (λ x. pointer s x ≡ Some v) w e (stable.answered v) in
-        and_left (not (points s.registers w v)) (flag s w || nat_le w v) (ap not (points_from s w v back))
+    not_left v o e = grind (arith, and_left, points_from)
 
     no_abandon : (v : ℕ) → (is_settled s v && holds_at (is_lost s v) (pointer s v)) ≡ false
     no_abandon v = and_right (is_settled s v) (holds_at (is_lost s v) (pointer s v)) (not_left v (pointer s v) refl)

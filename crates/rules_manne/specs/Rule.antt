@@ -1,16 +1,16 @@
 -- The rule of a node by cases, and what follows at once.
-use Rattle.std.proofs.Common.{◌≡◌, ℕ, Bool, true, false, cond, not, ◌&&◌, ◌||◌, Option, None, Some, is_some, is_none, nat_lt, nat_le, find, IsTrue, refl, sym, ap, ap₂, ◌∙◌, inl, inr, arith}
-use Rattle.std.specs.Bool.{beq}
+use Rattle.std.proofs.Common.{◌≡◌, ℕ, Bool, true, false, cond, not, ◌&&◌, ◌||◌, Option, None, Some, is_some, is_none, nat_le, find, IsTrue, refl, sym, ap, ap₂, ◌∙◌, arith}
 use Rattle.rule_machine.specs.declared.act.Act.{Act}
 use Rattle.rule_machine.specs.declared.act.Act.TheVariants.{Update, Marry, Seduce, Abandon}
 use Rattle.rule_machine.specs.Network.{neighbours}
-use Rattle.rule_machine.specs.State.{State, IsState, pointer, flag, points, is_at, holds_at, has_suitor, is_settled}
+use Rattle.rule_machine.specs.State.{State, IsState, pointer, flag, points, holds_at, has_suitor, is_settled}
 use Rattle.rule_machine.specs.RuleTable.{rule_at}
 use Rattle.rule_machine.specs.Manne.{manne, manne_opens, may_court}
+use Rattle.machine_laws.proofs.Pointers.{pointer_linked}
+use Rattle.std.specs.Bool.{beq}
 use Rattle.rules_api.specs.Target.{SameAt}
 use Rattle.rules_api.specs.LocalViews.{AgreesLocally}
-use Rattle.machine_laws.specs.LocalAgreement.{same_find, same_pointer, same_suitor, same_married}
-use Rattle.machine_laws.specs.Pointers.{pointer_linked}
+use Rattle.machine_laws.proofs.LocalAgreement.{same_find, same_pointer, same_suitor, same_married}
 use Rattle.rules_manne.specs.GreatestTarget.{greatest, greatest_reaches}
 
 -- the rule of a node, from whether its flag is right, its pointer, whether it has a suitor, whether it may
@@ -31,10 +31,7 @@ abbrev pub courts : State → ℕ → Bool
 courts s v = is_some (find (may_court s v) (neighbours s.network v))
 
 pub manne_rule_cases : (s : State) (v : ℕ) → rule_at manne s v ≡ manne_rule_by (is_settled s v) (pointer s v) (has_suitor s v) (courts s v) (is_lost s v)
-manne_rule_cases s v = cases (is_settled s v) (pointer s v) (has_suitor s v) (courts s v) (is_lost s v)
-  where
-    cases : (settled : Bool) (o : Option ℕ) (suitor court : Bool) (leaves : ℕ → Bool) → cond (not settled) (Some Update) (cond (settled && is_none o && suitor) (Some Marry) (cond (settled && is_none o && not suitor && court) (Some Seduce) (cond (settled && holds_at leaves o) (Some Abandon) None))) ≡ manne_rule_by settled o suitor court leaves
-    cases settled o suitor court leaves = grind arith
+manne_rule_cases s v = grind arith
 
 -- the rule of a settled node that points nowhere
 pub null_rule : (s : State) (v : ℕ) (suitor court : Bool) → IsState s → is_settled s v ≡ true → pointer s v ≡ None → has_suitor s v ≡ suitor → is_some (greatest s v) ≡ court → rule_at manne s v ≡ manne_rule_by true None suitor court (is_lost s v)
@@ -54,62 +51,21 @@ settled_from_flag married flag h = grind arith
 pub settled_from_test : (married flag : Bool) → not (beq flag married) ≡ false → cond married flag (not flag) ≡ true
 settled_from_test married flag h = grind arith
 
--- an enabled rule is the one that the cases name
-rule_from_guard : (s : State) (v : ℕ) (act : Act) → IsTrue (manne.guard s v act) → manne_rule_by (is_settled s v) (pointer s v) (has_suitor s v) (courts s v) (is_lost s v) ≡ Some act
-rule_from_guard s v Update h = updates (is_settled s v) h
-  where
-    updates : (settled : Bool) → IsTrue (not settled) → manne_rule_by settled (pointer s v) (has_suitor s v) (courts s v) (is_lost s v) ≡ Some Update
-    updates true k = absurd cc
-    updates false k = refl
-rule_from_guard s v Marry h = marries (is_settled s v) (pointer s v) (has_suitor s v) h
-  where
-    marries : (settled : Bool) (o : Option ℕ) (suitor : Bool) → IsTrue (settled && is_none o && suitor) → manne_rule_by settled o suitor (courts s v) (is_lost s v) ≡ Some Marry
-    marries false o suitor k = absurd cc
-    marries true None true k = refl
-    marries true None false k = absurd cc
-    marries true (Some w) suitor k = absurd cc
-rule_from_guard s v Seduce h = seduces (is_settled s v) (pointer s v) (has_suitor s v) (courts s v) h
-  where
-    seduces : (settled : Bool) (o : Option ℕ) (suitor court : Bool) → IsTrue (settled && is_none o && not suitor && court) → manne_rule_by settled o suitor court (is_lost s v) ≡ Some Seduce
-    seduces false o suitor court k = absurd cc
-    seduces true None true court k = absurd cc
-    seduces true None false true k = refl
-    seduces true None false false k = absurd cc
-    seduces true (Some w) suitor court k = absurd cc
-rule_from_guard s v Abandon h = abandons (is_settled s v) (pointer s v) h
-  where
-    abandons : (settled : Bool) (o : Option ℕ) → IsTrue (settled && holds_at (is_lost s v) o) → manne_rule_by settled o (has_suitor s v) (courts s v) (is_lost s v) ≡ Some Abandon
-    abandons false o k = absurd cc
-    abandons true None k = absurd cc
-    abandons true (Some w) k = ap (λ b. cond b (Some Abandon) None) k
-
 -- Two rules at one node: one that updates has a wrong flag, and the others a right one. One that marries or
 -- seduces has a null pointer, one that abandons does not. One that marries has a suitor, and one that seduces
 -- has none.
 pub manne_one_rule_at : (s : State) (v : ℕ) (a b : Act) → IsTrue (manne.guard s v a) → IsTrue (manne.guard s v b) → a ≡ b
-manne_one_rule_at s v a b h k =
-    let first = rule_from_guard s v a h in
-    let second = rule_from_guard s v b k in
-    cc
+manne_one_rule_at s v a b h k = grind arith
 
 -- what each part of a guard reads is shown at its node
 same_settled : (s u : State) (v : ℕ) → SameAt s u v → is_settled s v ≡ is_settled u v
-same_settled s u v same =
-    ap₂ (λ (m f : Bool). cond m f (not f)) (same_married s u v same) (same.flags v (inl refl))
+same_settled s u v same = grind (arith, same_married)
 
 same_courts : (s u : State) (v : ℕ) → SameAt s u v → courts s v ≡ courts u v
-same_courts s u v same =
-    ap is_some (
-    same_find s u v (may_court s v) (may_court u v) same (
-    λ w h. ap₂ (λ o f. manne_opens o f && nat_lt v w) (same.pointers w (inr h)) (same.flags w (inr h))
-    )
-    )
+same_courts s u v same = grind (arith, same_find)
 
 same_lost : (s u : State) (v : ℕ) (o : Option ℕ) → IsState s → SameAt s u v → pointer s v ≡ o → holds_at (is_lost s v) o ≡ holds_at (is_lost u v) o
-same_lost s u v None is_state same e = refl
-same_lost s u v (Some w) is_state same e =
-    let near = inr (pointer_linked s v w is_state e) in
-    ap₂ (λ o f. not (is_at o v) && (f || nat_le w v)) (same.pointers w near) (same.flags w near)
+same_lost s u v o is_state same e = grind (arith, pointer_linked)
 
 -- Each part of a guard is a search among the neighbours, or reads the registers of the node and of its
 -- target.
@@ -133,21 +89,14 @@ glance_courts s u v is_state other same null =
     greatest_reaches s v is_state.is_network ∙ same.reach null ∙ sym (greatest_reaches u v other.is_network)
 
 glance_lost : (s u : State) (v : ℕ) (o : Option ℕ) → AgreesLocally true manne_opens s u v → pointer s v ≡ o → holds_at (is_lost s v) o ≡ holds_at (is_lost u v) o
-glance_lost s u v None same e = refl
-glance_lost s u v (Some w) same e =
-    ap₂ (λ o f. not (is_at o v) && (f || nat_le w v)) (same.target_pointer w e) (same.target_flag w e)
+glance_lost s u v o same e = grind arith
 
 -- only a node with a null pointer needs to know whether one suits and whether one is open
 glance_marries : (o : Option ℕ) (settled suitor suitor' : Bool) → (o ≡ None → suitor ≡ suitor') → (settled && is_none o && suitor) ≡ (settled && is_none o && suitor')
-glance_marries None settled suitor suitor' same = ap (λ b. settled && true && b) (same refl)
-glance_marries (Some w) true suitor suitor' same = refl
-glance_marries (Some w) false suitor suitor' same = refl
+glance_marries o settled suitor suitor' same = grind arith
 
 glance_seduces : (o : Option ℕ) (settled suitor suitor' court court' : Bool) → (o ≡ None → suitor ≡ suitor') → (o ≡ None → court ≡ court') → (settled && is_none o && not suitor && court) ≡ (settled && is_none o && not suitor' && court')
-glance_seduces None settled suitor suitor' court court' same reach =
-    ap₂ (λ b c. settled && true && not b && c) (same refl) (reach refl)
-glance_seduces (Some w) true suitor suitor' court court' same reach = refl
-glance_seduces (Some w) false suitor suitor' court court' same reach = refl
+glance_seduces o settled suitor suitor' court court' same reach = grind arith
 
 -- each guard depends on the local view of the node alone
 pub manne_guard_is_view : (s u : State) (v : ℕ) (act : Act) → IsState s → IsState u → AgreesLocally true manne_opens s u v → manne.guard s v act ≡ manne.guard u v act

@@ -6,7 +6,7 @@ use Rattle.rule_machine.specs.Manne.{manne}
 use Rattle.charge_laws.specs.Costs.{manne_cost}
 use Rattle.silence_laws.specs.Changes.{most_gained, nodes_gone}
 use Rattle.silence_laws.specs.Costs.{manne_silent_cost}
-use Rattle.silence_laws.specs.MannePays.{manne_silent_cost_is_less}
+use Rattle.silence_laws.proofs.MannePays.{manne_silent_cost_is_less}
 use Rattle.silent_cost.specs.FromSilence.{ExceedsAtMost}
 
 abbrev pub gained_and_gone : State → Event → ℕ

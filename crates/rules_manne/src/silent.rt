@@ -1,40 +1,14 @@
 //! The silent costs: bounds on the moves after one disturbance of a silent network.
 
 ghost use Rattle.std.specs.Prelude.{◌≡◌, IsTrue, Some};
-ghost use Rattle.rule_machine.specs.declared.event.Event.TheVariants.{Link, Unlink, Flag, Leave};
+ghost use Rattle.rule_machine.specs.declared.event.Event.TheVariants.{Flag, Leave};
 ghost use Rattle.rule_machine.specs.Network.{present};
 ghost use Rattle.rule_machine.specs.State.{IsState, pointer};
 ghost use Rattle.silence_laws.specs.Costs.{manne_silent_cost, manne_silent_point_cost};
 
 use crate::Manne;
 use rule_machine::{Event, Node};
-use silent_cost::{SilentCost, SilentView, is_pair, unmarried_neighbours};
-
-fn link_cost<V: SilentView>(view: &V, a: Node, b: Node) -> u32
-    requires state { IsState (V.state view.now) }
-    requires first { IsTrue (present (V.state view.now).network a) }
-    requires second { IsTrue (present (V.state view.now).network b) }
-    ensures { result ≡ manne_silent_cost (V.state view.now) (Link a b) }
-{
-    if view.is_married(a) || view.is_married(b) {
-        0
-    } else {
-        4
-    }
-}
-
-fn unlink_cost<V: SilentView>(view: &V, a: Node, b: Node) -> u32
-    requires state { IsState (V.state view.now) }
-    requires first { IsTrue (present (V.state view.now).network a) }
-    requires second { IsTrue (present (V.state view.now).network b) }
-    ensures { result ≡ manne_silent_cost (V.state view.now) (Unlink a b) }
-{
-    if is_pair(view, a, b) {
-        2 * (unmarried_neighbours(view, a) + unmarried_neighbours(view, b)) + 6
-    } else {
-        0
-    }
-}
+use silent_cost::{SilentCost, SilentView, link_cost, unlink_cost, unmarried_neighbours};
 
 /// The silent cost of writing the pointer of a paired node.
 fn pair_cost<V: SilentView>(view: &V, v: Node, partner: Node, target: Option<Node>) -> u32
@@ -52,7 +26,7 @@ fn pair_cost<V: SilentView>(view: &V, v: Node, partner: Node, target: Option<Nod
     2 * (unmarried_neighbours(view, v) + unmarried_neighbours(view, partner)) + 10
 }
 
-#[tactic(auto, using(charge_laws::specs::PresentNodes::target_present))]
+#[tactic(auto, using(charge_laws::proofs::PresentNodes::target_present))]
 fn point_cost<V: SilentView>(view: &V, v: Node, target: Option<Node>) -> u32
     requires state { IsState (V.state view.now) }
     requires present { IsTrue (present (V.state view.now).network v) }
@@ -73,7 +47,7 @@ fn flag_cost<V: SilentView>(view: &V, v: Node, value: bool) -> u32
     if view.is_married(v) == value { 0 } else { 1 }
 }
 
-#[tactic(auto, using(charge_laws::specs::PresentNodes::target_present, machine_laws::specs::Pointers::null_unmarried))]
+#[tactic(auto, using(charge_laws::proofs::PresentNodes::target_present, machine_laws::proofs::Pointers::null_unmarried))]
 fn leave_cost<V: SilentView>(view: &V, v: Node) -> u32
     requires state { IsState (V.state view.now) }
     requires present { IsTrue (present (V.state view.now).network v) }
@@ -87,18 +61,18 @@ fn leave_cost<V: SilentView>(view: &V, v: Node) -> u32
 
 impl SilentCost for Manne {
     ghost use Rattle.silence_laws.specs.Costs.{manne_silent_cost};
-    ghost use Rattle.silence_laws.specs.MannePays.{manne_silent_cost_pays};
+    ghost use Rattle.silence_laws.proofs.MannePays.{manne_silent_cost_pays};
     ghost use Rattle.rules_manne.specs.Silent.{gained_and_gone, manne_cost_is_less};
 
     ghost silent_cost = { manne_silent_cost };
 
     ghost excess = { gained_and_gone };
 
-    #[tactic(auto, using(silent_cost::specs::Present::lower_present, silent_cost::specs::Present::upper_present, charge_laws::specs::PresentNodes::first_present, charge_laws::specs::PresentNodes::second_present, charge_laws::specs::PresentNodes::pointer_present, charge_laws::specs::PresentNodes::flagged_present, charge_laws::specs::PresentNodes::leaver_present))]
+    #[tactic(auto, using(silent_cost::specs::Present::lower_present, silent_cost::specs::Present::upper_present, charge_laws::proofs::PresentNodes::first_present, charge_laws::proofs::PresentNodes::second_present, charge_laws::proofs::PresentNodes::pointer_present, charge_laws::proofs::PresentNodes::flagged_present, charge_laws::proofs::PresentNodes::leaver_present))]
     fn silent_cost<V: SilentView>(view: &V, event: &Event) -> u32 {
         match event {
-            Event::Link(a, b) => link_cost(view, *a, *b),
-            Event::Unlink(a, b) => unlink_cost(view, *a, *b),
+            Event::Link(a, b) => link_cost(view, *a, *b, 4),
+            Event::Unlink(a, b) => unlink_cost(view, *a, *b, 6),
             Event::Point(v, target) => point_cost(view, *v, *target),
             Event::Flag(v, value) => flag_cost(view, *v, *value),
             Event::Leave(v) => leave_cost(view, *v),

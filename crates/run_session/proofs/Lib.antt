@@ -1,2 +1,4 @@
+pub mod Prelude
+pub mod Returned
 pub mod TurnProgress
 pub mod Silence

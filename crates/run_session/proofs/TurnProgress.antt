@@ -1,13 +1,5 @@
 -- How far the turns of a line have come.
-use Rattle.std.proofs.Common.{◌≡◌, ◌∙◌, ℕ, suc, ◌+◌, ◌-◌, ◌<◌, ◌≤◌, Option, None, Some, inl, inr, refl, sym, ap, subst, true, false, ⊎_elim, Bool, Result, Ok, Err, arith}
-use Rattle.std.proofs.lemmas.Bool.{true≢false, cases_lt}
-use Rattle.rand_core.specs.Stream.{Stream}
-use Rattle.rule_machine.specs.declared.event.Event.{Event}
-use Rattle.rule_machine.specs.RuleTable.{RuleTable}
-use Rattle.seeded_turns.specs.DrawnEvents.{Draws}
-use Rattle.script_text.specs.Script.{Progress, AppendsEntry, EventDoes, TurnDoes, TurnsDo, TurnFills, TurnsFill}
-use Rattle.std.specs.Prelude.{IsErr}
-use Rattle.run_session.specs.Line.{EventEnds, TurnsBegin, TurnsEnd}
+use Rattle.run_session.proofs.Prelude.{◌≡◌, ℕ, suc, ◌+◌, ◌-◌, ◌<◌, ◌≤◌, Option, None, Some, inl, inr, refl, sym, subst, true, false, Result, Err, arith, Stream, Event, RuleTable, Draws, Progress, AppendsEntry, TurnDoes, TurnsDo, TurnFills, TurnsFill, RecordFault, LogFull, Memory, EventEnds, TurnsBegin, TurnsEnd}
 
 -- This many turns were taken: what some more do from here on, all of these do from the beginning on.
 pub record Turned (draws : Draws) (t : RuleTable) (limit count taken : ℕ) (first stream : Stream) (begun now : Progress) : Type 0 where
@@ -52,26 +44,16 @@ module _ (draws : Draws) (t : RuleTable) (limit count taken : ℕ) (first stream
 
 -- a count that is not at its limit is below it
 pub below_limit : (n limit : ℕ) → n ≤ limit → (n ≡ limit → false ≡ true) → n < limit
-below_limit n limit most other = ⊎_elim (λ (below : n < limit). below) (λ (above : limit ≤ n). absurd (true≢false (sym (other (omega (arith, most, above)))))) (cases_lt n limit)
-
--- an event that was logged is an entry
-pub logged : {E : Type 0} (t : RuleTable) (limit : ℕ) (event : Event) (before after : Progress) (result : Result Bool E) (b : Bool) → EventEnds t limit event before after result → result ≡ Ok b → b ≡ true → EventDoes t limit event before after
-logged {E} t limit event before after result b ends was is =
-    subst (λ (r : Result Bool E). EventEnds t limit event before after r) (was ∙ ap (λ (x : Bool). Ok x) is) ends
+below_limit n limit most other = grind arith
 
 -- no turn is left
 pub turned_all : (draws : Draws) (t : RuleTable) (limit count taken : ℕ) (first stream : Stream) (begun now : Progress) → Turned draws t limit count taken first stream begun now → count ≤ taken → TurnsDo draws t limit count first begun now
 turned_all draws t limit count taken first stream begun now so_far done =
     let all : taken + 0 ≡ count = omega (arith, done, so_far.within) in subst (λ n. TurnsDo draws t limit n first begun now) all (so_far.does 0 now refl)
 
--- an event for which memory ran out, after some turns
-pub turned_want : {E : Type 0} (draws : Draws) (t : RuleTable) (limit limit' count taken : ℕ) (first stream : Stream) (begun now after : Progress) (event : Event) (want : E) (result : Result Bool E)
-    → Turned draws t limit count taken first stream begun now → EventEnds t limit' event now after result → result ≡ Err want → TurnsBegin draws t limit count first begun after
-turned_want {E} draws t limit limit' count taken first stream begun now after event want result so_far ends is =
-    subst (λ p. TurnsBegin draws t limit count first begun p) (sym (subst (λ (r : Result Bool E). EventEnds t limit' event now after r) is ends))
-    (turned_begun draws t limit count taken first stream begun now so_far)
-
--- the result if memory runs out
-pub begun_ends : {E : Type 0} (draws : Draws) (t : RuleTable) (limit count : ℕ) (first : Stream) (begun now : Progress) (result : Result Bool E) → IsErr result → TurnsBegin draws t limit count first begun now → TurnsEnd draws t limit count first begun now result
-begun_ends draws t limit count first begun now (Ok b) is some = absurd (true≢false (sym is))
-begun_ends draws t limit count first begun now (Err want) is some = some
+-- an event for which memory ran out, after some turns; the log was not full
+pub turned_failed : (draws : Draws) (t : RuleTable) (limit limit' count taken : ℕ) (first stream : Stream) (begun now after : Progress) (event : Event) (fault : RecordFault) (result : Result Unit RecordFault)
+    → Turned draws t limit count taken first stream begun now → now.count < limit' → EventEnds t limit' event now after (Err fault) → result ≡ Err fault → TurnsEnd draws t limit count first begun after result
+turned_failed draws t limit limit' count taken first stream begun now after event LogFull result so_far below ends is = absurd (omega (arith, below, ends.0))
+turned_failed draws t limit limit' count taken first stream begun now after event Memory result so_far below ends is =
+    rw (is, ends) (turned_begun draws t limit count taken first stream begun now so_far)

@@ -1,19 +1,21 @@
 -- How carrying out one line, or a part of one line, ends.
-use Rattle.std.specs.Prelude.{◌≡◌, ◌≤◌, ◌⊎◌, ℕ, Bool, true, false, List, Option, None, Some, Result, Ok, Err}
+use Rattle.std.specs.Prelude.{◌≡◌, ◌≢◌, ◌≤◌, ◌⊎◌, ℕ, List, [], Result, Ok, Err}
 use Rattle.rand_core.specs.Stream.{Stream}
 use Rattle.rule_machine.specs.declared.event.Event.{Event}
 use Rattle.rule_machine.specs.declared.rules.RuleSet.{RuleSet}
 use Rattle.rule_machine.specs.RuleTable.{RuleTable}
 use Rattle.rule_machine.specs.Run.{Moment}
 use Rattle.step_log.specs.Recording.{Recording}
+use Rattle.step_log.specs.declared.fault.RecordFault.{RecordFault}
+use Rattle.step_log.specs.declared.fault.RecordFault.TheVariants.{LogFull, Memory}
 use Rattle.script_text.specs.declared.command.Command.{Command}
 use Rattle.script_text.specs.declared.command.Command.TheVariants.{Tell, Drive, Scramble, Checkpoint}
 use Rattle.seeded_turns.specs.DrawnEvents.{Draws, seeded_stream, drawn_step, drawn_fault}
 use Rattle.script_text.specs.Command.{Says}
 use Rattle.script_text.specs.Script.{Progress, EventDoes, TurnsDo, TurnsFill, CommandDoes, CommandFills, LineDoes, IsBadLine, MeetsFullLog}
 use Rattle.run_session.specs.declared.run.Run.{Run}
-use Rattle.run_session.specs.declared.stop.LineError.{LineError}
-use Rattle.run_session.specs.declared.stop.LineError.TheVariants.{BadLine, LogFull}
+use Rattle.run_session.specs.declared.line_error.LineError.{LineError}
+use Rattle.run_session.specs.declared.line_error.LineError.TheVariants.{BadLine, Record}
 
 -- the state of a recording, and the moves spent
 abbrev pub recording_moment : Recording → Moment
@@ -44,27 +46,37 @@ abbrev pub LineBegins : RuleTable → ℕ → List ℕ → Progress → Progress
 LineBegins t limit line before after = (after ≡ before) ⊎ ((command : Command) × Says line command × CommandBegins t limit command before after)
 
 -- the event has its entry; or nothing was done, because the log was full or memory ran out
-abbrev pub EventEnds : {E : Type 0} → RuleTable → ℕ → Event → Progress → Progress → Result Bool E → Type 0
-EventEnds t limit event before after (Ok true) = EventDoes t limit event before after
-EventEnds t limit event before after (Ok false) = (before.count ≡ limit) × (after ≡ before)
-EventEnds t limit event before after (Err want) = after ≡ before
+abbrev pub EventEnds : RuleTable → ℕ → Event → Progress → Progress → Result Unit RecordFault → Type 0
+EventEnds t limit event before after (Ok done) = EventDoes t limit event before after
+EventEnds t limit event before after (Err LogFull) = (before.count ≡ limit) × (after ≡ before)
+EventEnds t limit event before after (Err Memory) = after ≡ before
 
 -- the turns were taken, or a turn met a full log; if memory ran out, some first turns were taken
-abbrev pub TurnsEnd : {E : Type 0} → Draws → RuleTable → ℕ → ℕ → Stream → Progress → Progress → Result Bool E → Type 0
-TurnsEnd draws t limit turns stream before after (Ok true) = TurnsDo draws t limit turns stream before after
-TurnsEnd draws t limit turns stream before after (Ok false) = TurnsFill draws t limit turns stream before after
-TurnsEnd draws t limit turns stream before after (Err want) = TurnsBegin draws t limit turns stream before after
+abbrev pub TurnsEnd : Draws → RuleTable → ℕ → ℕ → Stream → Progress → Progress → Result Unit RecordFault → Type 0
+TurnsEnd draws t limit turns stream before after (Ok done) = TurnsDo draws t limit turns stream before after
+TurnsEnd draws t limit turns stream before after (Err LogFull) = TurnsFill draws t limit turns stream before after
+TurnsEnd draws t limit turns stream before after (Err Memory) = TurnsBegin draws t limit turns stream before after
 
 -- the command was carried out, or met a full log; if memory ran out, at most some of its first turns were
 -- taken
-abbrev pub CommandEnds : {E : Type 0} → RuleTable → ℕ → Command → Progress → Progress → Result Bool E → Type 0
-CommandEnds t limit command before after (Ok true) = CommandDoes t limit command before after
-CommandEnds t limit command before after (Ok false) = CommandFills t limit command before after
-CommandEnds t limit command before after (Err want) = CommandBegins t limit command before after
+abbrev pub CommandEnds : RuleTable → ℕ → Command → Progress → Progress → Result Unit RecordFault → Type 0
+CommandEnds t limit command before after (Ok done) = CommandDoes t limit command before after
+CommandEnds t limit command before after (Err LogFull) = CommandFills t limit command before after
+CommandEnds t limit command before after (Err Memory) = CommandBegins t limit command before after
+
+-- the line is bad, and has this number; or memory ran out while it was read
+abbrev pub FailsToRead : ℕ → List ℕ → LineError → Type 0
+FailsToRead number line (BadLine n) = (n ≡ number) × IsBadLine line
+FailsToRead number line (Record LogFull) = ⊥
+FailsToRead number line (Record Memory) = Unit {0}
+
+-- a command was read from the line, which is not empty
+abbrev pub SaysSome : List ℕ → Command → Type 0
+SaysSome line command = (line ≢ []) × Says line command
 
 -- the line was carried out, is bad, or met a full log; if memory ran out, at most some first turns were taken
-abbrev pub LineEnds : {E : Type 0} → RuleTable → ℕ → ℕ → List ℕ → Progress → Progress → Result (Option LineError) E → Type 0
-LineEnds t limit number line before after (Ok None) = LineDoes t limit line before after
-LineEnds t limit number line before after (Ok (Some (BadLine n))) = (n ≡ number) × IsBadLine line × (after ≡ before)
-LineEnds t limit number line before after (Ok (Some LogFull)) = MeetsFullLog t limit line before after
-LineEnds t limit number line before after (Err want) = LineBegins t limit line before after
+abbrev pub LineEnds : RuleTable → ℕ → ℕ → List ℕ → Progress → Progress → Result Unit LineError → Type 0
+LineEnds t limit number line before after (Ok done) = LineDoes t limit line before after
+LineEnds t limit number line before after (Err (BadLine n)) = (n ≡ number) × IsBadLine line × (after ≡ before)
+LineEnds t limit number line before after (Err (Record LogFull)) = MeetsFullLog t limit line before after
+LineEnds t limit number line before after (Err (Record Memory)) = LineBegins t limit line before after

@@ -8,15 +8,15 @@
 //!
 //! ```rust
 //! let mut run = Run::<HsuHuang>::new(alloc, RuleSet::Hh, 2, 2, MAX_ENTRIES)?;
-//! if let Some(stop) = run.carry_out(alloc, 1, b"link 1 2")? {
-//!     return Err(stop);                             // `BadLine` or `LogFull`
-//! }
+//! run.carry_out(alloc, 1, b"link 1 2")?;            // `LineError`
 //! print(&run.text);
 //! ```
 #![tactic(auto)]
 
+mod line_error;
+mod reading;
 mod run;
-mod stop;
 
+pub use line_error::LineError;
+pub use reading::read_command;
 pub use run::Run;
-pub use stop::LineError;

@@ -1,22 +1,23 @@
 //! The run of a script under one rule set.
 
-ghost use Rattle.std.specs.Prelude.{◌≡◌, ◌≤◌, [], None, Ok, IfOk, IfSome, IsTrue, OnErr, OnOk, min};
+ghost use Rattle.std.specs.Prelude.{◌≡◌, ◌≤◌, [], IfOk, IfSome, IsOk, OnErr, OnOk, min};
 ghost use Rattle.line_text.specs.EventText.{event_text};
 ghost use Rattle.rule_machine.specs.Least.{reply_of};
 ghost use Rattle.rule_machine.specs.RuleTable.{enabled_names};
+ghost use Rattle.rule_machine.specs.State.{IsState};
 ghost use Rattle.script_text.specs.declared.command.Command.TheVariants.{Drive};
 ghost use Rattle.script_text.specs.declared.command.Turns.{Turns};
 ghost use Rattle.script_text.specs.Command.{Says};
 ghost use Rattle.script_text.specs.Script.{with_checkpoint};
 ghost use Rattle.seeded_turns.specs.DrawnEvents.{seeded_stream, drawn_step, drawn_fault};
 ghost use Rattle.run_session.specs.RunStart.{first_progress};
-ghost use Rattle.run_session.specs.Line.{progress_of, EventEnds, TurnsEnd, CommandEnds, LineEnds};
+ghost use Rattle.run_session.specs.Line.{progress, progress_of, EventEnds, TurnsEnd, CommandEnds, LineEnds};
 
-use crate::stop::LineError;
+use crate::{LineError, read_command};
 use line_text::{put_base, put_header};
 use rule_machine::{Event, Reply, RuleSet, Want};
 use rules_api::Rules;
-use script_text::{Command, Turns, read_line_into};
+use script_text::{Command, Turns};
 use seeded_turns::{DaemonTurns, EventSource, FaultTurns};
 use std::alloc::{AllocError, Global};
 use step_log::{RecordFault, Recorder};
@@ -58,11 +59,28 @@ impl<R: Rules> Run<R> {
         })
     }
 
-    /// Carries out an event and adds its entry's text; returns `false` if the log is full.
+    /// A run that goes on with a recorded network. The run's text is the network's base.
+    ///
+    /// `Want` if memory runs out. Costs a `checkpoint`.
+    pub fn resume(alloc: Global, rules: RuleSet, recorder: Recorder<R>) -> Result<Run<R>, Want>
+        ensures begins { IfOk result (λ run. progress_of run ≡ with_checkpoint (progress rules recorder [])) }
+        ensures limit { IfOk result (λ run. run.recorder.limit ≡ recorder.limit) }
+    {
+        let text = Vec::new(alloc);
+        let mut run = Run {
+            rules,
+            recorder,
+            text,
+        };
+        run.checkpoint()?;
+        Ok(run)
+    }
+
+    /// Carries out an event and adds its entry's text.
     ///
     /// Writes the machine's reply into `reply`. If the caller passes the event's text as `line`, that text is
-    /// copied into the entry. The entry's number is the recorder's `len` after the call. `Want` if memory
-    /// runs out. After `Want` or `false`, nothing but `reply` may have changed.
+    /// copied into the entry. The entry's number is the recorder's `len` after the call. After an error,
+    /// nothing but `reply` may have changed.
     // Inlined into the reading of a line, as is every function between that one and this one.
     #[inline(always)]
     pub fn log(
@@ -70,59 +88,60 @@ impl<R: Rules> Run<R> {
         event: &Event,
         line: Option<&[u8]>,
         reply: &mut Reply,
-    ) -> Result<bool, Want>
+    ) -> Result<(), RecordFault>
         requires { IfSome line (λ line. line.now ≡ event_text event.now) }
         ensures ends { EventEnds R.table self.old.recorder.limit event.now (progress_of self.old) (progress_of self.new) result }
-        ensures reply { IfOk result (λ done. IsTrue done → reply.new ≡ reply_of R.table self.old.recorder.state self.old.recorder.spent event.now) }
+        ensures reply { OnOk result (reply.new ≡ reply_of R.table self.old.recorder.state self.old.recorder.spent event.now) }
         ensures limit { self.new.recorder.limit ≡ self.old.recorder.limit }
     {
-        match self.recorder.log_entry(event, line, reply, &mut self.text) {
-            Ok(()) => Ok(true),
-            Err(RecordFault::LogFull) => Ok(false),
-            Err(RecordFault::Memory) => Err(AllocError),
-        }
+        self.recorder.log_entry(event, line, reply, &mut self.text)
     }
 
-    // Stops at a turn that draws no event. Returns `false` if the log is full, before the next turn is drawn.
-    fn take_turns<S: EventSource>(&mut self, source: &mut S, count: u32) -> Result<bool, Want>
+    // A law in the form of a call: the network's state is one of the machine's.
+    #[inline(always)]
+    fn has_state(&self)
+        ensures { IsState self.now.recorder.state }
+    {
+        let _ = self.recorder.net().registers();
+    }
+
+    // Stops at a turn that draws no event. A full log is reported before the next turn is drawn.
+    fn take_turns<S: EventSource>(&mut self, source: &mut S, count: u32) -> Result<(), RecordFault>
         ensures ends { TurnsEnd S.draws R.table self.old.recorder.limit count (S.stream source.old) (progress_of self.old) (progress_of self.new) result }
         ensures unasked { self.old.recorder.len ≡ self.old.recorder.limit → S.stream source.new ≡ S.stream source.old }
         ensures limit { self.new.recorder.limit ≡ self.old.recorder.limit }
     {
         for _ in 0..count {
             if self.recorder.is_full() {
-                return Ok(false);
+                return Err(RecordFault::LogFull);
             }
             let Some(event) = source.next_event(self.recorder.net())? else {
-                return Ok(true);
+                return Ok(());
             };
-            if !self.log(&event, None, &mut Reply::Accepted)? {
-                return Ok(false);
-            }
+            self.log(&event, None, &mut Reply::Accepted)?;
         }
-        Ok(true)
+        Ok(())
     }
 
     /// Takes up to `turns.count` steps of a daemon seeded with `turns.seed`; stops when no node is enabled.
     ///
-    /// Returns `false` if the log is full at a turn; that turn does not ask the daemon. `Want` if memory runs
+    /// `LogFull` if the log is full at a turn; that turn does not ask the daemon. `Memory` if memory runs
     /// out, after some first turns, each taken whole.
-    pub fn drive(&mut self, alloc: Global, turns: Turns) -> Result<bool, Want>
+    pub fn drive(&mut self, alloc: Global, turns: Turns) -> Result<(), RecordFault>
         ensures ends { TurnsEnd drawn_step R.table self.old.recorder.limit turns.count (seeded_stream turns.seed) (progress_of self.old) (progress_of self.new) result }
-        ensures silent { IfOk result (λ done. IsTrue done → R.table.charge self.old.recorder.state ≤ turns.count → enabled_names R.table self.new.recorder.state ≡ []) }
+        ensures silent { OnOk result (R.table.charge self.old.recorder.state ≤ turns.count → enabled_names R.table self.new.recorder.state ≡ []) }
         ensures limit { self.new.recorder.limit ≡ self.old.recorder.limit }
     {
-        // Called for its contract: the state is sound.
-        let _ = self.recorder.net().registers();
+        self.has_state();
         let mut daemon = DaemonTurns::new(alloc, turns.seed);
         self.take_turns(&mut daemon, turns.count)
     }
 
     /// Makes up to `turns.count` register faults drawn with `turns.seed`; none if the network has no node.
     ///
-    /// Returns `false` if the log is full at a turn. `Want` if memory runs out, after some first turns, each
+    /// `LogFull` if the log is full at a turn. `Memory` if memory runs out, after some first turns, each
     /// taken whole.
-    pub fn scramble(&mut self, turns: Turns) -> Result<bool, Want>
+    pub fn scramble(&mut self, turns: Turns) -> Result<(), RecordFault>
         ensures ends { TurnsEnd drawn_fault R.table self.old.recorder.limit turns.count (seeded_stream turns.seed) (progress_of self.old) (progress_of self.new) result }
         ensures limit { self.new.recorder.limit ≡ self.old.recorder.limit }
     {
@@ -144,12 +163,17 @@ impl<R: Rules> Run<R> {
         put_base(&mut self.text, self.rules, net.store().capacity(), &base)
     }
 
-    /// Carries out the command of `line`; `false` if the command or one of its turns meets a full log.
+    /// Carries out the command of `line`.
     ///
-    /// `Want` if memory runs out. Then either nothing has changed, or some first turns were taken whole and
-    /// their text was added.
+    /// `LogFull` if the command or one of its turns meets a full log. `Memory` if memory runs out. Then
+    /// either nothing has changed, or some first turns were taken whole and their text was added.
     #[inline(always)]
-    pub fn follow(&mut self, alloc: Global, command: &Command, line: &[u8]) -> Result<bool, Want>
+    pub fn follow(
+        &mut self,
+        alloc: Global,
+        command: &Command,
+        line: &[u8],
+    ) -> Result<(), RecordFault>
         requires { Says line.now command.now }
         ensures ends { CommandEnds R.table self.old.recorder.limit command.now (progress_of self.old) (progress_of self.new) result }
         ensures limit { self.new.recorder.limit ≡ self.old.recorder.limit }
@@ -158,42 +182,26 @@ impl<R: Rules> Run<R> {
             Command::Tell(event) => self.log(event, Some(line), &mut Reply::Accepted),
             Command::Drive(turns) => self.drive(alloc, *turns),
             Command::Scramble(turns) => self.scramble(*turns),
-            Command::Checkpoint => {
-                self.checkpoint()?;
-                Ok(true)
-            }
+            Command::Checkpoint => Ok(self.checkpoint()?),
         }
     }
 
-    /// Carries out line `number`, given without its LF. Returns the error that stops the run, or `None`.
+    /// Carries out line `number`, given without its LF.
     ///
-    /// After `BadLine` nothing has changed. After `LogFull` the turns taken before it remain. `Want` if
+    /// After `BadLine` nothing has changed. After `LogFull` the turns taken before it remain. `Memory` if
     /// memory runs out: either nothing has changed, or some first turns were taken whole and their text was
     /// added. After each of these errors the run can go on.
     #[inline(always)]
-    pub fn carry_out(
-        &mut self,
-        alloc: Global,
-        number: u64,
-        line: &[u8],
-    ) -> Result<Option<LineError>, Want>
+    pub fn carry_out(&mut self, alloc: Global, number: u64, line: &[u8]) -> Result<(), LineError>
         ensures ends { LineEnds R.table self.old.recorder.limit number line.now (progress_of self.old) (progress_of self.new) result }
-        ensures silent { (turns : Turns) → Says line.now (Drive turns) → result ≡ Ok None → R.table.charge self.old.recorder.state ≤ turns.count → enabled_names R.table self.new.recorder.state ≡ [] }
+        ensures silent { (turns : Turns) → Says line.now (Drive turns) → IsOk result → R.table.charge self.old.recorder.state ≤ turns.count → enabled_names R.table self.new.recorder.state ≡ [] }
         ensures limit { self.new.recorder.limit ≡ self.old.recorder.limit }
     {
-        // Called for its contract: the state is sound.
-        let _ = self.recorder.net().registers();
-        if line.is_empty() {
-            return Ok(None);
-        }
+        self.has_state();
         let mut command = Command::Checkpoint;
-        if !read_line_into(alloc, line, &mut command)? {
-            return Ok(Some(LineError::BadLine { line: number }));
+        if read_command(alloc, number, line, &mut command)? {
+            self.follow(alloc, &command, line)?;
         }
-        match self.follow(alloc, &command, line) {
-            Ok(true) => Ok(None),
-            Ok(false) => Ok(Some(LineError::LogFull)),
-            Err(want) => Err(want),
-        }
+        Ok(())
     }
 }

@@ -1,3 +1,4 @@
+pub mod Prelude
 pub mod TextShift
 pub mod RunEnds
 pub mod RunProgress

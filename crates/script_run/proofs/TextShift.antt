@@ -1,23 +1,5 @@
 -- What a line adds to the text of a run, it adds to any text.
-use Rattle.std.proofs.Common.{◌≡◌, ◌∙◌, ℕ, zero, suc, ◌+◌, List, [], ◌∷◌, ◌++◌, Option, None, Some, Bool, true, false, Result, Ok, Err, inl, inr, refl, sym, ap, subst, append_assoc, append-nil, length, take}
-use Rattle.std.proofs.Math.Seq.{take-append_seam}
-use Rattle.rand_core.specs.Stream.{Stream}
-use Rattle.rule_machine.specs.declared.event.Event.{Event}
-use Rattle.rule_machine.specs.declared.rules.RuleSet.{RuleSet}
-use Rattle.rule_machine.specs.RuleTable.{RuleTable}
-use Rattle.rule_machine.specs.Least.{reply_of}
-use Rattle.rule_machine.specs.Run.{Moment}
-use Rattle.rule_machine.specs.Base.{base_of}
-use Rattle.line_text.specs.EntryText.{entry_line}
-use Rattle.line_text.specs.BaseText.{base_text}
-use Rattle.script_text.specs.declared.command.Command.{Command}
-use Rattle.script_text.specs.declared.command.Command.TheVariants.{Tell, Drive, Scramble, Checkpoint}
-use Rattle.seeded_turns.specs.DrawnEvents.{Draws, seeded_stream, drawn_step, drawn_fault}
-use Rattle.run_session.specs.Line.{TurnsBegin, CommandBegins, CommandEnds, LineBegins, LineEnds as LineRunEnds}
-use Rattle.run_session.specs.declared.stop.LineError.{LineError}
-use Rattle.run_session.specs.declared.stop.LineError.TheVariants.{BadLine, LogFull}
-use Rattle.script_run.specs.Line.{Grows, CommandGrows, LineGrows}
-use Rattle.script_text.specs.Script.{Progress, AppendsEntry, IsFull, EventDoes, TurnDoes, TurnsDo, TurnFills, TurnsFill, with_checkpoint, CommandDoes, CommandFills, LineDoes, MeetsFullLog}
+use Rattle.script_run.proofs.Prelude.{◌≡◌, ◌∙◌, ℕ, zero, suc, ◌+◌, List, [], ◌∷◌, ◌++◌, Option, None, Some, Result, Ok, Err, inl, inr, refl, sym, ap, subst, append_assoc, append-nil, length, take, take-append_seam, Stream, Event, RuleSet, RuleTable, reply_of, Moment, base_of, entry_line, base_text, Command, Tell, Drive, Scramble, Checkpoint, Draws, seeded_stream, drawn_step, drawn_fault, RecordFault, LogFull, Memory, TurnsBegin, CommandBegins, CommandEnds, Grows, CommandGrows, Progress, AppendsEntry, IsFull, EventDoes, TurnDoes, TurnsDo, TurnFills, TurnsFill, with_checkpoint, CommandDoes, CommandFills, LineDoes, MeetsFullLog}
 
 -- the progress of a run
 abbrev pub at_line : RuleSet → Moment → ℕ → List ℕ → Progress
@@ -141,28 +123,14 @@ turns_begun draws t limit turns stream before after (n, few, does) =
     let a = turns_add draws t limit n stream before.rules after.rules before.moment after.moment before.count after.count before.text after.text does in (a.more, a.grown)
 
 pub command_begun : (t : RuleTable) (limit : ℕ) (c : Command) (before after : Progress) → CommandBegins t limit c before after → Grows before.text after.text
-command_begun t limit (Tell event) before after same = same_grows before after same
 command_begun t limit (Drive turns) before after begun = turns_begun drawn_step t limit turns.count (seeded_stream turns.seed) before after begun
 command_begun t limit (Scramble turns) before after begun = turns_begun drawn_fault t limit turns.count (seeded_stream turns.seed) before after begun
-command_begun t limit Checkpoint before after same = same_grows before after same
+command_begun t limit command before after same = same_grows before after same
 
-pub command_grows : {E : Type 0} (t : RuleTable) (limit : ℕ) (c : Command) (before after : Progress) (result : Result Bool E) → CommandEnds t limit c before after result → CommandGrows t limit c before after result
-command_grows t limit c before after (Ok true) does = does
-command_grows t limit c before after (Ok false) fills = fills
-command_grows t limit c before after (Err want) begun = command_begun t limit c before after begun
-
-line_begun : (t : RuleTable) (limit : ℕ) (line : List ℕ) (before after : Progress) → LineBegins t limit line before after → Grows before.text after.text
-line_begun t limit line before after (inl same) = same_grows before after same
-line_begun t limit line before after (inr (command, says, begun)) = command_begun t limit command before after begun
-
-pub line_grows : {E : Type 0} (t : RuleTable) (limit number : ℕ) (line : List ℕ) (before after : Progress) (result : Result (Option LineError) E) → LineRunEnds t limit number line before after result
-    → LineGrows t limit number line before after result
-line_grows t limit number line before after (Ok None) does = does
-line_grows t limit number line before after (Ok (Some (BadLine n))) bad = bad
-line_grows t limit number line before after (Ok (Some LogFull)) meets = meets
-line_grows t limit number line before after (Err want) begun = line_begun t limit line before after begun
+pub command_grows : (t : RuleTable) (limit : ℕ) (c : Command) (before after : Progress) (result : Result Unit RecordFault) → CommandEnds t limit c before after result → CommandGrows t limit c before after result
+command_grows t limit c before after (Err Memory) begun = command_begun t limit c before after begun
+command_grows t limit c before after result ends = ends
 
 -- a text that has grown is cut back to what it was
 pub cut_back : (old new cut : List ℕ) (n : ℕ) → Grows old new → n ≡ length old → cut ≡ take n new → cut ≡ old
-cut_back old new cut n (more, grown) long is =
-    is ∙ ap (λ k. take k new) long ∙ ap (take (length old)) grown ∙ take-append_seam old more
+cut_back old new cut n (more, grown) long is = rw (is, long, grown) (take-append_seam old more)

@@ -1,7 +1,9 @@
 //! The errors of a run.
 
-use byte_streams::{InputFault, OutputFault};
+use byte_streams::OutputFault;
+use run_session::LineError;
 use steal_pool::PoolFault;
+use step_log::RecordFault;
 use thiserror::Error;
 
 /// Why a run did not reach the end of its script.
@@ -30,16 +32,17 @@ pub enum RunFault {
     Pool(PoolFault),
 }
 
-impl From<InputFault> for RunFault {
+impl From<LineError> for RunFault {
     ghost use Rattle.std.specs.Prelude.{◌≡◌};
-    ghost use Rattle.script_run.specs.Input.{fault_of};
+    ghost use Rattle.script_run.specs.LineFaults.{fault_of};
 
-    ghost from_gives = { λ fault run. run ≡ fault_of fault };
+    ghost from_gives = { λ error fault. fault ≡ fault_of error };
 
-    fn from(fault: InputFault) -> RunFault {
-        match fault {
-            InputFault::Read => RunFault::Read,
-            InputFault::Memory => RunFault::Memory,
+    fn from(error: LineError) -> RunFault {
+        match error {
+            LineError::BadLine { line } => RunFault::BadLine { line },
+            LineError::Record(RecordFault::LogFull) => RunFault::LogFull,
+            LineError::Record(RecordFault::Memory) => RunFault::Memory,
         }
     }
 }

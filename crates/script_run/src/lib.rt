@@ -13,11 +13,11 @@
 #![tactic(auto)]
 
 mod fault;
-mod halt;
 mod options;
-mod paying;
 mod piece;
 mod reading;
+mod restart;
+mod resumption;
 mod runner;
 mod script;
 mod stepping;
@@ -25,7 +25,8 @@ mod writing;
 
 pub use fault::RunFault;
 pub use options::Options;
-pub use paying::paying_workers;
+pub use restart::Restart;
+pub use resumption::resume;
 pub use rule_machine::RuleSet;
 pub use script::run;
 pub use step_log::MAX_ENTRIES;

@@ -1,35 +1,31 @@
 //! The run of a script under one rule set.
 
-ghost use Rattle.std.specs.Prelude.{◌≡◌, true, IfOk, IfSome, OnErr};
+ghost use Rattle.std.specs.Prelude.{◌≡◌, true, IfOk, IfSome, IsErrOf, OnOk};
 ghost use Rattle.std.specs.Io.KnownBytes.{Appends, IsAtEnd};
 ghost use Rattle.script_text.specs.Command.{Says};
-ghost use Rattle.script_text.specs.Script.{Progress, lines_of};
-ghost use Rattle.byte_streams.specs.PartialOutput.{AppendsBeginning};
+ghost use Rattle.script_text.specs.Script.{lines_of};
 ghost use Rattle.byte_streams.specs.StreamEnds.{IsEnded};
-ghost use Rattle.script_run.specs.RunEnds.{EndsReading, SplitsOutput, answered};
+ghost use Rattle.script_run.specs.RunEnds.{EndsReading, SplitsOutput, ends_unwritten};
 ghost use Rattle.run_session.specs.RunStart.{first_progress};
 ghost use Rattle.run_session.specs.Line.{progress_of};
 ghost use Rattle.script_run.specs.Line.{CommandGrows, LineGrows, CarriesLine};
-ghost use Rattle.script_run.specs.declared.halt.RunEnd.TheVariants.{Whole, Unread};
-ghost use Rattle.script_run.specs.Outcome.{EndsFrom, LinesLeadTo};
+ghost use Rattle.script_run.specs.declared.fault.RunFault.TheVariants.{Read as Unread, Write as Unwritten};
+ghost use Rattle.script_run.specs.Outcome.{EndsFrom};
 ghost use Rattle.script_run.specs.WholeLines.{DoesWholeLines};
 
-use crate::Options;
-use crate::halt::RunEnd;
 use crate::reading::{ReadProgress, read_on};
 use crate::writing::hand_over_all;
-use byte_streams::{CountingReader, FailStopWriter, OutputFault, chunk_of};
+use crate::{Options, RunFault};
+use byte_streams::{CountingReader, FailStopWriter, chunk_of};
 use rule_machine::{Event, Want};
 use rules_api::Rules;
-use run_session::{LineError, Run as LineRun};
-use script_text::{Command, read_line_into};
+use run_session::{LineError, Run as LineRun, read_command};
+use script_text::Command;
 use std::alloc::Global;
 use std::io::{Read, Write};
 use std::sync::Wait;
 use std::thread::Threads;
-
-/// A line of fewer bytes has no step that is worth two workers.
-const WIDE: usize = 65_536;
+use step_log::RecordFault;
 
 /// A run whose text is the unwritten part of the transcript, and how many workers judge a step.
 #[derive(Drop)]
@@ -60,42 +56,17 @@ impl<R: Rules + Sync> Run<R> {
         alloc: Global,
         command: &Command,
         line: &[u8],
-    ) -> Result<bool, Want>
+    ) -> Result<(), RecordFault>
         requires { Says line.now command.now }
         ensures ends { CommandGrows R.table self.old.line.recorder.limit command.now (progress_of self.old.line) (progress_of self.new.line) result }
         ensures limit { self.new.line.recorder.limit ≡ self.old.line.recorder.limit }
     {
-        match command {
-            Command::Tell(Event::Step(choice)) if self.pays(choice) => {
-                self.log_step(rt, alloc, choice, line)
+        if let Command::Tell(Event::Step(choice)) = command {
+            if let Some(workers) = self.workers_for(choice) {
+                return self.log_step(rt, alloc, choice, line, workers);
             }
-            _ => self.line.follow(alloc, command, line),
         }
-    }
-
-    // If memory runs out, text may have been added.
-    fn carry_out_wide<T: Threads + Wait + Sync>(
-        &mut self,
-        rt: &T,
-        alloc: Global,
-        number: u64,
-        line: &[u8],
-    ) -> Result<Option<LineError>, Want>
-        ensures ends { LineGrows R.table self.old.line.recorder.limit number line.now (progress_of self.old.line) (progress_of self.new.line) result }
-        ensures limit { self.new.line.recorder.limit ≡ self.old.line.recorder.limit }
-    {
-        if line.is_empty() {
-            return Ok(None);
-        }
-        let mut command = Command::Checkpoint;
-        if !read_line_into(alloc, line, &mut command)? {
-            return Ok(Some(LineError::BadLine { line: number }));
-        }
-        match self.follow(rt, alloc, &command, line) {
-            Ok(true) => Ok(None),
-            Ok(false) => Ok(Some(LineError::LogFull)),
-            Err(want) => Err(want),
-        }
+        self.line.follow(alloc, command, line)
     }
 
     // If memory runs out, text may have been added.
@@ -106,14 +77,15 @@ impl<R: Rules + Sync> Run<R> {
         alloc: Global,
         number: u64,
         line: &[u8],
-    ) -> Result<Option<LineError>, Want>
+    ) -> Result<(), LineError>
         ensures ends { LineGrows R.table self.old.line.recorder.limit number line.now (progress_of self.old.line) (progress_of self.new.line) result }
         ensures limit { self.new.line.recorder.limit ≡ self.old.line.recorder.limit }
     {
-        if self.workers > 1 && line.len() >= WIDE {
-            return self.carry_out_wide(rt, alloc, number, line);
+        let mut command = Command::Checkpoint;
+        if read_command(alloc, number, line, &mut command)? {
+            self.follow(rt, alloc, &command, line)?;
         }
-        self.line.carry_out(alloc, number, line)
+        Ok(())
     }
 
     // If memory runs out, no text is added, not even the text of turns that were taken.
@@ -124,18 +96,16 @@ impl<R: Rules + Sync> Run<R> {
         alloc: Global,
         number: u64,
         line: &[u8],
-    ) -> Result<Option<LineError>, Want>
+    ) -> Result<(), LineError>
         ensures ends { CarriesLine R.table self.old.line self.new.line number line.now result }
         ensures limit { self.new.line.recorder.limit ≡ self.old.line.recorder.limit }
     {
         let len = self.line.text.len();
-        match self.carry_out_line(rt, alloc, number, line) {
-            Ok(stop) => Ok(stop),
-            Err(want) => {
-                self.line.text.truncate(len);
-                Err(want)
-            }
+        let done = self.carry_out_line(rt, alloc, number, line);
+        if let Err(LineError::Record(RecordFault::Memory)) = done {
+            self.line.text.truncate(len);
         }
+        done
     }
 
     // Reads a script and carries out its lines. Before each read, all text so far is written and flushed.
@@ -145,43 +115,67 @@ impl<R: Rules + Sync> Run<R> {
         alloc: Global,
         reader: &mut CountingReader<In>,
         writer: &mut FailStopWriter<Out>,
-    ) -> Result<RunEnd, OutputFault>
-        ensures ok { IfOk result (λ end. IfSome (In.remaining reader.old.reader) (λ script.
-            EndsReading R.table self.old.line.recorder.limit (lines_of script) (progress_of self.old.line) end
-            (λ text. SplitsOutput (Out.contents writer.old.writer) (Out.contents writer.new.writer) text self.new.line.text.items))) }
-        ensures fault { OnErr result (IfSome (In.remaining reader.old.reader) (λ script. (end : Progress)
-            × LinesLeadTo R.table self.old.line.recorder.limit (lines_of script) (progress_of self.old.line) end
-            × AppendsBeginning (Out.contents writer.old.writer) (Out.contents writer.new.writer) end.text)) }
-        ensures whole { IfOk result (λ end. end ≡ Unread → DoesWholeLines R.table self.old.line.recorder.limit (progress_of self.old.line)
+    ) -> Result<(), RunFault>
+        ensures outcome { IfSome (In.remaining reader.old.reader) (λ script.
+            EndsReading R.table self.old.line.recorder.limit (lines_of script) (progress_of self.old.line)
+            (Out.contents writer.old.writer) (Out.contents writer.new.writer) self.new.line.text.items result) }
+        ensures whole { IsErrOf result Unread → DoesWholeLines R.table self.old.line.recorder.limit (progress_of self.old.line)
             (In.remaining reader.old.reader) (In.remaining reader.new.reader)
-            (λ text. SplitsOutput (Out.contents writer.old.writer) (Out.contents writer.new.writer) text self.new.line.text.items)) }
-        ensures read { IfOk result (λ end. end ≡ Whole → IsAtEnd (In.remaining reader.new.reader)) }
-        ensures unread { IfOk result (λ end. end ≡ Unread → IsEnded reader.new.failed reader.new.count) }
-        ensures unwritten { OnErr result (writer.new.failed ≡ true) }
+            (λ text. SplitsOutput (Out.contents writer.old.writer) (Out.contents writer.new.writer) text self.new.line.text.items) }
+        ensures read { OnOk result (IsAtEnd (In.remaining reader.new.reader)) }
+        ensures unread { IsErrOf result Unread → IsEnded reader.new.failed reader.new.count }
+        ensures unwritten { IsErrOf result Unwritten → writer.new.failed ≡ true }
     {
         let Ok(mut chunk) = chunk_of(alloc) else {
-            return Ok(RunEnd::Memory);
+            return Err(RunFault::Memory);
         };
         let mut reading = ReadProgress::new(alloc);
         loop {
             hand_over_all(writer, &mut self.line.text)?;
             let Ok(len) = read_on(reader, &mut chunk, &self.line.text) else {
-                return Ok(RunEnd::Unread);
+                return Err(RunFault::Read);
             };
             if len == 0 {
-                return Ok(self.carry_out_last(rt, alloc, &reading));
+                return self.carry_out_last(rt, alloc, &reading);
             }
-            if let Some(end) = self.carry_out_piece(
-                rt,
-                alloc,
-                &mut reading,
-                &chunk[..len],
-                writer,
-            )? {
-                return Ok(end);
-            }
+            self.carry_out_piece(rt, alloc, &mut reading, &chunk[..len], writer)?;
         }
     }
+}
+
+fn is_unwritten(ended: Result<(), RunFault>) -> bool
+    ensures { result ≡ ends_unwritten ended }
+{
+    match ended {
+        Err(RunFault::Write) => true,
+        _ => false,
+    }
+}
+
+/// Carries out the lines of a script in a run that has begun, and writes the run's text.
+pub fn play<R: Rules + Sync, In: Read, Out: Write, T: Threads + Wait + Sync>(
+    rt: &T,
+    alloc: Global,
+    run: Run<R>,
+    reader: &mut CountingReader<In>,
+    writer: &mut FailStopWriter<Out>,
+) -> Result<(), RunFault>
+    ensures outcome { IfSome (In.remaining reader.old.reader) (λ script.
+        EndsFrom R.table run.line.recorder.limit (progress_of run.line) script
+        (Out.contents writer.old.writer) (Out.contents writer.new.writer) result) }
+    ensures whole { IsErrOf result Unread → DoesWholeLines R.table run.line.recorder.limit (progress_of run.line)
+        (In.remaining reader.old.reader) (In.remaining reader.new.reader) (Appends (Out.contents writer.old.writer) (Out.contents writer.new.writer)) }
+    ensures read { OnOk result (IsAtEnd (In.remaining reader.new.reader)) }
+    ensures unread { IsErrOf result Unread → IsEnded reader.new.failed reader.new.count }
+    ensures unwritten { IsErrOf result Unwritten → writer.new.failed ≡ true }
+{
+    let mut run = run;
+    let ended = run.carry_out_all(rt, alloc, reader, writer);
+    if is_unwritten(ended) {
+        return ended;
+    }
+    writer.finish(&run.line.text)?;
+    ended
 }
 
 /// Runs a script under the rules `R`, and writes its transcript.
@@ -191,20 +185,18 @@ pub fn run_on<R: Rules + Sync, In: Read, Out: Write, T: Threads + Wait + Sync>(
     reader: &mut CountingReader<In>,
     writer: &mut FailStopWriter<Out>,
     options: &Options,
-) -> Result<RunEnd, OutputFault>
+) -> Result<(), RunFault>
     ensures outcome { IfSome (In.remaining reader.old.reader) (λ script.
         EndsFrom R.table options.now.limit (first_progress options.now.rules options.now.nodes options.now.present) script
-        (Out.contents writer.old.writer) (Out.contents writer.new.writer) (answered result)) }
-    ensures whole { IfOk result (λ end. end ≡ Unread → DoesWholeLines R.table options.now.limit (first_progress options.now.rules options.now.nodes options.now.present)
-        (In.remaining reader.old.reader) (In.remaining reader.new.reader) (Appends (Out.contents writer.old.writer) (Out.contents writer.new.writer))) }
-    ensures read { IfOk result (λ end. end ≡ Whole → IsAtEnd (In.remaining reader.new.reader)) }
-    ensures unread { IfOk result (λ end. end ≡ Unread → IsEnded reader.new.failed reader.new.count) }
-    ensures unwritten { OnErr result (writer.new.failed ≡ true) }
+        (Out.contents writer.old.writer) (Out.contents writer.new.writer) result) }
+    ensures whole { IsErrOf result Unread → DoesWholeLines R.table options.now.limit (first_progress options.now.rules options.now.nodes options.now.present)
+        (In.remaining reader.old.reader) (In.remaining reader.new.reader) (Appends (Out.contents writer.old.writer) (Out.contents writer.new.writer)) }
+    ensures read { OnOk result (IsAtEnd (In.remaining reader.new.reader)) }
+    ensures unread { IsErrOf result Unread → IsEnded reader.new.failed reader.new.count }
+    ensures unwritten { IsErrOf result Unwritten → writer.new.failed ≡ true }
 {
-    let Ok(mut run) = Run::<R>::new(alloc, options) else {
-        return Ok(RunEnd::Memory);
+    let Ok(run) = Run::<R>::new(alloc, options) else {
+        return Err(RunFault::Memory);
     };
-    let end = run.carry_out_all(rt, alloc, reader, writer)?;
-    writer.finish(&run.line.text)?;
-    Ok(end)
+    play(rt, alloc, run, reader, writer)
 }

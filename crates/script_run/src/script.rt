@@ -56,9 +56,8 @@ pub fn run<In: Read, Out: Write, T: Threads + Wait + Sync>(
     ensures unread { IsErrOf result Unread → IsEnded reader.new.failed reader.new.count }
     ensures unwritten { IsErrOf result Unwritten → writer.new.failed ≡ true }
 {
-    let end = match options.rules() {
-        RuleSet::Hh => run_on::<HsuHuang, In, Out, T>(rt, alloc, reader, writer, options)?,
-        RuleSet::Manne => run_on::<Manne, In, Out, T>(rt, alloc, reader, writer, options)?,
-    };
-    end.told()
+    match options.rules() {
+        RuleSet::Hh => run_on::<HsuHuang, In, Out, T>(rt, alloc, reader, writer, options),
+        RuleSet::Manne => run_on::<Manne, In, Out, T>(rt, alloc, reader, writer, options),
+    }
 }

@@ -1,12 +1,5 @@
 -- How long the text of a command is.
-use Rattle.std.proofs.Common.{ℕ, ◌<◌, ◌≤◌, List, length, codes, ap, length-append, arith}
-use Rattle.std.proofs.lemmas.Fmt.{length-decimal-le}
-use Rattle.line_text.specs.Words.{number_text}
-use Rattle.line_text.proofs.EventLengths.{two_short, event_short}
-use Rattle.script_text.specs.declared.command.Command.{Command}
-use Rattle.script_text.specs.declared.command.Command.TheVariants.{Tell, Drive, Scramble, Checkpoint}
-use Rattle.script_text.specs.declared.command.Turns.{Turns}
-use Rattle.script_text.specs.Command.{IsTurns, IsCommand, turns_text, command_text, SaysNothing}
+use Rattle.script_text.proofs.Prelude.{ℕ, ◌<◌, ◌≤◌, List, length, codes, ap, length-append, arith, length-decimal-le, number_text, two_short, event_short, Command, Tell, Drive, Scramble, Checkpoint, Turns, IsTurns, IsCommand, turns_text, command_text, SaysNothing}
 
 turns_short : (t : Turns) → IsTurns t → length (turns_text t) ≤ 28
 turns_short t h =

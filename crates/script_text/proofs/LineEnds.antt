@@ -1,8 +1,5 @@
 -- Lines that end with an LF, and bytes whose line goes on.
-use Rattle.std.proofs.Common.{◌≡◌, ℕ, ◌==◌, Bool, true, false, if◌then◌else◌, List, [], ◌∷◌, ◌++◌, refl, ap, ◌∙◌}
-use Rattle.std.proofs.lemmas.Bool.{eqb-true}
-use Rattle.byte_streams.specs.Lines.{IsLine}
-use Rattle.script_text.specs.Script.{lines_of, onto_first}
+use Rattle.script_text.proofs.Prelude.{◌≡◌, ℕ, ◌==◌, Bool, true, false, if◌then◌else◌, List, [], ◌∷◌, ◌++◌, refl, ap, ◌∙◌, eqb-true, IsLine, lines_of, onto_first}
 
 same_byte : (b : ℕ) → (b == 10) ≡ true → b ≡ 10
 same_byte b is = eqb-true b 10 is

@@ -1,25 +1,5 @@
 -- A line is at most one command, and commands lead to one end.
-use Rattle.std.proofs.Common.{◌≡◌, ℕ, zero, suc, ◌+◌, ◌*◌, Bool, true, false, ◌||◌, nat_eq, List, [], ◌∷◌, Option, None, Some, get_or, codes, refl, sym, ap, subst, ◌∙◌, append_assoc, arith}
-use Rattle.std.specs.Int.{IsInRange}
-use Rattle.std.proofs.lemmas.Bool.{true≢false}
-use Rattle.std.proofs.lemmas.List.{append_cancel_left}
-use Rattle.std.proofs.lemmas.Fmt.{digits_decimal, decimal_injective}
-use Rattle.rand_core.specs.Stream.{Stream}
-use Rattle.rule_machine.specs.declared.event.Event.{Event}
-use Rattle.rule_machine.specs.declared.rules.RuleSet.{RuleSet}
-use Rattle.rule_machine.specs.declared.event.Event.TheVariants.{Link}
-use Rattle.rule_machine.specs.Run.{Moment}
-use Rattle.rule_machine.specs.RuleTable.{RuleTable}
-use Rattle.line_text.specs.Words.{number_text}
-use Rattle.line_text.specs.EventText.{event_text}
-use Rattle.line_text.proofs.Digits.{own, run_once}
-use Rattle.line_text.proofs.EventsOnce.{spells_once}
-use Rattle.script_text.specs.declared.command.Command.{Command}
-use Rattle.script_text.specs.declared.command.Command.TheVariants.{Tell, Drive, Scramble, Checkpoint}
-use Rattle.script_text.specs.declared.command.Turns.{Turns}
-use Rattle.script_text.specs.Command.{IsTurns, IsCommand, turns_text, command_text, Says}
-use Rattle.seeded_turns.specs.DrawnEvents.{Draws, seeded_stream, drawn_step, drawn_fault}
-use Rattle.script_text.specs.Script.{Progress, AppendsEntry, TurnDoes, TurnsDo, CommandDoes, LineDoes, LinesDo}
+use Rattle.script_text.proofs.Prelude.{◌≡◌, ℕ, zero, suc, ◌+◌, ◌*◌, Bool, true, false, ◌||◌, nat_eq, List, [], ◌∷◌, Option, None, Some, get_or, codes, refl, sym, ap, subst, ◌∙◌, append_assoc, arith, IsInRange, true≢false, append_cancel_left, digits_decimal, decimal_injective, Stream, Event, RuleSet, Link, Moment, RuleTable, number_text, event_text, own, run_once, spells_once, Command, Tell, Drive, Scramble, Checkpoint, Turns, IsTurns, IsCommand, turns_text, command_text, Says, Draws, seeded_stream, drawn_step, drawn_fault, Progress, AppendsEntry, TurnDoes, TurnsDo, CommandDoes, LineDoes, LinesDo}
 
 turns_of : ℕ → ℕ → Turns
 turns_of s c = record { seed = s; count = c }

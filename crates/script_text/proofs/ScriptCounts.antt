@@ -1,8 +1,5 @@
 -- As many scripts as readers.
-use Rattle.std.proofs.Common.{◌≡◌, ℕ, ◌≤◌, List, [], ◌∷◌, ◌++◌, length, map, drop, Option, Result, Ok, Err, IfOk, refl, sym, ap, subst, arith}
-use Rattle.std.proofs.lemmas.List.{append-nil, drop_all}
-use Rattle.script_text.specs.declared.script.ScriptLine.{ScriptLine}
-use Rattle.script_text.specs.Readers.{AllHold}
+use Rattle.script_text.proofs.Prelude.{◌≡◌, ℕ, ◌≤◌, List, [], ◌∷◌, ◌++◌, length, map, drop, Option, Result, Ok, Err, IfOk, refl, sym, ap, subst, arith, append-nil, drop_all, ScriptLine, AllHold}
 
 -- after the last reader there is none
 pub none_left : {In : Type 0} (known : In → Option (List ℕ)) (readers : List In) (n k : ℕ) → n ≡ k → k ≡ length readers → map known (drop n readers) ≡ []

@@ -1,26 +1,5 @@
 -- A line that drives as many turns as the charge, and takes all of them, ends with no node enabled.
-use Rattle.std.proofs.Common.{◌≡◌, ◌∙◌, ℕ, zero, suc, ◌+◌, ◌≤◌, List, [], ◌∷◌, Option, None, Some, codes, refl, sym, ap, subst, ⊎_elim, arith}
-use Rattle.std.specs.Option.{option_map}
-use Rattle.rand_core.specs.Stream.{Stream}
-use Rattle.rule_machine.specs.declared.choice.Item.{Item}
-use Rattle.rule_machine.specs.declared.event.Event.{Event}
-use Rattle.rule_machine.specs.declared.event.Event.TheVariants.{Step}
-use Rattle.rule_machine.specs.Least.{state_after}
-use Rattle.rule_machine.specs.State.{State, IsState}
-use Rattle.rule_machine.specs.Run.{Moment}
-use Rattle.rule_machine.specs.RuleTable.{RuleTable, enabled_names}
-use Rattle.machine_laws.specs.AcceptedEvents.{state_after_keeps}
-use Rattle.machine_laws.specs.LeastMoves.{IsTable}
-use Rattle.machine_laws.specs.Neighbours.{option_cases}
-use Rattle.charge_laws.specs.ChargeWords.{IsCharged}
-use Rattle.daemon.specs.DrawnChoices.{choice_drawn}
-use Rattle.drive_laws.proofs.Turns.{turn_rests, turn_pays, zero_is_quiet}
-use Rattle.seeded_turns.specs.DrawnEvents.{Draws, seeded_stream, drawn_step, drawn_fault}
-use Rattle.script_text.specs.declared.command.Command.{Command}
-use Rattle.script_text.specs.declared.command.Command.TheVariants.{Tell, Drive, Scramble, Checkpoint}
-use Rattle.script_text.specs.declared.command.Turns.{Turns}
-use Rattle.script_text.specs.Command.{Says, command_text}
-use Rattle.script_text.specs.Script.{Progress, AppendsEntry, TurnDoes, TurnsDo, CommandDoes, LineDoes, LinesDo}
+use Rattle.script_text.proofs.Prelude.{◌≡◌, ◌∙◌, ℕ, zero, suc, ◌+◌, ◌≤◌, List, [], ◌∷◌, Option, None, Some, codes, refl, sym, ap, subst, ⊎_elim, arith, option_map, Stream, Item, Event, Step, state_after, State, IsState, Moment, RuleTable, enabled_names, state_after_keeps, IsTable, option_cases, IsCharged, choice_drawn, turn_rests, turn_pays, zero_is_quiet, Draws, seeded_stream, drawn_step, drawn_fault, Command, Tell, Drive, Scramble, Checkpoint, Turns, Says, command_text, Progress, AppendsEntry, TurnDoes, TurnsDo, CommandDoes, LineDoes, LinesDo}
 use Rattle.script_text.proofs.Once.{head_of, says_once}
 
 -- what the turns after the first do

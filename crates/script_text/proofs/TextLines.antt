@@ -1,8 +1,5 @@
 -- The lines of a text, one after another.
-use Rattle.std.proofs.Common.{◌≡◌, ◌∙◌, ℕ, ◌+◌, inr, List, [], ◌∷◌, ◌++◌, refl, sym, ap, subst, append_assoc}
-use Rattle.std.proofs.lemmas.List.{append-nil}
-use Rattle.script_text.specs.declared.script.ScriptLine.{ScriptLine}
-use Rattle.script_text.specs.Texts.{LineHolds, LinesHold, IsGoodLine, FirstBad}
+use Rattle.script_text.proofs.Prelude.{◌≡◌, ◌∙◌, ℕ, ◌+◌, inr, List, [], ◌∷◌, ◌++◌, refl, sym, ap, subst, append_assoc, append-nil, ScriptLine, LineHolds, LinesHold, IsGoodLine, FirstBad}
 
 -- a line that was added is good
 good : (number : ℕ) (line : List ℕ) (own : List ScriptLine) → LineHolds number line own → IsGoodLine line

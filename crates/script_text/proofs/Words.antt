@@ -1,11 +1,7 @@
 -- Two numbers with a space between them: the space is the first one.
-use Rattle.std.proofs.Common.{◌≡◌, ℕ, zero, suc, ◌+◌, ◌<◌, ◌^◌, List, [], ◌∷◌, ◌++◌, take, drop, true, refl, ap, sym, eqb-true, add-one, ◌∙◌, arith}
-use Rattle.std.specs.Prelude.{slice_index, ◌==◌}
-use Rattle.std.specs.Int.{IsInRange}
-use Rattle.std.specs.Str.Parse.{AllDigits, digits_value}
-use Rattle.std.proofs.lemmas.Str.Parse.{IsNumeralModel, numerals_by_value, tells_digits, digit_from_value}
-use Rattle.std.proofs.lemmas.Fmt.{digits_decimal}
-use Rattle.line_text.specs.Words.{number_text}
+use Rattle.script_text.proofs.Prelude.{◌≡◌, ℕ, zero, suc, ◌+◌, ◌<◌, ◌^◌, List, [], ◌∷◌, ◌++◌, take, drop, true, refl, ap, sym, add-one, ◌∙◌, arith, slice_index, IsInRange, AllDigits, digits_value, IsNumeralModel, numerals_by_value, tells_digits, digit_from_value, digits_decimal, number_text}
+use Rattle.std.proofs.Common.{eqb-true}
+use Rattle.std.specs.Prelude.{◌==◌}
 
 own : IsNumeralModel (AllDigits 10) (digits_value 10)
 own = numerals_by_value (AllDigits 10) tells_digits

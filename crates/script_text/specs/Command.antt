@@ -35,6 +35,6 @@ Says line command = IsCommand command × (line ≡ command_text command)
 abbrev pub SaysNoTurns : List ℕ → Type 0
 SaysNoTurns line = (turns : Turns) → IsTurns turns → (line ≡ codes "drive " ++ turns_text turns → ⊥) × (line ≡ codes "scramble " ++ turns_text turns → ⊥)
 
--- the line is the text of no command
+-- The line is the text of no command. `long_line` proves this of every line above 1,048,576 bytes.
 abbrev pub SaysNothing : List ℕ → Type 0
 SaysNothing line = (command : Command) → Says line command → ⊥

@@ -72,6 +72,7 @@ abbrev pub LineDoes : RuleTable → ℕ → List ℕ → Progress → Progress �
 LineDoes t limit [] before after = after ≡ before
 LineDoes t limit (b ∷ line) before after = (command : Command) × Says (b ∷ line) command × CommandDoes t limit command before after
 
+-- Each line does what it says, one after another. `one_end` proves that they lead to at most one end.
 abbrev pub LinesDo : RuleTable → ℕ → List (List ℕ) → Progress → Progress → Type 0
 LinesDo t limit [] before after = after ≡ before
 LinesDo t limit (line ∷ lines) before after =

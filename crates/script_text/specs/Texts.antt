@@ -4,8 +4,8 @@ use Rattle.script_text.specs.declared.command.Command.{Command}
 use Rattle.script_text.specs.Command.{Says}
 use Rattle.script_text.specs.Script.{IsBadLine, lines_of}
 use Rattle.script_text.specs.declared.script.ScriptLine.{ScriptLine}
-use Rattle.script_text.specs.declared.fault.TextFault.{TextFault}
-use Rattle.script_text.specs.declared.fault.TextFault.TheVariants.{BadLine, Memory}
+use Rattle.script_text.specs.declared.fault.TextsFault.{TextsFault}
+use Rattle.script_text.specs.declared.fault.TextsFault.TheVariants.{TooManyScripts, BadLine, Read, Memory}
 
 -- the greatest line number that a script stores; all greater numbers are stored as this number
 abbrev pub greatest_number : ℕ
@@ -39,12 +39,16 @@ FirstBad number [] bad = ⊥
 FirstBad number (line ∷ lines) bad =
     ((bad ≡ number) × IsBadLine line) ⊎ (IsGoodLine line × FirstBad (number + 1) lines bad)
 
--- why a line was not added
-abbrev pub IsLineFault : ℕ → List ℕ → TextFault → Type 0
-IsLineFault number line (BadLine bad) = (bad ≡ number) × IsBadLine line
-IsLineFault number line Memory = Unit {0}
+-- why a line of the script with this number was not added
+abbrev pub IsLineFault : ℕ → ℕ → List ℕ → TextsFault → Type 0
+IsLineFault script number line TooManyScripts = ⊥
+IsLineFault script number line (BadLine its bad) = (its ≡ script) × (bad ≡ number) × IsBadLine line
+IsLineFault script number line Read = ⊥
+IsLineFault script number line Memory = Unit {0}
 
--- why a text was not read as a script
-abbrev pub IsTextFault : List ℕ → TextFault → Type 0
-IsTextFault text (BadLine bad) = FirstBad 1 (lines_of text) bad
-IsTextFault text Memory = Unit {0}
+-- why a text was not read as the script with this number
+abbrev pub IsTextFault : ℕ → List ℕ → TextsFault → Type 0
+IsTextFault script text TooManyScripts = ⊥
+IsTextFault script text (BadLine its bad) = (its ≡ script) × FirstBad 1 (lines_of text) bad
+IsTextFault script text Read = ⊥
+IsTextFault script text Memory = Unit {0}

@@ -3,28 +3,6 @@
 use std::alloc::AllocError;
 use thiserror::Error;
 
-/// Why a text is no script.
-#[derive(Clone, Copy, Debug, PartialEq, Eq, Error)]
-pub enum TextFault {
-    /// This line, counted from 1, is neither empty nor a command.
-    #[error("line {line}: not a command")]
-    BadLine { line: u64 },
-    /// Memory ran out.
-    #[error("out of memory")]
-    Memory,
-}
-
-impl From<AllocError> for TextFault {
-    ghost use Rattle.std.specs.Prelude.{◌≡◌};
-    ghost use Rattle.script_text.specs.declared.fault.TextFault.TheVariants.{Memory};
-
-    ghost from_gives = { λ _ fault. fault ≡ Memory };
-
-    fn from(_: AllocError) -> TextFault {
-        TextFault::Memory
-    }
-}
-
 /// Why scripts could not be read.
 #[derive(Clone, Copy, Debug, PartialEq, Eq, Error)]
 pub enum TextsFault {
@@ -40,4 +18,15 @@ pub enum TextsFault {
     /// Memory ran out.
     #[error("out of memory")]
     Memory,
+}
+
+impl From<AllocError> for TextsFault {
+    ghost use Rattle.std.specs.Prelude.{◌≡◌};
+    ghost use Rattle.script_text.specs.declared.fault.TextsFault.TheVariants.{Memory};
+
+    ghost from_gives = { λ _ fault. fault ≡ Memory };
+
+    fn from(_: AllocError) -> TextsFault {
+        TextsFault::Memory
+    }
 }

@@ -23,7 +23,7 @@ mod script;
 mod text;
 
 pub use command::{Command, MAX_TURNS, Turns};
-pub use fault::{TextFault, TextsFault};
+pub use fault::TextsFault;
 pub use law::{long_drives_end_silent, long_line, one_end};
 pub use lines::{MAX_LINE, next_line};
 pub use read::{read_line, read_line_into};

@@ -5,7 +5,7 @@ ghost use Rattle.script_text.specs.declared.fault.TextsFault.TheVariants.{TooMan
 ghost use Rattle.script_text.specs.Texts.{TextHolds};
 ghost use Rattle.script_text.specs.Readers.{AllHold, IsTextsFault, IsReaderFault};
 
-use crate::{Script, TextFault, TextsFault, read_text};
+use crate::{Script, TextsFault, read_text};
 use byte_streams::{CountingReader, InputFault, read_whole};
 use std::alloc::Global;
 use std::io::Read;
@@ -23,14 +23,7 @@ fn read_from<In: Read + Drop>(alloc: Global, number: u32, reader: In) -> Result<
         Err(InputFault::Read) => return Err(TextsFault::Read),
         Err(InputFault::Memory) => return Err(TextsFault::Memory),
     };
-    match read_text(alloc, &text) {
-        Ok(script) => Ok(script),
-        Err(TextFault::BadLine { line }) => Err(TextsFault::BadLine {
-            script: number,
-            line,
-        }),
-        Err(TextFault::Memory) => Err(TextsFault::Memory),
-    }
+    Ok(read_text(alloc, number, &text)?)
 }
 
 fn read_each<In: Read + Drop>(alloc: Global, readers: Vec<In>) -> Result<Vec<Script>, TextsFault>

@@ -1,0 +1,9 @@
+pub mod Prelude
+pub mod GainedPairs
+pub mod LeftPairs
+pub mod UnreachedNodes
+pub mod OpenedEdges
+pub mod CostComparison
+pub mod TurnedPointers
+pub mod Pays
+pub mod MannePays

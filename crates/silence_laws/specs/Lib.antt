@@ -1,11 +1,3 @@
 pub mod Changes
 pub mod Costs
 pub mod Laws
-pub mod GainedPairs
-pub mod LeftPairs
-pub mod UnreachedNodes
-pub mod OpenedEdges
-pub mod CostComparison
-pub mod TurnedPointers
-pub mod Pays
-pub mod MannePays

@@ -5,7 +5,7 @@ use Rattle.rule_machine.specs.Network.{present}
 use Rattle.rule_machine.specs.RuleTable.{RuleTable}
 use Rattle.rule_machine.specs.State.{State}
 use Rattle.rule_machine.specs.Refuse.{refusal_of}
-use Rattle.charge_laws.specs.CostsOfRuns.{link_parts}
+use Rattle.charge_laws.proofs.CostsOfRuns.{link_parts}
 
 pub lower_present : (t : RuleTable) (s : State) (a b : ℕ) → refusal_of t s (Link a b) ≡ None → IsTrue (present s.network a)
 lower_present t s a b e = (link_parts t s a b e).0

@@ -15,7 +15,9 @@
 
 mod cost;
 mod count;
+mod edges;
 mod view;
 
 pub use cost::SilentCost;
+pub use edges::{link_cost, unlink_cost};
 pub use view::{SilentView, is_pair, unmarried_neighbours};

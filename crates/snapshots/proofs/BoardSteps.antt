@@ -1,17 +1,8 @@
 -- Each step of a board keeps the rule of its copies.
-use Rattle.std.proofs.Common.{◌≡◌, ◌≢◌, ℕ, ◌+◌, List, [], ◌∷◌, ◌++◌, length, set, Option, Some, None, ⊎_elim, refl, ap, sym, ◌∙◌, subst, arith, length-append}
-use Rattle.std.proofs.lemmas.List.Sums.{fold-append}
+use Rattle.snapshots.proofs.Prelude.{◌≡◌, ◌≢◌, ℕ, ◌+◌, List, [], ◌∷◌, ◌++◌, length, set, Option, Some, None, ⊎_elim, refl, ap, sym, ◌∙◌, subst, arith, length-append, fold-append, Admits, TurnsAt, Forks, Merges, at_set, at_snoc, Entry, Book, Mark, shown, BoardShape, pointers_after, row_effect, here_after, here_by, CopyView, after, extent_of, ExtendsView, IsSound, Publishes, Sees}
 use mathlib.Core.List.{IsPrefix}
 use mathlib.Core.Option.{some}
 use lib.ListN.{get_elem?}
-use Rattle.crossbeam_utils.specs.Register.{Admits, TurnsAt, Forks, Merges}
-use Rattle.atomic_table.proofs.Lists.{at_set, at_snoc}
-use Rattle.rule_machine.specs.Run.{Entry}
-use Rattle.logbook.specs.Pages.{Book}
-use Rattle.snapshots.specs.History.{Mark, shown}
-use Rattle.snapshots.specs.Row.{BoardShape, pointers_after, row_effect, here_after, here_by}
-use Rattle.snapshots.specs.CopyViews.{CopyView, after, extent_of}
-use Rattle.snapshots.specs.Rule.{ExtendsView, IsSound, Publishes, Sees}
 use Rattle.snapshots.proofs.Fronts.{prefix_self, prefix_more, prefix_trans}
 use Rattle.snapshots.proofs.Rows.{effect_length}
 

@@ -1,14 +1,5 @@
 -- A board after posting and publishing.
-use Rattle.std.proofs.Common.{◌≡◌, ◌+◌, ◌<◌, List, [], ◌∷◌, ◌++◌, length, Option, Some, inr, ⊎_elim, refl, ap, sym, ◌∙◌, subst, arith, length-append}
-use Rattle.std.proofs.lemmas.List.Sums.{fold-append}
-use Rattle.rule_machine.specs.Run.{Entry}
-use Rattle.logbook.specs.Pages.{Book}
-use Rattle.snapshots.specs.declared.image.Posted.{Posted}
-use Rattle.snapshots.specs.History.{Mark, with_mark, published_and_posted, published, posted, shown, max_marks}
-use Rattle.snapshots.specs.Row.{BoardShape}
-use Rattle.snapshots.specs.CopyViews.{CopyView, extent_of}
-use Rattle.snapshots.specs.Rule.{ExtendsView}
-use Rattle.snapshots.specs.Boards.{entries_of, absorbed, IsPublishable, IsPostedLast, IsBoard}
+use Rattle.snapshots.proofs.Prelude.{◌≡◌, ◌+◌, ◌<◌, List, [], ◌∷◌, ◌++◌, length, map, fold, Option, Some, inr, ⊎_elim, refl, ap, sym, ◌∙◌, subst, arith, length-append, fold-append, Entry, Book, Posted, Mark, with_mark, published_and_posted, published, posted, shown, max_marks, BoardShape, LonePost, CopyView, after, extent_of, ExtendsView, entries_of, absorbed, IsPublishable, IsPostedLast, IsBoard, posted_at}
 use Rattle.snapshots.proofs.BoardSteps.{follows_self, later, goes_on}
 
 pub none_pending : (pending : List Posted) → entries_of pending ≡ [] → pending ≡ []
@@ -16,7 +7,7 @@ none_pending [] is = refl
 none_pending (p ∷ pending) is = absurd (cc is)
 
 -- an entry that is posted changes nothing published, and is the one posted last
-post_standing : (marks : List Mark) (entry : Entry) → published_and_posted (marks ++ Some entry ∷ []) ≡ (published marks, entry ∷ [])
+pub post_standing : (marks : List Mark) (entry : Entry) → published_and_posted (marks ++ Some entry ∷ []) ≡ (published marks, entry ∷ [])
 post_standing marks entry = fold-append with_mark ([], []) marks (Some entry ∷ [])
 
 module _ (law : BoardShape → List Entry → Type 0) (x : CopyView) (known : Option CopyView) (marks : List Mark) (book : Book) (announced : List Mark) where
@@ -50,3 +41,16 @@ module _ (law : BoardShape → List Entry → Type 0) (x : CopyView) (known : Op
         subst (λ (k : Book). ExtendsView (Some x) (record (absorbed x p) { book = k })) (sym at) (goes_on law x p.entry p.front p.past.seen.log more),
       ))
       b.ready
+
+-- ---- one copy
+
+-- the entry that a lone copy lacks
+pub lone_entry : (at : LonePost) (entries : List Entry) → entries_of (map (λ entry. record { entry = entry; front = at.front; past = at.past }) entries) ≡ entries
+lone_entry at [] = refl
+lone_entry at (entry ∷ entries) = ap (λ l. entry ∷ l) (lone_entry at entries)
+
+-- is taken in when it is given
+pub lone_shown : (x : CopyView) (at : LonePost) (entry : Entry) → entries_of (posted_at at) ≡ entry ∷ [] → fold absorbed x (posted_at at) ≡ after x entry at.front at.past.seen.log at.past.seen.book
+lone_shown x at entry is =
+    let last : posted at.past.seen.log ≡ entry ∷ [] = sym (lone_entry at (posted at.past.seen.log)) ∙ is in
+    ap (λ (l : List Entry). fold absorbed x (map (λ e. record { entry = e; front = at.front; past = at.past }) l)) last

@@ -1,12 +1,8 @@
 -- Prefixes of one list, and what a longer history shows.
-use Rattle.std.proofs.Common.{◌≡◌, ◌+◌, ◌≤◌, List, [], ◌∷◌, ◌++◌, length, take, drop, fold, Some, None, refl, ap, sym, ◌∙◌, subst, arith, append_assoc, length-append}
-use Rattle.std.proofs.lemmas.List.{append-nil, nil_from_length, take_at, take-append-drop, take-append-le}
-use Rattle.std.proofs.lemmas.List.Sums.{fold-append}
+use Rattle.snapshots.proofs.Prelude.{◌≡◌, ◌+◌, ◌≤◌, List, [], ◌∷◌, ◌++◌, length, take, drop, fold, Some, None, refl, ap, sym, ◌∙◌, subst, arith, append_assoc, length-append, append-nil, nil_from_length, take_at, take-append-drop, take-append-le, fold-append, Entry, Mark, with_mark, published_and_posted, published, posted, shown}
 use mathlib.Core.List.{IsPrefix}
 use mathlib.Core.Logic.{dite}
 use native.Mathlib.Decide.{dec_le}
-use Rattle.rule_machine.specs.Run.{Entry}
-use Rattle.snapshots.specs.History.{Mark, with_mark, published_and_posted, published, posted, shown}
 
 module _ {A : Type 0} where
   pub prefix_self : (xs : List A) → IsPrefix xs xs

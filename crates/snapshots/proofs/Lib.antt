@@ -1,3 +1,4 @@
+pub mod Prelude
 pub mod MarkAddition
 pub mod Boards
 pub mod Fronts

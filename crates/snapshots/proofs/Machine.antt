@@ -1,23 +1,6 @@
 -- The pointers and present nodes after a run.
-use Rattle.std.proofs.Common.{◌≡◌, ℕ, Bool, true, false, List, [], ◌∷◌, ◌++◌, fold, Option, Some, None, refl, ap, sym, ◌∙◌, subst}
-use Rattle.std.specs.Prelude.{slice_set, if◌then◌else◌}
+use Rattle.snapshots.proofs.Prelude.{◌≡◌, ℕ, Bool, true, false, List, [], ◌∷◌, ◌++◌, fold, Option, Some, None, refl, ap, sym, ◌∙◌, subst, slice_set, if◌then◌else◌, Act, Update, Marry, Seduce, Abandon, Event, Link, Unlink, Point, Flag, Step, Show, Enabled, Matching, Status, Join, Leave, Moved, Refusal, Reply, Accepted, Moves, Shown, EnabledAre, Pairs, Counts, State, Registers, with_pointer, points, RuleTable, refusal_of, written, after_move, without_pointer, Does, AnswersBy, Answers, spent_after, Entry, Moment, Run, beginning_with, Row, BoardShape, without_pointer_at, moved_by, moved, effect_of, row_effect, here_of, here_by, IsRun}
 use mathlib.Core.List.{IsPrefix}
-use Rattle.rule_machine.specs.declared.act.Act.{Act}
-use Rattle.rule_machine.specs.declared.act.Act.TheVariants.{Update, Marry, Seduce, Abandon}
-use Rattle.rule_machine.specs.declared.event.Event.{Event}
-use Rattle.rule_machine.specs.declared.event.Event.TheVariants.{Link, Unlink, Point, Flag, Step, Show, Enabled, Matching, Status, Join, Leave}
-use Rattle.rule_machine.specs.declared.act.Moved.{Moved}
-use Rattle.rule_machine.specs.declared.refusal.Refusal.{Refusal}
-use Rattle.rule_machine.specs.declared.reply.Reply.{Reply}
-use Rattle.rule_machine.specs.declared.reply.Reply.TheVariants.{Accepted, Moves, Shown, EnabledAre, Pairs, Counts}
-use Rattle.rule_machine.specs.State.{State, Registers, with_pointer, points}
-use Rattle.rule_machine.specs.RuleTable.{RuleTable}
-use Rattle.rule_machine.specs.Refuse.{refusal_of}
-use Rattle.rule_machine.specs.Step.{written, after_move}
-use Rattle.rule_machine.specs.Disturbance.{without_pointer}
-use Rattle.rule_machine.specs.Answer.{Does, AnswersBy, Answers, spent_after}
-use Rattle.rule_machine.specs.Run.{Entry, Moment, Run, beginning_with}
-use Rattle.snapshots.specs.Row.{Row, BoardShape, without_pointer_at, moved_by, moved, effect_of, row_effect, here_of, here_by, IsRun}
 
 abbrev pub pointers_of : State → Row
 pointers_of s = s.registers.pointers

@@ -1,11 +1,8 @@
 -- The exchange that adds a mark keeps the rule of the history.
-use Rattle.std.proofs.Common.{◌≡◌, ℕ, ◌+◌, ◌<◌, ◌==◌, Bool, true, false, List, [], ◌∷◌, ◌++◌, length, refl, ap, sym, subst, arith, inl, length-append, None}
-use Rattle.std.proofs.lemmas.List.{append-nil}
-use Rattle.std.proofs.lemmas.Bool.Decides.{nat_tests}
+use Rattle.snapshots.proofs.Prelude.{◌≡◌, ℕ, ◌+◌, ◌<◌, ◌==◌, Bool, true, false, List, [], ◌∷◌, ◌++◌, length, refl, ap, sym, subst, arith, inl, length-append, None, append-nil, nat_tests, Cell, cell, keeps, no_nib, step, Goes, Mark, AreHistoryCells, AddsMark}
 use mathlib.Core.List.{IsPrefix}
 use prog.Atomic.{either}
-use Rattle.logbook.specs.Pages.{Cell, cell, keeps, no_nib, step, Moves, Goes}
-use Rattle.snapshots.specs.History.{Mark, AreHistoryCells, AddsMark}
+use Rattle.logbook.specs.Pages.{Moves}
 use Rattle.snapshots.proofs.Fronts.{prefix_whole}
 
 abbrev pub hidden : List Mark → List Mark

@@ -1,12 +1,9 @@
 -- Of two prefixes of one history, what the one published and what the other shows are of one log.
-use Rattle.std.proofs.Common.{ℕ, ◌-◌, ◌≤◌, ◌⊎◌, ⊎_elim, List, [], ◌∷◌, ◌++◌, length, take, fold, Some, None, inl, inr, arith, length-append}
-use Rattle.std.proofs.lemmas.List.{length-take, take-append-drop}
+use Rattle.snapshots.proofs.Prelude.{ℕ, ◌-◌, ◌≤◌, ◌⊎◌, ⊎_elim, List, [], ◌∷◌, ◌++◌, length, take, fold, Some, None, inl, inr, arith, length-append, length-take, take-append-drop, Entry, Mark, with_mark, published, posted, shown, but_last, IsOneLog, AreOneLog, AreComparable}
 use Rattle.std.specs.Prelude.{drop}
 use mathlib.Core.List.{IsPrefix}
 use mathlib.Core.Logic.{dite}
 use native.Mathlib.Decide.{dec_le}
-use Rattle.rule_machine.specs.Run.{Entry}
-use Rattle.snapshots.specs.History.{Mark, with_mark, published, posted, shown, but_last, IsOneLog, AreOneLog, AreComparable}
 use Rattle.snapshots.proofs.Fronts.{prefix_more, prefix_trans, prefix_shorter, published_grows}
 
 -- at most one entry is posted

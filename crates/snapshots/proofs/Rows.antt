@@ -1,18 +1,5 @@
 -- The effect of entries on the pointers.
-use Rattle.std.proofs.Common.{◌≡◌, ℕ, Bool, true, false, List, [], ◌∷◌, length, map, fold, Option, None, refl, ◌∙◌}
-use Rattle.std.proofs.lemmas.List.{length-set, length-map}
-use Rattle.std.specs.Prelude.{slice_set, if◌then◌else◌}
-use Rattle.rule_machine.specs.declared.act.Act.{Act}
-use Rattle.rule_machine.specs.declared.act.Act.TheVariants.{Update, Marry, Seduce, Abandon}
-use Rattle.rule_machine.specs.declared.event.Event.{Event}
-use Rattle.rule_machine.specs.declared.event.Event.TheVariants.{Link, Unlink, Point, Flag, Step, Show, Enabled, Matching, Status, Join, Leave}
-use Rattle.rule_machine.specs.declared.act.Moved.{Moved}
-use Rattle.rule_machine.specs.declared.reply.Reply.{Reply}
-use Rattle.rule_machine.specs.declared.reply.Reply.TheVariants.{Accepted, Refused, Moves, Shown, EnabledAre, Pairs, Counts}
-use Rattle.rule_machine.specs.State.{is_at}
-use Rattle.rule_machine.specs.Disturbance.{unless_at}
-use Rattle.rule_machine.specs.Run.{Entry}
-use Rattle.snapshots.specs.Row.{Row, pointer_in, without_pointer_at, moved_by, moved, disturbed_row, effect_of, row_effect}
+use Rattle.snapshots.proofs.Prelude.{◌≡◌, ℕ, Bool, true, false, List, [], ◌∷◌, length, map, fold, Option, None, refl, ◌∙◌, length-set, length-map, slice_set, if◌then◌else◌, Act, Update, Marry, Seduce, Abandon, Event, Link, Unlink, Point, Flag, Step, Show, Enabled, Matching, Status, Join, Leave, Moved, Reply, Accepted, Refused, Moves, Shown, EnabledAre, Pairs, Counts, is_at, unless_at, Entry, Row, pointer_in, without_pointer_at, moved_by, moved, disturbed_row, effect_of, row_effect}
 
 cleared_when : (row : Row) (v : ℕ) (b : Bool) → length (if b then slice_set row v None else row) ≡ length row
 cleared_when row v true = length-set row v None

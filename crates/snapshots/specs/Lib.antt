@@ -4,3 +4,4 @@ pub mod Row
 pub mod Rule
 pub mod CopyViews
 pub mod Views
+pub mod Sharing

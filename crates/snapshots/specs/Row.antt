@@ -69,7 +69,8 @@ effect_of row event (Counts counts) = row
 abbrev pub row_effect : Row → Entry → Row
 row_effect row entry = effect_of row entry.0 entry.1
 
--- the pointers after a log, if all pointers are null before it
+-- The pointers after a log, if all pointers are null before it. `pointers_are_those_of_the_run` proves that a
+-- run ends with them.
 abbrev pub pointers_after : ℕ → List Entry → Row
 pointers_after places log = fold row_effect (replicate places None) log
 
@@ -109,11 +110,12 @@ here_of here event (Counts counts) = here
 abbrev pub here_by : List Bool → Entry → List Bool
 here_by here entry = here_of here entry.0 entry.1
 
--- for each place, whether its node is present after a log
+-- For each place, whether its node is present after a log. `presence_is_that_of_the_run` proves that a run
+-- ends with these nodes.
 abbrev pub here_after : BoardShape → List Entry → List Bool
 here_after extent log = fold here_by (here_at_start extent) log
 
 -- The logs that are runs of a rule table from an opening state with one name fewer than places, since place 0
--- is unused, and with the extent's nodes present.
+-- is unused, and with the extent's nodes present. `beginnings_are_runs` proves it of their prefixes too.
 abbrev pub IsRun : RuleTable → BoardShape → List Entry → Type 0
 IsRun t extent log = (size : ℕ) × (end : Moment) × (extent.places ≡ size + 1) × Run t (beginning_with size extent.present) log end

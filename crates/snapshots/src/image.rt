@@ -62,6 +62,31 @@ impl RegisterCopy {
         })
     }
 
+    pub(crate) fn again(&self, alloc: Global) -> Result<RegisterCopy, AllocError>
+        ensures { IfOk result (λ i. i ≡ self.now) }
+    {
+        let mut row = Vec::with_capacity(alloc, self.row.len())?;
+        row.extend_from_slice(&self.row)?;
+        let mut here = Vec::with_capacity(alloc, self.here.len())?;
+        here.extend_from_slice(&self.here)?;
+        Ok(RegisterCopy {
+            row,
+            here,
+            present: self.present,
+            front: self.front,
+            past: self.past.again(),
+        })
+    }
+
+    pub(crate) fn take_in(&mut self, entry: &Entry, front: u32, past: &HistoryPrefix)
+        ensures { self.new ≡ after self.old entry.now front past.now.seen.log past.now.seen.book }
+    {
+        take_in(&mut self.row, entry);
+        take_presence(&mut self.here, entry);
+        self.front = front;
+        self.past = past.again();
+    }
+
     pub(crate) fn front(&self) -> u32
         ensures { result ≡ self.now.front }
     {
@@ -146,10 +171,7 @@ impl Absorb<Posted> for RegisterCopy {
         operation: &Posted,
         _other: &RegisterCopy,
     ) -> Result<(), AllocError> {
-        take_in(&mut self.row, &operation.entry);
-        take_presence(&mut self.here, &operation.entry);
-        self.front = operation.front;
-        self.past = operation.past.again();
+        self.take_in(&operation.entry, operation.front, &operation.past);
         Ok(())
     }
 }

@@ -1,18 +1,19 @@
 //! Published copies of a matching's pointer registers, for wait-free readers.
 //!
-//! A `Board` has two copies of the present nodes and of their pointers. Readers look at one copy while the
-//! only writer changes the other copy; then the writer swaps the copies. An entry is first posted, which
-//! takes all the memory, then published, whole and at once, which cannot fail. A `Reader` sees the state
-//! after a prefix of the entries, never half an entry. The prefix keeps the board's law (`Law`; for a
-//! network: the prefix is a run), and includes all that the reader saw before or learnt from a `Note`. The
-//! board's history exists in contracts only and has no bytes.
+//! A `Board` has one copy of the present nodes and of their pointers until its first reader comes, then two.
+//! Readers look at one copy while the only writer changes the other; then the writer swaps them. An entry is
+//! first posted, which takes all the memory, then published, whole and at once, which cannot fail. A `Reader`
+//! sees the state after a prefix of the entries, never half an entry. The prefix keeps the board's law
+//! (`Law`; for a network: the prefix is a run), and includes all that the reader saw before or learnt from a
+//! `Note`. The board's history exists in contracts only and has no bytes.
 //!
-//! A look costs a few steps, whatever the network's size. A publication visits the places of all readers and
-//! waits for those that look at the old copy. A board cannot be dropped: `end` ends it.
+//! A look costs a few steps, whatever the network's size. So does a publication before the first reader.
+//! Afterwards it visits the places of all readers and waits for those that look at the old copy. A board
+//! cannot be dropped: `end` ends it.
 //!
 //! ```rust
 //! board.post(&entry)?;
-//! let note = board.publish(rt);
+//! let note = board.publish(rt, &entry);
 //! reader.learn(&note);
 //! let seen = reader.look(v.place());                // shows that entry at least
 //! ```
@@ -26,6 +27,7 @@ pub mod laws;
 mod note;
 mod reader;
 mod rule;
+mod sharing;
 
 pub use copies::{Board, NoPlace};
 pub use laws::Runs;

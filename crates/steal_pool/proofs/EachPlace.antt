@@ -1,23 +1,5 @@
 -- Each place occurs once among all that were taken.
-use Rattle.std.proofs.Common.{◌≡◌, ℕ, zero, suc, ◌+◌, cond, List, [], ◌∷◌, ◌++◌, length, map, All, nat_eq, nat_lt, length-append, append_assoc, sym, refl, ap, ◌∙◌, arith}
-use Rattle.std.specs.Prelude.{if◌then◌else◌, slice_get, Some}
-use Rattle.std.specs.List.{sum_by, range_with_len}
-use Rattle.std.proofs.lemmas.List.{map-append}
-use Rattle.std.proofs.lemmas.List.Sums.{sum_by-append, sum_by_push}
-use Rattle.index_deque.specs.declared.block.Block.{Block}
-use Rattle.index_deque.specs.declared.end.DequeEnd.{DequeEnd}
-use Rattle.index_deque.specs.declared.ledger.Ledger.{Ledger}
-use Rattle.index_deque.specs.Ledgers.{ledger, first_places, places_in, ArePlaces, AreAllPlaces}
-use Rattle.index_deque.specs.Ends.{end_taken, AreJoined}
-use Rattle.rule_machine.specs.declared.choice.Item.{Item}
-use Rattle.rule_machine.specs.declared.verdict.Verdict.{Verdict}
-use Rattle.rule_machine.specs.State.{State}
-use Rattle.rule_machine.specs.RuleTable.{RuleTable}
-use Rattle.rule_engine.specs.ChoiceMoves.{verdicts_of}
-use Rattle.steal_pool.specs.declared.hand.Hand.{Hand}
-use Rattle.steal_pool.specs.declared.hand.Share.{Share}
-use Rattle.steal_pool.specs.Hands.{hand_number, judged_places, all_taken, AreOf, AreJudged}
-use Rattle.steal_pool.specs.Once.{times, StandOnce, AllStandOnce, places_of}
+use Rattle.steal_pool.proofs.Prelude.{◌≡◌, ℕ, zero, suc, ◌+◌, cond, List, [], ◌∷◌, ◌++◌, length, map, All, nat_eq, nat_lt, length-append, append_assoc, sym, refl, ap, ◌∙◌, arith, if◌then◌else◌, slice_get, Some, sum_by, range_with_len, map-append, sum_by-append, sum_by_push, Block, DequeEnd, Ledger, ledger, first_places, places_in, ArePlaces, AreAllPlaces, end_taken, AreJoined, Item, Verdict, State, RuleTable, verdicts_of, Hand, Share, hand_number, judged_places, all_taken, AreOf, AreJudged, times, StandOnce, AllStandOnce, places_of}
 use Rattle.steal_pool.proofs.VerdictTables.{more_numbers, place_from}
 
 -- one more number below which a place can be

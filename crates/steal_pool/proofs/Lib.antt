@@ -1,2 +1,5 @@
+pub mod Prelude
+mod Balances
+mod Joinings
 pub mod VerdictTables
 mod EachPlace

@@ -1,29 +1,7 @@
 -- What is laid out by place is the list of all, once every place was taken.
-use Rattle.std.proofs.Common.{◌≡◌, ◌≢◌, ℕ, zero, suc, ◌+◌, ◌-◌, ◌<◌, ◌≤◌, List, [], ◌∷◌, ◌++◌, length, map, take, drop, unwrap_or, length-append, append_assoc, sym, ap, ◌∙◌, subst, ⊎_elim, arith}
-use Rattle.std.specs.Prelude.{Option, None, Some, slice_get, slice_set, IfSome, MatchOption}
-use Rattle.std.specs.List.{sum_by, range_with_len}
-use Rattle.std.proofs.lemmas.Bool.{cases_eq}
-use Rattle.std.proofs.lemmas.List.FromFn.{length-range_with_len, map-range_with_len_more}
-use Rattle.std.proofs.lemmas.List.Sums.{sum_by-append, sum_by-cons, sum_by_push}
-use Rattle.std.proofs.lemmas.List.Elements.{All-nil, All-cons}
-use Rattle.std.proofs.lemmas.Option.{slice_get-get_or, unwrap_or-slice_get}
-use Rattle.index_deque.specs.declared.block.Block.{Block}
-use Rattle.index_deque.specs.Ledgers.{ledger, Takes, KnowsAll, AreAllPlaces, block_places, places_in}
-use Rattle.std.proofs.lemmas.List.{get_or-set_same, get_or-set_other, length-map, length-set, map-append, map-id, same_lists, take-append-drop}
-use Rattle.index_deque.specs.declared.ledger.Ledger.{Ledger}
-use Rattle.index_deque.specs.Ends.{EndView, AreAllEnds}
-use Rattle.index_deque.proofs.Joinings.{moved}
-use Rattle.index_deque.proofs.Balances.{has_place, one_block}
-use Rattle.rule_machine.specs.declared.choice.Item.{Item}
-use Rattle.rule_machine.specs.declared.verdict.Verdict.{Verdict}
-use Rattle.rule_machine.specs.State.{State}
-use Rattle.rule_machine.specs.RuleTable.{RuleTable}
-use Rattle.rule_engine.specs.ChoiceMoves.{verdict_of, verdicts_from, verdicts_of}
-use Rattle.rule_engine.proofs.ItemVerdicts.{length-verdicts_of}
-use Rattle.steal_pool.specs.declared.hand.Hand.{Hand}
-use Rattle.steal_pool.specs.declared.hand.Share.{Share}
-use Rattle.steal_pool.specs.Hands.{hand_hold, judged_hold, AreOf}
-use Rattle.steal_pool.specs.VerdictTables.{laid, HavePlacesBelow, at_place, taken_in, IsVerdictTable}
+use Rattle.steal_pool.proofs.Prelude.{◌≡◌, ◌≢◌, ℕ, zero, suc, ◌+◌, ◌-◌, ◌<◌, ◌≤◌, List, [], ◌∷◌, ◌++◌, length, map, take, drop, unwrap_or, length-append, append_assoc, sym, ap, ◌∙◌, subst, ⊎_elim, arith, Option, None, Some, slice_get, slice_set, IfSome, MatchOption, sum_by, range_with_len, cases_eq, length-range_with_len, map-range_with_len_more, sum_by-append, sum_by-cons, sum_by_push, All-nil, All-cons, slice_get-get_or, unwrap_or-slice_get, Block, ledger, Takes, KnowsAll, AreAllPlaces, block_places, places_in, get_or-set_same, get_or-set_other, length-map, length-set, map-append, map-id, same_lists, take-append-drop, Ledger, EndView, AreAllEnds, Item, Verdict, State, RuleTable, verdict_of, verdicts_from, verdicts_of, length-verdicts_of, Hand, Share, hand_hold, judged_hold, AreOf, laid, HavePlacesBelow, at_place, taken_in, IsVerdictTable}
+use Rattle.steal_pool.proofs.Joinings.{moved}
+use Rattle.steal_pool.proofs.Balances.{has_place, one_block}
 
 -- the verdict at a place is the one there among all
 verdict_from : (t : RuleTable) (s : State) (from : ℕ) (items : List Item) (k place : ℕ) (v : Verdict) → from + k ≡ place → k < length items → IfSome (slice_get items k) (λ item. v ≡ verdict_of t s place item) → slice_get (verdicts_from t s from items) k ≡ Some v

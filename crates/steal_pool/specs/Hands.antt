@@ -1,6 +1,6 @@
 -- Hands and shares in contracts.
 use Rattle.std.specs.Prelude.{◌≡◌, ℕ, List, [], ◌∷◌, ◌++◌, map, Some, slice_get, All}
-use Rattle.index_deque.specs.Ends.{EndView, end_hold, end_taken}
+use Rattle.steal_pool.specs.Ends.{EndView, end_hold, end_taken}
 use Rattle.rule_machine.specs.declared.choice.Item.{Item}
 use Rattle.rule_machine.specs.declared.verdict.Verdict.{Verdict}
 use Rattle.rule_machine.specs.State.{State}

@@ -1,3 +1,5 @@
+pub mod Ledgers
+pub mod Ends
 pub mod Faults
 pub mod Once
 pub mod Hands

@@ -1,9 +1,9 @@
 -- Verdicts laid out by place.
 use Rattle.std.specs.Prelude.{◌≡◌, ℕ, ◌+◌, ◌-◌, ◌<◌, List, [], ◌∷◌, length, slice_get, slice_set, All}
 use Rattle.std.specs.List.{sum_by}
-use Rattle.index_deque.specs.declared.ledger.Ledger.{Ledger}
-use Rattle.index_deque.specs.declared.end.DequeEnd.{DequeEnd}
-use Rattle.index_deque.specs.Ends.{end_taken}
+use Rattle.steal_pool.specs.declared.deque.ledger.Ledger.{Ledger}
+use Rattle.steal_pool.specs.declared.deque.end.DequeEnd.{DequeEnd}
+use Rattle.steal_pool.specs.Ends.{end_taken}
 use Rattle.rule_machine.specs.declared.verdict.Verdict.{Verdict}
 
 -- the table with each verdict written at its place

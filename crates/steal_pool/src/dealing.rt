@@ -2,12 +2,12 @@
 
 ghost use Rattle.std.specs.Prelude.{◌≡◌, ◌<◌, ◌≤◌, length, map, min, IfOk, IfErr};
 ghost use Rattle.std.specs.List.{range_with_len};
-ghost use Rattle.index_deque.specs.Ends.{AreAllEnds};
+ghost use Rattle.steal_pool.specs.Ends.{AreAllEnds};
 ghost use Rattle.steal_pool.specs.Faults.{ExplainsPoolFault};
 ghost use Rattle.steal_pool.specs.Hands.{hand_hold, hand_number};
 
+use crate::deque::ends;
 use crate::{Hand, PoolFault};
-use index_deque::ends;
 use rule_engine::{Choice, Want};
 use std::alloc::Global;
 
@@ -28,17 +28,17 @@ pub fn hands(alloc: Global, choice: &Choice, workers: u32) -> Result<Vec<Hand>, 
     if workers == 0 {
         return Err(PoolFault::ZeroWorkers);
     }
-    Ok(deal(alloc, choice, workers.min(MAX_WORKERS))?)
+    Ok(deal(alloc, choice, workers)?)
 }
 
 pub(crate) fn deal(alloc: Global, choice: &Choice, workers: u32) -> Result<Vec<Hand>, Want>
-    requires some { 0 < workers }
-    requires few { workers ≤ 64 }
-    ensures number { IfOk result (λ hands. length hands.items ≡ workers) }
+    requires { 0 < workers }
+    ensures number { IfOk result (λ hands. length hands.items ≡ min workers 64) }
     ensures all { IfOk result (λ hands. AreAllEnds (length choice.now) (map hand_hold hands.items)) }
     ensures numbered { IfOk result (λ hands. map hand_number hands.items ≡ range_with_len 0 (length hands.items)) }
 {
-    let mut ends = ends(alloc, choice.items().len() as u32, workers)?;
+    let count = workers.min(MAX_WORKERS);
+    let mut ends = ends(alloc, choice.items().len() as u32, count)?;
     let mut hands = Vec::with_capacity(alloc, ends.len())?;
     while let Some(end) = ends.pop() {
         let worker = hands.len() as u32;

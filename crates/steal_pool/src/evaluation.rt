@@ -6,7 +6,7 @@ ghost use Rattle.rule_engine.specs.ChoiceMoves.{verdicts_of};
 ghost use Rattle.steal_pool.specs.Faults.{ExplainsPoolFault};
 ghost use Rattle.steal_pool.specs.Hands.{hand_hold, judged_hold, AreJudged, AreShares};
 
-use crate::dealing::{MAX_WORKERS, deal};
+use crate::dealing::deal;
 use crate::{Gate, Hand, PoolFault, Share, merge};
 use rule_engine::{Choice, Net, Rules, Verdict, Want};
 use std::alloc::Global;
@@ -37,7 +37,7 @@ pub fn evaluate<R: Rules + Sync, G: Gate + Sync, T: Threads + Wait + Sync>(
     if workers < 2 {
         return Ok(judge_all(rt, alloc, net, choice, gate)?);
     }
-    let hands = deal(alloc, choice, workers.min(MAX_WORKERS))?;
+    let hands = deal(alloc, choice, workers)?;
     let shares = work_all(rt, net, choice, gate, hands)?;
     Ok(merge(alloc, shares, net, choice)?)
 }

@@ -1,10 +1,10 @@
 //! What one worker gets before the work, and what comes out of the work.
 
 ghost use Rattle.std.specs.Prelude.{◌≡◌, []};
-ghost use Rattle.index_deque.specs.Ends.{end_hold, end_taken};
+ghost use Rattle.steal_pool.specs.Ends.{end_hold, end_taken};
 ghost use Rattle.steal_pool.specs.Once.{StandOnce, places_of};
 
-use index_deque::DequeEnd;
+use crate::deque::DequeEnd;
 use rule_engine::Verdict;
 use std::alloc::Global;
 

@@ -4,11 +4,11 @@
 //! workers in any schedule; the network must not change meanwhile. `Recorder::log_step` and
 //! `Journal::record_step` take the verdicts and evaluate no guard again to find the reply. Before each place
 //! a worker passes a `Gate`; `NoGate` makes no worker wait. Callers with their own threads use the parts of
-//! `evaluate`: `hands`, `Hand::work` and `merge`.
+//! `evaluate`: `hands`, `Hand::work` and `merge`. The places of a choice are on a deque (`deque`).
 //!
 //! `evaluate` takes memory for the list of verdicts, 28 bytes each, and for a deque. Threads come from `rt`;
-//! without threads, one thread does all. `script_run::paying_workers` returns how many workers are worth
-//! starting for a number of items.
+//! without threads, one thread does all. `paying_workers` returns how many workers are worth starting for a
+//! number of items.
 //!
 //! ```rust
 //! let verdicts = evaluate(rt, alloc, &net, &choice, 4, &NoGate)?;
@@ -17,11 +17,13 @@
 #![tactic(auto)]
 
 mod dealing;
+mod deque;
 mod evaluation;
 mod fault;
 mod gate;
 mod hand;
 mod merging;
+mod paying;
 mod working;
 
 pub use dealing::{MAX_WORKERS, hands};
@@ -30,3 +32,4 @@ pub use fault::PoolFault;
 pub use gate::{Gate, NoGate};
 pub use hand::{Hand, Share};
 pub use merging::merge;
+pub use paying::paying_workers;

@@ -2,15 +2,15 @@
 
 ghost use Rattle.std.specs.Prelude.{◌≡◌, ◌<◌, ◌≤◌, ℕ, List, ◌++◌, length, map, All, IfOk};
 ghost use Rattle.std.specs.List.{sum_by};
-ghost use Rattle.index_deque.specs.Ends.{end_hold, end_taken, owner_ledger, AreAllEnds};
-ghost use Rattle.index_deque.specs.Ledgers.{block_places, AreAllPlaces};
+ghost use Rattle.steal_pool.specs.Ends.{end_hold, end_taken, owner_ledger, AreAllEnds};
+ghost use Rattle.steal_pool.specs.Ledgers.{block_places, AreAllPlaces};
 ghost use Rattle.rule_engine.specs.ChoiceMoves.{verdicts_of};
 ghost use Rattle.steal_pool.specs.Hands.{all_taken, judged_hold, AreJudged};
 ghost use Rattle.steal_pool.specs.VerdictTables.{laid, HavePlacesBelow, IsVerdictTable, IsRightWith, taken_by, taken_in};
 ghost use Rattle.steal_pool.specs.Once.{AllStandOnce};
 
 use crate::Share;
-use index_deque::{Block, DequeEnd, Owner, gather};
+use crate::deque::{Block, DequeEnd, Owner, gather};
 use rule_engine::{Choice, Net, Outcome, Rules, Verdict, Want};
 use std::alloc::Global;
 

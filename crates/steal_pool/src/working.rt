@@ -1,13 +1,13 @@
 //! What a worker does.
 
 ghost use Rattle.std.specs.Prelude.{◌≡◌, ◌≤◌, ◌+◌, ◌-◌, length, IfOk, vec_capacity};
-ghost use Rattle.index_deque.specs.Ledgers.{block_places};
+ghost use Rattle.steal_pool.specs.Ledgers.{block_places};
 ghost use Rattle.rule_engine.specs.ChoiceMoves.{verdicts_of};
 ghost use Rattle.steal_pool.specs.Hands.{hand_hold, judged_hold, judged_places, judged_verdicts, AreJudged, GoOnWith};
 ghost use Rattle.steal_pool.specs.Once.{StandOnce, places_of};
 
+use crate::deque::Block;
 use crate::{Gate, Hand, Share};
-use index_deque::Block;
 use rule_engine::{Choice, Net, Rules, Verdict, Want};
 use std::sync::Wait;
 

@@ -1,25 +1,6 @@
 -- The epochs that a journal keeps after one more entry are those of every path.
-use Rattle.std.proofs.Common.{◌≡◌, ◌≢◌, ℕ, ◌+◌, ◌*◌, ◌≤◌, List, [], ◌∷◌, ◌++◌, length, map, All, append_assoc, refl, sym, ap, ap₂, ◌∙◌, subst, arith}
-use Rattle.std.proofs.lemmas.List.{append-nil, get_or-map, map-append, length-map}
-use Rattle.rule_machine.specs.declared.base.EpochStart.{EpochStart}
-use Rattle.rule_machine.specs.declared.event.Event.{Event}
-use Rattle.rule_machine.specs.declared.reply.Reply.{Reply}
-use Rattle.rule_machine.specs.declared.reply.Reply.TheVariants.{Accepted, Refused, Moves, Shown, EnabledAre, Pairs, Counts}
-use Rattle.rule_machine.specs.Network.{node_count, edge_count}
-use Rattle.rule_machine.specs.State.{State}
-use Rattle.rule_machine.specs.RuleTable.{RuleTable}
-use Rattle.rule_machine.specs.Answer.{Answers, spent_after}
-use Rattle.rule_machine.specs.Run.{Entry, Moment, epochs_by, epochs_from, open_at, Epoch as EpochOf}
-use Rattle.machine_laws.specs.LeastMoves.{IsTable}
-use Rattle.charge_laws.specs.RunsFromBases.{begins_in_state, begins_once, begins_within}
-use Rattle.charge_laws.specs.ChargeWords.{charge_bound, IsCharged}
-use Rattle.charge_laws.specs.Runs.{Effect, rests, steps, disturbs, effect, step_network}
-use Rattle.charge_laws.specs.Epochs.{IsPath, epochs_are_bounded}
-use Rattle.step_log.specs.declared.epoch.Epoch.{Epoch}
-use Rattle.rule_machine.specs.Base.{begun_at, dropped}
-use Rattle.step_log.specs.Epochs.{AreEpochs, IsEpochWithinBound, IsEpochPath, begun_by, ended_by, epochs_along, of_run, open_in, over_in, path_end}
-use Rattle.step_log.specs.JournalViews.{IsJournal}
-use Rattle.step_log.specs.RetainedLogs.{RetainedLog, Begins, moment_in}
+use Rattle.step_log.proofs.Prelude.{◌≡◌, ◌≢◌, ℕ, ◌+◌, ◌*◌, ◌≤◌, List, [], ◌∷◌, ◌++◌, length, map, All, append_assoc, refl, sym, ap, ap₂, ◌∙◌, subst, arith, append-nil, get_or-map, map-append, length-map, EpochStart, Event, Reply, Accepted, Refused, Moves, Shown, EnabledAre, Pairs, Counts, node_count, edge_count, State, RuleTable, Answers, spent_after, Entry, Moment, epochs_by, epochs_from, open_at, IsTable, begins_in_state, begins_once, begins_within, charge_bound, IsCharged, Effect, rests, steps, disturbs, effect, step_network, IsPath, epochs_are_bounded, Epoch, begun_at, dropped, AreEpochs, IsEpochWithinBound, IsEpochPath, begun_by, ended_by, epochs_along, of_run, open_in, over_in, path_end, IsJournal, RetainedLog, Begins, moment_in}
+use Rattle.rule_machine.specs.Run.{Epoch as EpochOf}
 use Rattle.step_log.proofs.Once.{path_once}
 
 -- ---- one step more on a path

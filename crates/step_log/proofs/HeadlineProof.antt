@@ -1,18 +1,5 @@
 -- The headline holds of each log, for rules that keep the laws of rule sets.
-use Rattle.std.proofs.Common.{◌≡◌, ℕ, List, [], ◌++◌, sym, subst}
-use Rattle.rule_machine.specs.State.{State, IsState}
-use Rattle.rule_machine.specs.RuleTable.{RuleTable, enabled_names}
-use Rattle.rule_machine.specs.Stable.{IsStable}
-use Rattle.rule_machine.specs.Run.{Entry, Moment, Run}
-use Rattle.machine_laws.specs.Bases.{run_splits}
-use Rattle.machine_laws.specs.LeastMoves.{IsTable}
-use Rattle.machine_laws.specs.Laws.{maximal_from_stable, stable_from_maximal}
-use Rattle.machine_laws.specs.Runs.{runs_end_in_states}
-use Rattle.charge_laws.specs.RunsFromBases.{begins_in_state, begins_once}
-use Rattle.charge_laws.specs.ChargeWords.{charge_bound, IsCharged}
-use Rattle.charge_laws.specs.Laws.{moves_are_paid}
-use Rattle.step_log.specs.RetainedLogs.{RetainedLog, Begins, IsRetainedRun, moment_in}
-use Rattle.step_log.specs.Headline.{Upholds, LeadsTo}
+use Rattle.step_log.proofs.Prelude.{◌≡◌, ℕ, List, [], ◌++◌, sym, subst, State, IsState, RuleTable, enabled_names, IsStable, Entry, Moment, Run, run_splits, IsTable, maximal_from_stable, stable_from_maximal, runs_end_in_states, begins_in_state, begins_once, charge_bound, IsCharged, moves_are_paid, RetainedLog, Begins, IsRetainedRun, moment_in, Upholds, LeadsTo}
 use Rattle.step_log.proofs.Once.{run_once}
 use Rattle.step_log.proofs.EpochPaths.{bounded_along}
 

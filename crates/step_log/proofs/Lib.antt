@@ -1,3 +1,4 @@
+pub mod Prelude
 pub mod Wholes
 pub mod RecordedEvents
 pub mod AscendingNumbers
@@ -6,3 +7,4 @@ pub mod LogGrowth
 pub mod Once
 pub mod EpochPaths
 pub mod HeadlineProof
+pub mod BaseStarts

@@ -1,28 +1,5 @@
 -- One more entry at the end of what a journal keeps, and a checkpoint.
-use Rattle.std.proofs.Common.{◌≡◌, ℕ, ◌+◌, ◌<◌, ◌≤◌, true, List, [], ◌∷◌, ◌++◌, length, map, Some, refl, sym, ap, ap₂, ◌∙◌, subst, arith}
-use Rattle.std.proofs.lemmas.List.{length-append}
-use Rattle.rule_machine.specs.declared.base.EpochStart.{EpochStart}
-use Rattle.rule_machine.specs.declared.base.EpochStart.TheVariants.{At, Forgotten}
-use Rattle.rule_machine.specs.declared.event.Event.{Event}
-use Rattle.rule_machine.specs.declared.reply.Reply.{Reply}
-use Rattle.rule_machine.specs.State.{IsState}
-use Rattle.rule_machine.specs.RuleTable.{RuleTable}
-use Rattle.rule_machine.specs.Least.{reply_of, state_after, spent_by}
-use Rattle.rule_machine.specs.Run.{Entry, Moment, beginning_with, moment_after, open_at}
-use Rattle.rule_machine.specs.Base.{BeginsAt, base_of, begun_at, dropped}
-use Rattle.machine_laws.specs.LeastMoves.{IsTable}
-use Rattle.machine_laws.specs.LeastAnswers.{least_answers}
-use Rattle.machine_laws.specs.Runs.{runs_end_in_states, run_add}
-use Rattle.machine_laws.specs.Sizes.{runs_keep_size}
-use Rattle.machine_laws.specs.UnusedFlags.{IsFlagless}
-use Rattle.charge_laws.specs.RunsFromBases.{begins_in_state, may_begin_again}
-use Rattle.charge_laws.specs.ChargeWords.{charge_bound, IsCharged}
-use Rattle.log_entry.specs.Kinds.{fits}
-use Rattle.step_log.specs.declared.epoch.Epoch.{Epoch}
-use Rattle.step_log.specs.Epochs.{IsEpochPath, begun_by, ended_by, of_run}
-use Rattle.step_log.specs.JournalViews.{IsJournal}
-use Rattle.step_log.specs.RetainedLogs.{RetainedLog, IsRetainedRun, IsBaseOfGraph, checkpointed, kept_with, last_number, moment_in, next_entry, whole}
-use Rattle.step_log.specs.Log.{empty_log_with, max_entries}
+use Rattle.step_log.proofs.Prelude.{◌≡◌, ℕ, ◌+◌, ◌<◌, ◌≤◌, true, List, [], ◌∷◌, ◌++◌, length, map, Some, refl, sym, ap, ap₂, ◌∙◌, subst, arith, length-append, EpochStart, At, Forgotten, Event, Reply, IsState, RuleTable, reply_of, state_after, spent_by, Entry, Moment, beginning_with, moment_after, open_at, BeginsAt, base_of, begun_at, dropped, IsTable, least_answers, runs_end_in_states, run_add, runs_keep_size, IsFlagless, begins_in_state, may_begin_again, charge_bound, IsCharged, fits, Epoch, IsEpochPath, begun_by, ended_by, of_run, IsJournal, RetainedLog, IsRetainedRun, IsBaseOfGraph, checkpointed, kept_with, last_number, moment_in, next_entry, whole, empty_log_with, max_entries}
 use Rattle.step_log.proofs.ReplyKinds.{nodes_few, reply_fits}
 use Rattle.step_log.proofs.EpochPaths.{told_add}
 

@@ -1,11 +1,5 @@
 -- From one moment, the same entries lead to one moment by one path.
-use Rattle.std.proofs.Common.{◌≡◌, List, [], ◌∷◌, map, refl, sym, ap₂, ◌∙◌, subst}
-use Rattle.rule_machine.specs.State.{State}
-use Rattle.rule_machine.specs.RuleTable.{RuleTable}
-use Rattle.rule_machine.specs.Answer.{spent_after}
-use Rattle.rule_machine.specs.Run.{Entry, Moment, Run}
-use Rattle.machine_laws.specs.Determinism.{answers_once}
-use Rattle.charge_laws.specs.Epochs.{IsPath}
+use Rattle.step_log.proofs.Prelude.{◌≡◌, List, [], ◌∷◌, map, refl, sym, ap₂, ◌∙◌, subst, State, RuleTable, spent_after, Entry, Moment, Run, answers_once, IsPath}
 
 pub run_once : (t : RuleTable) (start : Moment) (log : List Entry) (end last : Moment) → Run t start log end → Run t start log last → end ≡ last
 run_once t start [] end last x y = x ∙ sym y

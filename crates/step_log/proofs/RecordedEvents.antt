@@ -1,16 +1,5 @@
 -- A recording after an event.
-use Rattle.std.proofs.Common.{◌≡◌, ◌+◌, ◌<◌, sym, subst, arith}
-use Rattle.rule_machine.specs.declared.event.Event.{Event}
-use Rattle.rule_machine.specs.declared.reply.Reply.{Reply}
-use Rattle.rule_machine.specs.State.{IsState}
-use Rattle.rule_machine.specs.RuleTable.{RuleTable}
-use Rattle.rule_machine.specs.Answer.{Answers}
-use Rattle.rule_machine.specs.Least.{reply_of}
-use Rattle.rule_machine.specs.Run.{Moment, moment_after}
-use Rattle.machine_laws.specs.LeastMoves.{IsTable}
-use Rattle.machine_laws.specs.LeastAnswers.{least_answers}
-use Rattle.machine_laws.specs.AcceptedEvents.{state_after_keeps}
-use Rattle.step_log.specs.Recording.{Recording, IsRecording}
+use Rattle.step_log.proofs.Prelude.{◌≡◌, ◌+◌, ◌<◌, sym, subst, arith, Event, Reply, IsState, RuleTable, Answers, reply_of, Moment, moment_after, IsTable, least_answers, state_after_keeps, Recording, IsRecording}
 
 -- with one more entry it is one
 pub entered_is_recording : (t : RuleTable) → IsTable t → (r : Recording) → IsRecording r → r.len < r.limit → (event : Event) (m : Moment) → m ≡ moment_after t (record { state = r.state; spent = r.spent }) event → IsRecording (record { state = m.state; spent = m.spent; len = r.len + 1; limit = r.limit; present = r.present })

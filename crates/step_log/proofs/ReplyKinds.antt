@@ -1,29 +1,5 @@
 -- What the machine answers is of the event's kind.
-use Rattle.std.proofs.Common.{◌≡◌, ◌≢◌, ℕ, ◌+◌, ◌≤◌, true, cond, ◌&&◌, List, [], ◌∷◌, length, filter_map, Any, Option, None, Some, is_some, is_none, get_or, nat_le, option_and_then, refl, sym, ap, ◌∙◌, arith, le-leb}
-use Rattle.std.specs.List.{list_all, cons_option, range_with_len}
-use Rattle.std.specs.Option.{option_map}
-use Rattle.std.proofs.lemmas.List.FromFn.{length-range_with_len}
-use Rattle.std.proofs.lemmas.List.Sums.{list_all-from_AllPass, length-filter, count_by-le-length}
-use Rattle.std.proofs.lemmas.Option.{none-some}
-use Rattle.rule_machine.specs.declared.act.Act.{Act}
-use Rattle.rule_machine.specs.declared.act.Act.TheVariants.{Update, Marry, Seduce, Abandon}
-use Rattle.rule_machine.specs.declared.choice.Item.{Item}
-use Rattle.rule_machine.specs.declared.act.Moved.{Moved}
-use Rattle.rule_machine.specs.declared.event.Event.{Event}
-use Rattle.rule_machine.specs.declared.event.Event.TheVariants.{Link, Unlink, Point, Flag, Step, Show, Enabled, Matching, Status, Join, Leave}
-use Rattle.rule_machine.specs.declared.refusal.Refusal.{Refusal}
-use Rattle.rule_machine.specs.declared.reply.Reply.TheVariants.{Refused}
-use Rattle.rule_machine.specs.Network.{Network, names, node_count, present}
-use Rattle.rule_machine.specs.State.{State, IsState, partner}
-use Rattle.rule_machine.specs.RuleTable.{RuleTable, enabled, rule_at}
-use Rattle.rule_machine.specs.Step.{IsTarget, IsMoveOf, IsStep}
-use Rattle.rule_machine.specs.Stable.{mutual_pairs, pair_above}
-use Rattle.rule_machine.specs.Refuse.{refusal_of}
-use Rattle.rule_machine.specs.Answer.{Does, AnswersBy}
-use Rattle.rule_machine.specs.Least.{outcome_of, move_in, item_of, least_moves, accepted_reply, reply_by, reply_of, state_after}
-use Rattle.machine_laws.specs.LeastMoves.{IsTable}
-use Rattle.machine_laws.specs.LeastAnswers.{least_answers}
-use Rattle.log_entry.specs.Kinds.{takes_target, is_move, are_moves, fits}
+use Rattle.step_log.proofs.Prelude.{◌≡◌, ◌≢◌, ℕ, ◌+◌, ◌≤◌, true, cond, ◌&&◌, List, [], ◌∷◌, length, filter_map, Any, Option, None, Some, is_some, is_none, get_or, nat_le, option_and_then, refl, sym, ap, ◌∙◌, arith, le-leb, list_all, cons_option, range_with_len, option_map, length-range_with_len, list_all-from_AllPass, length-filter, count_by-le-length, none-some, Act, Update, Marry, Seduce, Abandon, Item, Moved, Event, Link, Unlink, Point, Flag, Step, Show, Enabled, Matching, Status, Join, Leave, Refusal, Refused, Network, names, node_count, present, State, IsState, partner, RuleTable, enabled, rule_at, IsTarget, IsMoveOf, IsStep, mutual_pairs, pair_above, refusal_of, Does, AnswersBy, outcome_of, move_in, item_of, least_moves, accepted_reply, reply_by, reply_of, state_after, IsTable, least_answers, takes_target, is_move, are_moves, fits}
 
 -- ---- the moves of a step
 

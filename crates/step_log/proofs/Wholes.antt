@@ -1,10 +1,5 @@
 -- If nothing was dropped, what is kept is the log.
-use Rattle.std.proofs.Common.{◌≡◌, ℕ, None, ap, subst, arith}
-use Rattle.rule_machine.specs.RuleTable.{RuleTable}
-use Rattle.rule_machine.specs.Run.{Run}
-use Rattle.step_log.specs.Log.{Log, IsLog}
-use Rattle.step_log.specs.JournalViews.{JournalView, kept_of, undropped_log}
-use Rattle.step_log.specs.RetainedLogs.{RetainedLog, IsRetainedRun, log_in, moment_in, whole}
+use Rattle.step_log.proofs.Prelude.{◌≡◌, ℕ, None, ap, subst, arith, RuleTable, Run, Log, IsLog, JournalView, kept_of, undropped_log, RetainedLog, IsRetainedRun, log_in, moment_in, whole}
 
 pub whole_is_log : (t : RuleTable) (weight : ℕ) (log : Log) → IsRetainedRun t weight (whole log) → IsLog t log
 whole_is_log t weight log is = record {

@@ -20,7 +20,7 @@ pub record IsQuietWhereStable (t : RuleTable) (s : State) : Type 0 where
   pub only : IsAnswered t.flags s → IsMaximalMatching s.network (mutual_pairs s) → IsStable t.flags s
 
 -- From their beginning, the opening state or a base, these entries are a run of the rule machine to this
--- moment.
+-- moment. `beginnings_lead_somewhere` proves that each prefix of a log leads to exactly one.
 abbrev pub LeadsTo : RuleTable → ℕ → RetainedLog → List Entry → Moment → Type 0
 LeadsTo t weight kept entries m = (start : Moment) × Begins t weight kept start × Run t start entries m
 
@@ -31,6 +31,7 @@ LeadsTo t weight kept entries m = (start : Moment) × Begins t weight kept start
 --   prefix's end, and this charge is at most twice the edges plus the weight for each node;
 -- * epochs: so no epoch has more moves, for any states that the entries may lead through; moves before a base
 --   count.
+-- `budgets_by_name` and `epochs_by_name` state the two bounds for each rule set.
 pub record Upholds (t : RuleTable) (weight : ℕ) (kept : RetainedLog) : Type 0 where
   pub run : LeadsTo t weight kept kept.entries (moment_in kept)
   pub quiet : (before after : List Entry) (m : Moment) → before ++ after ≡ kept.entries → LeadsTo t weight kept before m → IsQuietWhereStable t m.state

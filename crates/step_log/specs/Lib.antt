@@ -4,3 +4,4 @@ pub mod RetainedLogs
 pub mod Epochs
 pub mod JournalViews
 pub mod Headline
+pub mod BaseStarts

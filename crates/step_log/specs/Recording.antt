@@ -1,8 +1,10 @@
 -- The progress of a recording, and recording an event.
-use Rattle.std.specs.Prelude.{ℕ, ◌+◌, ◌≤◌, List}
+use Rattle.std.specs.Prelude.{ℕ, ◌+◌, ◌≤◌, List, max, min}
 use Rattle.rule_machine.specs.declared.event.Event.{Event}
 use Rattle.rule_machine.specs.State.{State, IsState, opening_with}
+use Rattle.rule_machine.specs.Network.{node_count}
 use Rattle.rule_machine.specs.RuleTable.{RuleTable}
+use Rattle.rule_machine.specs.Run.{Moment}
 use Rattle.rule_machine.specs.Least.{reply_of, state_after, spent_by}
 use Rattle.line_text.specs.EntryText.{entry_line}
 pub use Rattle.log_entry.specs.Kinds.{max_entries}
@@ -30,6 +32,11 @@ opening_recording_with size present limit =
 -- the recording before any event, with all names present
 abbrev pub opening_recording : ℕ → ℕ → Recording
 opening_recording nodes limit = opening_recording_with nodes nodes limit
+
+-- the recording that goes on at a moment after this many entries, which the limit includes
+abbrev pub resumed_recording : Moment → ℕ → ℕ → Recording
+resumed_recording m number limit =
+    record { state = m.state; spent = m.spent; len = number; limit = max number (min limit max_entries); present = node_count m.state.network }
 
 -- the recording after the event's entry
 abbrev pub entered : RuleTable → Recording → Event → Recording

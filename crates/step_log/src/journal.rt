@@ -256,6 +256,7 @@ impl<R: Rules> Journal<R> {
     /// Carries out and records an entry that this journal prepared, and returns the receipt.
     /// Since the entry was prepared, the journal must have recorded nothing and made no checkpoint. Takes no
     /// memory.
+    #[inline(always)]
     pub fn commit(&mut self, prepared: Prepared) -> Receipt
         requires { IsNextReceipt R.table self.old prepared }
         ensures receipt { result ≡ prepared }

@@ -1,9 +1,12 @@
 //! Networks that number their entries: the recorder keeps no entry, and the journal keeps a log.
 //!
 //! A `Recorder` hands out each entry's number, reply and text. A `Journal` keeps the log from the start or
-//! from the last checkpoint, whose base replaces the dropped entries; numbers continue. The type of a
-//! journal states three facts (`Upholds`): the kept log is a run of the rule machine to the network's state;
-//! each reply is the machine's; each epoch's moves are within the bound. After a fault nothing has changed.
+//! from the last checkpoint, whose base replaces the dropped entries; numbers continue. Both can also begin
+//! at a base (`from_base`).
+//!
+//! The type of a journal states three facts (`Upholds`): the kept log is a run of the rule machine to the
+//! network's state; each reply is the machine's; each epoch's moves are within the bound. After a fault
+//! nothing has changed.
 //!
 //! `record` is `prepare`, which takes all the memory, then `commit`, which cannot fail. An entry takes at
 //! most 80 bytes, plus its lists.
@@ -18,6 +21,7 @@
 mod checkpoint;
 mod epoch;
 mod fault;
+mod from_base;
 mod journal;
 mod law;
 mod left;
@@ -25,6 +29,7 @@ mod prepared;
 mod receipt;
 mod recorder;
 mod silence;
+mod start_fault;
 
 pub use epoch::Epoch;
 pub use fault::{NoEntry, RecordFault};
@@ -34,3 +39,4 @@ pub use log_entry::{Entry, MAX_ENTRIES};
 pub use prepared::Prepared;
 pub use receipt::{Answer, Receipt};
 pub use recorder::Recorder;
+pub use start_fault::StartFault;

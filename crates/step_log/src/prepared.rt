@@ -28,6 +28,7 @@ impl Model for Prepared {
 }
 
 impl Prepared {
+    #[inline(always)]
     pub(crate) fn new(seq: u32, event: Event, reply: Reply) -> Result<Prepared, Want>
         requires { IsTrue (fits event reply) }
         ensures { IfOk result (λ prepared. prepared ≡ record { seq = seq; event = event; reply = reply }) }
@@ -55,6 +56,7 @@ impl Prepared {
         &self.entry
     }
 
+    #[inline(always)]
     pub(crate) fn parts(self) -> (Entry, Receipt)
         ensures entry { result.0 ≡ (self.event, self.reply) }
         ensures receipt { result.1 ≡ self }

@@ -8,10 +8,11 @@ ghost use Rattle.rule_machine.specs.Stable.{IsStable};
 ghost use Rattle.rule_machine.specs.Answer.{Answers};
 ghost use Rattle.rule_machine.specs.Least.{reply_of};
 ghost use Rattle.rule_engine.specs.ChoiceMoves.{verdicts_of};
+ghost use Rattle.rule_engine.specs.PreparedEvents.{net_moment};
 ghost use Rattle.line_text.specs.EntryText.{entry_line};
 ghost use Rattle.line_text.specs.EventText.{event_text};
 ghost use Rattle.step_log.specs.declared.fault.RecordFault.TheVariants.{LogFull};
-ghost use Rattle.step_log.specs.Recording.{max_entries, opening_recording, opening_recording_with, entered, entered_line};
+ghost use Rattle.step_log.specs.Recording.{max_entries, opening_recording, opening_recording_with, resumed_recording, entered, entered_line};
 
 use crate::{Answer, MAX_ENTRIES, RecordFault};
 use line_text::{put_entry, put_entry_of_line};
@@ -23,9 +24,9 @@ use std::marker::Model;
 #[derive(Drop)]
 pub struct Recorder<R: Rules> {
     pub(crate) net: Net<R>,
-    len: u32,
-    limit: u32,
-    present: u32,
+    pub(crate) len: u32,
+    pub(crate) limit: u32,
+    pub(crate) present: u32,
 }
 
 impl<R: Rules> Model for Recorder<R> {
@@ -81,6 +82,25 @@ impl<R: Rules> Recorder<R> {
             limit: limit.min(MAX_ENTRIES),
             present,
         })
+    }
+
+    /// A recorder that goes on with a network after `number` entries.
+    ///
+    /// The limit counts all entries. A limit above 16,777,216 counts as 16,777,216, and a limit below
+    /// `number` as `number`.
+    pub fn of_net(net: Net<R>, number: u32, limit: u32) -> Recorder<R>
+        requires few { number ≤ max_entries }
+        ensures { result ≡ resumed_recording (net_moment net) number limit }
+    {
+        let present = net.store().nodes();
+        // Gives the prover `IsState`.
+        let _ = net.registers();
+        Recorder {
+            net,
+            len: number,
+            limit: number.max(limit.min(MAX_ENTRIES)),
+            present,
+        }
     }
 
     /// How many entries have been recorded.

@@ -1,11 +1,5 @@
 -- Entries that are written one after another.
-use Rattle.std.proofs.Common.{◌≡◌, ◌∙◌, ℕ, suc, ◌+◌, List, ◌∷◌, ◌++◌, drop, Some, slice_get, sym, ap, append_assoc, add-one, drop-cons}
-use Rattle.std.proofs.lemmas.Option.{slice_get_within, get_or_from_slice_get}
-use Rattle.rule_machine.specs.declared.event.Event.{Event}
-use Rattle.rule_machine.specs.declared.reply.Reply.{Reply}
-use Rattle.rule_machine.specs.Run.{Entry}
-use Rattle.line_text.specs.EntryText.{entry_line, entry_lines}
-use Rattle.line_text.specs.Words.{Extends}
+use Rattle.storm_runner.proofs.Prelude.{◌≡◌, ◌∙◌, ℕ, suc, ◌+◌, List, ◌∷◌, ◌++◌, drop, Some, slice_get, sym, ap, append_assoc, add-one, drop-cons, slice_get_within, get_or_from_slice_get, Event, Reply, Entry, entry_line, entry_lines, Extends}
 
 -- the entry at a place is the first of those from there on
 from_place : (log : List Entry) (k : ℕ) (e : Entry) → slice_get log k ≡ Some e → drop k log ≡ e ∷ drop (k + 1) log

@@ -1,35 +1,18 @@
 -- Fresh clerks after they have roamed.
-use Rattle.std.proofs.Common.{◌≡◌, ◌≢◌, ◌↔◌, ◌∙◌, ℕ, suc, ◌≤◌, List, [], ◌∷◌, ◌++◌, length, take, Result, Ok, Err, Option, None, Some, IfErr, IfSome, IsSomeAnd, OnOk, IsErrOf, ⊎_elim, refl, sym, ap, subst, arith}
-use Rattle.std.specs.List.{All}
-use Rattle.std.proofs.lemmas.List.{length-drop, take_all}
-use Rattle.std.proofs.lemmas.List.Elements.{All-nil, All-cons, All-head, All-tail, All-weaker}
-use Rattle.std.specs.Option.{option_or}
-use mathlib.Core.List.{IsPrefix}
-use Rattle.logbook.specs.Pages.{Book}
-use Rattle.snapshots.specs.Views.{PublishedLog}
-use Rattle.locked_net.specs.Receipts.{ClerkView, fresh, noted, HasNoteOf, IsOfBook}
-use Rattle.locked_net.specs.Settings.{Setting}
-use Rattle.locked_net.specs.RoamResults.{AllRoam, RoamResult, KeepsNote, AllKeepNotes, TakesTurns, AllTakeTurns, MayMeetRoamFault}
-use Rattle.locked_net.specs.declared.roam_fault.RoamFault.{RoamFault}
-use Rattle.locked_net.specs.declared.roam_fault.RoamFault.TheVariants.{ZeroWorkers, Thread}
+use Rattle.storm_runner.proofs.Prelude.{nil_from_length, ◌≡◌, ◌≢◌, ◌↔◌, ◌∙◌, ℕ, suc, ◌≤◌, List, [], ◌∷◌, ◌++◌, length, take, Result, Ok, Err, Option, None, IfErr, OnOk, IsErrOf, ⊎_elim, refl, sym, ap, subst, arith, All, length-drop, take_all, All-nil, All-cons, All-head, All-tail, All-weaker, option_or, IsPrefix, Book, ClerkView, fresh, noted, HasNoteOf, IsOfBook, Setting, AllRoam, RoamResult, KeepsNote, AllKeepNotes, TakesTurns, AllTakeTurns, MayMeetRoamFault, RoamFault, ZeroWorkers, Thread, CallFault, ScriptLine, IsRoaming, PlayedOn, ToldOn, RoamResultOfNew, roam_call_fault}
 use Rattle.locked_net.specs.declared.roam_fault.RoamFault.TheVariants as roam
-use Rattle.locked_net.specs.declared.call_fault.CallFault.{CallFault}
-use Rattle.script_text.specs.declared.script.ScriptLine.{ScriptLine}
-use Rattle.storm_runner.specs.Storm.{IsRoaming}
-use Rattle.storm_runner.specs.PlayedCommands.{PlayedOn, ToldOn}
-use Rattle.storm_runner.specs.StormRoamers.{RoamResultOfNew, roam_call_fault}
+use Rattle.storm_runner.proofs.ClerkNotes.{of_book}
 use Rattle.storm_runner.proofs.SplitScripts.{all_left}
 
 -- that of their turns alone
 all_turns : (turns : ℕ) (old new : List ClerkView) → AllRoam turns old new → All (λ clerk. clerk.receipts ≡ []) old → (length new ≡ length old) × All (λ clerk. IsRoaming turns clerk.receipts) new
 all_turns turns [] [] roamed fresh = (refl, All-nil (λ clerk. IsRoaming turns clerk.receipts))
-all_turns turns [] (new ∷ news) roamed fresh = absurd roamed
-all_turns turns (old ∷ olds) [] roamed fresh = absurd roamed
 all_turns turns (old ∷ olds) (new ∷ news) (roams, others) fresh =
     let none = λ (clerk : ClerkView). clerk.receipts ≡ [] in
     let rest = all_turns turns olds news others (All-tail none old olds fresh) in
     let is : new.receipts ≡ roams.own = roams.added ∙ ap (λ rs. rs ++ roams.own) (All-head none old olds fresh) in
     (ap suc rest.0, All-cons (λ clerk. IsRoaming turns clerk.receipts) new news (subst (IsRoaming turns) (sym is) (roams.few, roams.lone)) rest.1)
+all_turns turns old new roamed fresh = absurd roamed
 
 -- none of them is beyond the first 64
 all_workers : (turns : ℕ) (old new : List ClerkView) → length old ≤ 64 → RoamResult turns old new → AllRoam turns old new
@@ -40,17 +23,16 @@ all_workers turns old new few roamed =
 -- none of them needed a thread
 no_thread : (clerks : List ClerkView) (ended : Result Unit RoamFault) → IfErr ended (λ fault. MayMeetRoamFault clerks fault) → IfErr ended (λ fault. fault ≢ Thread)
 no_thread clerks (Ok done) may_stop = tt
-no_thread clerks (Err fault) may_stop = λ is. subst (MayMeetRoamFault clerks) is may_stop
+no_thread clerks (Err fault) may_stop = λ is. rw is at may_stop
 
 -- none of them had turns before
 fresh_turns : (setting : Setting) (turns : ℕ) (old new : List ClerkView) → AllTakeTurns setting turns old new → All (λ clerk. clerk.receipts ≡ []) old → All (λ clerk. TakesTurns setting turns [] clerk.receipts) new
 fresh_turns setting turns [] [] took fresh = All-nil (λ clerk. TakesTurns setting turns [] clerk.receipts)
-fresh_turns setting turns [] (new ∷ news) took fresh = absurd took
-fresh_turns setting turns (old ∷ olds) [] took fresh = absurd took
 fresh_turns setting turns (old ∷ olds) (new ∷ news) (own, others) fresh =
     let none = λ (clerk : ClerkView). clerk.receipts ≡ [] in
     let took : TakesTurns setting turns [] new.receipts = subst (λ before. TakesTurns setting turns before new.receipts) (All-head none old olds fresh) own in
     All-cons (λ clerk. TakesTurns setting turns [] clerk.receipts) new news took (fresh_turns setting turns olds news others (All-tail none old olds fresh))
+fresh_turns setting turns old new took fresh = absurd took
 
 all_took : (setting : Setting) (turns : ℕ) (old new : List ClerkView) (ended : Result Unit RoamFault) → length old ≤ 64 → length new ≡ length old → All (λ clerk. clerk.receipts ≡ []) old
     → OnOk ended (AllTakeTurns setting turns (take 64 old) (take 64 new)) → OnOk ended (All (λ clerk. TakesTurns setting turns [] clerk.receipts) new)
@@ -66,11 +48,10 @@ no_receipts clerks all = All-weaker (λ clerk. clerk ≡ fresh) (λ clerk. clerk
 -- and no base, since they keep it
 all_unbased : (book : Book) (old new : List ClerkView) → All (λ clerk. clerk ≡ fresh) old → AllKeepNotes book old new → All (λ clerk. clerk.base ≡ None) new
 all_unbased book [] [] none keep = All-nil (λ clerk. clerk.base ≡ None)
-all_unbased book [] (new ∷ news) none keep = absurd keep
-all_unbased book (old ∷ olds) [] none keep = absurd keep
 all_unbased book (old ∷ olds) (new ∷ news) none (own, keep) =
     let Fresh = λ (clerk : ClerkView). clerk ≡ fresh in
     All-cons (λ clerk. clerk.base ≡ None) new news (own.base ∙ ap (λ (c : ClerkView). c.base) (All-head Fresh old olds none)) (all_unbased book olds news (All-tail Fresh old olds none) keep)
+all_unbased book old new none keep = absurd keep
 
 pub roamed_afresh : (setting : Setting) (book : Book) (turns : ℕ) (old new : List ClerkView) (ended : Result Unit RoamFault) → length old ≤ 64 → All (λ clerk. clerk ≡ fresh) old
     → RoamResult turns old new → OnOk ended (AllTakeTurns setting turns (take 64 old) (take 64 new)) → (IsErrOf ended ZeroWorkers ↔ (old ≡ [])) → IfErr ended (λ fault. MayMeetRoamFault new fault) → AllKeepNotes book old new
@@ -82,42 +63,25 @@ roamed_afresh setting book turns old new ended few new_clerks roamed took none m
 -- so their notes are of the network that they roamed
 one_noted : (book : Book) (old new : ClerkView) → old ≡ fresh → KeepsNote book old new → IsOfBook book new
 one_noted book old new is keeps =
-    ⊎_elim
-    (λ (same : new.note ≡ old.note). subst (λ (o : Option PublishedLog). IfSome o (λ told. told.book ≡ book)) (sym (same ∙ ap (λ (c : ClerkView). c.note) is)) tt)
-    (λ (has : HasNoteOf book new). of_book new.note has)
-    keeps.note
-  where
-    of_book : (note : Option PublishedLog) → IsSomeAnd note (λ told. told.book ≡ book) → IfSome note (λ told. told.book ≡ book)
-    of_book None has = tt
-    of_book (Some told) has = has
+    ⊎_elim (λ (same : new.note ≡ old.note). rw (same, is) tt) (λ (has : HasNoteOf book new). of_book book new has) keeps.note
 
 pub all_noted : (book : Book) (old new : List ClerkView) → All (λ clerk. clerk ≡ fresh) old → AllKeepNotes book old new → All (IsOfBook book) new
 all_noted book [] [] none keep = All-nil (IsOfBook book)
-all_noted book [] (new ∷ news) none keep = absurd keep
-all_noted book (old ∷ olds) [] none keep = absurd keep
 all_noted book (old ∷ olds) (new ∷ news) none (own, keep) =
     let Fresh = λ (clerk : ClerkView). clerk ≡ fresh in
     All-cons (IsOfBook book) new news (one_noted book old new (All-head Fresh old olds none) own) (all_noted book olds news (All-tail Fresh old olds none) keep)
+all_noted book old new none keep = absurd keep
 
 -- ---- beside scripts
-
-no_clerk : (clerks : List ClerkView) → length clerks ≡ 0 → clerks ≡ []
-no_clerk [] none = refl
-no_clerk (own ∷ clerks) none = absurd (omega (arith, none))
-
-nobody_met : (ended : Result Unit RoamFault) → IsErrOf ended ZeroWorkers → roam_call_fault ended ≡ None
-nobody_met ended nobody = ap (λ (e : Result Unit RoamFault). roam_call_fault e) nobody
 
 -- if they met no fault, or there were none
 whole_turns : (setting : Setting) (turns : ℕ) (old new : List ClerkView) (ended : Result Unit RoamFault) → RoamResultOfNew setting turns old new ended → roam_call_fault ended ≡ None → All (λ clerk. TakesTurns setting turns [] clerk.receipts) new
 whole_turns setting turns old new (Ok done) roamed none = roamed.whole
 whole_turns setting turns old new (Err roam.ZeroWorkers) roamed none =
-    let left : new ≡ [] = no_clerk new (roamed.as_many ∙ ap length (roamed.nobody.0 refl)) in
+    let left : new ≡ [] = nil_from_length new (roamed.as_many ∙ ap length (roamed.nobody.0 refl)) in
     subst (λ news. All (λ clerk. TakesTurns setting turns [] clerk.receipts) news) (sym left) (All-nil (λ clerk. TakesTurns setting turns [] clerk.receipts))
 whole_turns setting turns old new (Err roam.Thread) roamed none = absurd (roamed.thread refl)
-whole_turns setting turns old new (Err (roam.Behind front seen)) roamed none = cc
-whole_turns setting turns old new (Err roam.LogFull) roamed none = cc
-whole_turns setting turns old new (Err roam.Memory) roamed none = cc
+whole_turns setting turns old new (Err fault) roamed none = grind arith
 
 pub told_beside : (setting : Setting) (scripts : List (List ScriptLine)) (roamers turns : ℕ) (own before roaming : List ClerkView) (met fault : Option CallFault) (ended : Result Unit RoamFault)
     → PlayedOn setting scripts own met → RoamResultOfNew setting turns before roaming ended → length before ≡ roamers → fault ≡ option_or met (roam_call_fault ended) → ToldOn setting scripts roamers turns (own ++ roaming) fault
@@ -133,7 +97,7 @@ told_beside setting scripts roamers turns own before roaming met fault ended pla
     roamed = roamed.steps;
     unbased = roamed.unbased;
     first = first;
-    nobody = λ none. nobody_met ended (roamed.nobody.1 (no_clerk before (size ∙ none)));
+    nobody = λ none. ap (λ (e : Result Unit RoamFault). roam_call_fault e) (roamed.nobody.1 (nil_from_length before (size ∙ none)));
     whole = whole_turns setting turns before roaming ended roamed;
   };
 }

@@ -1,3 +1,4 @@
+pub mod Prelude
 pub mod LogExtension
 pub mod TurnAddition
 pub mod ClerkNotes

@@ -1,19 +1,5 @@
 -- What receipts say of a log holds of each log that extends it.
-use Rattle.std.proofs.Common.{ℕ, List, [], ◌∷◌, Option, None, Some, IfSome}
-use mathlib.Core.List.{IsPrefix}
-use Rattle.rand_core.specs.Stream.{Stream}
-use Rattle.rule_machine.specs.Run.{Entry}
-use Rattle.snapshots.proofs.Fronts.{prefix_trans}
-use Rattle.seeded_turns.specs.DrawnEvents.{Draws, seeded_stream, drawn_step, drawn_fault}
-use Rattle.step_log.specs.declared.receipt.Receipt.{Receipt}
-use Rattle.locked_net.specs.Receipts.{ClerkView, front_from, front_of}
-use Rattle.locked_net.specs.Settings.{Setting}
-use Rattle.locked_net.specs.declared.call_fault.CallFault.{CallFault}
-use Rattle.script_text.specs.declared.command.Command.{Command}
-use Rattle.script_text.specs.declared.command.Command.TheVariants.{Tell, Drive, Scramble, Checkpoint}
-use Rattle.script_text.specs.declared.script.ScriptLine.{ScriptLine}
-use Rattle.storm_runner.specs.Turns.{Scene, IsTurn, AreTurns, DrawnFrom, IsLogBehind}
-use Rattle.storm_runner.specs.Storm.{IsOfStep, IsOfFault, IsFor, IsPartOf, AreScriptReceipts, IsLastCheckpoint, StandsInPart, MayEndScript}
+use Rattle.storm_runner.proofs.Prelude.{ℕ, List, [], ◌∷◌, Option, None, Some, IfSome, IsPrefix, Stream, Entry, prefix_trans, Draws, seeded_stream, drawn_step, drawn_fault, Receipt, ClerkView, front_from, front_of, Setting, CallFault, Command, Tell, Drive, Scramble, Checkpoint, ScriptLine, Scene, IsTurn, AreTurns, DrawnFrom, IsLogBehind, IsOfStep, IsOfFault, IsFor, IsPartOf, AreScriptReceipts, IsLastCheckpoint, StandsInPart, MayEndScript}
 
 module _ (setting : Setting) (some all : List Entry) (p : IsPrefix some all) where
   abbrev pub short : Scene
@@ -44,18 +30,16 @@ module _ (setting : Setting) (some all : List Entry) (p : IsPrefix some all) whe
       record { log = at.log; is_own = at.is_own; begins = prefix_trans at.log.entries some all at.begins p; behind = at.behind }
 
   for_lasts : (front : ℕ) (command : Command) (own : List Receipt) → IsFor short front command own → IsFor long front command own
-  for_lasts front (Tell event) own is = is
   for_lasts front (Drive turns) own (few, drawn, quiet) =
-      (few, drawn_lasts drawn_step (seeded_stream turns.seed) IsOfStep own drawn, λ less. let there = quiet less in record { at = behind_lasts front own there.at; quiet = there.quiet })
+      (few, drawn_lasts drawn_step (seeded_stream turns.seed) IsOfStep own drawn, λ less. let there = quiet less in record { at = behind_lasts front own there.at; idle = there.idle })
   for_lasts front (Scramble turns) own (few, drawn, empty) =
-      (few, drawn_lasts drawn_fault (seeded_stream turns.seed) IsOfFault own drawn, λ less. let there = empty less in record { at = behind_lasts front own there.at; empty = there.empty })
-  for_lasts front Checkpoint own none = none
+      (few, drawn_lasts drawn_fault (seeded_stream turns.seed) IsOfFault own drawn, λ less. let there = empty less in record { at = behind_lasts front own there.at; idle = there.idle })
+  for_lasts front command own is = is
 
   part_lasts : (command : Command) (own : List Receipt) → IsPartOf short command own → IsPartOf long command own
-  part_lasts (Tell event) own is = is
   part_lasts (Drive turns) own (few, drawn) = (few, drawn_lasts drawn_step (seeded_stream turns.seed) IsOfStep own drawn)
   part_lasts (Scramble turns) own (few, drawn) = (few, drawn_lasts drawn_fault (seeded_stream turns.seed) IsOfFault own drawn)
-  part_lasts Checkpoint own none = none
+  part_lasts command own is = is
 
   pub stands_last : (front : ℕ) (lines : List ScriptLine) (receipts : List Receipt) → AreScriptReceipts short front lines receipts → AreScriptReceipts long front lines receipts
   stands_last front [] receipts none = none

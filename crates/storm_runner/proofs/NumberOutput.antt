@@ -1,9 +1,5 @@
 -- What a writer has got of a text and a number.
-use Rattle.std.proofs.Common.{◌≡◌, ◌+◌, ℕ, List, ◌++◌, length, take, Option, Result, Ok, Err, OnErr, sym, subst, arith, length-append}
-use Rattle.std.proofs.Math.Seq.{take-append-add}
-use Rattle.std.specs.Io.KnownBytes.{Appends}
-use Rattle.std.proofs.KnownBytes.{Appends-trans}
-use Rattle.byte_streams.specs.PartialOutput.{AppendsLess}
+use Rattle.storm_runner.proofs.Prelude.{◌≡◌, ◌+◌, ℕ, List, ◌++◌, length, take, Option, Result, Ok, Err, OnErr, sym, subst, arith, length-append, take-append-add, Appends, Appends-trans, AppendsLess}
 
 -- a front of a text, and less than what follows it, are less than all of it
 front_less : (old mid new : Option (List ℕ)) (front text : List ℕ) → Appends old mid front → AppendsLess mid new text → AppendsLess old new (front ++ text)

@@ -1,37 +1,13 @@
 -- How a storm ends, from how its parts do.
-use Rattle.std.proofs.Common.{◌≡◌, ℕ, inl, inr, List, Option, None, Some, Result, Ok, Err, IsErr, IsErrAnd, IsErrOf, sym, ap, subst}
-use Rattle.std.specs.Io.KnownBytes.{Appends}
-use Rattle.rule_machine.specs.RuleTable.{RuleTable}
-use Rattle.step_log.specs.RetainedLogs.{RetainedLog}
-use Rattle.locked_net.specs.declared.call_fault.CallFault.{CallFault}
-use Rattle.locked_net.specs.declared.call_fault.CallFault.TheVariants.{Behind, LogFull, Memory}
-use Rattle.script_text.specs.declared.script.ScriptLine.{ScriptLine}
-use Rattle.script_run.specs.RunOptions.{OptionsView}
-use Rattle.script_text.specs.Readers.{AllHold}
-use Rattle.storm_runner.specs.declared.fault.StormFault.{StormFault}
+use Rattle.storm_runner.proofs.Prelude.{arith, ◌≡◌, ℕ, inl, inr, List, Option, None, Some, Result, Err, IsErr, IsErrAnd, IsErrOf, sym, subst, Appends, RuleTable, RetainedLog, CallFault, Behind, LogFull, Memory, ScriptLine, OptionsView, AllHold, StormFault, of_call, Leaves, LeavesText, EndsAllScripts, text_of, FailsToWrite}
 use Rattle.storm_runner.specs.declared.fault.StormFault.TheVariants as storm
-use Rattle.storm_runner.specs.Faults.{of_call}
-use Rattle.storm_runner.specs.Outcome.{Leaves, LeavesText, EndsAllScripts, text_of}
-use Rattle.storm_runner.specs.Parts.{FailsToWrite}
 
 told : (result : Result Unit StormFault) (fault : StormFault) → IsErr result → IsErrAnd result (λ found. found ≡ fault) → Err fault ≡ result
-told (Ok done) fault is gives = cc
-told (Err found) fault is gives = ap (λ (f : StormFault). Err f) (sym gives)
+told result fault is gives = grind arith
 
--- a write failed
-abbrev FailsToWriteOut : Result Unit StormFault → Type 0
-FailsToWriteOut (Err storm.Write) = Unit {0}
-FailsToWriteOut _ = ⊥
-
-calls_write_nothing : (fault : CallFault) → FailsToWriteOut (Err (of_call fault)) → ⊥
-calls_write_nothing (Behind front seen) never = never
-calls_write_nothing LogFull never = never
-calls_write_nothing Memory never = never
-
--- the fault of a call is not that one
+-- the fault of a call is no failed write
 pub not_of_call : (P : Type 0) (fault : CallFault) (found : StormFault) → found ≡ of_call fault → IsErrOf {T = Unit} (Err found) storm.Write → P
-not_of_call P fault found is same =
-    absurd (calls_write_nothing fault (subst (λ (f : StormFault). FailsToWriteOut (Err f)) is (subst FailsToWriteOut (sym same) tt)))
+not_of_call P fault found is same = grind arith
 
 module _ {t : RuleTable} {weight : ℕ} {asked : OptionsView} {scripts : List (List ScriptLine)} {kept : RetainedLog} where
   -- the scripts that were read are those that were played
@@ -51,13 +27,7 @@ module _ {t : RuleTable} {weight : ℕ} {asked : OptionsView} {scripts : List (L
       → EndsAllScripts t weight asked texts old new (Err fault)
   failed {met} storm.Write held leaves wrote = (met, (scripts, kept, held, leaves, wrote))
   failed storm.Memory held leaves nothing = inr nothing
-  failed storm.TooManyScripts held leaves never = absurd never
-  failed (storm.BadLine script line) held leaves never = absurd never
-  failed storm.LogFull held leaves never = absurd never
-  failed storm.Read held leaves never = absurd never
-  failed storm.Behind held leaves never = absurd never
-  failed storm.Thread held leaves never = absurd never
-  failed (storm.Unsettled why) held leaves never = absurd never
+  failed fault held leaves never = absurd never
 
   -- so that is returned
   pub told_failed : {met : Option CallFault} (fault : StormFault) (result : Result Unit StormFault) → IsErr result → IsErrAnd result (λ found. found ≡ fault) → AllHold texts scripts

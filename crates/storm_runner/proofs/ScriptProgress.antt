@@ -1,22 +1,5 @@
 -- How far the lines of a script have been played.
-use Rattle.std.proofs.Common.{◌≡◌, ◌∙◌, ℕ, ◌+◌, ◌<◌, ◌≤◌, max, List, [], ◌∷◌, ◌++◌, length, take, drop, get_or, Bool, true, false, ◌||◌, Option, None, Some, IfSome, Result, Ok, Err, refl, sym, ap, ap₂, subst, append_assoc, append-nil, arith}
-use Rattle.std.proofs.lemmas.List.{take_more, take-append-drop}
-use Rattle.std.proofs.lemmas.List.Folds.{list_any_more, list_any-append}
-use Rattle.std.proofs.lemmas.List.Elements.{All-nil, All-append}
-use Rattle.std.proofs.Math.Bool.{or-false}
-use Rattle.std.proofs.lemmas.Bool.{false≢true}
-use Rattle.std.specs.Option.{is_some}
-use Rattle.std.specs.Result.{IsErr, result_err}
-use Rattle.step_log.specs.declared.receipt.Receipt.{Receipt}
-use Rattle.locked_net.specs.Receipts.{ClerkView, front_from, front_of, greater_base}
-use Rattle.locked_net.specs.Settings.{Setting}
-use Rattle.locked_net.specs.declared.call_fault.CallFault.{CallFault}
-use Rattle.script_text.specs.declared.command.Command.{Command}
-use Rattle.script_text.specs.declared.command.Command.TheVariants.{Tell, Drive, Scramble, Checkpoint}
-use Rattle.script_text.specs.declared.script.ScriptLine.{ScriptLine}
-use Rattle.storm_runner.specs.Storm.{IsFor, IsPartOf, AreScriptReceipts, AreAbove, IsLastCheckpoint, StandsInPart, MayEndScript, is_checkpoint, has_checkpoint}
-use Rattle.storm_runner.specs.Turns.{Scene}
-use Rattle.storm_runner.specs.PlayedCommands.{AddsReceipts, IsBased}
+use Rattle.storm_runner.proofs.Prelude.{◌≡◌, ◌∙◌, ℕ, ◌+◌, ◌<◌, ◌≤◌, List, [], ◌∷◌, ◌++◌, length, take, drop, get_or, Bool, true, false, ◌||◌, Option, None, Some, IfSome, Result, Ok, Err, refl, sym, ap, ap₂, subst, append_assoc, append-nil, arith, take-append-drop, is_some, IsErr, take_more, list_any_more, list_any-append, All-nil, All-append, or-false, false≢true, result_err, Receipt, ClerkView, front_from, front_of, seen_by, greater_base, Setting, CallFault, Command, Checkpoint, ScriptLine, IsFor, IsPartOf, AreScriptReceipts, AreAbove, IsLastCheckpoint, StandsInPart, MayEndScript, is_checkpoint, has_checkpoint, Scene, AddsReceipts, IsBased}
 use Rattle.storm_runner.proofs.TurnAddition.{front_behind}
 
 -- the receipts of one line more
@@ -42,19 +25,15 @@ stands_next scene base lines k line old new below is stands adds =
     subst (λ ls. AreScriptReceipts scene 0 ls new) (sym (next_line lines k line below is)) (subst (AreScriptReceipts scene 0 (take k lines ++ line ∷ [])) (sym adds.added) (stands_more scene 0 (take k lines) line old adds.own stands adds.fits.0))
 
 or-true : (b : Bool) → (b || true) ≡ true
-or-true true = refl
-or-true false = refl
+or-true b = grind arith
 
 greater_is : (one : Option ℕ) (number : ℕ) → is_some (greater_base one (Some number)) ≡ true
-greater_is None number = refl
-greater_is (Some n) number = refl
+greater_is one number = grind arith
 
 -- a clerk has a base after a command if it had one before, or if the command is a checkpoint
 based_more : (setting : Setting) (command : Command) (old new : ClerkView) → IsBased setting command old new → is_some new.base ≡ is_some old.base || is_checkpoint command
-based_more setting (Tell event) old new same = ap is_some same ∙ sym (or-false (is_some old.base))
-based_more setting (Drive turns) old new same = ap is_some same ∙ sym (or-false (is_some old.base))
-based_more setting (Scramble turns) old new same = ap is_some same ∙ sym (or-false (is_some old.base))
 based_more setting Checkpoint old new (number, holds, is) = ap is_some is ∙ greater_is old.base number ∙ sym (or-true (is_some old.base))
+based_more setting command old new same = ap is_some same ∙ sym (or-false (is_some old.base))
 
 pub based_next : (setting : Setting) (lines : List ScriptLine) (k : ℕ) (line : ScriptLine) (old new : ClerkView) → k < length lines → line ≡ get_or lines k line → is_some old.base ≡ has_checkpoint (take k lines)
     → IsBased setting line.command old new → is_some new.base ≡ has_checkpoint (take (k + 1) lines)
@@ -114,23 +93,19 @@ placed_here scene lines line receipts own number made none stands above = record
 }
 
 of_greater : (P : ℕ → Type 0) (base : Option ℕ) (number : ℕ) → ((n : ℕ) → number ≤ n → P n) → IfSome (greater_base base (Some number)) P
-of_greater P None number holds = holds number (omega arith)
-of_greater P (Some one) number holds = holds (max one number) (omega arith)
+of_greater P base number holds = grind arith
 
 -- one line more
 placed_by : (setting : Setting) (scene : Scene) (lines : List ScriptLine) (line : ScriptLine) (command : Command) (old new : ClerkView) (own : List Receipt) → line.command ≡ command → AreScriptReceipts scene 0 lines old.receipts → IsFor scene (front_of old.receipts) command own → AreAbove old.base own
     → IsBased setting command old new → IfSome old.base (IsLastCheckpoint scene lines old.receipts) → IfSome new.base (IsLastCheckpoint scene (lines ++ line ∷ []) (old.receipts ++ own))
-placed_by setting scene lines line (Tell event) old new own e stands for above same is =
-    placed_kept scene lines line old new own same (ap is_checkpoint e) (subst (λ (c : Command). IsFor scene (front_of old.receipts) c own) (sym e) for) above is
-placed_by setting scene lines line (Drive turns) old new own e stands for above same is =
-    placed_kept scene lines line old new own same (ap is_checkpoint e) (subst (λ (c : Command). IsFor scene (front_of old.receipts) c own) (sym e) for) above is
-placed_by setting scene lines line (Scramble turns) old new own e stands for above same is =
-    placed_kept scene lines line old new own same (ap is_checkpoint e) (subst (λ (c : Command). IsFor scene (front_of old.receipts) c own) (sym e) for) above is
 placed_by setting scene lines line Checkpoint old new own e stands none above (number, holds, greater) is =
     let P = IsLastCheckpoint scene (lines ++ line ∷ []) (old.receipts ++ own) in
-    let all : front_of old.receipts ≤ number = holds.all in
+    let seen : seen_by old ≤ number = holds.all in
+    let all : front_of old.receipts ≤ number = omega (arith, seen) in
     subst (λ (base : Option ℕ). IfSome base P) (sym greater)
     (of_greater P old.base number (λ n more. placed_here scene lines line old.receipts own n e none stands (omega (arith, all, more))))
+placed_by setting scene lines line command old new own e stands for above same is =
+    placed_kept scene lines line old new own same (ap is_checkpoint e) (subst (λ (c : Command). IsFor scene (front_of old.receipts) c own) (sym e) for) above is
 
 pub placed_next : (setting : Setting) (scene : Scene) (lines : List ScriptLine) (k : ℕ) (line : ScriptLine) (old new : ClerkView) → k < length lines → line ≡ get_or lines k line → AreScriptReceipts scene 0 (take k lines) old.receipts
     → AddsReceipts (λ own. IsFor scene (front_of old.receipts) line.command own × AreAbove old.base own) old.receipts new.receipts → IsBased setting line.command old new → IfSome old.base (IsLastCheckpoint scene (take k lines) old.receipts) → IfSome new.base (IsLastCheckpoint scene (take (k + 1) lines) new.receipts)

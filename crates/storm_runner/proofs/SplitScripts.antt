@@ -1,18 +1,5 @@
 -- Scripts that were played in two parts.
-use Rattle.std.proofs.Common.{◌≡◌, ◌∙◌, ℕ, List, [], ◌∷◌, ◌++◌, take, drop, Option, None, Some, refl, sym, ap, subst}
-use Rattle.std.specs.List.{All}
-use Rattle.std.specs.Option.{option_or}
-use Rattle.std.proofs.lemmas.List.Elements.{All-nil, All-cons, All-head, All-tail}
-use mathlib.Core.List.{IsPrefix}
-use Rattle.std.proofs.lemmas.List.{take-append-drop}
-use Rattle.rule_machine.specs.Run.{Entry}
-use Rattle.locked_net.specs.Receipts.{ClerkView, noted}
-use Rattle.locked_net.specs.Settings.{Setting}
-use Rattle.locked_net.specs.declared.call_fault.CallFault.{CallFault}
-use Rattle.script_text.specs.declared.script.ScriptLine.{ScriptLine}
-use Rattle.storm_runner.specs.Turns.{Scene}
-use Rattle.storm_runner.specs.Storm.{AllPlayed}
-use Rattle.storm_runner.specs.PlayedCommands.{AllStop, PlayedOn}
+use Rattle.storm_runner.proofs.Prelude.{◌≡◌, ◌∙◌, ℕ, List, [], ◌∷◌, ◌++◌, take, drop, Option, None, Some, refl, sym, ap, subst, All, take-append-drop, option_or, All-nil, All-cons, All-head, All-tail, IsPrefix, Entry, ClerkView, noted, Setting, CallFault, ScriptLine, Scene, AllPlayed, AllStop, PlayedOn}
 use Rattle.storm_runner.proofs.LogExtension.{stop_lasts}
 
 or_assoc : {A : Type 0} (a b c : Option A) → option_or (option_or a b) c ≡ option_or a (option_or b c)
@@ -22,18 +9,9 @@ or_assoc (Some x) b c = refl
 pub all_joined : (scene : Scene) (scripts others : List (List ScriptLine)) (clerks more : List ClerkView) (fault other : Option CallFault)
     → AllPlayed scene scripts clerks fault → AllPlayed scene others more other → AllPlayed scene (scripts ++ others) (clerks ++ more) (option_or fault other)
 all_joined scene [] others [] more fault other none played = subst (λ f. AllPlayed scene others more (option_or f other)) (sym none) played
-all_joined scene [] others (clerk ∷ clerks) more fault other played rest = absurd played
-all_joined scene (script ∷ scripts) others [] more fault other played rest = absurd played
 all_joined scene (script ∷ scripts) others (clerk ∷ clerks) more fault other (own, behind, is, stops, played) rest =
     (own, option_or behind other, ap (λ f. option_or f other) is ∙ or_assoc own behind other, stops, all_joined scene scripts others clerks more behind other played rest)
-
--- the two parts of a row of scripts
-both_played : (scene : Scene) (scripts left right : List (List ScriptLine)) (k : ℕ) (ours theirs : List ClerkView) (fault other first : Option CallFault)
-    → left ≡ take k scripts → right ≡ drop k scripts → first ≡ option_or fault other → AllPlayed scene left ours fault → AllPlayed scene right theirs other → AllPlayed scene scripts (ours ++ theirs) first
-both_played scene scripts left right k ours theirs fault other first front back is played rest =
-    let whole : left ++ right ≡ scripts = ap (λ ss. ss ++ right) front ∙ ap (λ ss. take k scripts ++ ss) back ∙ take-append-drop k scripts in
-    subst (λ ss. AllPlayed scene ss (ours ++ theirs) first) whole
-    (subst (AllPlayed scene (left ++ right) (ours ++ theirs)) (sym is) (all_joined scene left right ours theirs fault other played rest))
+all_joined scene scripts others clerks more fault other played rest = absurd played
 
 -- what holds of all in a row holds of all in its parts
 pub all_left : {X : Type 0} (P : X → Type 0) (xs ys : List X) → All P (xs ++ ys) → All P xs
@@ -49,8 +27,9 @@ pub halves_played : (setting : Setting) (scripts left right : List (List ScriptL
 halves_played setting scripts left right k ours theirs fault other first front back is played rest = record {
   each = λ log begin.
       let Begins = λ (clerk : ClerkView). IsPrefix (noted clerk.note) log in
-      both_played (record { setting = setting; log = log }) scripts left right k ours theirs fault other first front back is
-      (played.each log (all_left Begins ours theirs begin)) (rest.each log (all_right Begins ours theirs begin));
+      let whole : left ++ right ≡ scripts = rw (front, back) (take-append-drop k scripts) in
+      subst (λ ss. AllPlayed (record { setting = setting; log = log }) ss (ours ++ theirs) first) whole
+      (rw is (all_joined (record { setting = setting; log = log }) left right ours theirs fault other (played.each log (all_left Begins ours theirs begin)) (rest.each log (all_right Begins ours theirs begin))));
 }
 
 -- scripts that were played, each on the log that its clerk's note shows
@@ -60,8 +39,7 @@ on_one_log setting scripts clerks fault stop = record { each = λ log begin. go 
     go : (scripts : List (List ScriptLine)) (clerks : List ClerkView) (fault : Option CallFault) (log : List Entry) → AllStop setting scripts clerks fault → All (λ clerk. IsPrefix (noted clerk.note) log) clerks
         → AllPlayed (record { setting = setting; log = log }) scripts clerks fault
     go [] [] fault log none begin = none
-    go [] (clerk ∷ clerks) fault log stop begin = absurd stop
-    go (script ∷ scripts) [] fault log stop begin = absurd stop
     go (script ∷ scripts) (clerk ∷ clerks) fault log (own, others, is, stops, rest) begin =
         let Begins = λ (c : ClerkView). IsPrefix (noted c.note) log in
         (own, others, is, stop_lasts setting (noted clerk.note) log (All-head Begins clerk clerks begin) script clerk own stops, go scripts clerks others log rest (All-tail Begins clerk clerks begin))
+    go scripts clerks fault log stop begin = absurd stop

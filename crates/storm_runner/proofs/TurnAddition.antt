@@ -1,89 +1,43 @@
 -- Turns that are taken one by one.
-use Rattle.std.proofs.Common.{◌≡◌, ◌∙◌, ℕ, ◌+◌, ◌<◌, ◌≤◌, Bool, false, true, not, List, [], ◌∷◌, ◌++◌, length, Option, None, Some, Result, Ok, Err, IfOk, IfSome, IsNone, ◌↔◌, MatchOption, refl, sym, ap, subst, append_assoc, length-append, arith}
-use Rattle.std.specs.List.{All}
-use Rattle.std.specs.Option.{is_some, option_map}
-use Rattle.std.proofs.lemmas.Bool.{false≢true}
-use Rattle.std.proofs.lemmas.List.{append_cancel_left}
-use Rattle.std.proofs.lemmas.List.Elements.{All-push, All-weaker}
-use mathlib.Core.List.{IsPrefix}
-use Rattle.rand_core.specs.Stream.{Stream}
-use Rattle.rule_machine.specs.declared.choice.Item.{Item}
-use Rattle.rule_machine.specs.declared.reply.Reply.{Reply}
-use Rattle.rule_machine.specs.declared.event.Event.{Event}
-use Rattle.rule_machine.specs.declared.event.Event.TheVariants.{Step}
-use Rattle.rule_machine.specs.Network.{node_count}
-use Rattle.rule_machine.specs.RuleTable.{RuleTable, enabled_names}
-use Rattle.rule_machine.specs.State.{State}
-use Rattle.daemon.specs.DrawnChoices.{choice_drawn}
-use Rattle.daemon.proofs.EmptyDraws.{rests}
-use Rattle.seeded_turns.specs.DrawnEvents.{Draws, drawn_step, drawn_fault}
-use Rattle.step_log.specs.declared.receipt.Receipt.{Receipt}
-use Rattle.step_log.specs.Log.{Log, entry_of, recorded, receipt_of}
-use Rattle.snapshots.proofs.Fronts.{prefix_self}
-use Rattle.locked_net.specs.PublishedJournals.{PublishedJournalView}
-use Rattle.locked_net.specs.Receipts.{ClerkView, front_from, front_of, base_from, seen_by, noted}
-use Rattle.locked_net.specs.Settings.{Setting, IsLogIn}
-use Rattle.locked_net.specs.Calls.{call_fault, Drives, Breaks}
-use Rattle.locked_net.specs.ChosenEvents.{ChoosesOn, ChoosesStep, IsChosenReply}
-use Rattle.locked_net.proofs.ReceiptAddition.{seen_few, front_more}
-use Rattle.storm_runner.specs.Storm.{IsOfStep, IsOfFault, AreAbove}
-use Rattle.storm_runner.specs.Turns.{Scene, TakesChosenEvent, Draw, Gains, IsTurn, AreTurns, DrawnFrom, IsLogBehind, IsQuietBehind, IsEmptyBehind}
-use Rattle.storm_runner.specs.PlayedCommands.{scene_of}
+use Rattle.storm_runner.proofs.Prelude.{◌≡◌, ◌∙◌, ℕ, ◌+◌, ◌<◌, ◌≤◌, Bool, false, true, not, List, [], ◌∷◌, ◌++◌, length, Option, None, Some, IfSome, IsNone, MatchOption, refl, sym, ap, subst, append_assoc, length-append, arith, All, is_some, option_map, false≢true, append_cancel_left, All-push, All-weaker, IsPrefix, Stream, Item, Reply, Event, Step, RuleTable, enabled_names, State, choice_drawn, rests, Draws, drawn_step, Receipt, Log, receipt_of, prefix_trans, PublishedJournalView, ClerkView, front_from, front_of, base_from, seen_by, noted, Setting, IsLogIn, call_fault, Drives, Breaks, ChoosesOn, ChoosesStep, IsChosenReply, some_of, seen_few, front_more, IsOfStep, IsOfFault, AreAbove, Scene, TakesChosenEvent, Draw, Gains, IsTurn, AreTurns, DrawnFrom, IsLogBehind, IsIdleBehind, scene_of}
 use Rattle.storm_runner.proofs.LogExtension.{turns_last}
 
 -- ---- one turn
 
-gains_step : (t : RuleTable) (before after : Log) (old new : List Receipt) (reply : Reply) → Drives t before after old new reply → Gains IsOfStep old new
-gains_step t before after old new reply drove = record {
-  receipt = receipt_of t before (Step drove.items);
+-- a turn of a daemon gains its step
+pub stepped : (t : RuleTable) (before after : PublishedJournalView) (old new : ClerkView) (told : Option Reply) → MatchOption told ((new ≡ old) × (after ≡ before)) (λ reply. Drives t before.log after.log old.receipts new.receipts reply)
+    → MatchOption told (new ≡ old) (λ _. Gains IsOfStep old.receipts new.receipts)
+stepped t before after old new None kept = kept.0
+stepped t before after old new (Some reply) drove = record {
+  receipt = receipt_of t before.log (Step drove.items);
   added = drove.told.receipt;
   is = record { items = drove.items; moves = drove.moves; stepped = refl; moved = sym drove.told.reply_is ∙ drove.moved };
 }
 
-gains_fault : (t : RuleTable) (before after : Log) (old new : List Receipt) (reply : Reply) → Breaks t before after old new reply → Gains IsOfFault old new
-gains_fault t before after old new reply broke = record {
-  receipt = receipt_of t before broke.event;
+-- and one of an injector its fault
+pub struck : (t : RuleTable) (before after : PublishedJournalView) (old new : ClerkView) (told : Option Reply) → MatchOption told ((new ≡ old) × (after ≡ before)) (λ reply. Breaks t before.log after.log old.receipts new.receipts reply)
+    → MatchOption told (new ≡ old) (λ _. Gains IsOfFault old.receipts new.receipts)
+struck t before after old new None kept = kept.0
+struck t before after old new (Some reply) broke = record {
+  receipt = receipt_of t before.log broke.event;
   added = broke.told.receipt;
   is = record { register = broke.register; accepted = sym broke.told.reply_is ∙ broke.accepted };
 }
 
--- a turn of a daemon gains its step
-pub stepped : (t : RuleTable) (before after : PublishedJournalView) (old mid new : ClerkView) (told : Option Reply) → MatchOption told ((mid ≡ old) × (after ≡ before)) (λ reply. Drives t before.log after.log old.receipts mid.receipts reply)
-    → new.receipts ≡ mid.receipts → MatchOption told (new.receipts ≡ old.receipts) (λ _. Gains IsOfStep old.receipts new.receipts)
-stepped t before after old mid new None kept same = same ∙ ap (λ (c : ClerkView). c.receipts) kept.0
-stepped t before after old mid new (Some reply) kept same =
-    subst (λ rs. Gains IsOfStep old.receipts rs) (sym same) (gains_step t before.log after.log old.receipts mid.receipts reply kept)
+-- a receipt that was gained stays
+pub still_gained : (P : Receipt → Type 0) (old mid new : ClerkView) (told : Option Reply) → MatchOption told (mid ≡ old) (λ _. Gains P old.receipts mid.receipts) → new.receipts ≡ mid.receipts → MatchOption told (new.receipts ≡ old.receipts) (λ _. Gains P old.receipts new.receipts)
+still_gained P old mid new None same kept = kept ∙ ap (λ (c : ClerkView). c.receipts) same
+still_gained P old mid new (Some reply) gains kept = subst (λ rs. Gains P old.receipts rs) (sym kept) gains
 
--- and one of an injector its fault
-pub struck : (t : RuleTable) (before after : PublishedJournalView) (old mid new : ClerkView) (told : Option Reply) → MatchOption told ((mid ≡ old) × (after ≡ before)) (λ reply. Breaks t before.log after.log old.receipts mid.receipts reply)
-    → new.receipts ≡ mid.receipts → MatchOption told (new.receipts ≡ old.receipts) (λ _. Gains IsOfFault old.receipts new.receipts)
-struck t before after old mid new None kept same = same ∙ ap (λ (c : ClerkView). c.receipts) kept.0
-struck t before after old mid new (Some reply) kept same =
-    subst (λ rs. Gains IsOfFault old.receipts rs) (sym same) (gains_fault t before.log after.log old.receipts mid.receipts reply kept)
-
--- the log goes on from what it was
-goes_on : (t : RuleTable) (before after : Log) (event : Event) → after ≡ recorded t before event → IsPrefix before.entries after.entries
-goes_on t before after event is = (entry_of t before event ∷ [], sym (ap (λ (l : Log). l.entries) is))
-
-pub step_goes_on : (t : RuleTable) (before after : PublishedJournalView) (old mid : ClerkView) (told : Option Reply) → MatchOption told ((mid ≡ old) × (after ≡ before)) (λ reply. Drives t before.log after.log old.receipts mid.receipts reply)
-    → IsPrefix before.log.entries after.log.entries
-step_goes_on t before after old mid None kept = subst (λ (d : PublishedJournalView). IsPrefix before.log.entries d.log.entries) (sym kept.1) (prefix_self before.log.entries)
-step_goes_on t before after old mid (Some reply) kept = goes_on t before.log after.log (Step kept.items) kept.told.log
-
-pub fault_goes_on : (t : RuleTable) (before after : PublishedJournalView) (old mid : ClerkView) (told : Option Reply) → MatchOption told ((mid ≡ old) × (after ≡ before)) (λ reply. Breaks t before.log after.log old.receipts mid.receipts reply)
-    → IsPrefix before.log.entries after.log.entries
-fault_goes_on t before after old mid None kept = subst (λ (d : PublishedJournalView). IsPrefix before.log.entries d.log.entries) (sym kept.1) (prefix_self before.log.entries)
-fault_goes_on t before after old mid (Some reply) kept = goes_on t before.log after.log kept.event kept.told.log
-
--- a clerk that has a receipt more has seen more
-pub seen_more : (old mid new : ClerkView) (told : Option Reply) → IfSome told (λ _. seen_by old < front_of mid.receipts) → new.receipts ≡ mid.receipts → IfSome told (λ _. seen_by old < front_of new.receipts)
-seen_more old mid new None above same = tt
-seen_more old mid new (Some reply) above same = subst (λ rs. seen_by old < front_of rs) (sym same) above
+-- a clerk's note begins with the log on which its turn was taken
+pub begins_with : (before after : PublishedJournalView) (mid new : ClerkView) (told : Option Reply) → some_of told (after ≡ before) (IsPrefix before.log.entries (noted mid.note)) → IsPrefix after.log.entries (noted new.note) → IsPrefix (noted mid.note) (noted new.note)
+    → IsPrefix before.log.entries (noted new.note)
+begins_with before after mid new None same seen grows = subst (λ (held : PublishedJournalView). IsPrefix held.log.entries (noted new.note)) same seen
+begins_with before after mid new (Some reply) begins seen grows = prefix_trans before.log.entries (noted mid.note) (noted new.note) begins grows
 
 -- a turn that did not find nothing
 pub gained : (P : Receipt → Type 0) (old new : ClerkView) (told : Option Reply) (b : Bool) → MatchOption told (new.receipts ≡ old.receipts) (λ _. Gains P old.receipts new.receipts) → is_some told ≡ not b → b ≡ false → Gains P old.receipts new.receipts
-gained P old new None b gains e f = absurd (false≢true (e ∙ ap not f))
-gained P old new (Some reply) b gains e f = gains
+gained P old new told b gains e f = grind arith
 
 -- the last receipt is above the base that the clerk had
 pub last_above : (old new : ClerkView) (base : Option ℕ) (receipt : Receipt) → old.base ≡ base → new.receipts ≡ old.receipts ++ receipt ∷ [] → seen_by old < front_of new.receipts → base_from base < receipt.seq
@@ -103,55 +57,42 @@ gains_above P old new base same gains above =
 -- ---- the words of a turn
 
 pub always : {A : Type 0} (P : Type 0) (told : Option A) → P → IfSome told (λ _. P)
-always P None p = tt
-always P (Some a) p = p
+always P told p = grind arith
 
--- what was chosen on a beginning of what a clerk's note shows
-abbrev pub chose : (setting : Setting) (Chooses : State → Option Event → Type 0) (log : Log) (old mid : List Receipt) (new : ClerkView) (told : Option Reply) → IsLogIn setting log → call_fault (front_of old) log ≡ None
-    → ChoosesOn setting.table log Chooses old mid told → new.receipts ≡ mid → IsPrefix log.entries (noted new.note) → TakesChosenEvent setting Chooses old new told
-chose setting Chooses log old mid new told own free taken same begins = record {
-  took = record {
-    log = log;
-    own = own;
-    free = free;
-    taken = subst (λ rs. ChoosesOn setting.table log Chooses old rs told) (sym same) taken;
-    begins = always (IsPrefix log.entries (noted new.note)) told begins;
-  };
-  begins = begins;
-}
-
--- a daemon's choice by its words is its event
-pub drew_step : (setting : Setting) (words left : Stream) (old : List Receipt) (new : ClerkView) (told : Option Reply)
-    → TakesChosenEvent setting (ChoosesStep setting.table (λ names choice. (choice, left) ≡ choice_drawn setting.table.central names words)) old new told → Draw setting drawn_step words left old new told
-drew_step setting words left old new told took =
-    let chosen = took.took.taken.chosen in
-    record {
+-- what was chosen on a beginning of what a clerk's note shows after its turn
+abbrev pub chose : (setting : Setting) (Chooses : State → Option Event → Type 0) (before after : PublishedJournalView) (old mid new : ClerkView) (told : Option Reply) → IsLogIn setting before.log → call_fault (front_of old.receipts) before.log ≡ None
+    → ChoosesOn setting.table before.log Chooses old.receipts mid.receipts told → new.receipts ≡ mid.receipts → some_of told (after ≡ before) (IsPrefix before.log.entries (noted mid.note)) → IsPrefix after.log.entries (noted new.note) → IsPrefix (noted mid.note) (noted new.note)
+    → TakesChosenEvent setting Chooses old.receipts new told
+chose setting Chooses before after old mid new told own free taken same begin seen grows =
+    let begins = begins_with before after mid new told begin seen grows in record {
       took = record {
-        log = took.took.log;
-        own = took.took.own;
-        free = took.took.free;
-        taken = record {
-          event = took.took.taken.event;
-          chosen =
-              ap (λ (event : Option Event). (event, left)) chosen.1
-              ∙ ap (λ (d : Option (List Item) × Stream). (option_map (λ items. Step items) d.0, d.1)) chosen.2;
-          is_told = took.took.taken.is_told;
-        };
-        begins = took.took.begins;
+        log = before.log;
+        own = own;
+        free = free;
+        taken = subst (λ rs. ChoosesOn setting.table before.log Chooses old.receipts rs told) (sym same) taken;
+        begins = always (IsPrefix before.log.entries (noted new.note)) told begins;
       };
-      begins = took.begins;
+      begins = begins;
     }
 
--- the receipt of a turn that was answered is the one that was added
-present_of : (r other : Receipt) → r ∷ [] ≡ other ∷ [] → r ≡ other
-present_of r other same = cc
+-- a daemon's choice by its words is its event
+pub drew_step : (t : RuleTable) (log : Log) (words left : Stream) (old new : List Receipt) (told : Option Reply) → ChoosesOn t log (ChoosesStep t (λ names choice. (choice, left) ≡ choice_drawn t.central names words)) old new told
+    → ChoosesOn t log (λ s event. (event, left) ≡ drawn_step t s words) old new told
+drew_step t log words left old new told taken = record {
+  event = taken.event;
+  chosen =
+      ap (λ (event : Option Event). (event, left)) taken.chosen.1
+      ∙ ap (λ (d : Option (List Item) × Stream). (option_map (λ items. Step items) d.0, d.1)) taken.chosen.2;
+  is_told = taken.is_told;
+}
 
+-- the receipt of a turn that was answered is the one that was added
 turn_at : (setting : Setting) (draws : Draws) (words left : Stream) (old : List Receipt) (new : ClerkView) (told : Option Reply) (receipt : Receipt) (drew : Draw setting draws words left old new told) (event : Option Event)
     → (event, left) ≡ draws setting.table drew.took.log.state words → IsChosenReply setting.table drew.took.log event old new.receipts told → is_some told ≡ true → new.receipts ≡ old ++ receipt ∷ [] → IsTurn (scene_of setting new) draws words receipt left
 turn_at setting draws words left old new told receipt drew None is (none, same) some added = absurd (false≢true (sym (ap is_some none) ∙ some))
 turn_at setting draws words left old new told receipt drew (Some event) is (answer, more) some added =
     let log = drew.took.log in
-    let same : receipt_of setting.table log event ≡ receipt = present_of (receipt_of setting.table log event) receipt (append_cancel_left old _ _ (sym more ∙ added)) in
+    let same : receipt_of setting.table log event ≡ receipt = grind (arith, append_cancel_left old _ _ (sym more ∙ added)) in
     subst (λ r. IsTurn (scene_of setting new) draws words r left) same (record { log = log; own = drew.took.own; begins = drew.begins; drawn = is; told = refl })
 
 -- ---- some turns
@@ -198,13 +139,11 @@ pub front_behind : (low : ℕ) (old own : List Receipt) → front_from low (old 
 front_behind low [] own = refl
 front_behind low (receipt ∷ old) own = front_behind receipt.seq old own
 
-no_event : {A B : Type 0} (f : A → B) (choice : Option A) → option_map f choice ≡ None → choice ≡ None
-no_event f None none = refl
-no_event f (Some a) none = cc
+no_items : (choice : Option (List Item)) → option_map (λ items. Step items) choice ≡ None → choice ≡ None
+no_items choice none = grind arith
 
-none_drawn : (setting : Setting) (log : Log) (old new : List Receipt) (told : Option Reply) (event : Option Event) → IsChosenReply setting.table log event old new told → is_some told ≡ false → event ≡ None
-none_drawn setting log old new told None is none = refl
-none_drawn setting log old new told (Some event) (answer, more) none = absurd (false≢true (sym none ∙ ap is_some answer))
+none_drawn : (t : RuleTable) (log : Log) (old new : List Receipt) (told : Option Reply) (event : Option Event) → IsChosenReply t log event old new told → is_some told ≡ false → event ≡ None
+none_drawn t log old new told event is none = grind arith
 
 -- a clerk with all of these receipts looked at a beginning of what its note then shows
 abbrev looked : (setting : Setting) (Chooses : State → Option Event → Type 0) (old mid own : List Receipt) (new : ClerkView) (told : Option Reply) → mid ≡ old ++ own → TakesChosenEvent setting Chooses mid new told → IsLogBehind (scene_of setting new) (front_of old) own
@@ -213,26 +152,16 @@ looked setting Chooses old mid own new told added chose =
     let front : front_of mid ≡ front_from (front_of old) own = ap front_of added ∙ front_behind 0 old own in
     record { log = chose.took.log; is_own = chose.took.own; begins = chose.begins; behind = omega (arith, few, front) }
 
--- a daemon that finds nothing finds no node enabled, after all its clerk's receipts
-quiet_behind : (setting : Setting) (words left : Stream) (old mid : List Receipt) (new : ClerkView) (own : List Receipt) → mid ≡ old ++ own → Draw setting drawn_step words left mid new None → IsQuietBehind (scene_of setting new) (front_of old) own
-quiet_behind setting words left old mid new own added drew =
-    let log = drew.took.log in
-    let names = enabled_names setting.table log.state in
-    let none = none_drawn setting log mid new.receipts None drew.took.taken.event drew.took.taken.is_told refl in
-    let nobody : option_map (λ items. Step items) (choice_drawn setting.table.central names words).0 ≡ None =
-    sym (ap (λ (d : Option Event × Stream). d.0) drew.took.taken.chosen) ∙ none in
-    record {
-      at = looked setting (λ s event. (event, left) ≡ drawn_step setting.table s words) old mid own new None added drew;
-      quiet = (rests setting.table.central names words).0 (no_event (λ items. Step items) (choice_drawn setting.table.central names words).0 nobody);
-    }
+-- a daemon that finds nothing finds no node enabled
+pub daemon_rests : (t : RuleTable) (log : Log) (words left : Stream) (old new : List Receipt) (told : Option Reply) → ChoosesOn t log (λ s event. (event, left) ≡ drawn_step t s words) old new told → IsNone told → enabled_names t log.state ≡ []
+daemon_rests t log words left old new told taken none =
+    let names = enabled_names t log.state in
+    let nobody : option_map (λ items. Step items) (choice_drawn t.central names words).0 ≡ None =
+    sym (ap (λ (d : Option Event × Stream). d.0) taken.chosen) ∙ none_drawn t log old new told taken.event taken.is_told none in
+    (rests t.central names words).0 (no_items (choice_drawn t.central names words).0 nobody)
 
-pub daemon_rests : (setting : Setting) (words left : Stream) (mid : List Receipt) (new : ClerkView) (told : Option Reply) → Draw setting drawn_step words left mid new told
-    → IsNone told → (old own : List Receipt) → mid ≡ old ++ own → IsQuietBehind (scene_of setting new) (front_of old) own
-daemon_rests setting words left mid new None drew none old own added = quiet_behind setting words left old mid new own added drew
-daemon_rests setting words left mid new (Some reply) drew none old own added = absurd (false≢true (sym none))
-
--- an injector that finds nothing finds no node, after all its clerk's receipts
-pub injector_rests : (setting : Setting) (words left : Stream) (mid : List Receipt) (new : ClerkView) (told : Option Reply) (drew : Draw setting drawn_fault words left mid new told)
-    → (IsNone told ↔ (node_count drew.took.log.state.network ≡ 0)) → IsNone told → (old own : List Receipt) → mid ≡ old ++ own → IsEmptyBehind (scene_of setting new) (front_of old) own
-injector_rests setting words left mid new told drew empty none old own added =
-    record { at = looked setting (λ s event. (event, left) ≡ drawn_fault setting.table s words) old mid own new told added drew; empty = empty.0 none }
+-- a clerk whose turn found nothing has seen no more than a log that left nothing to do
+pub idle_behind : (Idle : RuleTable → State → Type 0) (setting : Setting) (draws : Draws) (words left : Stream) (mid : List Receipt) (new : ClerkView) (told : Option Reply) (drew : Draw setting draws words left mid new told)
+    → (IsNone told → Idle setting.table drew.took.log.state) → IsNone told → (old own : List Receipt) → mid ≡ old ++ own → IsIdleBehind Idle (scene_of setting new) (front_of old) own
+idle_behind Idle setting draws words left mid new told drew idle none old own added =
+    record { at = looked setting (λ s event. (event, left) ≡ draws setting.table s words) old mid own new told added drew; idle = idle none }

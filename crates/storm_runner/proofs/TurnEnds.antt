@@ -1,27 +1,11 @@
 -- How turns end.
-use Rattle.std.proofs.Common.{◌≡◌, ◌∙◌, ℕ, ◌<◌, ◌≤◌, Bool, true, not, List, ◌++◌, length, Option, None, Some, Result, Ok, Err, IsErr, IsNone, MatchOption, ap, sym, subst, arith}
-use Rattle.std.specs.Option.{is_some}
-use Rattle.std.proofs.lemmas.Bool.{false≢true}
-use Rattle.rand_core.specs.Stream.{Stream}
-use Rattle.rule_machine.specs.declared.reply.Reply.{Reply}
-use Rattle.seeded_turns.specs.DrawnEvents.{Draws, seeded_stream, drawn_step, drawn_fault}
-use Rattle.step_log.specs.declared.receipt.Receipt.{Receipt}
-use mathlib.Core.List.{IsPrefix}
-use Rattle.locked_net.specs.Receipts.{ClerkView, front_of, noted}
-use Rattle.locked_net.specs.Settings.{Setting}
-use Rattle.locked_net.specs.declared.call_fault.CallFault.{CallFault}
-use Rattle.script_text.specs.declared.command.Command.TheVariants.{Drive, Scramble}
-use Rattle.script_text.specs.declared.command.Turns.{Turns}
-use Rattle.storm_runner.specs.Turns.{Scene, DrawnFrom, IsQuietBehind, IsEmptyBehind}
-use Rattle.storm_runner.specs.Storm.{AreAbove, IsOfStep, IsOfFault}
-use Rattle.storm_runner.specs.PlayedCommands.{AddsReceipts, Plays, TakesTurnsUpTo, scene_of}
+use Rattle.storm_runner.proofs.Prelude.{◌≡◌, ◌∙◌, ℕ, ◌<◌, ◌≤◌, Bool, true, not, List, ◌++◌, length, Option, Result, Ok, Err, IsErr, IsNone, MatchOption, ap, arith, is_some, false≢true, Stream, Reply, Draws, seeded_stream, drawn_step, drawn_fault, Receipt, IsPrefix, ClerkView, front_of, noted, Setting, CallFault, Drive, Scramble, Turns, Scene, DrawnFrom, IsIdleBehind, IsQuiet, IsEmpty, AreAbove, IsOfStep, IsOfFault, AddsReceipts, Plays, TakesTurnsUpTo, scene_of}
 use Rattle.storm_runner.proofs.TurnAddition.{Above, Took, drawn_from, took_above}
 use Rattle.storm_runner.proofs.LogExtension.{drawn_lasts}
 
 -- a clerk without a new receipt has the receipts that it had
 pub rested : (Kept : Reply → Type 0) (old new : ClerkView) (told : Option Reply) (b : Bool) → MatchOption told (new.receipts ≡ old.receipts) Kept → is_some told ≡ not b → b ≡ true → new.receipts ≡ old.receipts
-rested Kept old new None b same e f = same
-rested Kept old new (Some reply) b kept e f = absurd (false≢true (sym (e ∙ ap not f)))
+rested Kept old new told b kept e f = grind arith
 
 -- what holds of the turns that were taken holds of what was added
 pub taken : (setting : Setting) (draws : Draws) (P : Receipt → Type 0) (base : Option ℕ) (words left : Stream) (count : ℕ) (old : List Receipt) (new : ClerkView) → Took setting draws (Above P base) words count old new left → (Fits : List Receipt → Type 0)
@@ -60,20 +44,12 @@ at_rest told b then e f = then (e ∙ ap not f)
 
 -- ---- a line
 
-pub drives : (setting : Setting) (turns : Turns) (words : Stream) (old new : ClerkView) (result : Result (Unit {0}) CallFault) → words ≡ seeded_stream turns.seed → TakesTurnsUpTo setting drawn_step IsOfStep IsQuietBehind words turns.count old new result
+pub drives : (setting : Setting) (turns : Turns) (words : Stream) (old new : ClerkView) (result : Result (Unit {0}) CallFault) → words ≡ seeded_stream turns.seed → TakesTurnsUpTo setting drawn_step IsOfStep (IsIdleBehind IsQuiet) words turns.count old new result
     → Plays setting (Drive turns) old new result
-drives setting turns words old new (Ok done) same ends =
-    let ended : Result (Unit {0}) CallFault = Ok done in
-    subst (λ (w : Stream). TakesTurnsUpTo setting drawn_step IsOfStep IsQuietBehind w turns.count old new ended) same ends
-drives setting turns words old new (Err fault) same ends =
-    let ended : Result (Unit {0}) CallFault = Err fault in
-    subst (λ (w : Stream). TakesTurnsUpTo setting drawn_step IsOfStep IsQuietBehind w turns.count old new ended) same ends
+drives setting turns words old new (Ok done) same ends = rw same at ends
+drives setting turns words old new (Err fault) same ends = rw same at ends
 
-pub scrambles : (setting : Setting) (turns : Turns) (words : Stream) (old new : ClerkView) (result : Result (Unit {0}) CallFault) → words ≡ seeded_stream turns.seed → TakesTurnsUpTo setting drawn_fault IsOfFault IsEmptyBehind words turns.count old new result
+pub scrambles : (setting : Setting) (turns : Turns) (words : Stream) (old new : ClerkView) (result : Result (Unit {0}) CallFault) → words ≡ seeded_stream turns.seed → TakesTurnsUpTo setting drawn_fault IsOfFault (IsIdleBehind IsEmpty) words turns.count old new result
     → Plays setting (Scramble turns) old new result
-scrambles setting turns words old new (Ok done) same ends =
-    let ended : Result (Unit {0}) CallFault = Ok done in
-    subst (λ (w : Stream). TakesTurnsUpTo setting drawn_fault IsOfFault IsEmptyBehind w turns.count old new ended) same ends
-scrambles setting turns words old new (Err fault) same ends =
-    let ended : Result (Unit {0}) CallFault = Err fault in
-    subst (λ (w : Stream). TakesTurnsUpTo setting drawn_fault IsOfFault IsEmptyBehind w turns.count old new ended) same ends
+scrambles setting turns words old new (Ok done) same ends = rw same at ends
+scrambles setting turns words old new (Err fault) same ends = rw same at ends

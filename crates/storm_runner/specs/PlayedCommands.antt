@@ -8,7 +8,7 @@ use Rattle.rule_machine.specs.Run.{Entry}
 use Rattle.seeded_turns.specs.DrawnEvents.{Draws}
 use Rattle.step_log.specs.declared.receipt.Receipt.{Receipt}
 use Rattle.locked_net.specs.ChosenEvents.{HoldsAll}
-use Rattle.locked_net.specs.Receipts.{ClerkView, front_of, greater_base, noted}
+use Rattle.locked_net.specs.Receipts.{ClerkView, front_of, seen_by, greater_base, noted}
 use Rattle.locked_net.specs.Settings.{Setting}
 use Rattle.locked_net.specs.declared.call_fault.CallFault.{CallFault}
 use Rattle.script_text.specs.declared.command.Command.{Command}
@@ -49,7 +49,7 @@ IsBased setting (Tell event) old new = new.base ≡ old.base
 IsBased setting (Drive turns) old new = new.base ≡ old.base
 IsBased setting (Scramble turns) old new = new.base ≡ old.base
 IsBased setting Checkpoint old new =
-    (number : ℕ) × HoldsAll setting (front_of old.receipts) number × (new.base ≡ greater_base old.base (Some number))
+    (number : ℕ) × HoldsAll setting (seen_by old) number × (new.base ≡ greater_base old.base (Some number))
 
 -- each script was played by the clerk at its index, on the log that this clerk's note shows
 abbrev pub AllStop : Setting → List (List ScriptLine) → List ClerkView → Option CallFault → Type 0

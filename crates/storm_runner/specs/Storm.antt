@@ -27,7 +27,7 @@ use Rattle.locked_net.specs.Settlements.{Settlement}
 use Rattle.locked_net.specs.RoamResults.{IsLoneStep, TakesTurns}
 use Rattle.locked_net.specs.declared.call_fault.CallFault.{CallFault}
 use Rattle.script_text.specs.declared.script.ScriptLine.{ScriptLine}
-use Rattle.storm_runner.specs.Turns.{Scene, DrawnFrom, IsQuietBehind, IsEmptyBehind}
+use Rattle.storm_runner.specs.Turns.{Scene, DrawnFrom, IsIdleBehind, IsQuiet, IsEmpty}
 
 -- the receipt of a step whose reply is its moves
 pub record IsOfStep (receipt : Receipt) : Type 0 where
@@ -48,9 +48,9 @@ pub record IsOfFault (receipt : Receipt) : Type 0 where
 abbrev pub IsFor : Scene → ℕ → Command → List Receipt → Type 0
 IsFor scene front (Tell event) own = map (λ r. r.event) own ≡ event ∷ []
 IsFor scene front (Drive turns) own =
-    (length own ≤ turns.count) × DrawnFrom scene drawn_step (seeded_stream turns.seed) IsOfStep own × (length own < turns.count → IsQuietBehind scene front own)
+    (length own ≤ turns.count) × DrawnFrom scene drawn_step (seeded_stream turns.seed) IsOfStep own × (length own < turns.count → IsIdleBehind IsQuiet scene front own)
 IsFor scene front (Scramble turns) own =
-    (length own ≤ turns.count) × DrawnFrom scene drawn_fault (seeded_stream turns.seed) IsOfFault own × (length own < turns.count → IsEmptyBehind scene front own)
+    (length own ≤ turns.count) × DrawnFrom scene drawn_fault (seeded_stream turns.seed) IsOfFault own × (length own < turns.count → IsIdleBehind IsEmpty scene front own)
 IsFor scene front Checkpoint own = own ≡ []
 
 -- the receipts of a command that a fault ended early: none for an event or a checkpoint, and for turns fewer

@@ -12,7 +12,7 @@ use Rattle.rule_machine.specs.declared.event.Event.{Event}
 use Rattle.rule_machine.specs.declared.reply.Reply.{Reply}
 use Rattle.rule_machine.specs.State.{State}
 use Rattle.rule_machine.specs.Network.{node_count}
-use Rattle.rule_machine.specs.RuleTable.{enabled_names}
+use Rattle.rule_machine.specs.RuleTable.{RuleTable, enabled_names}
 use Rattle.rule_machine.specs.Run.{Entry}
 use Rattle.seeded_turns.specs.DrawnEvents.{Draws}
 use Rattle.step_log.specs.declared.receipt.Receipt.{Receipt}
@@ -69,12 +69,15 @@ pub record IsLogBehind (scene : Scene) (front : ℕ) (own : List Receipt) : Type
   pub begins : IsPrefix log.entries scene.log
   pub behind : front_from front own ≤ length log.entries
 
--- A beginning of the log with all that its clerk has seen, at whose end no node was enabled.
-pub record IsQuietBehind (scene : Scene) (front : ℕ) (own : List Receipt) : Type 0 where
-  pub at : IsLogBehind scene front own
-  pub quiet : enabled_names scene.setting.table at.log.state ≡ []
+-- no node is enabled
+abbrev pub IsQuiet : RuleTable → State → Type 0
+IsQuiet t s = enabled_names t s ≡ []
 
--- A beginning of the log with all that its clerk has seen, at whose end there was no node.
-pub record IsEmptyBehind (scene : Scene) (front : ℕ) (own : List Receipt) : Type 0 where
+-- there is no node
+abbrev pub IsEmpty : RuleTable → State → Type 0
+IsEmpty t s = node_count s.network ≡ 0
+
+-- A beginning of the log with all that its clerk has seen, at whose end there was nothing to do.
+pub record IsIdleBehind (Idle : RuleTable → State → Type 0) (scene : Scene) (front : ℕ) (own : List Receipt) : Type 0 where
   pub at : IsLogBehind scene front own
-  pub empty : node_count at.log.state.network ≡ 0
+  pub idle : Idle scene.setting.table at.log.state

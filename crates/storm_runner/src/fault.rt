@@ -1,35 +1,10 @@
-//! The errors of playing scripts and of a storm.
+//! The errors of a storm.
 
 use byte_streams::OutputFault;
 use locked_net::{CallFault, SettleFault};
 use script_text::TextsFault;
 use std::alloc::AllocError;
 use thiserror::Error;
-
-/// Why scripts were played but left no log.
-#[derive(Clone, Copy, Debug, PartialEq, Eq, Error)]
-pub enum PlayFault {
-    /// The clerks and the log do not settle. If memory runs out for settling, the fault is `Memory`.
-    #[error("unsettled: {0}")]
-    Unsettled(SettleFault),
-    /// Memory ran out, before the first command or after the last.
-    #[error("out of memory")]
-    Memory,
-}
-
-impl From<SettleFault> for PlayFault {
-    ghost use Rattle.std.specs.Prelude.{◌≡◌};
-    ghost use Rattle.storm_runner.specs.Faults.{play_fault_of};
-
-    ghost from_gives = { λ why fault. fault ≡ play_fault_of why };
-
-    fn from(why: SettleFault) -> PlayFault {
-        match why {
-            SettleFault::Memory => PlayFault::Memory,
-            why => PlayFault::Unsettled(why),
-        }
-    }
-}
 
 /// Why a storm did not read all scripts, play each to its end, and write the log.
 #[derive(Clone, Copy, Debug, PartialEq, Eq, Error)]
@@ -116,16 +91,16 @@ impl From<CallFault> for StormFault {
     }
 }
 
-impl From<PlayFault> for StormFault {
+impl From<SettleFault> for StormFault {
     ghost use Rattle.std.specs.Prelude.{◌≡◌};
-    ghost use Rattle.storm_runner.specs.Faults.{of_play};
+    ghost use Rattle.storm_runner.specs.Faults.{of_settle};
 
-    ghost from_gives = { λ why fault. fault ≡ of_play why };
+    ghost from_gives = { λ why fault. fault ≡ of_settle why };
 
-    fn from(why: PlayFault) -> StormFault {
+    fn from(why: SettleFault) -> StormFault {
         match why {
-            PlayFault::Memory | PlayFault::Unsettled(SettleFault::Memory) => StormFault::Memory,
-            PlayFault::Unsettled(why) => StormFault::Unsettled(why),
+            SettleFault::Memory => StormFault::Memory,
+            why => StormFault::Unsettled(why),
         }
     }
 }

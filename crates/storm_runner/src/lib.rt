@@ -29,7 +29,7 @@ mod text;
 mod turns;
 
 pub use ending::{status, storm_end};
-pub use fault::{PlayFault, StormFault};
+pub use fault::StormFault;
 pub use log::put_log;
 pub use run::play_scripts;
 pub use stage::WorkerConfig;

@@ -1,45 +1,59 @@
 //! Carrying out a command.
 
-ghost use Rattle.std.specs.Prelude.{◌≡◌, OnOk, OnErr};
+ghost use Rattle.std.specs.Prelude.{◌≡◌, ◌<◌, IfOk, OnOk, OnErr};
 ghost use mathlib.Core.List.{IsPrefix};
 ghost use Rattle.rule_machine.specs.declared.event.Event.TheVariants.{Step};
+ghost use Rattle.locked_net.specs.Calls.{Keeps};
 ghost use Rattle.locked_net.specs.Nets.{book_of, setting_of};
-ghost use Rattle.locked_net.specs.Receipts.{IsOfBook, noted};
+ghost use Rattle.locked_net.specs.Receipts.{HasNoteOf, IsOfBook, front_of, noted, seen_by};
 ghost use Rattle.script_text.specs.declared.command.Command.TheVariants.{Tell, Checkpoint};
 ghost use Rattle.storm_runner.specs.PlayedCommands.{Plays, IsBased};
 
 use crate::stage::StormContext;
 use crate::turns::{drive, recall, scramble};
 use locked_net::{CallFault, Clerk, LockedNet, StepFault};
-use rule_machine::{Choice, Event};
+use rule_machine::{Choice, Event, Reply};
 use rules_api::Rules;
-use script_run::paying_workers;
 use script_text::Command;
 use std::sync::Wait;
 use std::thread::Threads;
-use steal_pool::{Gate, NoGate};
+use steal_pool::{Gate, NoGate, paying_workers};
 
 fn step<R: Rules + Sync, G: Gate, T: Threads + Wait + Sync>(
     rt: &T,
     stage: &StormContext<R, G>,
     clerk: &mut Clerk,
     choice: Choice,
-) -> Result<(), CallFault>
-    requires { IsOfBook (book_of stage.now.net.now) clerk.old }
-    ensures plays { Plays (setting_of R.table stage.now.net.now) (Tell (Step choice)) clerk.old clerk.new result }
-    ensures note { IsOfBook (book_of stage.now.net.now) clerk.new }
+) -> Result<Reply, CallFault>
+    ensures receipt { IfOk result (λ reply. Keeps clerk.old.receipts clerk.new.receipts (Step choice) reply) }
+    ensures note { OnOk result (HasNoteOf (book_of stage.now.net.now) clerk.new) }
     ensures base { clerk.new.base ≡ clerk.old.base }
-    ensures grows { IsPrefix (noted clerk.old.note) (noted clerk.new.note) }
+    ensures above { OnOk result (seen_by clerk.old < front_of clerk.new.receipts) }
+    ensures kept { OnErr result (clerk.new ≡ clerk.old) }
 {
-    let before = clerk.noted();
     let workers = paying_workers(stage.crew.workers, choice.items().len());
     match clerk.step_with(rt, stage.net, choice, workers, &NoGate) {
-        Ok(_) => {
-            recall(clerk, before);
-            Ok(())
-        }
+        Ok(reply) => Ok(reply),
         Err(StepFault::Call(fault)) => Err(fault),
         Err(StepFault::Pool(_)) => unreachable!(),
+    }
+}
+
+fn call<R: Rules + Sync, G: Gate, T: Threads + Wait + Sync>(
+    rt: &T,
+    stage: &StormContext<R, G>,
+    clerk: &mut Clerk,
+    event: &Event,
+) -> Result<Reply, CallFault>
+    ensures receipt { IfOk result (λ reply. Keeps clerk.old.receipts clerk.new.receipts event.now reply) }
+    ensures note { OnOk result (HasNoteOf (book_of stage.now.net.now) clerk.new) }
+    ensures base { clerk.new.base ≡ clerk.old.base }
+    ensures above { OnOk result (seen_by clerk.old < front_of clerk.new.receipts) }
+    ensures kept { OnErr result (clerk.new ≡ clerk.old) }
+{
+    match event.clone()? {
+        Event::Step(choice) => step(rt, stage, clerk, choice),
+        event => clerk.call(rt, stage.net, event),
     }
 }
 
@@ -55,15 +69,10 @@ fn tell<R: Rules + Sync, G: Gate, T: Threads + Wait + Sync>(
     ensures base { clerk.new.base ≡ clerk.old.base }
     ensures grows { IsPrefix (noted clerk.old.note) (noted clerk.new.note) }
 {
-    match event.clone()? {
-        Event::Step(choice) => step(rt, stage, clerk, choice),
-        event => {
-            let before = clerk.noted();
-            clerk.call(rt, stage.net, event)?;
-            recall(clerk, before);
-            Ok(())
-        }
-    }
+    let before = clerk.noted();
+    call(rt, stage, clerk, event)?;
+    recall(clerk, before);
+    Ok(())
 }
 
 /// A checkpoint adds no receipt.

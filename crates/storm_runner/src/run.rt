@@ -9,10 +9,10 @@ ghost use Rattle.locked_net.specs.Nets.{name_count_of, first_nodes_of, log_limit
 ghost use Rattle.locked_net.specs.Receipts.{fresh};
 ghost use Rattle.storm_runner.specs.Storm.{IsStormResult};
 
+use crate::WorkerConfig;
 use crate::beside::play_beside;
 use crate::stage::StormContext;
-use crate::{PlayFault, WorkerConfig};
-use locked_net::{CallFault, Clerk, LockedNet, settle_own};
+use locked_net::{CallFault, Clerk, LockedNet, SettleFault, settle_own};
 use rule_machine::Want;
 use rules_api::Rules;
 use script_text::Script;
@@ -47,7 +47,7 @@ fn clerks_of<R: Rules>(alloc: Global, net: &LockedNet<R>, count: usize) -> Resul
 /// Workers pass no gate. If no thread can be started, the scripts are played one after another, and then the
 /// workers roam. A gate that makes one script wait until another has come then waits for ever.
 ///
-/// - `Unsettled` if clerks and log do not settle.
+/// - `CountDiffers`, `BaseDiffers` or `Stranger` if clerks and log do not settle.
 /// - `Memory` if memory runs out for the clerks, before the first command, or for settling.
 ///
 /// The call waits for the network's lock, for the gate, and for its threads: one for each script and worker,
@@ -60,7 +60,7 @@ pub fn play_scripts<R: Rules + Send + Sync, G: Gate + Sync, T: Threads + Wait + 
     scripts: &[Script],
     crew: WorkerConfig,
     gate: &G,
-) -> Result<(Journal<R>, Option<CallFault>), PlayFault>
+) -> Result<(Journal<R>, Option<CallFault>), SettleFault>
     requires { length scripts.now ≤ 64 }
     ensures storm { IfOk result (λ left. IsStormResult (setting_of R.table net) (kept_of left.0) scripts.now crew.roamers crew.turns left.1) }
     ensures run { IfOk result (λ left. IsRetainedRun R.table R.NODE_WEIGHT (kept_of left.0)) }
@@ -70,7 +70,7 @@ pub fn play_scripts<R: Rules + Send + Sync, G: Gate + Sync, T: Threads + Wait + 
     let count = scripts.len() + crew.roamers as usize;
     let Ok(mut clerks) = clerks_of(alloc, &net, count) else {
         net.into_journal(rt);
-        return Err(PlayFault::Memory);
+        return Err(SettleFault::Memory);
     };
     let stage = StormContext {
         alloc,
@@ -81,6 +81,6 @@ pub fn play_scripts<R: Rules + Send + Sync, G: Gate + Sync, T: Threads + Wait + 
     let fault = play_beside(rt, &stage, scripts, &mut clerks);
     match settle_own(rt, net, clerks) {
         Ok(journal) => Ok((journal, fault)),
-        Err(unsettled) => Err(PlayFault::from(unsettled.why)),
+        Err(unsettled) => Err(unsettled.why),
     }
 }

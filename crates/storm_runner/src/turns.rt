@@ -1,20 +1,25 @@
 //! Taking the turns of one line.
 
-ghost use Rattle.std.specs.Prelude.{◌≡◌, ◌++◌, ◌<◌, ℕ, IfOk, IfSome, IsNone, List, MatchOption, OnErr, OnOk};
+ghost use Rattle.std.specs.Prelude.{◌≡◌, ◌++◌, ◌<◌, IfOk, IfSome, IsNone, List, MatchOption, OnErr, OnOk};
 ghost use mathlib.Core.List.{IsPrefix};
 ghost use Rattle.rand_core.specs.Stream.{Stream};
+ghost use Rattle.rule_machine.specs.RuleTable.{RuleTable};
+ghost use Rattle.rule_machine.specs.State.{State};
 ghost use Rattle.seeded_turns.specs.DrawnEvents.{Draws, pcg32_stream, drawn_step, drawn_fault};
 ghost use Rattle.step_log.specs.declared.receipt.Receipt.{Receipt};
+ghost use Rattle.locked_net.specs.Calls.{call_fault};
+ghost use Rattle.locked_net.specs.ChosenEvents.{ChoosesOn};
+ghost use Rattle.locked_net.specs.ClerkCalls.{some_of, Admits, HeldCall};
 ghost use Rattle.locked_net.specs.Nets.{book_of, setting_of};
 ghost use Rattle.locked_net.specs.Receipts.{HasNoteOf, IsOfBook, front_of, noted, seen_by};
 ghost use Rattle.script_text.specs.declared.command.Command.TheVariants.{Drive, Scramble};
 ghost use Rattle.storm_runner.specs.PlayedCommands.{Plays, TakesTurnsUpTo, scene_of};
 ghost use Rattle.storm_runner.specs.Storm.{IsOfStep, IsOfFault};
-ghost use Rattle.storm_runner.specs.Turns.{Draw, Gains, IsQuietBehind, IsEmptyBehind, Scene};
+ghost use Rattle.storm_runner.specs.Turns.{Draw, Gains, IsEmpty, IsIdleBehind, IsQuiet};
 
 use daemon::Seeded;
 use fault_injector::Injector;
-use locked_net::{CallFault, Clerk, LockedNet};
+use locked_net::{CallFault, Clerk, HeldNet, LockedNet};
 use rand_core::SeedableRng;
 use rand_pcg::Pcg32;
 use rule_machine::Reply;
@@ -35,27 +40,22 @@ pub(crate) trait TurnTaker {
     /// What holds of the receipt of each turn.
     ghost fits: { Receipt → Type 0 };
 
-    /// That nothing was left to do after these receipts. The receipt before them has this number.
-    ghost rests: { Scene → ℕ → List Receipt → Type 0 };
+    /// That a state leaves nothing to do.
+    ghost idles: { RuleTable → State → Type 0 };
 
-    /// Has the clerk take a turn; returns `None`, and makes no entry, if there is nothing to do.
-    ///
-    /// Afterwards the clerk's note shows what was published when the turn ended.
-    fn turn<R: Rules, W: Wait>(
+    /// Has the clerk record the next event on the held network; `None`, and no entry, if there is nothing to
+    /// do.
+    fn record<R: Rules, W: Wait>(
         &mut self,
         rt: &W,
-        net: &LockedNet<R>,
+        held: &mut HeldNet<'_, R>,
         clerk: &mut Clerk,
     ) -> Result<Option<Reply>, CallFault>
-        requires { IsOfBook (book_of net.now) clerk.old }
-        ensures gains { IfOk result (λ told. MatchOption told (clerk.new.receipts ≡ clerk.old.receipts) (λ _. Gains fits clerk.old.receipts clerk.new.receipts)) }
-        ensures drawn { IfOk result (Draw (setting_of R.table net.now) draws (stream self.old) (stream self.new) clerk.old.receipts clerk.new) }
-        ensures rests { IfOk result (λ told. IsNone told → (old own : List Receipt) → clerk.old.receipts ≡ old ++ own → rests (scene_of (setting_of R.table net.now) clerk.new) (front_of old) own) }
-        ensures note { OnOk result (HasNoteOf (book_of net.now) clerk.new) }
-        ensures grows { OnOk result (IsPrefix (noted clerk.old.note) (noted clerk.new.note)) }
-        ensures base { clerk.new.base ≡ clerk.old.base }
-        ensures above { IfOk result (λ told. IfSome told (λ _. seen_by clerk.old < front_of clerk.new.receipts)) }
-        ensures kept { OnErr result (clerk.new ≡ clerk.old) };
+        ensures gains { IfOk result (λ told. MatchOption told (clerk.new ≡ clerk.old) (λ _. Gains fits clerk.old.receipts clerk.new.receipts)) }
+        ensures drawn { IfOk result (ChoosesOn R.table held.old.log (λ s event. (event, stream self.new) ≡ draws R.table s (stream self.old)) clerk.old.receipts clerk.new.receipts) }
+        ensures idle { IfOk result (λ told. IsNone told → idles R.table held.old.log.state) }
+        ensures call { HeldCall some_of held.old held.new clerk.old clerk.new result }
+        ensures admitted { Admits (call_fault (seen_by clerk.old) held.old.log) result };
 }
 
 impl TurnTaker for Seeded<Pcg32> {
@@ -65,22 +65,15 @@ impl TurnTaker for Seeded<Pcg32> {
 
     ghost fits = { IsOfStep };
 
-    ghost rests = { IsQuietBehind };
+    ghost idles = { IsQuiet };
 
-    fn turn<R: Rules, W: Wait>(
+    fn record<R: Rules, W: Wait>(
         &mut self,
         rt: &W,
-        net: &LockedNet<R>,
+        held: &mut HeldNet<'_, R>,
         clerk: &mut Clerk,
     ) -> Result<Option<Reply>, CallFault> {
-        let before = clerk.noted();
-        let mut held = net.hold(rt);
-        let answer = held.drive(rt, clerk, self);
-        let seen = held.note();
-        held.free();
-        let told = answer?;
-        take_in(clerk, before, seen);
-        Ok(told)
+        held.drive(rt, clerk, self)
     }
 }
 
@@ -91,23 +84,45 @@ impl TurnTaker for Injector<Pcg32> {
 
     ghost fits = { IsOfFault };
 
-    ghost rests = { IsEmptyBehind };
+    ghost idles = { IsEmpty };
 
-    fn turn<R: Rules, W: Wait>(
+    fn record<R: Rules, W: Wait>(
         &mut self,
         rt: &W,
-        net: &LockedNet<R>,
+        held: &mut HeldNet<'_, R>,
         clerk: &mut Clerk,
     ) -> Result<Option<Reply>, CallFault> {
-        let before = clerk.noted();
-        let mut held = net.hold(rt);
-        let answer = held.fault(rt, clerk, self);
-        let seen = held.note();
-        held.free();
-        let told = answer?;
-        take_in(clerk, before, seen);
-        Ok(told)
+        held.fault(rt, clerk, self)
     }
+}
+
+/// Has the clerk take a turn; returns `None`, and makes no entry, if there is nothing to do.
+///
+/// Afterwards the clerk's note shows what was published when the turn ended.
+fn take_turn<R: Rules, S: TurnTaker, W: Wait>(
+    rt: &W,
+    net: &LockedNet<R>,
+    clerk: &mut Clerk,
+    source: &mut S,
+) -> Result<Option<Reply>, CallFault>
+    requires { IsOfBook (book_of net.now) clerk.old }
+    ensures gains { IfOk result (λ told. MatchOption told (clerk.new.receipts ≡ clerk.old.receipts) (λ _. Gains S.fits clerk.old.receipts clerk.new.receipts)) }
+    ensures drawn { IfOk result (Draw (setting_of R.table net.now) S.draws (S.stream source.old) (S.stream source.new) clerk.old.receipts clerk.new) }
+    ensures rests { IfOk result (λ told. IsNone told → (old own : List Receipt) → clerk.old.receipts ≡ old ++ own → IsIdleBehind S.idles (scene_of (setting_of R.table net.now) clerk.new) (front_of old) own) }
+    ensures note { OnOk result (HasNoteOf (book_of net.now) clerk.new) }
+    ensures grows { OnOk result (IsPrefix (noted clerk.old.note) (noted clerk.new.note)) }
+    ensures base { clerk.new.base ≡ clerk.old.base }
+    ensures above { IfOk result (λ told. IfSome told (λ _. seen_by clerk.old < front_of clerk.new.receipts)) }
+    ensures kept { OnErr result (clerk.new ≡ clerk.old) }
+{
+    let before = clerk.noted();
+    let mut held = net.hold(rt);
+    let answer = source.record(rt, &mut held, clerk);
+    let seen = held.note();
+    held.free();
+    let told = answer?;
+    take_in(clerk, before, seen);
+    Ok(told)
 }
 
 /// Makes the clerk's note show what was published when its turn ended, and what the note showed before.
@@ -147,13 +162,13 @@ fn take_turns<R: Rules, S: TurnTaker, W: Wait>(
     count: u32,
 ) -> Result<(), CallFault>
     requires { IsOfBook (book_of net.now) clerk.old }
-    ensures ends { TakesTurnsUpTo (setting_of R.table net.now) S.draws S.fits S.rests (S.stream source.old) count clerk.old clerk.new result }
+    ensures ends { TakesTurnsUpTo (setting_of R.table net.now) S.draws S.fits (IsIdleBehind S.idles) (S.stream source.old) count clerk.old clerk.new result }
     ensures note { IsOfBook (book_of net.now) clerk.new }
     ensures base { clerk.new.base ≡ clerk.old.base }
     ensures grows { IsPrefix (noted clerk.old.note) (noted clerk.new.note) }
 {
     for _ in 0..count {
-        if source.turn(rt, net, clerk)?.is_none() {
+        if take_turn(rt, net, clerk, source)?.is_none() {
             return Ok(());
         }
     }

@@ -1,15 +1,5 @@
 -- A node's counts decide whether a search among its neighbours finds something.
-use Rattle.std.proofs.Common.{◌≡◌, ◌≢◌, ℕ, zero, suc, ◌+◌, ◌≤◌, Bool, true, false, cond, not, ◌&&◌, reverse, find, Option, Some, None, SomeIff, is_some, nat_eq, nat_lt, nat_le, IsTrue, MatchOption, refl, sym, ap, ap₂, ◌∙◌, subst, ⊎_elim, arith}
-use Rattle.std.specs.List.{count_by, sum_by}
-use Rattle.std.proofs.lemmas.Bool.{and_parts, cases_eq, eq-eqb, false_from_ne_true, le-leb, lt-leb, lt-ltb, ne_eqb, true≢false}
-use Rattle.rule_machine.specs.Network.{Network, IsNetwork, linked, neighbours}
-use Rattle.rule_machine.specs.State.{State, IsState, suits, has_suitor, first_suitor}
-use Rattle.rule_machine.specs.RuleTable.{is_open}
-use Rattle.rules_api.specs.LocalViews.{is_reached}
-use Rattle.machine_laws.specs.Neighbours.{near_found, near_some, linked_back, linked_present, present_range}
-use Rattle.suitor_index.specs.declared.tally.Tally.{Tally}
-use Rattle.suitor_index.specs.Tallies.{suitor_count, tally_at, name_if, IsLoneSuitor}
-use Rattle.suitor_index.specs.TallyChanges.{one_if}
+use Rattle.suitor_index.proofs.Prelude.{◌≡◌, ◌≢◌, ℕ, zero, suc, ◌+◌, ◌≤◌, Bool, true, false, cond, not, ◌&&◌, reverse, find, Option, Some, None, SomeIff, is_some, nat_eq, nat_lt, nat_le, IsTrue, MatchOption, refl, sym, ap, ap₂, ◌∙◌, subst, ⊎_elim, arith, count_by, sum_by, and_parts, cases_eq, eq-eqb, false_from_ne_true, le-leb, lt-leb, lt-ltb, ne_eqb, true≢false, Network, IsNetwork, linked, neighbours, State, IsState, suits, has_suitor, first_suitor, is_open, is_reached, near_found, near_some, linked_back, linked_present, present_range, Tally, suitor_count, tally_at, name_if, IsLoneSuitor, one_if}
 use Rattle.suitor_index.proofs.NeighbourSums.{near_turn}
 use Rattle.suitor_index.proofs.Sums.{count_some, count_none, count_one, count_reverse}
 

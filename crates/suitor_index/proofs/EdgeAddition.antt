@@ -1,24 +1,7 @@
 -- An index that is updated for an edge.
-use Rattle.std.proofs.Common.{◌≡◌, ◌≢◌, ℕ, ◌<◌, ◌≤◌, Bool, true, false, not, ◌&&◌, List, Option, None, nat_eq, IsTrue, refl, sym, ap, subst, ◌∙◌, arith}
-use Rattle.std.specs.Ordering.{eq_by_cmp}
-use Rattle.std.proofs.lemmas.Bool.{eq-eqb, ne_eqb, false_from_ne_true, true≢false, or_left, and_right}
-use Rattle.std.proofs.lemmas.Cmp.{eq_by_cmp_equiv}
-use Rattle.rule_machine.specs.Network.{Network, pair_cmp, edge, linked, present, with_edge, without_edge}
-use Rattle.rule_machine.specs.State.{State, Registers, IsState, points, pointer_of, flag_of}
-use Rattle.rule_machine.specs.Disturbance.{after_link}
-use Rattle.graph_store.specs.Fault.{link_fault}
-use Rattle.net_state.proofs.Edges.{linked_with_other, linked_without_other, new_edge}
-use Rattle.rule_machine.specs.Refuse.{link_refusal}
-use Rattle.machine_laws.specs.Edges.{pair_total, contains-insert, contains-remove, linked_comm}
-use Rattle.machine_laws.specs.Neighbours.{linked_apart, linked_present, linked_back}
-use Rattle.machine_laws.specs.Pointers.{points_true, pointer_linked}
-use Rattle.suitor_index.specs.declared.tally.Tally.{Tally}
-use Rattle.net_state.specs.StateViews.{StateView, state_of}
-use Rattle.rules_api.specs.LocalViews.{asks_for}
-use Rattle.suitor_index.specs.Tallies.{tally_of, IsIndexOf, IsIndexed}
-use Rattle.suitor_index.specs.TallyChanges.{one_if, IsOpenTo}
+use Rattle.suitor_index.proofs.Prelude.{◌≡◌, ◌≢◌, ℕ, ◌<◌, ◌≤◌, Bool, true, false, not, ◌&&◌, List, Option, None, nat_eq, IsTrue, refl, sym, ap, subst, ◌∙◌, arith, eq_by_cmp, eq-eqb, ne_eqb, false_from_ne_true, true≢false, or_left, and_right, eq_by_cmp_equiv, Network, pair_cmp, edge, linked, present, with_edge, without_edge, State, Registers, IsState, points, pointer, flag, pointer_of, flag_of, linked_with_other, linked_without_other, new_edge, link_refusal, pair_total, contains-insert, contains-remove, linked_comm, linked_apart, linked_present, linked_back, points_true, pointer_linked, Tally, StateView, state_of, Linked, Unlinked, WasIndexed, asks_for, tally_of, IsIndexOf, IsIndexed, one_if, IsOpenTo}
 use Rattle.suitor_index.proofs.OtherTallies.{tally_small}
-use Rattle.suitor_index.proofs.Ends.{IsEdgeMore, end_of, tally_more}
+use Rattle.suitor_index.proofs.Ends.{IsEdgeMore, end_of, tally_more, index_more, index_less}
 
 same_pair : (a b : ℕ) → eq_by_cmp pair_cmp (edge a b) (edge a b) ≡ true
 same_pair a b = (eq_by_cmp_equiv pair_total).refl (edge a b)
@@ -28,7 +11,7 @@ no_pointer_across net r a b good absent =
     false_from_ne_true (points r a b) (λ at. true≢false (sym (pointer_linked (state_of net r) a b good (points_true (state_of net r) a b at)) ∙ absent))
 
 -- an edge that is added
-pub edge_linked : (net more : Network) (r : Registers) (a b : ℕ) → IsState (state_of net r) → link_refusal net a b ≡ None → more ≡ with_edge net a b → IsEdgeMore net more r a b
+edge_linked : (net more : Network) (r : Registers) (a b : ℕ) → IsState (state_of net r) → link_refusal net a b ≡ None → more ≡ with_edge net a b → IsEdgeMore net more r a b
 edge_linked net more r a b good accepted change =
     let two : nat_eq a b ≡ false = grind arith in
     let new : linked net a b ≡ false = grind arith in
@@ -50,7 +33,7 @@ edge_linked net more r a b good accepted change =
     }
 
 -- an edge that is removed
-pub edge_unlinked : (net more : Network) (r : Registers) (a b : ℕ) → IsState (state_of more r) → IsTrue (linked more a b) → points r a b ≡ false → points r b a ≡ false → net ≡ without_edge more a b → IsEdgeMore net more r a b
+edge_unlinked : (net more : Network) (r : Registers) (a b : ℕ) → IsState (state_of more r) → IsTrue (linked more a b) → points r a b ≡ false → points r b a ≡ false → net ≡ without_edge more a b → IsEdgeMore net more r a b
 edge_unlinked net more r a b good there not_there not_back change =
     let size : net.size ≡ more.size = ap (λ n. n.size) change in
     let has_a = linked_present more a b good.is_network there in
@@ -71,30 +54,8 @@ edge_unlinked net more r a b good there not_there not_back change =
       not_back = not_back;
     }
 
--- an edge that is added: the tallies are those of the network without it
-pub before_link : (above : Bool) (opens : Option ℕ → Bool → Bool) (n was now : StateView) (a b : ℕ) (kept start : List Tally) → IsIndexed above opens n.state kept → start ≡ kept → n ≡ was → link_fault was.state.network a b ≡ None → now.state ≡ after_link n.state a b → IsEdgeMore n.state.network now.state.network now.state.registers a b × IsIndexOf above opens (state_of n.state.network now.state.registers) start
-before_link above opens n was now a b kept start it value same free at =
-    let registers : n.state.registers ≡ now.state.registers = ap (λ (s : State). s.registers) (sym at) in
-    let accepted = (new_edge n.state.network a b (ap (λ (h : StateView). link_fault h.state.network a b) same ∙ free)).accepted in (
-      edge_linked n.state.network now.state.network now.state.registers a b (subst (λ r. IsState (state_of n.state.network r)) registers it.is_state) accepted (ap (λ (s : State). s.network) at),
-      subst (λ r. IsIndexOf above opens (state_of n.state.network r) start) registers (subst (IsIndexOf above opens n.state) (sym value) it.index),
-    )
-
--- one that is removed: they are those of the network with it
-pub before_unlink : (above : Bool) (opens : Option ℕ → Bool → Bool) (n was now : StateView) (a b : ℕ) (kept start : List Tally) → IsIndexed above opens n.state kept → start ≡ kept → n ≡ was → IsTrue (linked was.state.network a b) → points was.state.registers a b ≡ false → points was.state.registers b a ≡ false → now.state ≡ record n.state { network = without_edge n.state.network a b } → IsEdgeMore now.state.network n.state.network now.state.registers a b × IsIndexOf above opens (state_of n.state.network now.state.registers) start
-before_unlink above opens n was now a b kept start it value same there not_there not_back at =
-    let registers : n.state.registers ≡ now.state.registers = ap (λ (s : State). s.registers) (sym at) in
-    let back = sym registers ∙ ap (λ (h : StateView). h.state.registers) same in (
-      edge_unlinked now.state.network n.state.network now.state.registers a b (subst (λ r. IsState (state_of n.state.network r)) registers it.is_state)
-          (subst (λ (h : StateView). IsTrue (linked h.state.network a b)) (sym same) there)
-          (ap (λ r. points r a b) back ∙ not_there)
-          (ap (λ r. points r b a) back ∙ not_back)
-          (ap (λ (s : State). s.network) at),
-      subst (λ r. IsIndexOf above opens (state_of n.state.network r) start) registers (subst (IsIndexOf above opens n.state) (sym value) it.index),
-    )
-
 -- from the other end
-pub edge_swapped : (net more : Network) (r : Registers) (a b : ℕ) → IsEdgeMore net more r a b → IsEdgeMore net more r b a
+edge_swapped : (net more : Network) (r : Registers) (a b : ℕ) → IsEdgeMore net more r a b → IsEdgeMore net more r b a
 edge_swapped net more r a b e = record {
   size = e.size;
   here = e.here;
@@ -117,7 +78,7 @@ end_elsewhere : (above : Bool) (opens : Option ℕ → Bool → Bool) (r : Regis
 end_elsewhere above opens r a b k apart = and_right (asks_for above a b && opens (pointer_of r b) (flag_of r b)) (nat_eq k a) (ne_eqb k a apart)
 
 -- at an end there is room to count the other
-pub end_room : (above : Bool) (opens : Option ℕ → Bool → Bool) (net more : Network) (r : Registers) (a b : ℕ) (start : List Tally) → IsEdgeMore net more r a b → IsIndexOf above opens (state_of net r) start → net.size ≤ 65535 → (asks_for above a b && opens (pointer_of r b) (flag_of r b)) ≡ true → (tally_of start a).reached < 65535
+end_room : (above : Bool) (opens : Option ℕ → Bool → Bool) (net more : Network) (r : Registers) (a b : ℕ) (start : List Tally) → IsEdgeMore net more r a b → IsIndexOf above opens (state_of net r) start → net.size ≤ 65535 → (asks_for above a b && opens (pointer_of r b) (flag_of r b)) ≡ true → (tally_of start a).reached < 65535
 end_room above opens net more r a b start e index few counts =
     let t = tally_more above opens net more r a b a e in
     let was = index.counted a e.has_a in
@@ -128,7 +89,7 @@ end_room above opens net more r a b start e index few counts =
     omega (arith, now, most, end_here above opens r a b counts, x)
 
 -- and it is counted at the edge's end
-pub end_counted : (above : Bool) (opens : Option ℕ → Bool → Bool) (net more : Network) (r : Registers) (a b : ℕ) (start : List Tally) → IsEdgeMore net more r a b → IsIndexOf above opens (state_of more r) start → (asks_for above a b && opens (pointer_of r b) (flag_of r b)) ≡ true → 1 ≤ (tally_of start a).reached
+end_counted : (above : Bool) (opens : Option ℕ → Bool → Bool) (net more : Network) (r : Registers) (a b : ℕ) (start : List Tally) → IsEdgeMore net more r a b → IsIndexOf above opens (state_of more r) start → (asks_for above a b && opens (pointer_of r b) (flag_of r b)) ≡ true → 1 ≤ (tally_of start a).reached
 end_counted above opens net more r a b start e index counts =
     let t = tally_more above opens net more r a b a e in
     let was = index.counted a (sym (e.here a) ∙ e.has_a) in
@@ -144,14 +105,77 @@ open_still p a b w told fails =
     omega arith
 
 -- after the first end is updated, the other is as it was
-pub second_room : (above : Bool) (opens : Option ℕ → Bool → Bool) (net more : Network) (r : Registers) (a b : ℕ) (start half : List Tally) → IsEdgeMore net more r a b → IsIndexOf above opens (state_of net r) start → net.size ≤ 65535 → IsOpenTo (end_of above opens r b a) start half → (asks_for above b a && opens (pointer_of r a) (flag_of r a)) ≡ true → (tally_of half b).reached < 65535
-second_room above opens net more r a b start half e index few told counts =
+half_room : (above : Bool) (opens : Option ℕ → Bool → Bool) (net more : Network) (r : Registers) (a b : ℕ) (start half : List Tally) → IsEdgeMore net more r a b → IsIndexOf above opens (state_of net r) start → net.size ≤ 65535 → IsOpenTo (end_of above opens r b a) start half → (asks_for above b a && opens (pointer_of r a) (flag_of r a)) ≡ true → (tally_of half b).reached < 65535
+half_room above opens net more r a b start half e index few told counts =
     let same = open_still (end_of above opens r b a) start half b told (end_elsewhere above opens r a b b (λ same. e.apart (sym same))) in
     let room = end_room above opens net more r b a start (edge_swapped net more r a b e) index few counts in
     omega (arith, same, room)
 
-pub second_counted : (above : Bool) (opens : Option ℕ → Bool → Bool) (net more : Network) (r : Registers) (a b : ℕ) (start half : List Tally) → IsEdgeMore net more r a b → IsIndexOf above opens (state_of more r) start → IsOpenTo (end_of above opens r a b) half start → (asks_for above a b && opens (pointer_of r b) (flag_of r b)) ≡ true → 1 ≤ (tally_of half a).reached
-second_counted above opens net more r a b start half e index told counts =
+half_counted : (above : Bool) (opens : Option ℕ → Bool → Bool) (net more : Network) (r : Registers) (a b : ℕ) (start half : List Tally) → IsEdgeMore net more r a b → IsIndexOf above opens (state_of more r) start → IsOpenTo (end_of above opens r a b) half start → (asks_for above a b && opens (pointer_of r b) (flag_of r b)) ≡ true → 1 ≤ (tally_of half a).reached
+half_counted above opens net more r a b start half e index told counts =
     let same = open_still (end_of above opens r a b) half start a told (end_elsewhere above opens r b a a e.apart) in
     let counted = end_counted above opens net more r a b start e index counts in
     omega (arith, same, counted)
+
+-- ---- an edge that was added
+
+linked_from : (above : Bool) (opens : Option ℕ → Bool → Bool) (start : List Tally) (now : StateView) (a b : ℕ) (told : WasIndexed above opens start (Linked a b) now) → IsEdgeMore told.0.state.network now.state.network now.state.registers a b × IsIndexOf above opens (state_of told.0.state.network now.state.registers) start
+linked_from above opens start now a b told =
+    let n = told.0.state in
+    let registers : n.registers ≡ now.state.registers = ap (λ (s : State). s.registers) (sym told.1.0.made) in (
+      edge_linked n.network now.state.network now.state.registers a b (subst (λ r. IsState (state_of n.network r)) registers told.1.0.was_state) (new_edge n.network a b told.1.0.due).accepted (ap (λ (s : State). s.network) told.1.0.made),
+      subst (λ r. IsIndexOf above opens (state_of n.network r) start) registers told.1.1.index,
+    )
+
+pub first_room : (above : Bool) (opens : Option ℕ → Bool → Bool) (start : List Tally) (now : StateView) (a b : ℕ) (told : WasIndexed above opens start (Linked a b) now) → (asks_for above a b && opens (pointer now.state b) (flag now.state b)) ≡ true → (tally_of start a).reached < 65535
+first_room above opens start now a b told =
+    let from = linked_from above opens start now a b told in
+    end_room above opens told.0.state.network now.state.network now.state.registers a b start from.0 from.1 told.1.1.few
+
+pub second_room : (above : Bool) (opens : Option ℕ → Bool → Bool) (start : List Tally) (now : StateView) (a b : ℕ) (told : WasIndexed above opens start (Linked a b) now) (half : List Tally) → IsOpenTo (end_of above opens now.state.registers b a) start half → (asks_for above b a && opens (pointer now.state a) (flag now.state a)) ≡ true → (tally_of half b).reached < 65535
+second_room above opens start now a b told half one =
+    let from = linked_from above opens start now a b told in
+    half_room above opens told.0.state.network now.state.network now.state.registers a b start half from.0 from.1 told.1.1.few one
+
+pub linked_index : (above : Bool) (opens : Option ℕ → Bool → Bool) (start : List Tally) (now : StateView) (a b : ℕ) (told : WasIndexed above opens start (Linked a b) now) (half done : List Tally) → IsOpenTo (end_of above opens now.state.registers b a) start half → IsOpenTo (end_of above opens now.state.registers a b) half done → IsIndexed above opens now.state done
+linked_index above opens start now a b told half done one two =
+    let from = linked_from above opens start now a b told in
+    record {
+      is_state = told.1.0.is_state;
+      index = index_more above opens told.0.state.network now.state.network now.state.registers a b start half done from.0 from.1 one two;
+      few = subst (λ k. k ≤ 65535) from.0.size told.1.1.few;
+    }
+
+-- ---- an edge that was removed
+
+unlinked_from : (above : Bool) (opens : Option ℕ → Bool → Bool) (start : List Tally) (now : StateView) (a b : ℕ) (told : WasIndexed above opens start (Unlinked a b) now) → IsEdgeMore now.state.network told.0.state.network now.state.registers a b × IsIndexOf above opens (state_of told.0.state.network now.state.registers) start
+unlinked_from above opens start now a b told =
+    let n = told.0.state in
+    let registers : n.registers ≡ now.state.registers = ap (λ (s : State). s.registers) (sym told.1.0.made) in (
+      edge_unlinked now.state.network n.network now.state.registers a b (subst (λ r. IsState (state_of n.network r)) registers told.1.0.was_state) told.1.0.due.0
+          (ap (λ r. points r a b) (sym registers) ∙ told.1.0.due.1.0)
+          (ap (λ r. points r b a) (sym registers) ∙ told.1.0.due.1.1)
+          (ap (λ (s : State). s.network) told.1.0.made),
+      subst (λ r. IsIndexOf above opens (state_of n.network r) start) registers told.1.1.index,
+    )
+
+pub first_counted : (above : Bool) (opens : Option ℕ → Bool → Bool) (start : List Tally) (now : StateView) (a b : ℕ) (told : WasIndexed above opens start (Unlinked a b) now) → (asks_for above b a && opens (pointer now.state a) (flag now.state a)) ≡ true → 1 ≤ (tally_of start b).reached
+first_counted above opens start now a b told =
+    let n = told.0.state.network in
+    let u = now.state in
+    let from = unlinked_from above opens start now a b told in
+    end_counted above opens u.network n u.registers b a start (edge_swapped u.network n u.registers a b from.0) from.1
+
+pub second_counted : (above : Bool) (opens : Option ℕ → Bool → Bool) (start : List Tally) (now : StateView) (a b : ℕ) (told : WasIndexed above opens start (Unlinked a b) now) (half : List Tally) → IsOpenTo (end_of above opens now.state.registers a b) half start → (asks_for above a b && opens (pointer now.state b) (flag now.state b)) ≡ true → 1 ≤ (tally_of half a).reached
+second_counted above opens start now a b told half one =
+    let from = unlinked_from above opens start now a b told in
+    half_counted above opens now.state.network told.0.state.network now.state.registers a b start half from.0 from.1 one
+
+pub unlinked_index : (above : Bool) (opens : Option ℕ → Bool → Bool) (start : List Tally) (now : StateView) (a b : ℕ) (told : WasIndexed above opens start (Unlinked a b) now) (half done : List Tally) → IsOpenTo (end_of above opens now.state.registers a b) half start → IsOpenTo (end_of above opens now.state.registers b a) done half → IsIndexed above opens now.state done
+unlinked_index above opens start now a b told half done one two =
+    let from = unlinked_from above opens start now a b told in
+    record {
+      is_state = told.1.0.is_state;
+      index = index_less above opens now.state.network told.0.state.network now.state.registers a b start half done from.0 from.1 one two;
+      few = subst (λ k. k ≤ 65535) (sym from.0.size) told.1.1.few;
+    }

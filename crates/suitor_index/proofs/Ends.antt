@@ -1,14 +1,5 @@
 -- What an edge changes in the counts of its two ends.
-use Rattle.std.proofs.Common.{◌≡◌, ◌≢◌, ℕ, ◌+◌, Bool, true, false, cond, ◌&&◌, List, Option, nat_eq, IsTrue, sym, ap, ◌∙◌, ⊎_elim, arith}
-use Rattle.std.specs.List.{sum_by}
-use Rattle.std.proofs.lemmas.Bool.{cases_eq, eq-eqb, ne_eqb}
-use Rattle.rule_machine.specs.Network.{Network, linked, neighbours, present}
-use Rattle.rule_machine.specs.State.{Registers, points, pointer_of, flag_of}
-use Rattle.suitor_index.specs.declared.tally.Tally.{Tally}
-use Rattle.net_state.specs.StateViews.{state_of}
-use Rattle.rules_api.specs.LocalViews.{asks_for}
-use Rattle.suitor_index.specs.Tallies.{tally_of, tally_at, IsIndexOf}
-use Rattle.suitor_index.specs.TallyChanges.{one_if, IsOpenTo}
+use Rattle.suitor_index.proofs.Prelude.{◌≡◌, ◌≢◌, ℕ, ◌+◌, Bool, true, false, cond, ◌&&◌, List, Option, nat_eq, IsTrue, sym, ap, ◌∙◌, ⊎_elim, arith, sum_by, cases_eq, eq-eqb, ne_eqb, Network, linked, neighbours, present, Registers, points, pointer_of, flag_of, Tally, state_of, asks_for, tally_of, tally_at, IsIndexOf, one_if, IsOpenTo}
 use Rattle.suitor_index.proofs.NeighbourSums.{term, near_turn, near_same}
 use Rattle.suitor_index.proofs.OpenTargets.{open_is}
 use Rattle.suitor_index.proofs.OtherTallies.{tally_is}

@@ -1,3 +1,4 @@
+pub mod Prelude
 pub mod Loops
 pub mod Sums
 pub mod Counts
@@ -8,3 +9,5 @@ pub mod NodeChanges
 pub mod Ends
 pub mod EdgeAddition
 pub mod Nodes
+pub mod RemovedNodes
+pub mod CountedNeighbours

@@ -1,17 +1,5 @@
 -- Sums over the neighbours of a node.
-use Rattle.std.proofs.Common.{◌≡◌, ◌≢◌, ℕ, zero, suc, ◌+◌, ◌*◌, ◌<◌, ◌≤◌, Bool, true, cond, List, filter, nat_eq, IsTrue, sym, ap, ap₂, ◌∙◌, ⊎_elim, arith, ◌-◌, ◌&&◌}
-use Rattle.std.specs.List.{sum_by, list_any, range_with_len}
-use Rattle.std.specs.Cmp.{both_ways}
-use Rattle.std.specs.List.Sorted.{IsStrictlyIncreasing}
-use Rattle.std.proofs.lemmas.Bool.{and_parts, cases_eq, eqb-true, eq-eqb}
-use Rattle.std.proofs.lemmas.List.Kept.{IsStrictlyIncreasing-filter}
-use Rattle.std.proofs.lemmas.List.Sums.{sum_by-cons}
-use Rattle.std.proofs.lemmas.Map.Views.{any-filter_same}
-use Rattle.std.proofs.lemmas.List.FromFn.{get_or-range_with_len, length-range_with_len}
-use Rattle.std.proofs.lemmas.List.Folds.{list_any_at}
-use Rattle.rule_machine.specs.Network.{Network, IsNetwork, linked, neighbours, names, present}
-use Rattle.machine_laws.specs.Neighbours.{linked_back, linked_present, present_range, neighbours_range}
-use Rattle.machine_laws.specs.LeastAnswers.{names_increasing}
+use Rattle.suitor_index.proofs.Prelude.{◌≡◌, ◌≢◌, ℕ, zero, suc, ◌+◌, ◌*◌, ◌<◌, ◌≤◌, Bool, true, cond, List, filter, nat_eq, IsTrue, sym, ap, ap₂, ◌∙◌, ⊎_elim, arith, ◌-◌, ◌&&◌, sum_by, list_any, range_with_len, both_ways, IsStrictlyIncreasing, and_parts, cases_eq, eqb-true, eq-eqb, IsStrictlyIncreasing-filter, sum_by-cons, any-filter_same, get_or-range_with_len, length-range_with_len, list_any_at, Network, IsNetwork, linked, neighbours, names, present, linked_back, linked_present, present_range, neighbours_range, names_increasing}
 use Rattle.suitor_index.proofs.Sums.{sum_filter, sum_same, sum_turn, sum_small, sum_ones}
 
 -- the term of a name that may be a neighbour

@@ -1,18 +1,5 @@
 -- Presence changes none of the counts, except at a node that joins.
-use Rattle.std.proofs.Common.{◌&&◌, ◌≡◌, ◌≢◌, ℕ, ◌+◌, ◌≤◌, Bool, true, false, cond, List, [], ◌∷◌, filter, replicate, set, Option, IsTrue, refl, sym, ap, subst, ◌∙◌, ⊎_elim, arith}
-use Rattle.std.specs.List.{count_by, sum_by, range_with_len}
-use Rattle.std.proofs.lemmas.Bool.{cases_eq, false_from_ne_true, true≢false}
-use Rattle.std.proofs.lemmas.List.{get_or-replicate, get_or-set_same, get_or-set_other, length-replicate, length-set}
-use Rattle.rule_machine.specs.Network.{Network, IsNetwork, edge, present, linked, neighbours, with_node}
-use Rattle.rule_machine.specs.State.{State, Registers, IsState, opening_with, suits}
-use Rattle.rule_machine.specs.RuleTable.{is_open}
-use Rattle.machine_laws.specs.Edges.{contains-empty, present_other, with_node_is_network}
-use Rattle.machine_laws.specs.Neighbours.{linked_present, neighbours_range, present_range}
-use Rattle.machine_laws.specs.StatePreservation.{opening_is_state}
-use Rattle.suitor_index.specs.declared.tally.Tally.{Tally}
-use Rattle.net_state.specs.StateViews.{state_of}
-use Rattle.rules_api.specs.LocalViews.{asks_for}
-use Rattle.suitor_index.specs.Tallies.{empty_tally, tally_of, tally_at, name_if, IsIndexOf, IsIndexed}
+use Rattle.suitor_index.proofs.Prelude.{◌&&◌, ◌≡◌, ◌≢◌, ℕ, ◌+◌, ◌≤◌, Bool, true, false, cond, List, [], ◌∷◌, filter, replicate, set, Option, IsTrue, refl, sym, ap, subst, ◌∙◌, ⊎_elim, arith, count_by, sum_by, range_with_len, cases_eq, false_from_ne_true, true≢false, get_or-replicate, get_or-set_same, get_or-set_other, length-replicate, length-set, Network, IsNetwork, edge, present, linked, neighbours, with_node, State, Registers, IsState, opening_with, suits, is_open, contains-empty, present_other, with_node_is_network, linked_present, neighbours_range, present_range, opening_is_state, Tally, state_of, asks_for, empty_tally, tally_of, tally_at, name_if, IsIndexOf, IsIndexed}
 use Rattle.suitor_index.proofs.OpenTargets.{open_is}
 
 -- what a scan of these nodes counts

@@ -1,11 +1,5 @@
 -- The open nodes that a guard asks for.
-use Rattle.std.proofs.Common.{◌≡◌, ℕ, Bool, true, false, ◌&&◌, Option, refl, ap, arith}
-use Rattle.std.specs.List.{count_by}
-use Rattle.rule_machine.specs.Network.{neighbours}
-use Rattle.rule_machine.specs.State.{State}
-use Rattle.rule_machine.specs.RuleTable.{is_open}
-use Rattle.rules_api.specs.LocalViews.{asks_for, is_reached}
-use Rattle.suitor_index.specs.Tallies.{tally_at}
+use Rattle.suitor_index.proofs.Prelude.{◌≡◌, ℕ, Bool, true, false, ◌&&◌, Option, refl, ap, arith, count_by, neighbours, State, is_open, asks_for, is_reached, tally_at}
 
 swapped : (a b : Bool) → (a && b) ≡ (b && a)
 swapped a b = grind arith

@@ -1,17 +1,5 @@
 -- What one node's registers change in the counts of the others.
-use Rattle.std.proofs.Common.{◌≡◌, ◌≢◌, ℕ, ◌+◌, ◌<◌, ◌≤◌, Bool, true, false, cond, ◌&&◌, List, Option, Some, nat_eq, IsTrue, refl, sym, ap, ap₂, ◌∙◌, subst, arith}
-use Rattle.std.specs.List.{sum_by, list_any}
-use Rattle.rule_machine.specs.Network.{Network, IsNetwork, linked, neighbours, present}
-use Rattle.rule_machine.specs.State.{State, Registers, IsState, is_at, points, pointer_of, flag_of}
-use Rattle.rule_machine.specs.RuleTable.{is_open}
-use Rattle.rules_api.specs.LocalViews.{asks_for, is_reached}
-use Rattle.machine_laws.specs.Neighbours.{linked_back}
-use Rattle.machine_laws.specs.Pointers.{points_true, suitor_linked}
-use Rattle.machine_laws.specs.Writes.{is_at_from_some}
-use Rattle.suitor_index.specs.declared.tally.Tally.{Tally}
-use Rattle.net_state.specs.StateViews.{state_of}
-use Rattle.suitor_index.specs.Tallies.{tally_of, tally_at, IsIndexOf}
-use Rattle.suitor_index.specs.TallyChanges.{one_if, AddsSuitor, IsRepointed, IsTurned, HasSuitor, HasTallyRoom, CanTurn}
+use Rattle.suitor_index.proofs.Prelude.{◌≡◌, ◌≢◌, ℕ, ◌+◌, ◌<◌, ◌≤◌, Bool, true, false, cond, ◌&&◌, List, Option, Some, nat_eq, IsTrue, refl, sym, ap, ap₂, ◌∙◌, subst, arith, sum_by, list_any, Network, IsNetwork, linked, neighbours, present, State, Registers, IsState, is_at, points, pointer_of, flag_of, is_open, asks_for, is_reached, linked_back, points_true, suitor_linked, is_at_from_some, Tally, state_of, tally_of, tally_at, IsIndexOf, one_if, AddsSuitor, IsRepointed, IsTurned, HasSuitor, HasTallyRoom, CanTurn}
 use Rattle.suitor_index.proofs.NeighbourSums.{near_turn, near_le, near_ones, near_names, listed_is_linked}
 use Rattle.suitor_index.proofs.OpenTargets.{open_is}
 

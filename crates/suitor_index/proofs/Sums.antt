@@ -1,10 +1,5 @@
 -- Sums and counts over a list.
-use Rattle.std.proofs.Common.{◌≡◌, ◌≢◌, ℕ, zero, suc, ◌+◌, ◌*◌, ◌<◌, ◌≤◌, Bool, true, false, cond, List, [], ◌∷◌, reverse, filter, find, Option, Some, None, is_some, nat_lt, refl, sym, ap, ◌∙◌, ⊎_elim, arith}
-use Rattle.std.specs.List.{sum_by, count_by, range_with_len}
-use Rattle.std.proofs.lemmas.Bool.{cases_eq, lt-ltb}
-use Rattle.std.proofs.lemmas.List.Sums.{sum_by-cons}
-use Rattle.std.proofs.lemmas.List.Sorted.{IsPermutation-reverse, sum_by-IsPermutation}
-use Rattle.suitor_index.specs.Tallies.{name_if}
+use Rattle.suitor_index.proofs.Prelude.{◌≡◌, ◌≢◌, ℕ, zero, suc, ◌+◌, ◌*◌, ◌<◌, ◌≤◌, Bool, true, false, cond, List, [], ◌∷◌, reverse, filter, find, Option, Some, None, is_some, nat_lt, refl, sym, ap, ◌∙◌, ⊎_elim, arith, sum_by, count_by, range_with_len, cases_eq, lt-ltb, sum_by-cons, IsPermutation-reverse, sum_by-IsPermutation, name_if}
 
 filter_step : (f : ℕ → ℕ) (x : ℕ) (kept : List ℕ) (n : ℕ) (b : Bool) → sum_by f kept ≡ n → sum_by f (cond b (x ∷ kept) kept) ≡ cond b (f x) 0 + n
 filter_step f x kept n true rest = sum_by-cons f x kept ∙ ap (λ m. f x + m) rest

@@ -1,2 +1,3 @@
+pub mod PriorIndexes
 pub mod Tallies
 pub mod TallyChanges

@@ -1,5 +1,5 @@
 -- The tally (the counts) of a node, and a table of tallies with an entry for each name; entry 0 is unused.
-use Rattle.std.specs.Prelude.{◌≡◌, ℕ, ◌+◌, ◌≤◌, Bool, true, false, cond, ◌&&◌, List, length, Option, IsTrue, nat_eq, nat_lt, slice_index_or}
+use Rattle.std.specs.Prelude.{◌≡◌, ℕ, ◌+◌, ◌≤◌, Bool, cond, ◌&&◌, List, length, Option, IsTrue, nat_eq, slice_index_or}
 use Rattle.std.specs.List.{count_by, sum_by}
 use Rattle.rule_machine.specs.Network.{linked, present, neighbours}
 use Rattle.rule_machine.specs.State.{State, IsState, suits}

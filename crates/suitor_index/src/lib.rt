@@ -1,28 +1,33 @@
-//! A network with counts of suitors and open neighbours, so that a look-up with no result scans nothing.
+//! Counts of suitors and open neighbours, so that a look-up with no result scans nothing.
 //!
-//! Besides the edges and registers (`net_state`) the index stores three numbers for each node: how many
-//! suitors the node has (neighbours that point at the node), the sum of the suitors' names, and how many
-//! open neighbours the node's guard asks for. Each change updates the numbers. Contracts see the network
-//! alone.
+//! Besides a network (`net_state`) `Suitors` stores three numbers for each node: how many suitors the node has
+//! (neighbours that point at the node), the sum of the suitors' names, and how many open neighbours the node's
+//! guard asks for. `Suitors` is an `Observer`: each change of the network updates the numbers. `IndexedNet`
+//! borrows both for look-ups. Contracts see the network alone.
 //!
 //! To find whether a node has a suitor or an open neighbour takes one look; to find which, a scan up to the
 //! first. A register write that opens or closes its node costs a write at each neighbour whose guard asks
-//! for the node. Only `with_present` and `reserve_link` take memory.
+//! for the node. Only `Suitors::new` and `Suitors::of` take memory.
 //!
 //! ```rust
-//! let mut index = SuitorIndex::<R>::with_present(alloc, 2, 2)?;
-//! index.reserve_link(a, b)?;
-//! index.link_reserved(a, b);
-//! let turned = index.write_pointer(a, Some(b)).turned;
-//! let courted = index.first_suitor(b);              // a
+//! let mut net = NetState::with_present(alloc, 2, 2)?;
+//! let mut suitors = Suitors::<R>::new(alloc, 2)?;
+//! net.reserve_link(a, b)?;
+//! link_reserved(&mut net, &mut suitors, a, b);
+//! set_pointer(&mut net, &mut suitors, a, Some(b));
+//! let courting = IndexedNet::new(&net, &suitors).first_suitor(b);   // a
 //! ```
 #![tactic(auto)]
 
 mod changes;
-mod index;
+mod indexed_net;
 mod scan;
+mod state_counts;
+mod suitors;
 mod table;
 mod tally;
+mod view;
 
-pub use changes::Change;
-pub use index::SuitorIndex;
+pub use indexed_net::IndexedNet;
+pub use suitors::Suitors;
+pub use view::NodeView;

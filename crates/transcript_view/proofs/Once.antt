@@ -1,18 +1,5 @@
 -- A text is shown in one way.
-use Rattle.std.proofs.Common.{◌≡◌, ◌∙◌, ℕ, List, Option, sym, ap₂}
-use Rattle.rule_machine.specs.declared.rules.RuleSet.{RuleSet}
-use Rattle.rule_machine.specs.State.{State}
-use Rattle.auditor.specs.declared.epoch.CostedEpoch.{CostedEpoch}
-use Rattle.transcript_view.specs.Picture.{picture_of}
-use Rattle.transcript_view.specs.Table.{epoch_table}
-use Rattle.transcript_view.specs.Views.{IsPicture, IsPictureOf, IsEpochTable, IsTableOf, SameView}
-use Rattle.transcript_view.specs.declared.view.View.{View}
-use Rattle.transcript_view.specs.declared.view.View.TheVariants.{Text, Refused, TooFew, Forgotten}
-use Rattle.auditor.specs.declared.damage.Damage.{Damage}
-use Rattle.auditor.specs.Damage.{IsDamage}
-use Rattle.auditor.proofs.TextEnds.{damage_once, no_damage}
-use Rattle.auditor.proofs.SingleVerdicts.{good_no_damage, good_not_few, good_not_forgotten, few_once, few_no_damage, few_not_forgotten, forgotten_once, forgotten_no_damage}
-use Rattle.auditor.proofs.EqualPrefixes.{state_once, epochs_once}
+use Rattle.transcript_view.proofs.Prelude.{◌≡◌, ◌∙◌, ℕ, List, Option, sym, ap₂, RuleSet, State, CostedEpoch, picture_of, epoch_table, IsPicture, IsPictureOf, IsEpochTable, IsTableOf, SameView, View, Text, Refused, TooFew, Forgotten, AuditFault, IsDamage, damage_once, no_damage, good_no_damage, good_not_few, good_not_forgotten, few_once, few_no_damage, few_not_forgotten, forgotten_once, forgotten_no_damage, state_once, epochs_once}
 
 text_once : (bytes : List ℕ) (last : Option ℕ) (text also : List ℕ) → IsPictureOf bytes last text → IsPictureOf bytes last also → text ≡ also
 text_once bytes last text also x y =
@@ -24,7 +11,7 @@ rows_once bytes text also x y =
     let once = epochs_once bytes x.rules y.rules x.rows y.rows x.are y.are in
     x.text_is ∙ ap₂ (λ (r : RuleSet) (e : List CostedEpoch). epoch_table r e) once.0 once.1 ∙ sym y.text_is
 
-no_table : (bytes text : List ℕ) (d : Damage) → IsTableOf bytes text → IsDamage bytes d → ⊥
+no_table : (bytes text : List ℕ) (d : AuditFault) → IsTableOf bytes text → IsDamage bytes d → ⊥
 no_table bytes text d x damage =
     let run = x.are.run in
     no_damage bytes x.rules x.are.opening run.log run.end d run.transcript damage

@@ -41,7 +41,8 @@ IsEpochTable bytes (Refused damage) = IsDamage bytes damage
 IsEpochTable bytes (TooFew asked entries) = ⊥
 IsEpochTable bytes (Forgotten asked base) = ⊥
 
--- two views are equal in their texts, damages or numbers
+-- Two views are equal in their texts, damages or numbers. `one_view` proves that bytes have at most one
+-- picture and one table.
 abbrev pub SameView : View → View → Type 0
 SameView (Text text) (Text also) = text.items ≡ also.items
 SameView (Refused damage) (Refused other) = damage ≡ other

@@ -5,7 +5,7 @@ ghost use Rattle.transcript_view.specs.Views.{IsPicture, IsEpochTable};
 
 use crate::picture;
 use crate::table::epoch_table;
-use auditor::{Damage, JudgeFault, ReplayFault, epochs_of, state_after};
+use auditor::{AuditFault, ReplayFault, epochs_of, state_after};
 use rule_machine::Want;
 use std::alloc::{AllocError, Global};
 
@@ -15,7 +15,7 @@ pub enum View {
     /// The text of the view.
     Text(Vec<u8>),
     /// The bytes are no transcript of a run; this is their first damage.
-    Refused(Damage),
+    Refused(AuditFault),
     /// The transcript has fewer entries than were asked for.
     TooFew { asked: u32, entries: u32 },
     /// The transcript begins with a base after the entry that was asked for.
@@ -35,8 +35,8 @@ pub fn view_picture(alloc: Global, bytes: &[u8], last: Option<u32>) -> Result<Vi
             let text = picture(alloc, &reached.judge, reached.rules)?;
             Ok(View::Text(text))
         }
-        Err(ReplayFault::Judged(JudgeFault::Damaged(damage))) => Ok(View::Refused(damage)),
-        Err(ReplayFault::Judged(JudgeFault::Memory)) => Err(AllocError),
+        Err(ReplayFault::Judged(AuditFault::Memory)) => Err(AllocError),
+        Err(ReplayFault::Judged(damage)) => Ok(View::Refused(damage)),
         Err(ReplayFault::TooFew { asked, entries }) => Ok(View::TooFew { asked, entries }),
         Err(ReplayFault::Forgotten { asked, base }) => Ok(View::Forgotten { asked, base }),
     }
@@ -50,7 +50,7 @@ pub fn view_epochs(alloc: Global, bytes: &[u8]) -> Result<View, Want>
 {
     match epochs_of(alloc, bytes) {
         Ok(epochs) => Ok(View::Text(epoch_table(alloc, &epochs)?)),
-        Err(JudgeFault::Damaged(damage)) => Ok(View::Refused(damage)),
-        Err(JudgeFault::Memory) => Err(AllocError),
+        Err(AuditFault::Memory) => Err(AllocError),
+        Err(damage) => Ok(View::Refused(damage)),
     }
 }

@@ -1,10 +1,9 @@
 //! A clerk's checkpoint.
 
 ghost use Rattle.std.specs.Prelude.{◌≡◌, Some, IfOk, IfErr, OnErr};
-ghost use Rattle.locked_net.specs.Calls.{MayRefuseCheckpoint};
 ghost use Rattle.locked_net.specs.ChosenEvents.{HoldsAll, RefusesCheckpoint};
 ghost use Rattle.locked_net.specs.Nets.{setting_of};
-ghost use Rattle.locked_net.specs.Receipts.{front_of, greater_base};
+ghost use Rattle.locked_net.specs.Receipts.{greater_base, seen_by};
 
 use super::Clerk;
 use crate::{CallFault, LockedNet};
@@ -25,10 +24,9 @@ impl Clerk {
         rt: &W,
         net: &LockedNet<R>,
     ) -> Result<u32, CallFault>
-        ensures number { IfOk result (HoldsAll (setting_of R.table net.now) (front_of self.old.receipts)) }
+        ensures number { IfOk result (HoldsAll (setting_of R.table net.now) (seen_by self.old)) }
         ensures base { IfOk result (λ number. self.new ≡ record self.old { base = greater_base self.old.base (Some number) }) }
-        ensures fault { IfErr result (λ fault. MayRefuseCheckpoint (front_of self.old.receipts) fault) }
-        ensures refused { IfErr result (RefusesCheckpoint (setting_of R.table net.now) (front_of self.old.receipts)) }
+        ensures refused { IfErr result (RefusesCheckpoint (setting_of R.table net.now) (seen_by self.old)) }
         ensures kept { OnErr result (self.new ≡ self.old) }
     {
         let mut held = net.hold(rt);

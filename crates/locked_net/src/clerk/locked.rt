@@ -1,10 +1,11 @@
 //! A clerk's calls: each takes the network's lock, and frees it when it is done.
 
-ghost use Rattle.std.specs.Prelude.{◌≡◌, ◌≢◌, ◌<◌, IfOk, IfErr, IfSome, OnOk, OnErr, MatchOption};
+ghost use Rattle.std.specs.Prelude.{◌≡◌, ◌≢◌, ◌<◌, IfOk, IfErr, OnOk, MatchOption};
 ghost use Rattle.rule_machine.specs.declared.event.Event.TheVariants.{Step};
 ghost use Rattle.locked_net.specs.Nets.{book_of, setting_of};
-ghost use Rattle.locked_net.specs.Receipts.{HasNoteOf, front_of, seen_by};
-ghost use Rattle.locked_net.specs.Calls.{MayAnswer, Keeps, KeepsStep, KeepsFault, MayAnswerStep};
+ghost use Rattle.locked_net.specs.Receipts.{seen_by};
+ghost use Rattle.locked_net.specs.Calls.{Keeps, KeepsStep, KeepsFault};
+ghost use Rattle.locked_net.specs.ClerkCalls.{each, some_of, ClerkCall};
 ghost use Rattle.locked_net.specs.ChosenEvents.{ByDaemon, ByInjector, ClerkTakes, NoneIfEmpty, Refuses, RefusesStep};
 ghost use Rattle.locked_net.specs.declared.call_fault.CallFault.TheVariants.{Memory};
 
@@ -24,7 +25,8 @@ impl Clerk {
     ///
     /// `Behind` if the log has fewer entries than this clerk has seen; otherwise `LogFull` if the log is
     /// full; otherwise `Memory` if memory runs out. After a fault nothing has changed.
-    /// Takes the memory of three replies, and the memory that the journal takes.
+    /// Takes the memory of a reply and what the journal takes; once the network has had a reader, also that
+    /// of a copy of the entry.
     pub fn call<R: Rules, W: Wait>(
         &mut self,
         rt: &W,
@@ -32,12 +34,8 @@ impl Clerk {
         event: Event,
     ) -> Result<Reply, CallFault>
         ensures receipt { IfOk result (λ reply. Keeps self.old.receipts self.new.receipts event reply) }
-        ensures note { OnOk result (HasNoteOf (book_of net.now) self.new) }
-        ensures base { self.new.base ≡ self.old.base }
-        ensures above { OnOk result (seen_by self.old < front_of self.new.receipts) }
-        ensures fault { IfErr result (λ fault. MayAnswer (seen_by self.old) fault) }
+        ensures call { ClerkCall each (book_of net.now) self.old self.new result }
         ensures refused { IfErr result (Refuses (setting_of R.table net.now) (seen_by self.old)) }
-        ensures kept { OnErr result (self.new ≡ self.old) }
     {
         let mut held = net.hold(rt);
         let answer = held.call(rt, self, event);
@@ -60,13 +58,9 @@ impl Clerk {
         gate: &G,
     ) -> Result<Reply, StepFault>
         ensures receipt { IfOk result (λ reply. Keeps self.old.receipts self.new.receipts (Step choice) reply) }
-        ensures note { OnOk result (HasNoteOf (book_of net.now) self.new) }
-        ensures base { self.new.base ≡ self.old.base }
-        ensures above { OnOk result (seen_by self.old < front_of self.new.receipts) }
+        ensures call { ClerkCall each (book_of net.now) self.old self.new result }
         ensures some { OnOk result (0 < workers) }
-        ensures fault { IfErr result (λ fault. MayAnswerStep (seen_by self.old) workers fault) }
         ensures refused { IfErr result (RefusesStep (setting_of R.table net.now) (seen_by self.old) workers) }
-        ensures kept { OnErr result (self.new ≡ self.old) }
     {
         let mut held = net.hold(rt);
         let answer = held.step(rt, self, choice, workers, gate);
@@ -86,14 +80,10 @@ impl Clerk {
         net: &LockedNet<R>,
         daemon: &mut D,
     ) -> Result<Option<Reply>, CallFault>
-        ensures note { IfOk result (λ told. IfSome told (λ _. HasNoteOf (book_of net.now) self.new)) }
-        ensures base { self.new.base ≡ self.old.base }
-        ensures above { IfOk result (λ told. IfSome told (λ _. seen_by self.old < front_of self.new.receipts)) }
         ensures step { IfOk result (λ told. MatchOption told (self.new ≡ self.old) (KeepsStep R.table.central self.old.receipts self.new.receipts)) }
         ensures chosen { IfOk result (ClerkTakes (setting_of R.table net.now) (ByDaemon D.chooses R.table daemon.old daemon.new) self.old self.new) }
-        ensures fault { IfErr result (λ fault. MayAnswer (seen_by self.old) fault) }
+        ensures call { ClerkCall some_of (book_of net.now) self.old self.new result }
         ensures refused { IfErr result (Refuses (setting_of R.table net.now) (seen_by self.old)) }
-        ensures kept { OnErr result (self.new ≡ self.old) }
         ensures unasked { IfErr result (λ fault. (fault ≢ Memory) → daemon.new ≡ daemon.old) }
     {
         let mut held = net.hold(rt);
@@ -114,14 +104,10 @@ impl Clerk {
         injector: &mut Injector<G>,
     ) -> Result<Option<Reply>, CallFault>
         ensures none { IfOk result (λ told. ClerkTakes (setting_of R.table net.now) (NoneIfEmpty told) self.old self.new told) }
-        ensures note { IfOk result (λ told. IfSome told (λ _. HasNoteOf (book_of net.now) self.new)) }
-        ensures base { self.new.base ≡ self.old.base }
-        ensures above { IfOk result (λ told. IfSome told (λ _. seen_by self.old < front_of self.new.receipts)) }
         ensures register { IfOk result (λ told. MatchOption told (self.new ≡ self.old) (KeepsFault self.old.receipts self.new.receipts)) }
         ensures drawn { IfOk result (ClerkTakes (setting_of R.table net.now) (ByInjector G.stream R.table injector.old injector.new) self.old self.new) }
-        ensures fault { IfErr result (λ fault. MayAnswer (seen_by self.old) fault) }
+        ensures call { ClerkCall some_of (book_of net.now) self.old self.new result }
         ensures refused { IfErr result (Refuses (setting_of R.table net.now) (seen_by self.old)) }
-        ensures kept { OnErr result (self.new ≡ self.old) }
         ensures unasked { IfErr result (λ fault. (fault ≢ Memory) → injector.new ≡ injector.old) }
     {
         let mut held = net.hold(rt);

@@ -1,9 +1,10 @@
 //! A checkpoint of a network whose lock is held.
 
-ghost use Rattle.std.specs.Prelude.{◌≡◌, ◌≤◌, length, Some, IfOk, IfErr, OnOk, OnErr};
+ghost use Rattle.std.specs.Prelude.{◌≡◌, length, Some, IfOk, OnOk, OnErr};
 ghost use Rattle.locked_net.specs.PublishedJournals.{based};
-ghost use Rattle.locked_net.specs.Calls.{checkpoint_fault, ExplainsCallFault};
-ghost use Rattle.locked_net.specs.Receipts.{front_of, greater_base};
+ghost use Rattle.locked_net.specs.Calls.{checkpoint_fault};
+ghost use Rattle.locked_net.specs.ClerkCalls.{Admits};
+ghost use Rattle.locked_net.specs.Receipts.{greater_base, seen_by};
 
 use crate::{CallFault, Clerk, HeldNet};
 use rule_engine::Rules;
@@ -14,14 +15,10 @@ impl<R: Rules> HeldNet<'_, R> {
         ensures number { IfOk result (λ number. number ≡ length self.old.log.entries) }
         ensures held { OnOk result (self.new ≡ based self.old) }
         ensures base { IfOk result (λ number. clerk.new ≡ record clerk.old { base = greater_base clerk.old.base (Some number) }) }
-        ensures seen { IfOk result (λ number. front_of clerk.old.receipts ≤ number) }
-        ensures fault { IfErr result (λ fault. ExplainsCallFault (checkpoint_fault (front_of clerk.old.receipts) self.old.log) fault) }
+        ensures admitted { Admits (checkpoint_fault (seen_by clerk.old) self.old.log) result }
         ensures kept { OnErr result ((clerk.new ≡ clerk.old) × (self.new ≡ self.old)) }
     {
-        let (front, seen) = (self.desk.len(), clerk.front());
-        if front < seen {
-            return Err(CallFault::Behind { front, seen });
-        }
+        clerk.keeps_up(&self.desk)?;
         let number = self.desk.checkpoint()?;
         clerk.take_base(number);
         Ok(number)

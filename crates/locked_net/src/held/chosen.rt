@@ -1,11 +1,10 @@
 //! Calls of a network whose lock is held, whose event a daemon or an injector chooses.
 
-ghost use Rattle.std.specs.Prelude.{◌≡◌, ◌≢◌, ◌<◌, ◌↔◌, None, IsNone, IfOk, IfErr, IfSome, OnOk, OnErr, MatchOption};
-ghost use mathlib.Core.List.{IsPrefix};
+ghost use Rattle.std.specs.Prelude.{◌≡◌, ◌≢◌, ◌↔◌, IsNone, IfOk, IfErr, MatchOption};
 ghost use Rattle.rule_machine.specs.Network.{node_count};
-ghost use Rattle.locked_net.specs.Receipts.{HasNoteOf, front_of, seen_by, noted};
-ghost use Rattle.locked_net.specs.PublishedJournals.{KeepsKey};
-ghost use Rattle.locked_net.specs.Calls.{call_fault, ExplainsCallFault, Drives, Breaks};
+ghost use Rattle.locked_net.specs.Receipts.{seen_by};
+ghost use Rattle.locked_net.specs.Calls.{call_fault, Drives, Breaks};
+ghost use Rattle.locked_net.specs.ClerkCalls.{some_of, Admits, HeldCall};
 ghost use Rattle.locked_net.specs.ChosenEvents.{ByDaemon, ByInjector, ChoosesOn};
 ghost use Rattle.locked_net.specs.declared.call_fault.CallFault.TheVariants.{Memory};
 
@@ -28,14 +27,8 @@ impl<R: Rules> HeldNet<'_, R> {
             ((clerk.new ≡ clerk.old) × (self.new ≡ self.old))
             (λ reply. Drives R.table self.old.log self.new.log clerk.old.receipts clerk.new.receipts reply)) }
         ensures chosen { IfOk result (ChoosesOn R.table self.old.log (ByDaemon D.chooses R.table daemon.old daemon.new) clerk.old.receipts clerk.new.receipts) }
-        ensures note { IfOk result (λ told. IfSome told (λ _. HasNoteOf self.old.name.book clerk.new)) }
-        ensures base { clerk.new.base ≡ clerk.old.base }
-        ensures begins { IfOk result (λ told. IfSome told (λ _. IsPrefix self.old.log.entries (noted clerk.new.note))) }
-        ensures key { KeepsKey self.old self.new }
-        ensures seen { OnOk result (call_fault (front_of clerk.old.receipts) self.old.log ≡ None) }
-        ensures above { IfOk result (λ told. IfSome told (λ _. seen_by clerk.old < front_of clerk.new.receipts)) }
-        ensures fault { IfErr result (λ fault. ExplainsCallFault (call_fault (seen_by clerk.old) self.old.log) fault) }
-        ensures kept { OnErr result ((clerk.new ≡ clerk.old) × (self.new ≡ self.old)) }
+        ensures call { HeldCall some_of self.old self.new clerk.old clerk.new result }
+        ensures admitted { Admits (call_fault (seen_by clerk.old) self.old.log) result }
         ensures unasked { IfErr result (λ fault. (fault ≢ Memory) → daemon.new ≡ daemon.old) }
     {
         clerk.may_call(&self.desk)?;
@@ -57,14 +50,8 @@ impl<R: Rules> HeldNet<'_, R> {
             (λ reply. Breaks R.table self.old.log self.new.log clerk.old.receipts clerk.new.receipts reply)) }
         ensures drawn { IfOk result (ChoosesOn R.table self.old.log (ByInjector G.stream R.table injector.old injector.new) clerk.old.receipts clerk.new.receipts) }
         ensures none { IfOk result (λ told. IsNone told ↔ (node_count self.old.log.state.network ≡ 0)) }
-        ensures note { IfOk result (λ told. IfSome told (λ _. HasNoteOf self.old.name.book clerk.new)) }
-        ensures base { clerk.new.base ≡ clerk.old.base }
-        ensures begins { IfOk result (λ told. IfSome told (λ _. IsPrefix self.old.log.entries (noted clerk.new.note))) }
-        ensures key { KeepsKey self.old self.new }
-        ensures seen { OnOk result (call_fault (front_of clerk.old.receipts) self.old.log ≡ None) }
-        ensures above { IfOk result (λ told. IfSome told (λ _. seen_by clerk.old < front_of clerk.new.receipts)) }
-        ensures fault { IfErr result (λ fault. ExplainsCallFault (call_fault (seen_by clerk.old) self.old.log) fault) }
-        ensures kept { OnErr result ((clerk.new ≡ clerk.old) × (self.new ≡ self.old)) }
+        ensures call { HeldCall some_of self.old self.new clerk.old clerk.new result }
+        ensures admitted { Admits (call_fault (seen_by clerk.old) self.old.log) result }
         ensures unasked { IfErr result (λ fault. (fault ≢ Memory) → injector.new ≡ injector.old) }
     {
         clerk.may_call(&self.desk)?;

@@ -6,6 +6,7 @@ ghost use Rattle.rule_engine.specs.Costs.{disturbance_cost, BoundsGrowth};
 use crate::{HeldNet, SeenCost};
 use rule_engine::{Event, Rules};
 use snapshots::{NoPlace, Note, Reader, Runs};
+use std::sync::Wait;
 
 impl<R: Rules> HeldNet<'_, R> {
     /// What an event would cost, with a note of the log: `LockedNet::cost_of` under a held lock.
@@ -24,11 +25,11 @@ impl<R: Rules> HeldNet<'_, R> {
         self.desk.note()
     }
 
-    pub(crate) fn reader(&mut self) -> Result<Reader<Runs<R>>, NoPlace>
+    pub(crate) fn reader<W: Wait>(&mut self, rt: &W) -> Result<Reader<Runs<R>>, NoPlace>
         ensures kept { self.new ≡ self.old }
         ensures name { IfOk result (λ reader. reader.name ≡ self.old.name) }
         ensures seen { IfOk result (λ reader. (reader.list ≡ self.old.log.entries) × (reader.learnt ≡ self.old.log.entries)) }
     {
-        self.desk.reader()
+        self.desk.reader(rt)
     }
 }

@@ -1,8 +1,4 @@
-use Rattle.std.proofs.Common.{◌≡◌, ◌∙◌, List, [], None, length, refl, sym, ap, subst, eqb-true}
-use Rattle.std.proofs.lemmas.List.{nil_from_length}
-use Rattle.auditor.specs.declared.epoch.CostedEpoch.{CostedEpoch}
-use Rattle.auditor.specs.declared.summary.Summary.{Summary}
-use Rattle.auditor.specs.Position.{counted_part}
+use Rattle.auditor.proofs.Prelude.{◌≡◌, ◌∙◌, List, [], None, length, refl, sym, ap, subst, eqb-true, nil_from_length, CostedEpoch, Summary, counted_part}
 use Rattle.auditor.proofs.WholeTranscripts.{begun_at, behind_judged, compared_none, first_judged, passed_at, passed_compared, passed_shorter}
 use Rattle.auditor.proofs.EpochCosts.{rows_paid}
 use Rattle.auditor.proofs.EpochSteps.{IsListed, listed_start, listed_on, listed_all, listed_bounded}

@@ -1,5 +1,4 @@
-use Rattle.std.proofs.Common.{◌+◌, ◌≤◌, length}
-use Rattle.auditor.specs.TranscriptCursors.{IsCursorAt, IsCompared}
+use Rattle.auditor.proofs.Prelude.{◌+◌, ◌≤◌, length, IsCursorAt, IsCompared}
 use Rattle.auditor.proofs.EpochSteps.{IsListed}
 use Rattle.auditor.proofs.epoch_list.epochs_of.Given as goal
 

@@ -1,6 +1,4 @@
-use Rattle.std.proofs.Common.{◌-◌, ◌<◌, ◌^◌, ◌++◌, ℕ, List, Err, length, sym, subst, arith}
-use Rattle.auditor.specs.Verdict.{IsJudged}
-use Rattle.auditor.specs.TranscriptCursors.{IsCursorAfter, IsCursorAt, IsCompared}
+use Rattle.auditor.proofs.Prelude.{◌-◌, ◌<◌, ◌^◌, ◌++◌, ℕ, List, Err, length, sym, subst, arith, IsJudged, IsCursorAfter, IsCursorAt, IsCompared}
 use Rattle.auditor.proofs.WholeTranscripts.{begun_at, first_judged}
 use Rattle.auditor.proofs.PieceReading.{begins_by, begins_ends, dropped, ends_behind}
 use Rattle.auditor.proofs.judging.begin.Goals as goal

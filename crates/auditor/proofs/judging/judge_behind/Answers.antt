@@ -1,6 +1,4 @@
-use Rattle.std.proofs.Common.{◌≡◌, ◌∙◌, ◌++◌, ℕ, List, [], sym, ap, subst, arith}
-use Rattle.std.proofs.lemmas.List.{nil_from_length}
-use Rattle.auditor.specs.TranscriptCursors.{IsCursorAt, IsCompared}
+use Rattle.auditor.proofs.Prelude.{◌≡◌, ◌∙◌, ◌++◌, ℕ, List, [], sym, ap, subst, arith, nil_from_length, IsCursorAt, IsCompared}
 use Rattle.auditor.proofs.PieceReading.{compared_more, for_on}
 use Rattle.auditor.proofs.judging.judge_behind.Goals as goal
 

@@ -1,5 +1,4 @@
-use Rattle.std.proofs.Common.{◌-◌, length, sym, subst, arith}
-use Rattle.auditor.specs.TranscriptCursors.{IsCursorAt, IsCompared}
+use Rattle.auditor.proofs.Prelude.{◌-◌, length, sym, subst, arith, IsCursorAt, IsCompared}
 use Rattle.auditor.proofs.PieceReading.{dropped}
 use Rattle.auditor.proofs.judging.judge_parts.Goals as goal
 

@@ -1,5 +1,4 @@
-use Rattle.std.proofs.Common.{◌++◌, sym, subst}
-use Rattle.auditor.specs.TranscriptCursors.{IsCompared}
+use Rattle.auditor.proofs.Prelude.{◌++◌, sym, subst, IsCompared}
 use Rattle.auditor.proofs.PieceReading.{at_on, compared_more, fault_less, for_err, for_on, halves, somewhere_less, somewhere_on}
 use Rattle.auditor.proofs.judging.judge_piece.Goals as goal
 
@@ -7,8 +6,8 @@ pub returns-in_default-clause-compared : goal.returns-in_default-clause-compared
 returns-in_default-clause-compared c =
     subst (IsCompared c.args.run.now) (sym c.in_ok-extend_from_slice.ensures.items) (compared_more c.args.run.now c.args.held.now.items c.args.piece.now c.requires.compared)
 
-pub judge_behind-requires-clause-at : goal.judge_behind-requires-clause-at
-judge_behind-requires-clause-at c =
+pub judge_behind-requires-2-clause-at : goal.judge_behind-requires-2-clause-at
+judge_behind-requires-2-clause-at c =
     let held = c.args.held.now.items in
     let first = c.split_at.result.0.now in
     let others = c.split_at.result.1.now in
@@ -21,7 +20,7 @@ judge_behind-requires-in-Ok-clause-at c =
     let first = c.split_at.result.0.now in
     let others = c.split_at.result.1.now in
     let cut = halves held c.args.piece.now first others _ c.split_at.ensures.front c.split_at.ensures.back in
-    somewhere_on others c.args.run.now c.judge_behind.new.run (held ++ first) (held ++ c.args.piece.now) c.judge_behind.new.held.items cut c.in-Ok.ensures.at c.requires.at
+    somewhere_on others c.args.run.now c.judge_behind-2.new.run (held ++ first) (held ++ c.args.piece.now) c.judge_behind-2.new.held.items cut c.in-Ok.ensures.at c.requires.at
 
 pub returns-in-Ok-clause-at : goal.returns-in-Ok-clause-at
 returns-in-Ok-clause-at c =
@@ -30,7 +29,7 @@ returns-in-Ok-clause-at c =
     let others = c.split_at.result.1.now in
     let cut = halves held c.args.piece.now first others _ c.split_at.ensures.front c.split_at.ensures.back in
     for_on c.judge_behind-in-Ok.result _ _ c.judge_behind-in-Ok.ensures.at (λ on read at.
-    on read (at_on read others c.args.run.now c.judge_behind.new.run (held ++ first) (held ++ c.args.piece.now) c.judge_behind.new.held.items cut c.in-Ok.ensures.at at))
+    on read (at_on read others c.args.run.now c.judge_behind-2.new.run (held ++ first) (held ++ c.args.piece.now) c.judge_behind-2.new.held.items cut c.in-Ok.ensures.at at))
 
 pub returns-in-Ok-clause-fault : goal.returns-in-Ok-clause-fault
 returns-in-Ok-clause-fault c =
@@ -39,7 +38,7 @@ returns-in-Ok-clause-fault c =
     let others = c.split_at.result.1.now in
     let cut = halves held c.args.piece.now first others _ c.split_at.ensures.front c.split_at.ensures.back in
     for_err c.judge_behind-in-Ok.result _ _ c.judge_behind-in-Ok.ensures.fault (λ fault judged read more at.
-    judged read more (at_on read others c.args.run.now c.judge_behind.new.run (held ++ first) (held ++ c.args.piece.now) c.judge_behind.new.held.items cut c.in-Ok.ensures.at at))
+    judged read more (at_on read others c.args.run.now c.judge_behind-2.new.run (held ++ first) (held ++ c.args.piece.now) c.judge_behind-2.new.held.items cut c.in-Ok.ensures.at at))
 
 pub returns-in-Err-clause-fault : goal.returns-in-Err-clause-fault
 returns-in-Err-clause-fault c read more at =

@@ -15,8 +15,8 @@ judge_whole-requires-clause-compared c =
     let begins = c.in-Ok.ensures.begins in
     compared_none c.in-Ok.replay c.in-Ok.rest.now begins.unwanted begins.none_same
 
-pub returns-in-Ok : goal.returns-in-Ok
-returns-in-Ok c = c.judge_whole.ensures c.args.text.now (begun_at c.args.text.now c.in-Ok.replay c.in-Ok.rest.now c.in-Ok.ensures.begins)
+pub returns-in-Ok-clause-ended : goal.returns-in-Ok-clause-ended
+returns-in-Ok-clause-ended c = c.judge_whole.ensures.ended c.args.text.now (begun_at c.args.text.now c.in-Ok.replay c.in-Ok.rest.now c.in-Ok.ensures.begins)
 
-pub returns-in-Err : goal.returns-in-Err
-returns-in-Err c = first_judged c.args.text.now c.in-Err.fault c.in-Err.ensures.fault
+pub returns-in-Err-clause-ended : goal.returns-in-Err-clause-ended
+returns-in-Err-clause-ended c = first_judged c.args.text.now c.in-Err.fault c.in-Err.ensures.fault

@@ -1,5 +1,4 @@
-use Rattle.std.proofs.Common.{◌≡◌, ◌+◌, ◌≤◌, drop}
-use Rattle.auditor.specs.Damage.{line_feeds}
+use Rattle.auditor.proofs.Prelude.{◌≡◌, ◌+◌, ◌≤◌, drop, line_feeds}
 use Rattle.auditor.proofs.lines.line_feeds.Given as goal
 
 abbrev pub invariant-loop-b : goal.invariant-loop-b

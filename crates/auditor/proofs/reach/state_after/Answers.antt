@@ -1,6 +1,4 @@
-use Rattle.std.proofs.Common.{◌≡◌, ◌<◌, ◌⊎◌, ◌∙◌, ℕ, ap, [], false, true, length, subst, sym, inl, inr, eqb-true, rules}
-use Rattle.std.proofs.lemmas.List.{nil_from_length}
-use Rattle.auditor.specs.EntryWindows.{HasDroppedEntry, IsAskedWithin, falls_short}
+use Rattle.auditor.proofs.Prelude.{◌≡◌, ◌<◌, ◌⊎◌, ◌∙◌, ℕ, ap, [], false, true, length, subst, sym, inl, inr, eqb-true, rules, nil_from_length, HasDroppedEntry, IsAskedWithin, falls_short}
 use Rattle.auditor.proofs.CursorPositions.{forgotten_fault, further_within, part_fault, ended, ended_early}
 use Rattle.auditor.proofs.WholeTranscripts.{begun_at, compared_none, passed_at, passed_compared, passed_shorter}
 use Rattle.auditor.proofs.reach.state_after.Goals as goal

@@ -1,6 +1,4 @@
-use Rattle.std.proofs.Common.{length}
-use Rattle.auditor.specs.EntryWindows.{IsAskedWithin}
-use Rattle.auditor.specs.TranscriptCursors.{IsCursorAt, IsCompared}
+use Rattle.auditor.proofs.Prelude.{length, IsAskedWithin, IsCursorAt, IsCompared}
 use Rattle.auditor.proofs.reach.state_after.Given as goal
 
 abbrev pub invariant-loop-replay : goal.invariant-loop-replay

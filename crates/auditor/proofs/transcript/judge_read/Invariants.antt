@@ -1,6 +1,4 @@
-use Rattle.std.proofs.Common.{◌≡◌, ◌-◌, ℕ, List, length}
-use Rattle.std.specs.Io.KnownBytes.{Consumes}
-use Rattle.auditor.specs.AuditPieces.{HasReadPieces}
+use Rattle.auditor.proofs.Prelude.{◌≡◌, ◌-◌, ℕ, List, false, length, Consumes, HasReadPieces}
 use Rattle.auditor.proofs.transcript.judge_read.Given as goal
 
 abbrev pub invariant-loop-len : goal.invariant-loop-len
@@ -9,6 +7,7 @@ invariant-loop-len g l = record {
   consumed : Consumes (g.In.Read.remaining l.fn.reader.reader) (g.In.Read.remaining l.reader.reader) read;
   is : HasReadPieces read l.audit;
   room : length l.chunk.items ≡ 65536;
+  readable : l.fn.reader.failed ≡ false → l.reader.failed ≡ false;
 }
 
 abbrev pub decreases-loop-len : goal.decreases-loop-len

@@ -1,4 +1,4 @@
-use Rattle.charge_laws.specs.CostsOfRuns.{hsu_huang_disturbed, manne_disturbed}
+use Rattle.charge_laws.proofs.CostsOfRuns.{hsu_huang_disturbed, manne_disturbed}
 use Rattle.charge_laws.proofs.cost.disturbances_cost.Goals as goal
 
 pub returns-clause-hsu_huang : goal.returns-clause-hsu_huang

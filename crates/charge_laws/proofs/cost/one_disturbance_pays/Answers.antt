@@ -1,4 +1,4 @@
-use Rattle.charge_laws.specs.CostsOfRuns.{hsu_huang_one, manne_one}
+use Rattle.charge_laws.proofs.CostsOfRuns.{hsu_huang_one, manne_one}
 use Rattle.charge_laws.proofs.cost.one_disturbance_pays.Goals as goal
 
 pub returns-clause-hsu_huang : goal.returns-clause-hsu_huang

@@ -1,5 +1,5 @@
-use Rattle.charge_laws.specs.StableCharge.{hsu_huang_stable_is_zero}
-use Rattle.charge_laws.specs.ManneStableCharge.{manne_stable_charge}
+use Rattle.charge_laws.proofs.StableCharge.{hsu_huang_stable_is_zero}
+use Rattle.charge_laws.proofs.ManneStableCharge.{manne_stable_charge}
 use Rattle.charge_laws.proofs.cost.stable_charge.Goals as goal
 
 pub returns-clause-hsu_huang : goal.returns-clause-hsu_huang

@@ -1,4 +1,4 @@
-use Rattle.charge_laws.specs.CostsOfRuns.{hsu_huang_stable_costs, manne_stable_costs}
+use Rattle.charge_laws.proofs.CostsOfRuns.{hsu_huang_stable_costs, manne_stable_costs}
 use Rattle.charge_laws.proofs.cost.stable_moves_are_paid.Goals as goal
 
 pub returns-clause-hsu_huang : goal.returns-clause-hsu_huang

@@ -1,4 +1,4 @@
-use Rattle.charge_laws.specs.LeastCharge.{manne_enough_moves}
+use Rattle.charge_laws.proofs.LeastCharge.{manne_enough_moves}
 use Rattle.charge_laws.proofs.silence.fewer_moves_settle.Goals as goal
 
 pub returns : goal.returns

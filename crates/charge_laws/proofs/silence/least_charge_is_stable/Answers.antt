@@ -1,6 +1,6 @@
 use Rattle.std.proofs.Common.{arith}
-use Rattle.charge_laws.specs.LeastCharge.{least_charge_is_stable, charge_is_more}
-use Rattle.charge_laws.specs.ManneStableCharge.{manne_stable_charge}
+use Rattle.charge_laws.proofs.LeastCharge.{least_charge_is_stable, charge_is_more}
+use Rattle.charge_laws.proofs.ManneStableCharge.{manne_stable_charge}
 use Rattle.charge_laws.proofs.silence.least_charge_is_stable.Goals as goal
 
 pub returns-clause-exactly : goal.returns-clause-exactly

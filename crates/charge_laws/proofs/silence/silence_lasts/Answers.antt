@@ -1,12 +1,9 @@
-use Rattle.rule_machine.specs.HsuHuang.{hsu_huang}
-use Rattle.rule_machine.specs.Manne.{manne}
-use Rattle.charge_laws.specs.PresentMovers.{hsu_huang_inside, manne_inside}
-use Rattle.charge_laws.specs.SilentRuns.{quiet_stays}
-use Rattle.charge_laws.specs.Tables.{hsu_huang_table, manne_table}
+use Rattle.charge_laws.proofs.Prelude.{hsu_huang, manne, hsu_huang_cost, manne_cost}
+use Rattle.charge_laws.proofs.Proved as proved
 use Rattle.charge_laws.proofs.silence.silence_lasts.Goals as goal
 
 pub returns-clause-hsu_huang : goal.returns-clause-hsu_huang
-returns-clause-hsu_huang c start good quiet path is calm = quiet_stays hsu_huang hsu_huang_table hsu_huang_inside start good quiet path is calm
+returns-clause-hsu_huang c = proved.silence_lasts hsu_huang 1 hsu_huang_cost proved.hsu_huang_is
 
 pub returns-clause-manne : goal.returns-clause-manne
-returns-clause-manne c start good quiet path is calm = quiet_stays manne manne_table manne_inside start good quiet path is calm
+returns-clause-manne c = proved.silence_lasts manne 3 manne_cost proved.manne_is

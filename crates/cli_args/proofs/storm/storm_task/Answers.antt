@@ -1,5 +1,4 @@
-use Rattle.std.proofs.Common.{rules, refl}
-use Rattle.clap.specs.Words.{found_of}
+use Rattle.cli_args.proofs.Prelude.{rules, refl, found_of}
 use Rattle.cli_args.proofs.StormReadings.{no_scripts, scripts_are}
 use Rattle.cli_args.proofs.storm.storm_task.Goals as goal
 

@@ -1,7 +1,4 @@
-use Rattle.std.proofs.Common.{◌≡◌, rules, ap, Some, ◌∙◌}
-use Rattle.std.specs.Prelude.{codes}
-use Rattle.clap.specs.Words.{Text, found_of, rows_of, subcommand_rows_of}
-use Rattle.clap.specs.declared.parser.matches.ArgMatches.TheViews.{out-ArgMatches}
+use Rattle.cli_args.proofs.Prelude.{◌≡◌, rules, ap, Some, ◌∙◌, codes, Text, found_of, rows_of, subcommand_rows_of, out-ArgMatches}
 use Rattle.cli_args.proofs.FoundMatches.{parts_are, run_asked, picture_asked}
 use Rattle.cli_args.proofs.StormReadings.{storm_asked}
 use Rattle.cli_args.proofs.task.asked.Goals as goal

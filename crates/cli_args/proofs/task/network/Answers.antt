@@ -1,7 +1,5 @@
-use Rattle.std.proofs.Common.{refl}
-use Rattle.std.specs.Prelude.{◌^◌, codes}
+use Rattle.cli_args.proofs.Prelude.{refl, ◌^◌, codes, found_of, one_text}
 use Rattle.std.specs.contracts.prelude.U16FromStr.TheImpl.{ghosts}
-use Rattle.clap.specs.Words.{found_of, one_text}
 use Rattle.cli_args.proofs.FoundMatches.{no_rules, rules_are, run_held, maybe_read, none_given}
 use Rattle.cli_args.proofs.task.network.Goals as goal
 

@@ -1,7 +1,5 @@
-use Rattle.std.proofs.Common.{refl}
-use Rattle.std.specs.Prelude.{◌^◌}
+use Rattle.cli_args.proofs.Prelude.{refl, ◌^◌, found_of, one_text}
 use Rattle.std.specs.contracts.prelude.U16FromStr.TheImpl.{ghosts}
-use Rattle.clap.specs.Words.{found_of, one_text}
 use Rattle.cli_args.proofs.FoundMatches.{number_read}
 use Rattle.cli_args.proofs.task.number.Goals as goal
 

@@ -1,7 +1,4 @@
-use Rattle.std.proofs.Common.{refl}
-use Rattle.std.specs.Prelude.{◌^◌, codes}
-use Rattle.std.specs.contracts.prelude.U32FromStr.TheImpl.{ghosts}
-use Rattle.clap.specs.Words.{found_of, one_text}
+use Rattle.cli_args.proofs.Prelude.{refl, ◌^◌, codes, ghosts, found_of, one_text}
 use Rattle.cli_args.proofs.FoundMatches.{maybe_read, none_given}
 use Rattle.cli_args.proofs.task.picture_task.Goals as goal
 

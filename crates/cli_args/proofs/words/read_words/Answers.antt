@@ -1,5 +1,4 @@
-use Rattle.std.proofs.Common.{map}
-use Rattle.clap.specs.Words.{app_of, subcommand_rows_of}
+use Rattle.cli_args.proofs.Prelude.{map, app_of, subcommand_rows_of}
 use Rattle.cli_args.proofs.WordReadings.{matched, answered, some_read, none_read, unwanted, storm_unwanted, taken, storm_taken, of_error}
 use Rattle.cli_args.proofs.words.read_words.Goals as goal
 
@@ -10,19 +9,19 @@ returns-in-Ok-Some-clause-answers g c =
     let found = matched (app_of c.in_ok-command.command) made.0 words c.in-Ok.found made.2 c.in-Ok.ensures.ok.2 in
     answered made.0 words (subcommand_rows_of c.in-Ok.found) c.in-Ok-Some.task made.1 found (some_read _ _ c.in-Ok-Some.field-0 c.in-Ok-Some.task c.in-Ok-Some.field-0-is c.in-Ok-Some.ensures.read)
 
-pub returns-in_err-error-in-Ok-None-clause-wanted : goal.returns-in_err-error-in-Ok-None-clause-wanted
-returns-in_err-error-in-Ok-None-clause-wanted g c =
+pub returns-in_err-mistake-in-Ok-None-clause-wanted : goal.returns-in_err-mistake-in-Ok-None-clause-wanted
+returns-in_err-mistake-in-Ok-None-clause-wanted g c =
     let made = c.in_ok-command.ensures in
     let words = map g.S.AsStr.text c.args.words.now in
     let found = matched (app_of c.in_ok-command.command) made.0 words c.in-Ok.found made.2 c.in-Ok.ensures.ok.2 in
-    of_error c.from_residual-in_err-error-in-Ok-None.result _ (λ e task w. absurd (unwanted made.0 words (subcommand_rows_of c.in-Ok.found) made.1 found (none_read _ _ c.in-Ok-None.field-0 c.in-Ok-None.field-0-is c.in-Ok-None.ensures.read) task w))
+    of_error c.from_residual-in_err-mistake-in-Ok-None.result _ (λ e task w. absurd (unwanted made.0 words (subcommand_rows_of c.in-Ok.found) made.1 found (none_read _ _ c.in-Ok-None.field-0 c.in-Ok-None.field-0-is c.in-Ok-None.ensures.read) task w))
 
-pub returns-in_err-error-in-Ok-None-clause-wanted_storm : goal.returns-in_err-error-in-Ok-None-clause-wanted_storm
-returns-in_err-error-in-Ok-None-clause-wanted_storm g c =
+pub returns-in_err-mistake-in-Ok-None-clause-wanted_storm : goal.returns-in_err-mistake-in-Ok-None-clause-wanted_storm
+returns-in_err-mistake-in-Ok-None-clause-wanted_storm g c =
     let made = c.in_ok-command.ensures in
     let words = map g.S.AsStr.text c.args.words.now in
     let found = matched (app_of c.in_ok-command.command) made.0 words c.in-Ok.found made.2 c.in-Ok.ensures.ok.2 in
-    of_error c.from_residual-in_err-error-in-Ok-None.result _ (λ e storm w. absurd (storm_unwanted made.0 words (subcommand_rows_of c.in-Ok.found) made.1 found (none_read _ _ c.in-Ok-None.field-0 c.in-Ok-None.field-0-is c.in-Ok-None.ensures.read) storm w))
+    of_error c.from_residual-in_err-mistake-in-Ok-None.result _ (λ e storm w. absurd (storm_unwanted made.0 words (subcommand_rows_of c.in-Ok.found) made.1 found (none_read _ _ c.in-Ok-None.field-0 c.in-Ok-None.field-0-is c.in-Ok-None.ensures.read) storm w))
 
 pub returns-in-Ok-None-clause-wanted : goal.returns-in-Ok-None-clause-wanted
 returns-in-Ok-None-clause-wanted g c task w =

@@ -1,4 +1,4 @@
-use Rattle.std.proofs.Common.{List, Option, Result, Ok, inl, map, subst}
+use Rattle.std.proofs.Common.{List, Option, Result, Ok, inl, inr, map, subst}
 use Rattle.clap.specs.declared.error.Error.{Error}
 use Rattle.cli_args.specs.declared.task.Task.{Task}
 use Rattle.cli_args.specs.declared.task.Task.TheVariants.{Show}
@@ -10,6 +10,11 @@ pub returns-in-Ok-Storm-clause-device : goal.returns-in-Ok-Storm-clause-device
 returns-in-Ok-Storm-clause-device g c three =
     let words = map g.S.AsStr.text c.args.words.now in
     inl (c.in-Ok-Storm.asked, subst (λ (t : Task). ParsesTo words t) c.in-Ok-Storm.field-0-is c.in-Ok-Storm.ensures.answers)
+
+pub returns-in-Ok-Resume-clause-device : goal.returns-in-Ok-Resume-clause-device
+returns-in-Ok-Resume-clause-device g c three =
+    let words = map g.S.AsStr.text c.args.words.now in
+    inr (inl (c.in-Ok-Resume.from, c.in-Ok-Resume.workers, subst (λ (t : Task). ParsesTo words t) c.in-Ok-Resume.field-0-is c.in-Ok-Resume.ensures.answers))
 
 pub returns-in-Ok-Show-clause-does : goal.returns-in-Ok-Show-clause-does
 returns-in-Ok-Show-clause-does g c =

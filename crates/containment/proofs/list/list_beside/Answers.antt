@@ -1,8 +1,4 @@
-use Rattle.std.proofs.Common.{◌≡◌, ◌∙◌, ℕ, List, IfOk, filter, nat_eq, sym, ap, subst}
-use Rattle.rule_machine.specs.declared.event.Event.{Event}
-use Rattle.rule_machine.specs.Network.{linked, names}
-use Rattle.containment_laws.specs.Reach.{is_in_reach, parts_a_pair}
-use Rattle.containment.specs.Candidates.{is_hit_or_parted, is_kept}
+use Rattle.containment.proofs.Prelude.{◌≡◌, ◌∙◌, ℕ, List, IfOk, filter, nat_eq, sym, ap, subst, Event, linked, names, is_in_reach, parts_a_pair, is_hit_or_parted, is_kept}
 use Rattle.containment.proofs.CoveredReach.{unlink_listed, point_listed, leave_listed}
 use Rattle.containment.proofs.list.list_beside.Goals as goal
 

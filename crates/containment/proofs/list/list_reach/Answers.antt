@@ -1,8 +1,4 @@
-use Rattle.std.proofs.Common.{◌≡◌, ◌∙◌, ℕ, false, List, IfOk, filter, nat_eq, sym, ap, subst}
-use Rattle.rule_machine.specs.declared.event.Event.{Event}
-use Rattle.rule_machine.specs.Network.{names}
-use Rattle.containment_laws.specs.Reach.{is_in_reach, parts_a_pair}
-use Rattle.containment.specs.Candidates.{is_hit_or_parted, is_kept}
+use Rattle.containment.proofs.Prelude.{◌≡◌, ◌∙◌, ℕ, false, List, IfOk, filter, nat_eq, sym, ap, subst, Event, names, is_in_reach, parts_a_pair, is_hit_or_parted, is_kept}
 use Rattle.containment.proofs.CoveredReach.{link_listed, write_listed, flag_listed, none_listed, unhit, no_names}
 use Rattle.containment.proofs.list.list_reach.Goals as goal
 

@@ -1,5 +1,4 @@
-use Rattle.std.proofs.Common.{◌∙◌, sym}
-use Rattle.machine_laws.specs.Pointers.{none_is, null_unmarried, points_true, partner_from}
+use Rattle.containment.proofs.Prelude.{◌∙◌, sym, none_is, null_unmarried, points_true, partner_from}
 use Rattle.containment.proofs.AbsentNames.{absent_unmarried, lone}
 use Rattle.containment.proofs.list.partner.Goals as goal
 

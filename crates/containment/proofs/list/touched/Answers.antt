@@ -1,8 +1,4 @@
-use Rattle.std.proofs.Common.{◌≡◌, ◌∙◌, ℕ, Bool, List, [], ◌∷◌, ◌++◌, cond, Vec, Global, sym, ap, subst}
-use Rattle.rule_machine.specs.declared.node.Node.{Node}
-use Rattle.std.proofs.lemmas.Bool.{cond-true, cond-false}
-use Rattle.rule_machine.specs.Network.{names}
-use Rattle.containment.specs.Candidates.{without_head, is_hit_or_parted}
+use Rattle.containment.proofs.Prelude.{◌≡◌, ◌∙◌, ℕ, Bool, List, [], ◌∷◌, ◌++◌, cond, Vec, Global, sym, ap, subst, Node, cond-true, cond-false, names, without_head, is_hit_or_parted}
 use Rattle.containment.proofs.MergedLists.{Remains, begun, taken, all_taken}
 use Rattle.containment.proofs.list.touched.Goals.{then-is_touched+in_ok-push, else-is_touched}
 use Rattle.containment.proofs.list.touched.Goals as goal

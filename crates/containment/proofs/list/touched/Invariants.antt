@@ -1,6 +1,4 @@
-use Rattle.std.proofs.Common.{◌≡◌, ℕ, Bool, ◌+◌, filter, length}
-use Rattle.rule_machine.specs.Network.{names}
-use Rattle.containment.specs.Candidates.{is_hit_or_parted}
+use Rattle.containment.proofs.Prelude.{◌≡◌, ℕ, Bool, ◌+◌, filter, length, names, is_hit_or_parted}
 use Rattle.containment.proofs.MergedLists.{Remains}
 use Rattle.containment.proofs.list.touched.Given as goal
 

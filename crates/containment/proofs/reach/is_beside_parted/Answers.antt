@@ -1,5 +1,4 @@
-use Rattle.std.proofs.Common.{◌∙◌, sym}
-use Rattle.containment_laws.specs.Reach.{is_parted}
+use Rattle.containment.proofs.Prelude.{◌∙◌, sym, is_parted}
 use Rattle.containment.proofs.AbsentNames.{absent_alone}
 use Rattle.containment.proofs.reach.is_beside_parted.Goals as goal
 

@@ -1,5 +1,4 @@
-use Rattle.std.proofs.Common.{◌≡◌, find, drop}
-use Rattle.containment_laws.specs.Reach.{is_parted}
+use Rattle.containment.proofs.Prelude.{◌≡◌, find, drop, is_parted}
 use Rattle.containment.proofs.reach.is_beside_parted.Given as goal
 
 abbrev pub invariant-loop-w : goal.invariant-loop-w

@@ -1,5 +1,4 @@
-use Rattle.std.proofs.Common.{◌≡◌, not, find, drop}
-use Rattle.rule_machine.specs.State.{married}
+use Rattle.containment.proofs.Prelude.{◌≡◌, not, find, drop, married}
 use Rattle.containment.proofs.rest.is_surrounded.Given as goal
 
 abbrev pub invariant-loop-w : goal.invariant-loop-w

@@ -1,6 +1,5 @@
-use Rattle.rule_machine.specs.HsuHuang.{hsu_huang}
-use Rattle.rule_machine.specs.Manne.{manne}
-use Rattle.containment_laws.specs.Proved as proved
+use Rattle.containment_laws.proofs.Prelude.{hsu_huang, manne}
+use Rattle.containment_laws.proofs.Proved as proved
 use Rattle.containment_laws.proofs.law.one_pair_is_lost.Goals as goal
 
 pub returns-clause-hsu_huang : goal.returns-clause-hsu_huang

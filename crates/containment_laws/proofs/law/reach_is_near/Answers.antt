@@ -1,4 +1,4 @@
-use Rattle.containment_laws.specs.NearReach as near
+use Rattle.containment_laws.proofs.NearReach as near
 use Rattle.containment_laws.proofs.law.reach_is_near.Goals as goal
 
 pub returns : goal.returns

@@ -1,4 +1,4 @@
-use Rattle.containment_laws.specs.ReachSize as small
+use Rattle.containment_laws.proofs.ReachSize as small
 use Rattle.containment_laws.proofs.law.reach_is_small.Goals as goal
 
 pub returns : goal.returns

@@ -1,4 +1,4 @@
-use Rattle.containment_laws.specs.AtRest.{rest_is, rest_from, all_rest, rest_is_stable}
+use Rattle.containment_laws.proofs.AtRest.{rest_is, rest_from, all_rest, rest_is_stable}
 use Rattle.containment_laws.proofs.law.stable_is_rest.Goals as goal
 
 pub returns-clause-rests : goal.returns-clause-rests

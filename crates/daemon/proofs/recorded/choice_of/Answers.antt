@@ -1,6 +1,4 @@
-use Rattle.std.proofs.Common.{rules, ◌≡◌, ◌≤◌, length, take, true, ap, sym, ◌∙◌, arith}
-use Rattle.daemon.specs.DaemonLaws.{plain}
-use Rattle.daemon.specs.RecordedLists.{named_of, first_or_all}
+use Rattle.daemon.proofs.Prelude.{rules, ◌≡◌, ◌≤◌, length, take, true, ap, sym, ◌∙◌, arith, plain, named_of, first_or_all}
 use Rattle.daemon.proofs.RecordedPlay.{plain_first, chosen_few, made}
 use Rattle.daemon.proofs.recorded.choice_of.Goals as goal
 use Rattle.daemon.proofs.recorded.choice_of.Goals.{then-central, else-central}

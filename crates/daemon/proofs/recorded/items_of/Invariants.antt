@@ -1,6 +1,4 @@
-use Rattle.std.proofs.Common.{◌≡◌, ◌≤◌, ◌++◌, drop, length, vec_capacity}
-use Rattle.daemon.specs.DaemonLaws.{plain}
-use Rattle.daemon.specs.RecordedLists.{named_of}
+use Rattle.daemon.proofs.Prelude.{◌≡◌, ◌≤◌, ◌++◌, drop, length, vec_capacity, plain, named_of}
 use Rattle.daemon.proofs.recorded.items_of.Given as goal
 
 abbrev pub invariant-loop-node : goal.invariant-loop-node

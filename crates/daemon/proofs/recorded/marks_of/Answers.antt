@@ -1,5 +1,4 @@
-use Rattle.std.proofs.Common.{◌<◌, true, set, ap, arith}
-use Rattle.std.proofs.lemmas.List.{length-set}
+use Rattle.daemon.proofs.Prelude.{◌<◌, true, set, ap, arith, length-set}
 use Rattle.daemon.proofs.Marks.{marking_new, marked_all, marking_more}
 use Rattle.daemon.proofs.recorded.marks_of.Goals as goal
 

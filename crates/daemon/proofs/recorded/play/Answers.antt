@@ -1,5 +1,4 @@
-use Rattle.std.proofs.Common.{◌≡◌, ◌<◌, length, map, get_or, ap, sym, ◌∙◌, arith}
-use Rattle.std.proofs.lemmas.List.{get_or-map, length-map}
+use Rattle.daemon.proofs.Prelude.{◌≡◌, ◌<◌, length, map, get_or, ap, sym, ◌∙◌, arith, get_or-map, length-map}
 use Rattle.daemon.proofs.RecordedPlay.{played_take, played_skip}
 use Rattle.daemon.proofs.recorded.play.Goals as goal
 

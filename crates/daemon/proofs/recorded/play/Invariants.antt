@@ -1,5 +1,4 @@
-use Rattle.std.proofs.Common.{◌≡◌, drop, map}
-use Rattle.daemon.specs.RecordedLists.{played}
+use Rattle.daemon.proofs.Prelude.{◌≡◌, drop, map, played}
 use Rattle.daemon.proofs.recorded.play.Given as goal
 
 abbrev pub invariant-loop-place : goal.invariant-loop-place

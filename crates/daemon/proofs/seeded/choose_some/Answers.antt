@@ -1,8 +1,4 @@
-use Rattle.std.proofs.Common.{rules, ◌≤◌, List, length, ap, ◌∙◌, arith}
-use Rattle.rand_core.specs.Stream.{Stream}
-use Rattle.rule_machine.specs.declared.choice.Item.{Item}
-use Rattle.enabled_set.specs.Members.{members}
-use Rattle.daemon.specs.DrawnChoices.{draw_some}
+use Rattle.daemon.proofs.Prelude.{rules, ◌≤◌, List, length, ap, ◌∙◌, arith, Stream, Item, members, draw_some}
 use Rattle.daemon.proofs.Odd.{some_few}
 use Rattle.daemon.proofs.Climb.{length_plain}
 use Rattle.daemon.proofs.seeded.choose_some.Goals as goal

@@ -1,6 +1,4 @@
-use Rattle.std.proofs.Common.{◌≡◌, ◌≤◌, ◌++◌, drop, length, vec_capacity}
-use Rattle.daemon.specs.DaemonLaws.{plain}
-use Rattle.daemon.specs.DrawnChoices.{draw_odd}
+use Rattle.daemon.proofs.Prelude.{◌≡◌, ◌≤◌, ◌++◌, drop, length, vec_capacity, plain, draw_odd}
 use Rattle.daemon.proofs.seeded.push_odd.Given as goal
 
 abbrev pub invariant-loop-node : goal.invariant-loop-node

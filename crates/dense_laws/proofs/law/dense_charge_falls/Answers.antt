@@ -1,4 +1,4 @@
-use Rattle.dense_laws.specs.Falls.{dense_falls, dense_bounded}
+use Rattle.dense_laws.proofs.Falls.{dense_falls, dense_bounded}
 use Rattle.dense_laws.proofs.law.dense_charge_falls.Goals as goal
 
 pub returns-clause-falls : goal.returns-clause-falls

@@ -1,4 +1,4 @@
-use Rattle.dense_laws.specs.Runs.{moves_are_few}
+use Rattle.dense_laws.proofs.Runs.{moves_are_few}
 use Rattle.dense_laws.proofs.law.moves_are_few.Goals as goal
 
 pub returns : goal.returns

@@ -1,7 +1,7 @@
 use Rattle.rule_machine.specs.HsuHuang.{hsu_huang}
 use Rattle.rule_machine.specs.Manne.{manne}
-use Rattle.charge_laws.specs.Tables.{hsu_huang_table, manne_table}
-use Rattle.charge_laws.specs.Laws.{hsu_huang_charged, manne_charged}
+use Rattle.charge_laws.proofs.Tables.{hsu_huang_table, manne_table}
+use Rattle.charge_laws.proofs.Laws.{hsu_huang_charged, manne_charged}
 use Rattle.drive_laws.proofs.Turns.{driven_is_quiet}
 use Rattle.drive_laws.proofs.law.long_drives_end_silent.Goals as goal
 

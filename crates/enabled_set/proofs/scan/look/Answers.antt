@@ -1,5 +1,5 @@
-use Rattle.std.proofs.Common.{◌%◌, ap, ◌∙◌}
-use Rattle.enabled_set.specs.Members.{has_bit, is_bit_on}
+use Rattle.enabled_set.proofs.Prelude.{◌%◌, ap, ◌∙◌, has_bit}
+use Rattle.enabled_set.specs.Members.{is_bit_on}
 use Rattle.enabled_set.proofs.scan.look.Goals as goal
 
 pub returns : goal.returns

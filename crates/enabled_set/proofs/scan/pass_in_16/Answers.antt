@@ -1,5 +1,4 @@
-use Rattle.std.proofs.Common.{◌≡◌, ap, arith}
-use Rattle.enabled_set.specs.Counts.{before}
+use Rattle.enabled_set.proofs.Prelude.{◌≡◌, ap, arith, before}
 use Rattle.enabled_set.proofs.Before.{before_none}
 use Rattle.enabled_set.proofs.Steps.{before_step}
 use Rattle.enabled_set.proofs.scan.pass_in_16.Goals as goal

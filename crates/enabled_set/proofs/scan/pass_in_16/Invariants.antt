@@ -1,5 +1,4 @@
-use Rattle.std.proofs.Common.{◌≡◌, ◌+◌}
-use Rattle.enabled_set.specs.Counts.{before}
+use Rattle.enabled_set.proofs.Prelude.{◌≡◌, ◌+◌, before}
 use Rattle.enabled_set.proofs.scan.pass_in_16.Given as goal
 
 abbrev pub invariant-loop-place : goal.invariant-loop-place

@@ -1,5 +1,4 @@
-use Rattle.std.proofs.Common.{◌+◌, ◌*◌, ◌≤◌}
-use Rattle.enabled_set.specs.Counts.{before}
+use Rattle.enabled_set.proofs.Prelude.{◌+◌, ◌*◌, ◌≤◌, before}
 use Rattle.enabled_set.proofs.Halves.{IsPassed}
 use Rattle.enabled_set.proofs.scan.pass_in_8.Given as goal
 

@@ -1,6 +1,4 @@
-use Rattle.std.proofs.Common.{◌≡◌, ◌+◌, ◌*◌, ℕ, ap, arith}
-use Rattle.enabled_set.specs.Members.{is_bit_on}
-use Rattle.enabled_set.specs.Counts.{tally}
+use Rattle.enabled_set.proofs.Prelude.{◌≡◌, ◌+◌, ◌*◌, ℕ, ap, arith, is_bit_on, tally}
 use Rattle.enabled_set.proofs.Passes.{word_ones, words_step, ones_few}
 use Rattle.enabled_set.proofs.Halves.{passed_none, passed_more, passed_all}
 use Rattle.enabled_set.proofs.scan.pass_words.Goals as goal

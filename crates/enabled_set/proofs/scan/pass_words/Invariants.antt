@@ -1,6 +1,4 @@
-use Rattle.std.proofs.Common.{◌+◌, ◌*◌, ◌≤◌}
-use Rattle.enabled_set.specs.Members.{is_bit_on}
-use Rattle.enabled_set.specs.Counts.{tally}
+use Rattle.enabled_set.proofs.Prelude.{◌+◌, ◌*◌, ◌≤◌, is_bit_on, tally}
 use Rattle.enabled_set.proofs.Halves.{IsPassed}
 use Rattle.enabled_set.proofs.scan.pass_words.Given as goal
 

@@ -1,6 +1,4 @@
-use Rattle.std.proofs.Common.{ℕ}
-use Rattle.enabled_set.specs.Members.{has_bit}
-use Rattle.enabled_set.specs.Counts.{tally}
+use Rattle.enabled_set.proofs.Prelude.{ℕ, has_bit, tally}
 use Rattle.enabled_set.proofs.Nth.{IsListed}
 use Rattle.enabled_set.proofs.scan.push_word.Given as goal
 

@@ -1,5 +1,4 @@
-use Rattle.std.proofs.Common.{arith}
-use Rattle.enabled_set.specs.Members.{has_bit}
+use Rattle.enabled_set.proofs.Prelude.{arith, has_bit}
 use Rattle.enabled_set.proofs.PassCounts.{tally_none}
 use Rattle.enabled_set.proofs.Bits.{last}
 use Rattle.enabled_set.proofs.word.find_bit.Goals as goal

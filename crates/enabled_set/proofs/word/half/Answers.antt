@@ -1,6 +1,4 @@
-use Rattle.std.proofs.Common.{arith}
-use Rattle.enabled_set.specs.Members.{has_bit}
-use Rattle.enabled_set.specs.Counts.{tally}
+use Rattle.enabled_set.proofs.Prelude.{arith, has_bit, tally}
 use Rattle.enabled_set.proofs.Bits.{ones_there}
 use Rattle.enabled_set.proofs.Halves.{halved}
 use Rattle.enabled_set.proofs.word.half.Goals as goal

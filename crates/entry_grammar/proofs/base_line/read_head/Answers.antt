@@ -1,5 +1,4 @@
-use Rattle.rule_machine.specs.Tables.{rules_word}
-use Rattle.line_text.specs.Words.{number_text}
+use Rattle.entry_grammar.proofs.Prelude.{rules_word, number_text}
 use Rattle.entry_grammar.proofs.Free.{free_no_cut, cut_once}
 use Rattle.entry_grammar.proofs.BaseLines.{rules_cut}
 use Rattle.entry_grammar.proofs.base_line.read_head.Goals as goal

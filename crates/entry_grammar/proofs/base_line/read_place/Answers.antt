@@ -1,5 +1,4 @@
-use Rattle.std.proofs.Common.{sym, ◌∙◌, arith}
-use Rattle.entry_grammar.specs.Parsing.{registers_text}
+use Rattle.entry_grammar.proofs.Prelude.{sym, ◌∙◌, arith, registers_text}
 use Rattle.entry_grammar.proofs.MarkedNames.{marked_once}
 use Rattle.entry_grammar.proofs.base_line.read_place.Goals as goal
 

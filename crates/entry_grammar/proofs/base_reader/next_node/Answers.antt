@@ -1,5 +1,4 @@
-use Rattle.std.proofs.Common.{arith}
-use Rattle.entry_grammar.specs.BaseLines.{place_line}
+use Rattle.entry_grammar.proofs.Prelude.{arith, place_line}
 use Rattle.entry_grammar.proofs.NextLines.{place_starts, no_place_starts, no_place_above}
 use Rattle.entry_grammar.proofs.base_reader.next_node.Goals as goal
 

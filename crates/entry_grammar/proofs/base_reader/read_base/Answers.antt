@@ -1,7 +1,4 @@
-use Rattle.std.proofs.Common.{◌≡◌, ℕ, ◌+◌, subst, sym, ◌∙◌}
-use Rattle.entry_grammar.specs.BaseLines.{BreaksAt}
-use Rattle.entry_grammar.specs.BaseParts.{EdgesBreak}
-use Rattle.entry_grammar.specs.declared.fault.BaseFault.TheVariants.{BadLine}
+use Rattle.entry_grammar.proofs.Prelude.{◌≡◌, ℕ, ◌+◌, subst, sym, ◌∙◌, BreaksAt, EdgesBreak, BadLine}
 use Rattle.entry_grammar.proofs.BaseBreaks.{by_error, first_breaks, node_breaks, edge_breaks}
 use Rattle.entry_grammar.proofs.base_reader.read_base.Goals as goal
 

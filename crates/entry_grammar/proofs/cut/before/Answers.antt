@@ -1,5 +1,4 @@
-use Rattle.std.proofs.lemmas.Slice.Eq.{strip_suffix_is}
-use Rattle.std.proofs.lemmas.Bool.Decides.{Decides-eqb}
+use Rattle.entry_grammar.proofs.Prelude.{strip_suffix_is, Decides-eqb}
 use Rattle.entry_grammar.proofs.cut.before.Goals as goal
 
 pub returns : goal.returns

@@ -1,5 +1,4 @@
-use Rattle.std.proofs.Common.{take}
-use Rattle.entry_grammar.specs.Parsing.{IsFree}
+use Rattle.entry_grammar.proofs.Prelude.{take, IsFree}
 use Rattle.entry_grammar.proofs.cut.cut.Given as goal
 
 abbrev pub invariant-loop-i : goal.invariant-loop-i

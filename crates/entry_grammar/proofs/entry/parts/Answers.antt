@@ -1,8 +1,5 @@
-use Rattle.std.proofs.Common.{◌≡◌, ◌∷◌, ◌++◌, [], arith}
-use Rattle.std.specs.Prelude.{codes}
-use Rattle.line_text.specs.Words.{number_text}
+use Rattle.entry_grammar.proofs.Prelude.{◌≡◌, ◌∷◌, ◌++◌, [], arith, codes, number_text, number_once}
 use Rattle.entry_grammar.proofs.Free.{free_no_cut}
-use Rattle.line_text.proofs.FewDigits.{number_once}
 use Rattle.entry_grammar.proofs.Parts.{number_cut, number_of_cut, parts_rest, parts_rest_cut, parts_cut, parts_made}
 use Rattle.entry_grammar.proofs.entry.parts.Goals as goal
 

@@ -1,7 +1,4 @@
-use Rattle.std.proofs.Common.{◌≡◌, refl, arith}
-use Rattle.line_text.specs.Words.{number_text}
-use Rattle.line_text.specs.EventText.{event_text}
-use Rattle.line_text.specs.ReplyText.{reply_text}
+use Rattle.entry_grammar.proofs.Prelude.{◌≡◌, refl, arith, number_text, event_text, reply_text}
 use Rattle.entry_grammar.proofs.Entries.{spelled_parts, spelled_same, number_is, no_command, no_reply, no_fit, step_asks, of_error}
 use Rattle.entry_grammar.proofs.entry.read_entry.Goals as goal
 use Rattle.entry_grammar.proofs.entry.read_entry.Goals.{then-number-eq0-via-then-number-eq0, then-number-eq0-via-else-number-eq0+then-number-gt-MAX_ENTRIES}

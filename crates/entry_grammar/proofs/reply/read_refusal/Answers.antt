@@ -1,7 +1,4 @@
-use Rattle.std.proofs.Common.{rules, ◌≡◌, sym, ap, ◌∙◌, arith}
-use Rattle.std.proofs.lemmas.Grind.{common_steps}
-use Rattle.rule_machine.specs.Refuse.{refusal_number, refusal_text}
-use Rattle.line_text.specs.Words.{number_text}
+use Rattle.entry_grammar.proofs.Prelude.{rules, ◌≡◌, sym, ap, ◌∙◌, arith, common_steps, refusal_number, refusal_text, number_text}
 use Rattle.entry_grammar.proofs.Free.{cut_once, free_no_cut}
 use Rattle.entry_grammar.proofs.RefusalsOnce.{refusal_cut, refusal_small, refusal_once, number_same, refusal_read}
 use Rattle.entry_grammar.proofs.reply.read_refusal.Goals as goal

@@ -1,5 +1,4 @@
-use Rattle.std.proofs.Common.{◌++◌, ap, ◌∙◌, arith}
-use Rattle.line_text.specs.ReplyText.{act_word}
+use Rattle.entry_grammar.proofs.Prelude.{◌++◌, ap, ◌∙◌, arith, act_word}
 use Rattle.entry_grammar.proofs.InFront.{act_begins, act_by_first}
 use Rattle.entry_grammar.proofs.tokens.read_act.Goals as goal
 

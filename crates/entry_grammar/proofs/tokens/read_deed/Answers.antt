@@ -1,6 +1,4 @@
-use Rattle.std.proofs.Common.{◌≡◌, ◌∷◌, sym, ◌∙◌, arith}
-use Rattle.std.proofs.lemmas.Bool.{true≢false}
-use Rattle.line_text.proofs.Digits.{name_once}
+use Rattle.entry_grammar.proofs.Prelude.{◌≡◌, ◌∷◌, sym, ◌∙◌, arith, true≢false, name_once}
 use Rattle.entry_grammar.proofs.InFront.{deed_marked, deed_name}
 use Rattle.entry_grammar.proofs.tokens.read_deed.Goals as goal
 

@@ -1,5 +1,4 @@
-use Rattle.std.proofs.Common.{◌∷◌, arith}
-use Rattle.line_text.proofs.Digits.{name_once}
+use Rattle.entry_grammar.proofs.Prelude.{◌∷◌, arith, name_once}
 use Rattle.entry_grammar.proofs.InFront.{marked_name}
 use Rattle.entry_grammar.proofs.tokens.read_marked.Goals as goal
 

@@ -1,7 +1,4 @@
-use Rattle.std.proofs.lemmas.Grind.{common_steps}
-use Rattle.std.proofs.Common.{◌≡◌, ◌++◌, sym, ◌∙◌, arith}
-use Rattle.line_text.specs.Words.{number_text}
-use Rattle.line_text.proofs.Digits.{name_once}
+use Rattle.entry_grammar.proofs.Prelude.{common_steps, ◌≡◌, ◌++◌, sym, ◌∙◌, arith, number_text, name_once}
 use Rattle.entry_grammar.proofs.MarkedNames.{marked_once}
 use Rattle.entry_grammar.proofs.tokens.read_pair.Goals as goal
 

@@ -1,5 +1,4 @@
-use Rattle.std.proofs.Common.{◌≡◌, ◌+◌, ◌-◌, ◌≤◌, length, true, slice_set, set, SomeIff, arith, ap, ◌∙◌, subst}
-use Rattle.rule_machine.specs.Network.{first_names}
+use Rattle.graph_store.proofs.Prelude.{◌≡◌, ◌+◌, ◌-◌, ◌≤◌, length, true, slice_set, set, SomeIff, arith, ap, ◌∙◌, subst, first_names}
 use Rattle.graph_store.proofs.PresentRows.{first_names_len, first_names_none, first_names_more}
 use Rattle.graph_store.proofs.edge_store.first_names.Goals as goal
 

@@ -1,5 +1,4 @@
-use Rattle.std.proofs.Common.{◌≡◌, ◌-◌}
-use Rattle.rule_machine.specs.Network.{first_names}
+use Rattle.graph_store.proofs.Prelude.{◌≡◌, ◌-◌, first_names}
 use Rattle.graph_store.proofs.edge_store.first_names.Given as goal
 
 abbrev pub invariant-loop-name : goal.invariant-loop-name

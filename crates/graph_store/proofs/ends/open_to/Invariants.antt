@@ -1,5 +1,4 @@
-use Rattle.std.proofs.Common.{◌≡◌, ◌≤◌, count_by, take}
-use Rattle.graph_store.specs.EdgeStances.{are_open, end_at}
+use Rattle.graph_store.proofs.Prelude.{◌≡◌, ◌≤◌, count_by, take, are_open, end_at}
 use Rattle.graph_store.proofs.ends.open_to.Given as goal
 
 -- what was counted so far

@@ -1,5 +1,4 @@
-use Rattle.std.proofs.Common.{◌≡◌, [], replicate}
-use Rattle.graph_store.specs.Rows.{contents}
+use Rattle.graph_store.proofs.Prelude.{◌≡◌, [], replicate, contents}
 use Rattle.graph_store.proofs.rows.empty_rows.Given as goal
 
 abbrev pub invariant-loop : goal.invariant-loop

@@ -1,7 +1,5 @@
-use Rattle.std.proofs.Common.{◌+◌, ◌-◌, ◌/◌, ◌<◌, ◌≤◌, sym, subst, ◌∙◌, arith}
-use Rattle.graph_store.specs.Rows.{IsPartFor}
+use Rattle.graph_store.proofs.Prelude.{◌+◌, ◌-◌, ◌/◌, ◌<◌, ◌≤◌, sym, subst, ◌∙◌, arith, IsPartFor, get_or_default_zero}
 use Rattle.graph_store.proofs.Halves.{in_order, out_of_order, upper_half, lower_half}
-use Rattle.std.proofs.lemmas.Grind.{get_or_default_zero}
 use Rattle.graph_store.proofs.rows.halve.Goals as goal
 use Rattle.graph_store.proofs.rows.halve.Goals.{then-lt, else-lt}
 

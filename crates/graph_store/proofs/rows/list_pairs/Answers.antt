@@ -1,5 +1,4 @@
-use Rattle.std.proofs.Common.{◌≤◌, ◌++◌, SomeIff, refl, sym, ap, ap₂, ◌∙◌, subst, take, arith}
-use Rattle.graph_store.specs.Rows.{contents, pairs_from}
+use Rattle.graph_store.proofs.Prelude.{◌≤◌, ◌++◌, SomeIff, refl, sym, ap, ap₂, ◌∙◌, subst, take, arith, contents, pairs_from}
 use Rattle.graph_store.proofs.Contents.{length_contents, row_read}
 use Rattle.graph_store.proofs.PairLists.{pairs_of, pairs_next}
 use Rattle.graph_store.proofs.rows.list_pairs.Goals as goal

@@ -1,5 +1,4 @@
-use Rattle.std.proofs.Common.{◌≡◌, take}
-use Rattle.graph_store.specs.Rows.{contents, pairs_from}
+use Rattle.graph_store.proofs.Prelude.{◌≡◌, take, contents, pairs_from}
 use Rattle.graph_store.proofs.rows.list_pairs.Given as goal
 
 abbrev pub invariant-loop-place : goal.invariant-loop-place

@@ -1,6 +1,5 @@
-use Rattle.std.proofs.Common.{◌≤◌}
+use Rattle.graph_store.proofs.Prelude.{◌≤◌, IsPartFor}
 use Rattle.std.specs.Prelude.{◌-◌, ◌^◌}
-use Rattle.graph_store.specs.Rows.{IsPartFor}
 use Rattle.graph_store.proofs.rows.narrow.Given as goal
 
 abbrev pub invariant-loop : goal.invariant-loop

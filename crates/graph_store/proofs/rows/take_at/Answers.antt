@@ -1,5 +1,4 @@
-use Rattle.std.proofs.Common.{◌∙◌, ap, length, arith}
-use Rattle.std.specs.List.{remove}
+use Rattle.graph_store.proofs.Prelude.{◌∙◌, ap, length, arith, remove}
 use Rattle.graph_store.proofs.Contents.{taken_out}
 use Rattle.graph_store.proofs.rows.take_at.Goals as goal
 

@@ -1,9 +1,4 @@
-use Rattle.std.proofs.Common.{◌&&◌, ◌∙◌, ◌≤◌, ℕ, Bool, cond, count_by, length, ap, sym, subst, arith}
-use Rattle.std.proofs.lemmas.List.{take_all}
-use Rattle.rule_machine.specs.Network.{neighbours}
-use Rattle.rule_machine.specs.State.{points}
-use Rattle.net_state.specs.StateViews.{StateView}
-use Rattle.enabled_set.proofs.Sums.{one_byte}
+use Rattle.indexed_state.proofs.Prelude.{◌&&◌, ◌∙◌, ◌≤◌, ℕ, Bool, cond, count_by, length, ap, sym, subst, arith, take_all, neighbours, points, StateView, one_byte}
 use Rattle.indexed_state.proofs.NodeScans.{few_neighbours}
 use Rattle.indexed_state.proofs.ContributionSums.{counted_more, few_bytes}
 use Rattle.indexed_state.proofs.share.closing_among.Goals as goal

@@ -1,7 +1,5 @@
-use Rattle.std.proofs.Common.{◌≡◌, ◌≤◌}
+use Rattle.indexed_state.proofs.Prelude.{◌≡◌, ◌≤◌, ◌&&◌, count_by, take, points}
 use Rattle.indexed_state.proofs.share.closing_among.Given as goal
-use Rattle.std.proofs.Common.{◌&&◌, count_by, take}
-use Rattle.rule_machine.specs.State.{points}
 
 -- what was counted so far
 abbrev pub invariant-loop-w : goal.invariant-loop-w

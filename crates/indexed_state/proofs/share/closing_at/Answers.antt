@@ -1,6 +1,4 @@
-use Rattle.std.proofs.Common.{◌∙◌, ℕ, Bool, cond, ap, sym}
-use Rattle.rule_machine.specs.State.{State}
-use Rattle.enabled_set.proofs.Sums.{one_byte}
+use Rattle.indexed_state.proofs.Prelude.{◌∙◌, ℕ, Bool, cond, ap, sym, State, one_byte}
 use Rattle.indexed_state.proofs.ContributionSums.{lone_closing, no_closing}
 use Rattle.indexed_state.proofs.share.closing_at.Goals as goal
 

@@ -1,5 +1,4 @@
-use Rattle.std.proofs.Common.{◌≡◌, ◌++◌, take}
-use Rattle.line_text.specs.Words.{lines_with_ends}
+use Rattle.line_text.proofs.Prelude.{◌≡◌, ◌++◌, take, lines_with_ends}
 use Rattle.line_text.proofs.base.put_lines.Given as goal
 
 abbrev pub invariant-loop-line : goal.invariant-loop-line

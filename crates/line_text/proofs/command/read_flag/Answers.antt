@@ -1,6 +1,5 @@
-use Rattle.std.proofs.Common.{arith}
+use Rattle.line_text.proofs.Prelude.{arith, bool_text}
 use Rattle.line_text.proofs.Digits.{word_once, WordThen-from}
-use Rattle.line_text.specs.EventText.{bool_text}
 use Rattle.line_text.proofs.command.read_flag.Goals as goal
 
 pub returns-in_default-read_bool : goal.returns-in_default-read_bool

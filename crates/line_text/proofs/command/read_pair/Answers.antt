@@ -1,6 +1,5 @@
-use Rattle.std.proofs.Common.{arith}
+use Rattle.line_text.proofs.Prelude.{arith, number_text}
 use Rattle.line_text.proofs.Digits.{word_once, WordThen-from}
-use Rattle.line_text.specs.Words.{number_text}
 use Rattle.line_text.proofs.command.read_pair.Goals as goal
 
 pub returns-in_default-read_last : goal.returns-in_default-read_last

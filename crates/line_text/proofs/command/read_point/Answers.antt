@@ -1,6 +1,5 @@
-use Rattle.std.proofs.Common.{arith}
+use Rattle.line_text.proofs.Prelude.{arith, target_text}
 use Rattle.line_text.proofs.Digits.{word_once, WordThen-from}
-use Rattle.line_text.specs.EventText.{target_text}
 use Rattle.line_text.proofs.command.read_point.Goals as goal
 
 pub returns-in_default-read_target : goal.returns-in_default-read_target

@@ -1,5 +1,4 @@
-use Rattle.std.proofs.Common.{append_assoc}
-use Rattle.std.proofs.lemmas.List.{append-nil}
+use Rattle.line_text.proofs.Prelude.{append_assoc, append-nil}
 use Rattle.line_text.proofs.entry.put_one_move.Goals as goal
 
 pub returns-clause-text : goal.returns-clause-text

@@ -1,5 +1,4 @@
-use Rattle.std.proofs.lemmas.Slice.Eq.{strip_prefix_is}
-use Rattle.std.proofs.lemmas.Bool.Decides.{Decides-eqb}
+use Rattle.line_text.proofs.Prelude.{strip_prefix_is, Decides-eqb}
 use Rattle.line_text.proofs.front.after.Goals as goal
 
 pub returns : goal.returns

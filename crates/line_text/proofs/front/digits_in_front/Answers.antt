@@ -1,10 +1,4 @@
-use Rattle.std.proofs.Common.{ℕ, ◌<◌, ◌≤◌, ◌+◌, ◌*◌, ◌%◌, ◌≡◌, List, length, get_or, take, ap, arith}
-use Rattle.std.specs.Int.{IsInRange}
-use Rattle.std.specs.Str.Parse.{AllDigits, digits_value}
-use Rattle.std.proofs.lemmas.Int.Digits.{digits_more, digits_value_more}
-use Rattle.std.proofs.lemmas.List.{length-take-le}
-use Rattle.std.proofs.lemmas.Str.{digit_value_digit}
-use Rattle.std.proofs.lemmas.Str.Parse.{digits_value_short}
+use Rattle.line_text.proofs.Prelude.{ℕ, ◌<◌, ◌≤◌, ◌+◌, ◌*◌, ◌%◌, ◌≡◌, List, length, get_or, take, ap, arith, IsInRange, AllDigits, digits_value, digits_more, digits_value_more, length-take-le, digit_value_digit, digits_value_short}
 use Rattle.line_text.proofs.Digits.{own}
 use Rattle.line_text.proofs.front.digits_in_front.Goals as goal
 

@@ -1,5 +1,4 @@
-use Rattle.std.proofs.Common.{◌≡◌, ◌≤◌, take}
-use Rattle.std.specs.Str.Parse.{AllDigits, digits_value}
+use Rattle.line_text.proofs.Prelude.{◌≡◌, ◌≤◌, take, AllDigits, digits_value}
 use Rattle.line_text.proofs.front.digits_in_front.Given as goal
 
 abbrev pub invariant-loop-i : goal.invariant-loop-i

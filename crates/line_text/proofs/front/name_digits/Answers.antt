@@ -1,6 +1,4 @@
-use Rattle.std.proofs.Common.{◌≡◌, ◌≤◌, ap, ◌∙◌, subst, take, length, arith}
-use Rattle.std.specs.Str.Parse.{AllDigits, digits_value}
-use Rattle.std.proofs.lemmas.List.{take-take, length-take-le}
+use Rattle.line_text.proofs.Prelude.{◌≡◌, ◌≤◌, ap, ◌∙◌, subst, take, length, arith, AllDigits, digits_value, take-take, length-take-le}
 use Rattle.line_text.proofs.Digits.{ends_within}
 use Rattle.line_text.proofs.front.name_digits.Goals as goal
 

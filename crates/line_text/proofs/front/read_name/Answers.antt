@@ -1,5 +1,4 @@
-use Rattle.std.proofs.Common.{sym, ◌∙◌, arith}
-use Rattle.std.proofs.lemmas.List.{take_rest}
+use Rattle.line_text.proofs.Prelude.{sym, ◌∙◌, arith, take_rest}
 use Rattle.line_text.proofs.Digits.{name_facts, found_name}
 use Rattle.line_text.proofs.Digits.{no_name}
 use Rattle.line_text.proofs.front.read_name.Goals as goal

@@ -1,5 +1,4 @@
-use Rattle.std.proofs.Common.{◌∷◌, arith}
-use Rattle.line_text.specs.Parsing.{NameThen, ItemThen}
+use Rattle.line_text.proofs.Prelude.{◌∷◌, arith, NameThen, ItemThen}
 use Rattle.line_text.proofs.ItemsOnce.{no_wish_no_item}
 use Rattle.line_text.proofs.items.read_item.Goals as goal
 

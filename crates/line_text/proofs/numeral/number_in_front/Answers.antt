@@ -1,5 +1,4 @@
-use Rattle.std.proofs.Common.{◌≡◌, ◌≤◌, get_or, arith}
-use Rattle.std.proofs.lemmas.List.{take_rest}
+use Rattle.line_text.proofs.Prelude.{◌≡◌, ◌≤◌, get_or, arith, take_rest}
 use Rattle.line_text.proofs.FewDigits.{number_facts_in, number_found}
 use Rattle.line_text.proofs.numeral.number_in_front.Goals as goal
 use Rattle.line_text.proofs.numeral.number_in_front.Goals.{then-len-eq0-via-then-len-eq0, then-len-eq0-via-else-len-eq0+then-len-gt-FEW_DIGITS, else-bytes-eq48-via-then-bytes-eq48+else-len-gt1, else-bytes-eq48-via-else-bytes-eq48}

@@ -1,9 +1,4 @@
-use Rattle.std.proofs.Common.{◌≡◌, ℕ, Bool, true, false, not, Ok, Result, refl, sym, subst, ap, ◌∙◌}
-use Rattle.std.specs.Str.{IsAscii}
-use Rattle.std.specs.Cmp.Lexicographic.{other_text}
-use Rattle.std.proofs.lemmas.Str.{IsUtf8-from_ascii}
-use Rattle.std.proofs.lemmas.Fmt.{IsAscii-decimal, parse-decimal}
-use Rattle.line_text.specs.Words.{number_text}
+use Rattle.line_text.proofs.Prelude.{◌≡◌, ℕ, Bool, true, false, not, Ok, Result, refl, sym, subst, ap, ◌∙◌, IsAscii, other_text, IsUtf8-from_ascii, IsAscii-decimal, parse-decimal, number_text}
 use Rattle.line_text.proofs.numeral.read_long.Goals as goal
 
 same_ok : {E : Type 0} (r : Result ℕ E) (m n : ℕ) → r ≡ Ok m → r ≡ Ok n → m ≡ n

@@ -1,5 +1,4 @@
-use Rattle.std.proofs.Common.{◌<◌, ◌^◌, ◌∙◌, sym, arith}
-use Rattle.std.proofs.lemmas.Fmt.{decimal_injective}
+use Rattle.line_text.proofs.Prelude.{◌<◌, ◌^◌, ◌∙◌, sym, arith, decimal_injective}
 use Rattle.line_text.proofs.numeral.read_number.Goals as goal
 
 pub returns-then-number-most : goal.returns-then-number-most

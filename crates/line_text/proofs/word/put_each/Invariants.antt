@@ -1,6 +1,4 @@
-use Rattle.std.proofs.Common.{◌≡◌, ◌++◌, length}
-use Rattle.std.specs.List.{AllByRecursion}
-use Rattle.line_text.specs.Words.{Extends, space_ended}
+use Rattle.line_text.proofs.Prelude.{◌≡◌, ◌++◌, length, AllByRecursion, Extends, space_ended}
 use Rattle.line_text.proofs.word.put_each.Given as goal
 
 abbrev pub invariant-loop-left : goal.invariant-loop-left

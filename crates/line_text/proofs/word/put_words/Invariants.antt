@@ -1,6 +1,4 @@
-use Rattle.std.proofs.Common.{◌≡◌, ◌++◌, ◌+◌, ◌*◌, ◌≤◌, take}
-use Rattle.std.specs.List.{AllByRecursion}
-use Rattle.line_text.specs.Words.{space_ended}
+use Rattle.line_text.proofs.Prelude.{◌≡◌, ◌++◌, ◌+◌, ◌*◌, ◌≤◌, take, AllByRecursion, space_ended}
 use Rattle.line_text.proofs.word.put_words.Given as goal
 
 abbrev pub invariant-loop-word : goal.invariant-loop-word

@@ -1,9 +1,5 @@
-use Rattle.std.proofs.Common.{refl, subst}
-use Rattle.std.specs.List.{All}
-use Rattle.std.proofs.lemmas.List.{take_all}
-use Rattle.std.proofs.lemmas.List.Elements.{All-more}
+use Rattle.locked_net.proofs.Prelude.{refl, subst, All, take_all, All-more, ClerkView, noted}
 use mathlib.Core.List.{IsPrefix}
-use Rattle.locked_net.specs.Receipts.{ClerkView, noted}
 use Rattle.locked_net.proofs.ending.all_begin.Goals as goal
 
 pub loop-clerk-preserved : goal.loop-clerk-preserved

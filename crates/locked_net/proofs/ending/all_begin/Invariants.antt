@@ -1,7 +1,5 @@
-use Rattle.std.proofs.Common.{take}
-use Rattle.std.specs.List.{All}
+use Rattle.locked_net.proofs.Prelude.{take, All, noted}
 use mathlib.Core.List.{IsPrefix}
-use Rattle.locked_net.specs.Receipts.{noted}
 use Rattle.locked_net.proofs.ending.all_begin.Given as goal
 
 abbrev pub invariant-loop-clerk : goal.invariant-loop-clerk

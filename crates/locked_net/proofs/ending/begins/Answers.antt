@@ -1,7 +1,5 @@
-use Rattle.std.proofs.Common.{Option, refl, sym, subst}
+use Rattle.locked_net.proofs.Prelude.{Option, refl, sym, subst, PublishedLog, noted}
 use mathlib.Core.List.{IsPrefix}
-use Rattle.snapshots.specs.Views.{PublishedLog}
-use Rattle.locked_net.specs.Receipts.{noted}
 use Rattle.locked_net.proofs.ending.begins.Goals as goal
 
 pub returns-in-None-clause-yes : goal.returns-in-None-clause-yes

@@ -1,5 +1,4 @@
-use Rattle.step_log.specs.JournalViews.{kept_of}
-use Rattle.step_log.proofs.HeadlineProof.{upheld}
+use Rattle.locked_net.proofs.Prelude.{kept_of, upheld}
 use Rattle.locked_net.proofs.ending.settle_journal.Goals as goal
 
 pub returns-in-Ok-clause-headline : goal.returns-in-Ok-clause-headline

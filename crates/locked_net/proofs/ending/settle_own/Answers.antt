@@ -1,11 +1,5 @@
-use Rattle.std.proofs.Common.{List, refl, sym, subst}
-use Rattle.std.specs.List.{All}
+use Rattle.locked_net.proofs.Prelude.{List, refl, sym, subst, All, JournalView, kept_of, IsPartNoted, book_of, setting_of, ClerkView, noted, Unsettles}
 use mathlib.Core.List.{IsPrefix}
-use Rattle.step_log.specs.JournalViews.{JournalView, kept_of}
-use Rattle.locked_net.specs.RetainedParts.{IsPartNoted}
-use Rattle.locked_net.specs.Nets.{book_of, setting_of}
-use Rattle.locked_net.specs.Receipts.{ClerkView, noted}
-use Rattle.locked_net.specs.Settlements.{Unsettles}
 use Rattle.locked_net.proofs.ClerkNotes.{part_noted, holds_at_ok, holds_at_err}
 use Rattle.locked_net.proofs.ending.settle_own.Goals as goal
 

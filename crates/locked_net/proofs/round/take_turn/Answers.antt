@@ -1,12 +1,17 @@
-use Rattle.locked_net.specs.Nets.{setting_of}
-use Rattle.locked_net.proofs.Turns.{turn_taken, fault_met}
+use Rattle.locked_net.proofs.Prelude.{ap, BoardName, book_of, setting_of}
+use Rattle.locked_net.proofs.Turns.{turn_taken, turn_keeps, fault_met}
 use Rattle.locked_net.proofs.round.take_turn.Goals as goal
 
 pub returns-clause-turn : goal.returns-clause-turn
 returns-clause-turn g c =
-    let told = c.roam-answer.ensures in
-    turn_taken (setting_of g.R.Rules.table c.args.net.now) c.args.turn c.roam-answer.result c.hold-held.result.log c.args.clerk.now.receipts c.roam-answer.new.clerk.receipts c.hold-held.ensures.own told.seen told.receipt
+    let told = c.roam-answer in
+    turn_taken (setting_of g.R.Rules.table c.args.net.now) c.args.turn told.result c.hold-held.result.log c.args.clerk.now told.new.clerk c.hold-held.ensures.own told.ensures.free told.ensures.receipt
 
 pub returns-clause-fault : goal.returns-clause-fault
 returns-clause-fault g c =
-    fault_met (setting_of g.R.Rules.table c.args.net.now) c.args.turn c.roam-answer.result c.hold-held.result.log c.args.clerk.now.receipts c.hold-held.ensures.own c.roam-answer.ensures.fault
+    fault_met (setting_of g.R.Rules.table c.args.net.now) c.args.turn c.roam-answer.result c.hold-held.result.log c.args.clerk.now c.hold-held.ensures.own c.roam-answer.ensures.fault
+
+pub returns-clause-note : goal.returns-clause-note
+returns-clause-note g c =
+    let told = c.roam-answer in
+    turn_keeps g.R.Rules.table (book_of c.args.net.now) c.args.turn c.hold-held.result told.new.self c.args.clerk.now told.new.clerk told.result (ap (λ (name : BoardName). name.book) c.hold-held.ensures.name) told.ensures.call told.ensures.free told.ensures.receipt

@@ -1,5 +1,4 @@
-use Rattle.locked_net.specs.Nets.{book_of, setting_of}
-use Rattle.locked_net.specs.RoamResults.{KeepsNote, TakesTurns}
+use Rattle.locked_net.proofs.Prelude.{book_of, setting_of, KeepsNote, TakesTurns}
 use Rattle.locked_net.proofs.round.take_turns.Given as goal
 
 abbrev pub invariant-loop-turn : goal.invariant-loop-turn

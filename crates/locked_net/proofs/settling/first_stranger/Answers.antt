@@ -1,8 +1,4 @@
-use Rattle.std.proofs.Common.{◌≡◌, length, refl, ap, subst, arith}
-use Rattle.std.proofs.lemmas.Option.{slice_get_read}
-use Rattle.step_log.specs.JournalViews.{kept_of}
-use Rattle.locked_net.specs.Settlements.{IsEntryAbove}
-use Rattle.locked_net.specs.Marks.{AreReceiptMarks}
+use Rattle.locked_net.proofs.Prelude.{◌≡◌, length, refl, ap, subst, arith, slice_get_read, kept_of, IsEntryAbove, AreReceiptMarks}
 use Rattle.locked_net.proofs.ReceiptMarks.{standing, place_more, clerk_more, stranger_found}
 use Rattle.locked_net.proofs.settling.first_stranger.Goals as goal
 

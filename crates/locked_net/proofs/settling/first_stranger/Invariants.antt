@@ -1,5 +1,4 @@
-use Rattle.step_log.specs.JournalViews.{kept_of}
-use Rattle.locked_net.specs.Marks.{AreReceiptMarks}
+use Rattle.locked_net.proofs.Prelude.{kept_of, AreReceiptMarks}
 use Rattle.locked_net.proofs.settling.first_stranger.Given as goal
 
 abbrev pub invariant-loop-place : goal.invariant-loop-place

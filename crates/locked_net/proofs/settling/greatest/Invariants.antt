@@ -1,5 +1,4 @@
-use Rattle.std.proofs.Common.{◌≡◌, take}
-use Rattle.locked_net.specs.Settlements.{greatest_base}
+use Rattle.locked_net.proofs.Prelude.{◌≡◌, take, greatest_base}
 use Rattle.locked_net.proofs.settling.greatest.Given as goal
 
 abbrev pub invariant-loop-clerk : goal.invariant-loop-clerk

@@ -1,5 +1,4 @@
-use Rattle.std.proofs.Common.{◌≡◌, ◌+◌, take}
-use Rattle.locked_net.specs.Settlements.{receipt_count}
+use Rattle.locked_net.proofs.Prelude.{◌≡◌, ◌+◌, take, receipt_count}
 use Rattle.locked_net.proofs.settling.has_count.Given as goal
 
 abbrev pub invariant-loop-clerk : goal.invariant-loop-clerk

@@ -1,8 +1,4 @@
-use Rattle.std.proofs.Common.{rules, ◌≡◌, length, refl, subst, ◌∙◌, arith}
-use Rattle.step_log.specs.JournalViews.{kept_of}
-use Rattle.step_log.specs.RetainedLogs.{last_number}
-use Rattle.locked_net.specs.Settlements.{receipt_count, greatest_base, base_number}
-use Rattle.locked_net.specs.Marks.{AreReceiptMarks}
+use Rattle.locked_net.proofs.Prelude.{rules, ◌≡◌, length, refl, subst, ◌∙◌, arith, kept_of, last_number, receipt_count, greatest_base, base_number, AreReceiptMarks}
 use Rattle.locked_net.proofs.ReceiptMarks.{settles, place_within}
 use Rattle.locked_net.proofs.settling.settled_with.Goals as goal
 

@@ -1,5 +1,4 @@
-use Rattle.step_log.specs.JournalViews.{kept_of}
-use Rattle.locked_net.specs.Marks.{AreReceiptMarks}
+use Rattle.locked_net.proofs.Prelude.{kept_of, AreReceiptMarks}
 use Rattle.locked_net.proofs.settling.settled_with.Given as goal
 
 abbrev pub invariant-loop-clerk : goal.invariant-loop-clerk

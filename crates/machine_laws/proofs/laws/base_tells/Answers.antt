@@ -1,4 +1,4 @@
-use Rattle.machine_laws.specs.Bases as bases
+use Rattle.machine_laws.proofs.Bases as bases
 use Rattle.machine_laws.proofs.laws.base_tells.Goals as goal
 
 pub returns : goal.returns

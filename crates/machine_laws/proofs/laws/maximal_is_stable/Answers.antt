@@ -1,4 +1,4 @@
-use Rattle.machine_laws.specs.Laws.{stable_from_maximal}
+use Rattle.machine_laws.proofs.MaximalMatchings.{stable_from_maximal}
 use Rattle.machine_laws.proofs.laws.maximal_is_stable.Goals as goal
 
 pub returns : goal.returns

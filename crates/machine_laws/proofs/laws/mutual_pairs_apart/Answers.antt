@@ -1,4 +1,4 @@
-use Rattle.machine_laws.specs.Laws.{pairs_are_edges, pairs_apart}
+use Rattle.machine_laws.proofs.MaximalMatchings.{pairs_are_edges, pairs_apart}
 use Rattle.machine_laws.proofs.laws.mutual_pairs_apart.Goals as goal
 
 pub returns-clause-edges : goal.returns-clause-edges

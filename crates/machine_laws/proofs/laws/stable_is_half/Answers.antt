@@ -1,4 +1,4 @@
-use Rattle.machine_laws.specs.HalfMatchings as half
+use Rattle.machine_laws.proofs.HalfMatchings as half
 use Rattle.machine_laws.proofs.laws.stable_is_half.Goals as goal
 
 pub returns : goal.returns

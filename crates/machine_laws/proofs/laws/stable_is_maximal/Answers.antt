@@ -1,4 +1,4 @@
-use Rattle.machine_laws.specs.Laws.{maximal_from_stable}
+use Rattle.machine_laws.proofs.MaximalMatchings.{maximal_from_stable}
 use Rattle.machine_laws.proofs.laws.stable_is_maximal.Goals as goal
 
 pub returns : goal.returns

@@ -1,14 +1,13 @@
-use Rattle.std.proofs.Common.{◌≡◌, IsTrue}
-use Rattle.rule_machine.specs.Network.{present, edge_count}
-use Rattle.rule_machine.specs.Disturbance.{after_leave}
+use Rattle.net_state.proofs.Prelude.{◌≡◌, IsTrue, present, edge_count, after_leave}
 use Rattle.net_state.proofs.disturb.unlink_all.Given as goal
 
 -- the node is present, and its leave would have the same result as before
 abbrev pub invariant-loop-w : goal.invariant-loop-w
 invariant-loop-w g l = record {
-  here : IsTrue (present (g.D.StateWriter.state l.it).network l.v);
-  left : after_leave (g.D.StateWriter.state l.it) l.v ≡ after_leave (g.D.StateWriter.state l.initial.it) l.v;
+  here : IsTrue (present l.net.state.network l.v);
+  left : after_leave l.net.state l.v ≡ after_leave l.initial.net.state l.v;
+  fits : g.O.Observer.fits l.net l.seen;
 }
 
 abbrev pub decreases-loop-w : goal.decreases-loop-w
-decreases-loop-w g l = edge_count (g.D.StateWriter.state l.it).network
+decreases-loop-w g l = edge_count l.net.state.network

@@ -1,9 +1,4 @@
-use Rattle.std.proofs.Common.{rules, ◌≡◌, ◌≢◌, ◌<◌, ◌+◌, ℕ, List, length, fold, drop, get_or, drop-cons, suc, refl, ap, sym, add-one, ◌∙◌}
-use Rattle.rule_machine.specs.declared.act.Act.{Act}
-use Rattle.rule_machine.specs.declared.act.Act.TheVariants.{Update, Marry, Seduce, Abandon}
-use Rattle.rule_machine.specs.declared.act.Moved.{Moved}
-use Rattle.rule_machine.specs.State.{State, Registers, with_flag}
-use Rattle.machine_laws.specs.TwoPasses.{flag_read, flag_read_by, is_answered_at}
+use Rattle.net_state.proofs.Prelude.{rules, ◌≡◌, ◌≢◌, ◌<◌, ◌+◌, ℕ, List, length, fold, drop, get_or, drop-cons, suc, refl, ap, sym, add-one, ◌∙◌, Act, Update, Marry, Seduce, Abandon, Moved, State, Registers, with_flag, flag_read, flag_read_by, is_answered_at}
 use Rattle.net_state.proofs.disturb.write_flags.Goals as goal
 use Rattle.net_state.proofs.disturb.write_flags.Goals.{then-eq, else-eq}
 
@@ -24,19 +19,21 @@ no_flag r v Abandon other = refl
 pub loop-moved-preserved : goal.loop-moved-preserved
 loop-moved-preserved g c =
     let m = c.moved-item.result in
-    let s = g.D.StateWriter.state c.loop-moved.it in
+    let s = c.loop-moved.net.state in
     elim c.if-eq.branch [
       | then-eq w ↦
-          let married = w.married-married.ensures ∙ ap (λ r. is_answered_at r m.node) (w.registers.ensures.value ∙ ap (λ (u : State). u.registers) w.net.ensures.state) in
+          let married = w.married-married.ensures ∙ ap (λ r. is_answered_at r m.node) (w.registers.ensures.value) in
           record {
             rest = read_more c.args.moves.now c.loop-moved.moved-index m _ _ _ c.loop-moved-test.true c.moved-item.is c.loop-moved.invariant.rest
-                (ap (λ n. (g.D.StateWriter.state n).registers) w.it-is ∙ ap (λ (u : State). u.registers) w.set_flag.ensures.value
+                (ap (λ n. n.state.registers) w.net-is ∙ ap (λ (u : State). u.registers) w.set_flag.ensures.value
                 ∙ ap (with_flag s.registers m.node) married
                 ∙ sym (ap (flag_read_by s.registers m.node) (let same : m.act ≡ Update = search rules in same)));
-            network = ap (λ n. (g.D.StateWriter.state n).network) w.it-is ∙ ap (λ (u : State). u.network) w.set_flag.ensures.value ∙ c.loop-moved.invariant.network;
+            network = ap (λ n. n.state.network) w.net-is ∙ ap (λ (u : State). u.network) w.set_flag.ensures.value ∙ c.loop-moved.invariant.network;
+            fits = rw (w.net-is, w.seen-is) w.set_flag.ensures.fits;
           }
       | else-eq w ↦ record {
-        rest = read_more c.args.moves.now c.loop-moved.moved-index m _ _ _ c.loop-moved-test.true c.moved-item.is c.loop-moved.invariant.rest (ap (λ n. (g.D.StateWriter.state n).registers) w.it-is ∙ no_flag s.registers m.node m.act (let other : m.act ≢ Update = search rules in other));
-        network = ap (λ n. (g.D.StateWriter.state n).network) w.it-is ∙ c.loop-moved.invariant.network;
+        rest = read_more c.args.moves.now c.loop-moved.moved-index m _ _ _ c.loop-moved-test.true c.moved-item.is c.loop-moved.invariant.rest (ap (λ n. n.state.registers) w.net-is ∙ no_flag s.registers m.node m.act (let other : m.act ≢ Update = search rules in other));
+        network = ap (λ n. n.state.network) w.net-is ∙ c.loop-moved.invariant.network;
+        fits = rw (w.net-is, w.seen-is) c.loop-moved.invariant.fits;
       }
     ]

@@ -1,9 +1,9 @@
-use Rattle.std.proofs.Common.{◌≡◌, fold, drop}
-use Rattle.machine_laws.specs.TwoPasses.{pointer_written}
+use Rattle.net_state.proofs.Prelude.{◌≡◌, fold, drop, pointer_written}
 use Rattle.net_state.proofs.disturb.write_pointers.Given as goal
 
 abbrev pub invariant-loop-moved : goal.invariant-loop-moved
 invariant-loop-moved g l = record {
-  rest : fold pointer_written (g.D.StateWriter.state l.it).registers (drop l.moved-index l.moves) ≡ fold pointer_written (g.D.StateWriter.state l.fn.it).registers l.moves;
-  network : (g.D.StateWriter.state l.it).network ≡ (g.D.StateWriter.state l.fn.it).network;
+  rest : fold pointer_written l.net.state.registers (drop l.moved-index l.moves) ≡ fold pointer_written l.fn.net.state.registers l.moves;
+  network : l.net.state.network ≡ l.fn.net.state.network;
+  fits : g.O.Observer.fits l.net l.seen;
 }

@@ -1,5 +1,4 @@
-use Rattle.std.proofs.Common.{◌≡◌}
-use Rattle.std.specs.List.{range_with_len}
+use Rattle.reference_model.proofs.Prelude.{◌≡◌, range_with_len}
 use Rattle.reference_model.proofs.plain_net.all_names.Given as goal
 
 abbrev pub invariant-loop-below : goal.invariant-loop-below

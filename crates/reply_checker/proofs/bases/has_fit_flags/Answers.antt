@@ -1,8 +1,4 @@
-use Rattle.std.proofs.Common.{◌≡◌, ◌∙◌, false, sym, ap}
-use Rattle.std.proofs.lemmas.Bool.{not-true, not_from_false}
-use Rattle.std.specs.List.{list_any}
-use Rattle.rule_machine.specs.Base.{node_records}
-use Rattle.rule_machine.specs.Tables.{table_of}
+use Rattle.reply_checker.proofs.Prelude.{◌≡◌, ◌∙◌, false, sym, ap, not-true, not_from_false, list_any, node_records, table_of}
 use Rattle.reply_checker.proofs.BaseStarts.{none_flagged, no_flag_listed}
 use Rattle.reply_checker.proofs.bases.has_fit_flags.Goals as goal
 

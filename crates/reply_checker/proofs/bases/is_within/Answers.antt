@@ -1,6 +1,4 @@
-use Rattle.std.proofs.Common.{◌-◌, ◌∙◌, nat_le, ap, ap₂, arith}
-use Rattle.charge_laws.specs.ChargeWords.{charge_bound}
-use Rattle.rule_machine.specs.Tables.{table_of, weight_of}
+use Rattle.reply_checker.proofs.Prelude.{◌-◌, ◌∙◌, nat_le, ap, ap₂, arith, charge_bound, table_of, weight_of}
 use Rattle.reply_checker.proofs.BaseStarts.{charge_within, beside}
 use Rattle.reply_checker.proofs.bases.is_within.Goals as goal
 

@@ -1,5 +1,4 @@
-use Rattle.std.proofs.Common.{◌≡◌, find, drop, is_none}
-use Rattle.rule_machine.specs.State.{pointer}
+use Rattle.reply_checker.proofs.Prelude.{◌≡◌, find, drop, is_none, pointer}
 use Rattle.reply_checker.proofs.hsu_huang.first_null_among.Given as goal
 
 abbrev pub invariant-loop-w : goal.invariant-loop-w

@@ -1,8 +1,4 @@
-use Rattle.std.proofs.Common.{◌≡◌, ◌↔◌, ◌∙◌, IsTrue, sym, ap, subst}
-use Rattle.rule_machine.specs.Answer.{Does}
-use Rattle.rule_machine.specs.declared.event.Event.TheVariants.{Step}
-use Rattle.rule_machine.specs.Tables.{table_of}
-use Rattle.machine_laws.specs.StatesAfterReplies.{followed}
+use Rattle.reply_checker.proofs.Prelude.{◌≡◌, ◌↔◌, ◌∙◌, IsTrue, sym, ap, subst, Does, Step, table_of, followed}
 use Rattle.reply_checker.proofs.judging.may_accept.Goals as goal
 
 pub returns-in-Step-clause-value : goal.returns-in-Step-clause-value

@@ -1,6 +1,4 @@
-use Rattle.std.proofs.Common.{◌≡◌, ◌+◌, ◌&&◌, ◌∷◌, ◌∙◌, ℕ, Bool, true, false, find, drop, nat_lt, sym, ap, arith}
-use Rattle.std.proofs.lemmas.List.{drop_more}
-use Rattle.rule_machine.specs.Manne.{may_court}
+use Rattle.reply_checker.proofs.Prelude.{◌≡◌, ◌+◌, ◌&&◌, ◌∷◌, ◌∙◌, ℕ, Bool, true, false, find, drop, nat_lt, sym, ap, arith, drop_more, may_court}
 use Rattle.reply_checker.proofs.manne.first_to_court_above.Goals as goal
 use Rattle.reply_checker.proofs.manne.first_to_court_above.Goals.{else-lt-via-then-lt+else-may_court, else-lt-via-else-lt}
 

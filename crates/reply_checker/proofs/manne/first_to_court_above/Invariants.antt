@@ -1,5 +1,4 @@
-use Rattle.std.proofs.Common.{◌≡◌, find, drop, ◌&&◌, nat_lt}
-use Rattle.rule_machine.specs.Manne.{may_court}
+use Rattle.reply_checker.proofs.Prelude.{◌≡◌, find, drop, ◌&&◌, nat_lt, may_court}
 use Rattle.reply_checker.proofs.manne.first_to_court_above.Given as goal
 
 abbrev pub invariant-loop-x : goal.invariant-loop-x

@@ -1,5 +1,4 @@
-use Rattle.std.proofs.Common.{◌≡◌, find, drop, is_none, nat_lt, not, ◌&&◌}
-use Rattle.rule_machine.specs.State.{pointer, flag}
+use Rattle.reply_checker.proofs.Prelude.{◌≡◌, find, drop, is_none, nat_lt, not, ◌&&◌, pointer, flag}
 use Rattle.reply_checker.proofs.manne.first_to_court_among.Given as goal
 
 abbrev pub invariant-loop-w : goal.invariant-loop-w

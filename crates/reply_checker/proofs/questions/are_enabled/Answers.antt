@@ -1,10 +1,4 @@
-use Rattle.std.proofs.Common.{◌≡◌, ◌↔◌, ◌∙◌, ℕ, List, IsTrue, ap, eqb-true, length, sym, subst}
-use Rattle.rule_machine.specs.declared.act.Act.{Act}
-use Rattle.rule_machine.specs.declared.reply.Reply.TheVariants.{EnabledAre}
-use Rattle.rule_machine.specs.State.{State}
-use Rattle.rule_machine.specs.Tables.{table_of}
-use Rattle.rule_machine.specs.RuleTable.{enabled}
-use Rattle.reply_checker.specs.AscendingLists.{AreRising, ruled_node}
+use Rattle.reply_checker.proofs.Prelude.{◌≡◌, ◌↔◌, ◌∙◌, ℕ, List, IsTrue, ap, eqb-true, length, sym, subst, Act, EnabledAre, State, table_of, enabled, AreRising, ruled_node}
 use Rattle.reply_checker.proofs.AscendingLists.{enabled_count, enabled_listed}
 use Rattle.reply_checker.proofs.questions.are_enabled.Goals as goal
 

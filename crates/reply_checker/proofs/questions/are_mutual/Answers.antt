@@ -1,8 +1,4 @@
-use Rattle.std.proofs.Common.{◌≡◌, ◌↔◌, ◌∙◌, ℕ, List, IsTrue, ap, sym, subst}
-use Rattle.rule_machine.specs.declared.reply.Reply.TheVariants.{Pairs}
-use Rattle.rule_machine.specs.State.{State}
-use Rattle.rule_machine.specs.Stable.{mutual_pairs}
-use Rattle.reply_checker.specs.AscendingLists.{AreRising, lower_end_pair}
+use Rattle.reply_checker.proofs.Prelude.{◌≡◌, ◌↔◌, ◌∙◌, ℕ, List, IsTrue, ap, sym, subst, Pairs, State, mutual_pairs, AreRising, lower_end_pair}
 use Rattle.reply_checker.proofs.AscendingLists.{pairs_listed}
 use Rattle.reply_checker.proofs.questions.are_mutual.Goals as goal
 

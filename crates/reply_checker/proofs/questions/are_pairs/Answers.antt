@@ -1,6 +1,4 @@
-use Rattle.std.proofs.Common.{◌≡◌, ◌∙◌, sym, arith}
-use Rattle.std.proofs.lemmas.Bool.{true≢false}
-use Rattle.reply_checker.specs.AscendingLists.{AreRising, lower_end_pair}
+use Rattle.reply_checker.proofs.Prelude.{◌≡◌, ◌∙◌, sym, arith, true≢false, AreRising, lower_end_pair}
 use Rattle.reply_checker.proofs.AscendingLists.{rise_more, rise_not, rise_end}
 use Rattle.reply_checker.proofs.questions.are_pairs.Goals as goal
 use Rattle.reply_checker.proofs.questions.are_pairs.Goals.{then-low-last-via-then-low-last, then-low-last-via-else-low-last+then-not-is_mutual}

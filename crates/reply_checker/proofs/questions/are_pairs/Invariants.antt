@@ -1,5 +1,4 @@
-use Rattle.std.proofs.Common.{◌↔◌, drop}
-use Rattle.reply_checker.specs.AscendingLists.{AreRising, lower_end_pair}
+use Rattle.reply_checker.proofs.Prelude.{◌↔◌, drop, AreRising, lower_end_pair}
 use Rattle.reply_checker.proofs.questions.are_pairs.Given as goal
 
 abbrev pub invariant-loop-pair : goal.invariant-loop-pair

@@ -1,6 +1,4 @@
-use Rattle.std.proofs.Common.{◌∙◌, ap₂, sym}
-use Rattle.std.proofs.lemmas.Bool.{true≢false}
-use Rattle.rule_machine.specs.State.{points}
+use Rattle.reply_checker.proofs.Prelude.{◌∙◌, ap₂, sym, true≢false, points}
 use Rattle.reply_checker.proofs.AscendingLists.{told_back, told_apart}
 use Rattle.reply_checker.proofs.questions.is_mutual.Goals as goal
 

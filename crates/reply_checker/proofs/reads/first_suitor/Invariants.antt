@@ -1,5 +1,4 @@
-use Rattle.std.proofs.Common.{◌≡◌, find, drop}
-use Rattle.rule_machine.specs.State.{suits}
+use Rattle.reply_checker.proofs.Prelude.{◌≡◌, find, drop, suits}
 use Rattle.reply_checker.proofs.reads.first_suitor.Given as goal
 
 abbrev pub invariant-loop-w : goal.invariant-loop-w

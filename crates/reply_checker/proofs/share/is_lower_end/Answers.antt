@@ -1,5 +1,4 @@
-use Rattle.std.proofs.Common.{◌∙◌, refl, sym, arith}
-use Rattle.rule_machine.specs.State.{points}
+use Rattle.reply_checker.proofs.Prelude.{◌∙◌, refl, sym, arith, points}
 use Rattle.reply_checker.proofs.NodeCounts.{below_test}
 use Rattle.reply_checker.proofs.Pairs.{lower_end, no_lower_end}
 use Rattle.reply_checker.proofs.share.is_lower_end.Goals as goal

@@ -1,6 +1,4 @@
-use Rattle.std.proofs.Common.{rules, of_calls}
-use Rattle.std.proofs.lemmas.Fn.{always_returns_same}
-use Rattle.machine_laws.specs.AscendingMoves.{ascending_by, is_before}
+use Rattle.reply_checker.proofs.Prelude.{rules, of_calls, always_returns_same, ascending_by, is_before}
 use Rattle.reply_checker.proofs.steps.are_ascending.Goals as goal
 
 pub returns : goal.returns

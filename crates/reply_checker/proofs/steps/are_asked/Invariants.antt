@@ -1,7 +1,4 @@
-use Rattle.std.proofs.Common.{◌≡◌, true, take}
-use Rattle.std.specs.List.{list_all}
-use Rattle.rule_machine.specs.Tables.{table_of}
-use Rattle.reply_checker.specs.Choices.{item_at, is_move_by}
+use Rattle.reply_checker.proofs.Prelude.{◌≡◌, true, take, list_all, table_of, item_at, is_move_by}
 use Rattle.reply_checker.proofs.steps.are_asked.Given as goal
 
 abbrev pub invariant-loop-made : goal.invariant-loop-made

@@ -1,7 +1,4 @@
-use Rattle.std.proofs.Common.{◌∙◌, ◌&&◌, true, sym, ap}
-use Rattle.std.specs.List.{list_all}
-use Rattle.rule_machine.specs.Tables.{table_of}
-use Rattle.machine_laws.specs.MoveTests.{is_asked, is_answered}
+use Rattle.reply_checker.proofs.Prelude.{◌∙◌, ◌&&◌, true, sym, ap, list_all, table_of, is_asked, is_answered}
 use Rattle.reply_checker.proofs.Table.{asked_by, left_answered, within_left, within_from_all}
 use Rattle.reply_checker.proofs.steps.are_of_items.Goals as goal
 use Rattle.reply_checker.proofs.steps.are_of_items.Goals.{then-not-fits_daemon-via-then-not-fits_daemon, then-not-fits_daemon-via-else-not-fits_daemon+then-not-are_asked}

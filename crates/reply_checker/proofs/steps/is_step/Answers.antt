@@ -1,6 +1,4 @@
-use Rattle.std.proofs.Common.{sym, ◌∙◌}
-use Rattle.rule_machine.specs.Tables.{table_of}
-use Rattle.machine_laws.specs.StepTests.{step_from_tests, tests_from_step}
+use Rattle.reply_checker.proofs.Prelude.{sym, ◌∙◌, table_of, step_from_tests, tests_from_step}
 use Rattle.reply_checker.proofs.Table.{within_from_all}
 use Rattle.reply_checker.proofs.steps.is_step.Goals as goal
 

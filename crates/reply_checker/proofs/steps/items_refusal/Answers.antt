@@ -1,8 +1,4 @@
-use Rattle.std.proofs.Common.{◌≡◌, ◌+◌, ◌<◌, ◌≤◌, ◌∙◌, None, Some, is_some, length, take, sym, ap, refl, subst, arith}
-use Rattle.std.proofs.lemmas.List.{length-set}
-use Rattle.rule_machine.specs.Tables.{table_of}
-use Rattle.machine_laws.specs.Neighbours.{present_range}
-use Rattle.reply_checker.specs.Choices.{refused_item, is_item_node, HasChosenItems}
+use Rattle.reply_checker.proofs.Prelude.{◌≡◌, ◌+◌, ◌<◌, ◌≤◌, ◌∙◌, None, Some, is_some, length, take, sym, ap, refl, subst, arith, length-set, table_of, present_range, refused_item, is_item_node, HasChosenItems}
 use Rattle.reply_checker.proofs.Table.{item_refused, refusal_more, refusal_here, held_more, item_taken, within_from_held}
 use Rattle.reply_checker.proofs.steps.items_refusal.Goals as goal
 

@@ -1,7 +1,5 @@
-use Rattle.std.proofs.Common.{◌≡◌, [], take, drop, length}
+use Rattle.reply_checker.proofs.Prelude.{◌≡◌, [], take, drop, length, table_of, HasChosenItems}
 use Rattle.rule_machine.specs.Refuse as refuse
-use Rattle.rule_machine.specs.Tables.{table_of}
-use Rattle.reply_checker.specs.Choices.{HasChosenItems}
 use Rattle.reply_checker.proofs.steps.items_refusal.Given as goal
 
 abbrev pub invariant-loop-item : goal.invariant-loop-item

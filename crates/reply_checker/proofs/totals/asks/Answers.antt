@@ -1,5 +1,4 @@
-use Rattle.std.proofs.Common.{◌∙◌, ◌||◌, is_none, sym, ap}
-use Rattle.rule_machine.specs.State.{is_at}
+use Rattle.reply_checker.proofs.Prelude.{◌∙◌, ◌||◌, is_none, sym, ap, is_at}
 use Rattle.reply_checker.proofs.Pairs.{neighbour_asks}
 use Rattle.reply_checker.proofs.totals.asks.Goals as goal
 

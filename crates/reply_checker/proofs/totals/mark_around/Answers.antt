@@ -1,7 +1,4 @@
-use Rattle.std.proofs.Common.{◌∙◌, ℕ, IsTrue, length, ap, subst, sym, arith}
-use Rattle.enabled_set.specs.Members.{is_in}
-use Rattle.rule_machine.specs.Network.{present}
-use Rattle.machine_laws.specs.Neighbours.{present_range}
+use Rattle.reply_checker.proofs.Prelude.{◌∙◌, ℕ, IsTrue, length, ap, subst, sym, arith, is_in, present, present_range}
 use Rattle.reply_checker.proofs.AskingNeighbours.{asking_end, asking_first, asking_next, asking_none, is_marked}
 use Rattle.reply_checker.proofs.totals.mark_around.Goals as goal
 use Rattle.reply_checker.proofs.totals.mark_around.Goals.{then-asks, else-asks}

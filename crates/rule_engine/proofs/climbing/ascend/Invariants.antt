@@ -1,5 +1,4 @@
-use Rattle.std.proofs.Common.{ℕ, ◌<◌, ◌≤◌, get_or}
-use Rattle.rule_machine.specs.declared.choice.Item.{Item}
+use Rattle.rule_engine.proofs.Prelude.{ℕ, ◌<◌, ◌≤◌, get_or, Item}
 use Rattle.rule_engine.proofs.climbing.ascend.Given as goal
 
 -- the items so far ascend, up to the last

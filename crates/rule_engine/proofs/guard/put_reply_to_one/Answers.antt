@@ -1,10 +1,4 @@
-use Rattle.std.proofs.Common.{◌≡◌, ◌∙◌, ◌∷◌, [], Option, false, None, Some, refl, sym, ap, subst}
-use Rattle.rule_machine.specs.declared.refusal.Refusal.{Refusal}
-use Rattle.rule_machine.specs.declared.reply.Reply.TheVariants.{Moves}
-use Rattle.rule_machine.specs.declared.verdict.Outcome.{Outcome}
-use Rattle.rule_machine.specs.Least.{move_in, outcome_of}
-use Rattle.rule_machine.specs.Refuse.{items_refusal}
-use Rattle.rule_engine.specs.ChoiceMoves.{AreLeast, IsToldOf, moves_by, refused_by}
+use Rattle.rule_engine.proofs.Prelude.{◌≡◌, ◌∙◌, ◌∷◌, [], Option, false, None, Some, refl, sym, ap, subst, Refusal, Moves, Outcome, move_in, outcome_of, items_refusal, AreLeast, IsToldOf, moves_by, refused_by}
 use Rattle.rule_engine.proofs.AscendingMoves.{one_least}
 use Rattle.rule_engine.proofs.ItemVerdicts.{one_refusal}
 use Rattle.rule_engine.proofs.guard.put_reply_to_one.Goals as goal

@@ -1,6 +1,28 @@
-use Rattle.std.proofs.Common.{◌∙◌}
-use Rattle.rule_engine.proofs.NodeMarks.{clear_same}
+use Rattle.rule_engine.proofs.Prelude.{◌≡◌, ◌+◌, cond, is_some, None, set, sym, ap, subst, ◌∙◌, length, true, Item, Outcome, is_in, refused_by, HasPlace}
+use Rattle.rule_engine.proofs.NodeMarks.{passes, item_refused, item_placed, taken_more}
 use Rattle.rule_engine.proofs.guard.take_items.Goals as goal
 
-pub returns-clause-kept : goal.returns-clause-kept
-returns-clause-kept g c = clear_same c.args.chosen.now c.clear.new.self (c.clear.ensures.places ∙ c.take_up_to_refusal-refusal.ensures.len) c.requires.clear c.clear.ensures.clear
+pub returns-in-Some-clause-refusal : goal.returns-in-Some-clause-refusal
+returns-in-Some-clause-refusal g c =
+    let item = c.item-item.result in
+    let marks = c.loop-item.chosen in
+    item_refused g.R.Rules.table c.args.state.now.state c.args.items.now c.loop-item.item-index item (is_in marks item.node) c.in-Some.refusal c.loop-item-test.true c.item-item.is
+    (ap (λ (o : Outcome). refused_by o (is_in marks item.node)) (sym c.outcome-outcome.ensures) ∙ sym c.take_outcome.ensures.refusal ∙ c.in-Some.is) (c.loop-item.invariant.marks item.node)
+    ∙ c.loop-item.invariant.taken.rest
+
+pub loop-item-preserved : goal.loop-item-preserved
+loop-item-preserved g c =
+    let t = g.R.Rules.table in
+    let s = c.args.state.now.state in
+    let item = c.item-item.result in
+    let marks = c.loop-item.chosen in
+    let none : c.take_outcome.result ≡ None = c.in_default.is in
+    let made : c.take_outcome.new.chosen ≡ set marks item.node true = c.take_outcome.ensures.marks ∙ ap (λ o. cond (is_some o) marks (set marks item.node true)) none in
+    let places : length marks ≡ s.network.size + 1 = c.loop-item.invariant.len ∙ c.requires.places in
+    let placed = subst (HasPlace (length marks) item.node) (sym c.outcome-outcome.ensures) (item_placed t s item (length marks) places) in
+    let next = passes (λ (i : Item). i.node) c.args.items.now c.loop-item.item-index item c.outcome-outcome.result marks c.take_outcome.new.chosen c.loop-item-test.true c.item-item.is placed (sym c.take_outcome.ensures.refusal ∙ none) made c.loop-item.invariant.marks in
+    record {
+      taken = taken_more t s _ _ _ _ _ _ _ _ c.loop-item-test.true c.item-item.is c.outcome-outcome.ensures next.accepted (c.take_outcome.ensures.whole none) (c.take_outcome.ensures.moves none) c.loop-item.invariant.taken;
+      marks = next.marks;
+      len = next.len ∙ c.loop-item.invariant.len;
+    }

@@ -1,6 +1,4 @@
-use Rattle.std.proofs.Common.{◌∙◌, ap, sym, filter_map, option_map, arith}
-use Rattle.std.proofs.lemmas.List.{take_all}
-use Rattle.rule_engine.specs.EngineStates.{marked_at}
+use Rattle.rule_engine.proofs.Prelude.{◌∙◌, ap, sym, filter_map, option_map, arith, take_all, marked_at}
 use Rattle.rule_engine.proofs.NodeScans.{pushed_found, skipped_found, enabled_listed}
 use Rattle.rule_engine.proofs.listing.enabled_rules.Goals as goal
 use Rattle.rule_engine.proofs.listing.enabled_rules.Goals.{in-Some+in_ok-push, in_default}

@@ -1,5 +1,4 @@
-use Rattle.std.proofs.Common.{◌≡◌, take, filter_map}
-use Rattle.rule_engine.specs.EngineStates.{marked_at}
+use Rattle.rule_engine.proofs.Prelude.{◌≡◌, take, filter_map, marked_at}
 use Rattle.rule_engine.proofs.listing.enabled_rules.Given as goal
 
 abbrev pub invariant-loop-v : goal.invariant-loop-v

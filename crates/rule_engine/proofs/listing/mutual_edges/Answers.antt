@@ -1,17 +1,12 @@
-use Rattle.std.proofs.Common.{◌≡◌, ◌∙◌, ℕ, List, Option, IsTrue, ap, filter, filter_map, subst, sym}
-use Rattle.std.specs.List.{All, range_with_len}
+use Rattle.rule_engine.proofs.Prelude.{◌≡◌, ◌∙◌, ℕ, List, Option, IsTrue, ap, filter, filter_map, subst, sym, range_with_len, filter_passes, pair_above, State, Registers, IsState, answered_by, is_lower_end, found_kept, pairs_scanned}
+use Rattle.std.specs.List.{All}
 use Rattle.std.specs.Result.{IfOk}
-use Rattle.std.proofs.lemmas.List.Elements.{filter_passes}
-use Rattle.rule_machine.specs.Stable.{pair_above}
-use Rattle.rule_machine.specs.State.{State, Registers, IsState}
-use Rattle.indexed_state.specs.Contributions.{answered_by, is_lower_end}
-use Rattle.indexed_state.proofs.NodeScans.{found_kept, pairs_scanned}
 use Rattle.rule_engine.proofs.NodeScans.{none_found}
 use Rattle.rule_engine.proofs.listing.mutual_edges.Goals as goal
 
 pub pairs_of-requires : goal.pairs_of-requires
 pairs_of-requires g c =
-    let s : State = c.args.state.now.state in
+    let s : State = c.args.net.now.state in
     let list = c.deref.ensures.value ∙ c.in_ok-ends.ensures.ends in
     let registers = c.registers.ensures.value ∙ ap (λ (t : State). t.registers) c.in_ok-ends.ensures.state in
     subst (λ (l : List ℕ). All (λ v. IsTrue (is_lower_end c.registers.result.now v)) l) (sym list)
@@ -20,8 +15,8 @@ pairs_of-requires g c =
 
 pub returns-clause-pairs : goal.returns-clause-pairs
 returns-clause-pairs g c =
-    let s : State = c.args.state.now.state in
-    let good : IsState s = subst IsState c.in_ok-ends.ensures.state c.registers.ensures.state in
+    let s : State = c.args.net.now.state in
+    let good : IsState s = subst IsState c.in_ok-ends.ensures.state c.registers.ensures.sound in
     let found : Registers → ℕ → Option (ℕ × ℕ) = λ r v. pair_above v (answered_by r v) in
     let registers = c.registers.ensures.value ∙ ap (λ (t : State). t.registers) c.in_ok-ends.ensures.state in
     let listed =

@@ -1,7 +1,4 @@
-use Rattle.std.proofs.Common.{◌∙◌, ℕ, Option, ap, sym, filter_map, arith}
-use Rattle.std.proofs.lemmas.List.{take_all}
-use Rattle.rule_machine.specs.Stable.{pair_above}
-use Rattle.indexed_state.specs.Contributions.{answered_by}
+use Rattle.rule_engine.proofs.Prelude.{◌∙◌, ℕ, Option, ap, sym, filter_map, arith, take_all, pair_above, answered_by}
 use Rattle.rule_engine.proofs.NodeScans.{pushed_found, skipped_found}
 use Rattle.rule_engine.proofs.listing.pairs_of.Goals as goal
 use Rattle.rule_engine.proofs.listing.pairs_of.Goals.{in-Some+in_ok-push, in_default}

@@ -1,6 +1,4 @@
-use Rattle.std.proofs.Common.{◌≡◌, take, filter_map}
-use Rattle.rule_machine.specs.Stable.{pair_above}
-use Rattle.indexed_state.specs.Contributions.{answered_by}
+use Rattle.rule_engine.proofs.Prelude.{◌≡◌, take, filter_map, pair_above, answered_by}
 use Rattle.rule_engine.proofs.listing.pairs_of.Given as goal
 
 abbrev pub invariant-loop-v : goal.invariant-loop-v

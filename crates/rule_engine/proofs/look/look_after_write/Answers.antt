@@ -1,7 +1,4 @@
-use Rattle.std.proofs.Common.{◌∙◌, ◌&&◌, ◌||◌, nat_eq, ap, sym}
-use Rattle.std.proofs.Math.Bool.{or-false}
-use Rattle.rule_machine.specs.State.{State}
-use Rattle.rule_engine.specs.GuardRefresh.{is_suitor, may_change_guard, may_turn}
+use Rattle.rule_engine.proofs.Prelude.{◌∙◌, ◌&&◌, ◌||◌, nat_eq, ap, sym, or-false, State, is_suitor, may_change_guard, may_turn}
 use Rattle.rule_engine.proofs.GuardRefresh.{looked_alike, looked_both}
 use Rattle.rule_engine.proofs.look.look_after_write.Goals as goal
 

@@ -1,16 +1,11 @@
-use Rattle.std.proofs.Common.{◌≡◌, ◌∙◌, ◌&&◌, List, ℕ, false, nat_eq, take, ap, ap₂, sym, arith}
-use Rattle.std.proofs.lemmas.List.{take_all}
-use Rattle.indexed_state.specs.IndexedViews.{IndexedView}
-use Rattle.rule_machine.specs.Network.{neighbours}
-use Rattle.rule_machine.specs.State.{State, has_suitor, points, suits}
-use Rattle.rule_engine.specs.GuardRefresh.{is_suitor}
+use Rattle.rule_engine.proofs.Prelude.{◌≡◌, ◌∙◌, ◌&&◌, List, ℕ, false, nat_eq, take, ap, ap₂, sym, arith, take_all, StateView, neighbours, State, has_suitor, points, suits, is_suitor}
 use Rattle.rule_engine.proofs.GuardRefresh.{looked_alike, looked_more, looked_neighbours, looked_none, looked_unsuited}
 use Rattle.rule_engine.proofs.look.look_at_suitors.Goals as goal
 
 pub returns-then-not-has_suitor : goal.returns-then-not-has_suitor
 returns-then-not-has_suitor g c =
     let s : State = c.args.state.now.state in
-    let seen : c.has_suitor.result ≡ has_suitor s c.args.v = c.has_suitor.ensures ∙ ap₂ (λ (n : IndexedView) (x : ℕ). has_suitor n.state x) c.at.ensures.state c.at.ensures.node in
+    let seen : c.has_suitor.result ≡ has_suitor s c.args.v = c.has_suitor.ensures ∙ ap₂ (λ (n : StateView) (x : ℕ). has_suitor n.state x) c.at.ensures.state c.at.ensures.node in
     let none : has_suitor s c.args.v ≡ false = sym seen ∙ c.if-not-has_suitor.true in
     looked_unsuited g.R.Rules.table s c.args.v _ c.store.ensures.state.is_network none
 

@@ -1,7 +1,4 @@
-use Rattle.std.proofs.Common.{◌&&◌, nat_eq, take}
-use Rattle.std.specs.List.{list_any}
-use Rattle.rule_machine.specs.State.{suits}
-use Rattle.rule_engine.specs.GuardRefresh.{IsRefreshed}
+use Rattle.rule_engine.proofs.Prelude.{◌&&◌, nat_eq, take, list_any, suits, IsRefreshed}
 use Rattle.rule_engine.proofs.look.look_at_suitors.Given as goal
 
 abbrev pub invariant-loop-w : goal.invariant-loop-w

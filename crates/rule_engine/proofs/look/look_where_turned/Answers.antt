@@ -1,9 +1,4 @@
-use Rattle.std.proofs.Common.{◌≡◌, ◌∙◌, ◌&&◌, List, ℕ, true, false, nat_eq, take, ap, sym, arith}
-use Rattle.std.proofs.lemmas.List.{take_all}
-use Rattle.rule_machine.specs.Network.{neighbours}
-use Rattle.rule_machine.specs.State.{State}
-use Rattle.rules_api.specs.LocalViews.{asks_for}
-use Rattle.rule_engine.specs.GuardRefresh.{turns_with}
+use Rattle.rule_engine.proofs.Prelude.{◌≡◌, ◌∙◌, ◌&&◌, true, false, nat_eq, ap, sym, arith, take_all, neighbours, State, asks_for, turns_with}
 use Rattle.rule_engine.proofs.GuardRefresh.{looked_alike, looked_more, looked_neighbours, looked_none}
 use Rattle.rule_engine.proofs.AskingOrder.{looked_below}
 use Rattle.rule_engine.proofs.look.look_where_turned.Goals as goal
@@ -28,18 +23,10 @@ pub returns-then-not-asks_for : goal.returns-then-not-asks_for
 returns-then-not-asks_for g c =
     let s : State = c.args.state.now.state in
     let above = g.R.Rules.COURTS_HIGHER_ONLY in
-    let opens = g.R.Rules.table.opens in
-    let v = c.args.v in
-    let list : List ℕ = c.neighbours-w-items.result.now in
-    let every : list ≡ neighbours s.network v = c.neighbours-w-items.ensures.all ∙ ap (λ n. neighbours n v) c.store.ensures.value in
-    looked_below g.R.Rules.table s above v (λ y. turns_with above opens s v y) list c.loop-w.w-index c.w-item.result _ _ c.store.ensures.state.is_network every c.loop-w-test.true c.w-item.is (sym c.asks_for.ensures ∙ c.if-not-asks_for.true) c.loop-w.invariant
+    looked_below g.R.Rules.table s above c.args.v (λ y. turns_with above g.R.Rules.table.opens s c.args.v y) _ c.loop-w.w-index c.w-item.result _ _ c.store.ensures.state.is_network (c.neighbours-w-items.ensures.all ∙ ap (λ n. neighbours n c.args.v) c.store.ensures.value) c.loop-w-test.true c.w-item.is (sym c.asks_for.ensures ∙ c.if-not-asks_for.true) c.loop-w.invariant
 
 pub returns : goal.returns
 returns g c =
     let s : State = c.args.state.now.state in
-    let above = g.R.Rules.COURTS_HIGHER_ONLY in
-    let opens = g.R.Rules.table.opens in
-    let v = c.args.v in
-    let list : List ℕ = c.neighbours-w-items.result.now in
-    let every : list ≡ neighbours s.network v = c.neighbours-w-items.ensures.all ∙ ap (λ n. neighbours n v) c.store.ensures.value in
-    looked_neighbours g.R.Rules.table s v (λ y. asks_for above y v && turns_with above opens s v y) (take c.loop-w.w-index list) _ _ c.store.ensures.state.is_network (take_all c.loop-w.w-index list (omega arith) ∙ every) c.loop-w.invariant
+    let list = take_all c.loop-w.w-index c.neighbours-w-items.result.now (omega arith) in
+    looked_neighbours g.R.Rules.table s c.args.v (λ y. asks_for g.R.Rules.COURTS_HIGHER_ONLY y c.args.v && turns_with g.R.Rules.COURTS_HIGHER_ONLY g.R.Rules.table.opens s c.args.v y) _ _ _ c.store.ensures.state.is_network (list ∙ c.neighbours-w-items.ensures.all ∙ ap (λ n. neighbours n c.args.v) c.store.ensures.value) c.loop-w.invariant

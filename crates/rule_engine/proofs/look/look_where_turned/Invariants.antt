@@ -1,7 +1,4 @@
-use Rattle.std.proofs.Common.{◌&&◌, nat_eq, take}
-use Rattle.std.specs.List.{list_any}
-use Rattle.rules_api.specs.LocalViews.{asks_for}
-use Rattle.rule_engine.specs.GuardRefresh.{turns_with, IsRefreshed}
+use Rattle.rule_engine.proofs.Prelude.{◌&&◌, nat_eq, take, list_any, asks_for, turns_with, IsRefreshed}
 use Rattle.rule_engine.proofs.look.look_where_turned.Given as goal
 
 abbrev pub invariant-loop-w : goal.invariant-loop-w

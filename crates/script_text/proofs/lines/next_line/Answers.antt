@@ -1,5 +1,4 @@
-use Rattle.std.proofs.Common.{◌≡◌, ◌∙◌, [], ap, arith}
-use Rattle.script_text.specs.Script.{lines_of}
+use Rattle.script_text.proofs.Prelude.{◌≡◌, ◌∙◌, [], ap, arith, lines_of}
 use Rattle.script_text.proofs.LineEnds.{lines_of-ended, lines_of-whole}
 use Rattle.script_text.proofs.lines.next_line.Goals as goal
 

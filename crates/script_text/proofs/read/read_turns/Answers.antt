@@ -1,6 +1,4 @@
-use Rattle.std.proofs.Common.{[], ◌∷◌, ◌+◌, append_assoc, ◌∙◌, arith}
-use Rattle.std.proofs.lemmas.List.{take_rest}
-use Rattle.line_text.specs.Words.{number_text}
+use Rattle.script_text.proofs.Prelude.{[], ◌∷◌, ◌+◌, append_assoc, ◌∙◌, arith, take_rest, number_text}
 use Rattle.script_text.proofs.Words.{turns_cut}
 use Rattle.script_text.proofs.read.read_turns.Goals as goal
 

@@ -1,6 +1,4 @@
-use Rattle.std.proofs.Common.{◌∙◌, map, drop}
-use Rattle.std.proofs.lemmas.Iterator.Adapters.{YieldsList-from_vec}
-use Rattle.std.proofs.lemmas.Iterator.Consumers.{YieldsList-end}
+use Rattle.script_text.proofs.Prelude.{◌∙◌, map, drop, YieldsList-from_vec, YieldsList-end}
 use Rattle.script_text.proofs.ScriptCounts.{none_left, held_all}
 use Rattle.script_text.proofs.reading.read_each.Goals as goal
 

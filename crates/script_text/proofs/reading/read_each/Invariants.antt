@@ -1,6 +1,4 @@
-use Rattle.std.proofs.Common.{◌≡◌, ◌+◌, ◌++◌, ℕ, List, length, map, drop}
-use Rattle.script_text.specs.declared.script.ScriptLine.{ScriptLine}
-use Rattle.script_text.specs.Readers.{AllHold, FirstBadScript}
+use Rattle.script_text.proofs.Prelude.{◌≡◌, ◌+◌, ◌++◌, ℕ, List, length, map, drop, ScriptLine, AllHold, FirstBadScript}
 use Rattle.script_text.proofs.reading.read_each.Given as goal
 
 abbrev pub invariant-loop-reader : goal.invariant-loop-reader

@@ -1,5 +1,4 @@
-use Rattle.std.proofs.Common.{map, arith}
-use Rattle.std.proofs.lemmas.List.{length-map}
+use Rattle.script_text.proofs.Prelude.{map, arith, length-map}
 use Rattle.script_text.proofs.ScriptCounts.{few}
 use Rattle.script_text.proofs.reading.read_scripts.Goals as goal
 

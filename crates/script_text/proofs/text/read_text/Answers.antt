@@ -1,6 +1,4 @@
-use Rattle.std.proofs.Common.{◌+◌, sym, subst, arith}
-use Rattle.script_text.specs.Script.{lines_of}
-use Rattle.script_text.specs.Texts.{TextHolds}
+use Rattle.script_text.proofs.Prelude.{◌+◌, sym, subst, arith, lines_of, TextHolds}
 use Rattle.script_text.proofs.TextLines.{held, passed, held_all}
 use Rattle.script_text.proofs.text.read_text.Goals as goal
 

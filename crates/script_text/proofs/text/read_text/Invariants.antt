@@ -1,7 +1,4 @@
-use Rattle.std.proofs.Common.{◌+◌, ◌≤◌, ◌++◌, ℕ, List, length}
-use Rattle.script_text.specs.Script.{lines_of}
-use Rattle.script_text.specs.declared.script.ScriptLine.{ScriptLine}
-use Rattle.script_text.specs.Texts.{LinesHold, FirstBad}
+use Rattle.script_text.proofs.Prelude.{◌+◌, ◌≤◌, ◌++◌, ℕ, List, length, lines_of, ScriptLine, LinesHold, FirstBad}
 use Rattle.script_text.proofs.text.read_text.Given as goal
 
 abbrev pub invariant-loop-line : goal.invariant-loop-line

@@ -1,7 +1,5 @@
-use Rattle.rule_machine.specs.HsuHuang.{hsu_huang}
-use Rattle.rule_machine.specs.Manne.{manne}
-use Rattle.containment_laws.specs.Proved.{hsu_huang_contains, manne_contains}
-use Rattle.silence_laws.specs.GainedPairs as gained
+use Rattle.silence_laws.proofs.Prelude.{hsu_huang, manne, hsu_huang_contains, manne_contains}
+use Rattle.silence_laws.proofs.GainedPairs as gained
 use Rattle.silence_laws.proofs.law.few_are_gained.Goals as goal
 
 pub returns-clause-hsu_huang : goal.returns-clause-hsu_huang

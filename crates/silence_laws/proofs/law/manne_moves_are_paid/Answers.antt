@@ -1,4 +1,4 @@
-use Rattle.silence_laws.specs.LeftPairs as left
+use Rattle.silence_laws.proofs.LeftPairs as left
 use Rattle.silence_laws.proofs.law.manne_moves_are_paid.Goals as goal
 
 pub returns : goal.returns

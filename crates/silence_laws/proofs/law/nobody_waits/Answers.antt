@@ -1,4 +1,4 @@
-use Rattle.silence_laws.specs.UnreachedNodes as unreached
+use Rattle.silence_laws.proofs.UnreachedNodes as unreached
 use Rattle.silence_laws.proofs.law.nobody_waits.Goals as goal
 
 pub returns : goal.returns

@@ -1,5 +1,5 @@
-use Rattle.silence_laws.specs.Pays.{silent_cost_pays}
-use Rattle.silence_laws.specs.CostComparison.{silent_cost_is_less}
+use Rattle.silence_laws.proofs.Pays.{silent_cost_pays}
+use Rattle.silence_laws.proofs.CostComparison.{silent_cost_is_less}
 use Rattle.silence_laws.proofs.law.silent_cost_pays.Goals as goal
 
 pub returns-clause-pays : goal.returns-clause-pays

@@ -1,5 +1,4 @@
-use Rattle.std.proofs.Common.{◌≡◌, ◌∙◌, ap, get_or, set}
-use Rattle.rule_machine.specs.Disturbance.{unless_at}
+use Rattle.snapshots.proofs.Prelude.{◌≡◌, ◌∙◌, ap, get_or, set, unless_at}
 use Rattle.snapshots.proofs.Passes.{passed, passed_next, passed_more}
 use Rattle.snapshots.proofs.effect.drop_at.Goals as goal
 

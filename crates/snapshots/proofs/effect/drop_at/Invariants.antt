@@ -1,5 +1,4 @@
-use Rattle.std.proofs.Common.{◌≡◌}
-use Rattle.rule_machine.specs.Disturbance.{unless_at}
+use Rattle.snapshots.proofs.Prelude.{◌≡◌, unless_at}
 use Rattle.snapshots.proofs.Passes.{passed}
 use Rattle.snapshots.proofs.effect.drop_at.Given as goal
 

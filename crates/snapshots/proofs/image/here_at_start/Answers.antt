@@ -1,6 +1,4 @@
-use Rattle.std.proofs.Common.{ℕ, Bool, ◌&&◌, List, [], ◌∷◌, ◌++◌, nat_le, sym, ap, ◌∙◌, arith}
-use Rattle.std.proofs.lemmas.List.FromFn.{map-range_with_len_more}
-use Rattle.snapshots.specs.Row.{here_at_start}
+use Rattle.snapshots.proofs.Prelude.{ℕ, Bool, ◌&&◌, List, [], ◌∷◌, ◌++◌, nat_le, sym, ap, ◌∙◌, arith, map-range_with_len_more, here_at_start}
 use Rattle.snapshots.proofs.image.here_at_start.Goals as goal
 
 pub loop-place-preserved : goal.loop-place-preserved

@@ -1,5 +1,4 @@
-use Rattle.std.proofs.Common.{◌≡◌}
-use Rattle.snapshots.specs.Row.{here_at_start}
+use Rattle.snapshots.proofs.Prelude.{◌≡◌, here_at_start}
 use Rattle.snapshots.proofs.image.here_at_start.Given as goal
 
 abbrev pub invariant-loop-place : goal.invariant-loop-place

@@ -1,5 +1,4 @@
-use Rattle.std.proofs.Common.{ap}
-use Rattle.rule_machine.specs.Run.{beginning_with}
+use Rattle.snapshots.proofs.Prelude.{ap, beginning_with}
 use Rattle.snapshots.proofs.Machine.{run_names}
 use Rattle.snapshots.proofs.laws.presence_is_that_of_the_run.Goals as goal
 

@@ -1,8 +1,5 @@
-use Rattle.std.proofs.Common.{◌≡◌, [], Some, refl, arith}
-use Rattle.std.proofs.lemmas.List.Elements.{All-pop}
-use Rattle.index_deque.specs.Ends.{end_hold, end_taken}
-use Rattle.index_deque.specs.declared.end.DequeEnd.{DequeEnd}
-use Rattle.steal_pool.specs.Hands.{hand_hold}
+use Rattle.steal_pool.proofs.Prelude.{◌≡◌, [], refl, arith, All-pop, end_hold, end_taken, DequeEnd, hand_hold}
+use Rattle.std.proofs.Common.{Some}
 use Rattle.steal_pool.proofs.VerdictTables.{shifted, as_long}
 use Rattle.steal_pool.proofs.EachPlace.{one_numbered}
 use Rattle.steal_pool.proofs.dealing.deal.Goals as goal

@@ -1,8 +1,4 @@
-use Rattle.std.proofs.Common.{All, Vec, Global, sym, subst}
-use Rattle.std.proofs.lemmas.List.Elements.{All-append}
-use Rattle.std.proofs.lemmas.Result.{IfOk-at_ok}
-use Rattle.steal_pool.specs.declared.hand.Share.{Share}
-use Rattle.steal_pool.specs.Hands.{AreJudged, AreShares}
+use Rattle.steal_pool.proofs.Prelude.{All, Vec, Global, sym, subst, All-append, IfOk-at_ok, Share, AreJudged, AreShares}
 use Rattle.steal_pool.proofs.VerdictTables.{halves_held}
 use Rattle.steal_pool.proofs.evaluation.+work.Goals as goal
 

@@ -1,8 +1,5 @@
-use Rattle.std.proofs.Common.{◌≡◌, length, All, sym, subst, rules}
-use Rattle.index_deque.specs.Ends.{EndView, AreAllEnds}
-use Rattle.index_deque.proofs.Joinings.{all_unmap}
-use Rattle.steal_pool.specs.declared.hand.Hand.{Hand}
-use Rattle.steal_pool.specs.Hands.{hand_hold}
+use Rattle.steal_pool.proofs.Prelude.{◌≡◌, length, All, sym, subst, rules, EndView, AreAllEnds, Hand, hand_hold}
+use Rattle.steal_pool.proofs.Joinings.{all_unmap}
 use Rattle.steal_pool.proofs.evaluation.evaluate.Goals as goal
 
 pub work_all-requires-after_bounds : goal.work_all-requires-after_bounds

@@ -1,9 +1,4 @@
-use Rattle.std.proofs.Common.{◌∷◌, ◌++◌, [], ◌<◌, length, ap, ap₂, sym, ◌∙◌, arith}
-use Rattle.std.proofs.lemmas.List.{take_all, take_more}
-use Rattle.std.proofs.lemmas.Option.{get_or_from_slice_get}
-use Rattle.rule_machine.specs.declared.verdict.Verdict.{Verdict}
-use Rattle.rule_engine.specs.ChoiceMoves.{verdicts_of}
-use Rattle.rule_engine.proofs.ItemVerdicts.{length-verdicts_of}
+use Rattle.steal_pool.proofs.Prelude.{◌∷◌, ◌++◌, [], ◌<◌, length, ap, ap₂, sym, ◌∙◌, arith, take_all, take_more, get_or_from_slice_get, Verdict, verdicts_of, length-verdicts_of}
 use Rattle.steal_pool.proofs.VerdictTables.{verdict_there}
 use Rattle.steal_pool.proofs.evaluation.judge_all.Goals as goal
 

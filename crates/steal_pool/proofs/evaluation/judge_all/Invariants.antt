@@ -1,5 +1,4 @@
-use Rattle.std.proofs.Common.{◌≡◌, take}
-use Rattle.rule_engine.specs.ChoiceMoves.{verdicts_of}
+use Rattle.steal_pool.proofs.Prelude.{◌≡◌, take, verdicts_of}
 use Rattle.steal_pool.proofs.evaluation.judge_all.Given as goal
 
 abbrev pub invariant-loop-place : goal.invariant-loop-place

@@ -1,10 +1,4 @@
-use Rattle.std.proofs.Common.{[], ◌∷◌, ◌++◌, length, ap, ◌∙◌, subst, rules}
-use Rattle.index_deque.specs.declared.ledger.Ledger.{Ledger}
-use Rattle.index_deque.specs.Ledgers.{places_in, AreAllPlaces}
-use Rattle.index_deque.specs.Ends.{owner_ledger}
-use Rattle.steal_pool.specs.VerdictTables.{taken_in}
-use Rattle.rule_engine.specs.ChoiceMoves.{verdicts_of}
-use Rattle.rule_engine.proofs.ItemVerdicts.{length-verdicts_of}
+use Rattle.steal_pool.proofs.Prelude.{[], ◌∷◌, ◌++◌, length, ap, ◌∙◌, subst, rules, Ledger, places_in, AreAllPlaces, owner_ledger, taken_in, verdicts_of, length-verdicts_of}
 use Rattle.steal_pool.proofs.EachPlace.{took_more}
 use Rattle.steal_pool.proofs.VerdictTables.{reweighed, takes_block, all_laid, all_known}
 use Rattle.steal_pool.proofs.merging.judge_left.Goals as goal

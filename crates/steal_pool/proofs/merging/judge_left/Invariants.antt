@@ -1,7 +1,4 @@
-use Rattle.std.proofs.Common.{◌≡◌, ℕ, ◌-◌, List, ◌++◌, length}
-use Rattle.index_deque.specs.Ends.{owner_ledger}
-use Rattle.rule_engine.specs.ChoiceMoves.{verdicts_of}
-use Rattle.steal_pool.specs.VerdictTables.{IsVerdictTable, taken_in}
+use Rattle.steal_pool.proofs.Prelude.{◌≡◌, ℕ, ◌-◌, List, ◌++◌, length, owner_ledger, verdicts_of, IsVerdictTable, taken_in}
 use Rattle.steal_pool.proofs.merging.judge_left.Given as goal
 
 abbrev pub invariant-loop-block : goal.invariant-loop-block

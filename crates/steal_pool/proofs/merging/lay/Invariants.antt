@@ -1,5 +1,4 @@
-use Rattle.std.proofs.Common.{◌≡◌, length, drop}
-use Rattle.steal_pool.specs.VerdictTables.{laid}
+use Rattle.steal_pool.proofs.Prelude.{◌≡◌, length, drop, laid}
 use Rattle.steal_pool.proofs.merging.lay.Given as goal
 
 abbrev pub invariant-loop-verdict : goal.invariant-loop-verdict

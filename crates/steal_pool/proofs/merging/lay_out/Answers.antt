@@ -1,14 +1,5 @@
-use Rattle.std.proofs.Common.{◌≡◌, ℕ, ◌+◌, List, ◌++◌, length, map, Some, sym, refl, ap, ◌∙◌, subst, arith}
-use Rattle.std.specs.List.{sum_by}
-use Rattle.std.proofs.lemmas.List.Elements.{All-pop}
-use Rattle.std.proofs.lemmas.List.Sums.{sum_by_push}
-use Rattle.index_deque.specs.declared.end.DequeEnd.{DequeEnd}
-use Rattle.index_deque.specs.Ends.{end_hold, end_taken, AreAllEnds}
-use Rattle.rule_machine.specs.declared.verdict.Verdict.{Verdict}
-use Rattle.rule_engine.specs.ChoiceMoves.{verdicts_of}
-use Rattle.rule_engine.proofs.ItemVerdicts.{length-verdicts_of}
-use Rattle.steal_pool.specs.Hands.{judged_hold, judged_places, judged_verdicts, AreJudged}
-use Rattle.steal_pool.specs.VerdictTables.{at_place, taken_by, laid, HavePlacesBelow, IsVerdictTable}
+use Rattle.steal_pool.proofs.Prelude.{◌≡◌, ℕ, ◌+◌, List, ◌++◌, length, map, sym, refl, ap, ◌∙◌, subst, arith, sum_by, All-pop, sum_by_push, DequeEnd, end_hold, end_taken, AreAllEnds, Verdict, verdicts_of, length-verdicts_of, judged_hold, judged_places, judged_verdicts, AreJudged, at_place, taken_by, laid, HavePlacesBelow, IsVerdictTable}
+use Rattle.std.proofs.Common.{Some}
 use Rattle.steal_pool.proofs.EachPlace.{moves_taken}
 use Rattle.steal_pool.proofs.VerdictTables.{no_weight, fits, lays, shifted}
 use Rattle.steal_pool.proofs.merging.lay_out.Goals as goal

@@ -1,9 +1,4 @@
-use Rattle.std.proofs.Common.{◌≡◌, ℕ, ◌+◌, ◌++◌, length, map, All, vec_len}
-use Rattle.std.specs.List.{sum_by}
-use Rattle.index_deque.specs.Ends.{end_hold, end_taken, AreAllEnds}
-use Rattle.rule_engine.specs.ChoiceMoves.{verdicts_of}
-use Rattle.steal_pool.specs.Hands.{all_taken, judged_hold, AreJudged}
-use Rattle.steal_pool.specs.VerdictTables.{IsVerdictTable, taken_by}
+use Rattle.steal_pool.proofs.Prelude.{◌≡◌, ℕ, ◌+◌, ◌++◌, length, map, All, vec_len, sum_by, end_hold, end_taken, AreAllEnds, verdicts_of, all_taken, judged_hold, AreJudged, IsVerdictTable, taken_by}
 use Rattle.steal_pool.proofs.merging.lay_out.Given as goal
 
 abbrev pub invariant-loop-share : goal.invariant-loop-share

@@ -1,11 +1,5 @@
-use Rattle.std.proofs.Common.{◌≡◌, ℕ, List, [], ◌++◌, length, take, drop, vec_len, ap, sym, subst, ◌∙◌, rules, arith}
+use Rattle.steal_pool.proofs.Prelude.{◌≡◌, ℕ, List, [], ◌++◌, length, take, drop, vec_len, ap, sym, subst, ◌∙◌, rules, arith, Item, Verdict, owner_ledger, AreJoined, verdicts_of, length-verdicts_of, at_place, IsVerdictTable, taken_by, taken_in}
 use lib.Seq.{take-append_seam}
-use Rattle.rule_machine.specs.declared.choice.Item.{Item}
-use Rattle.rule_machine.specs.declared.verdict.Verdict.{Verdict}
-use Rattle.index_deque.specs.Ends.{owner_ledger, AreJoined}
-use Rattle.rule_engine.specs.ChoiceMoves.{verdicts_of}
-use Rattle.rule_engine.proofs.ItemVerdicts.{length-verdicts_of}
-use Rattle.steal_pool.specs.VerdictTables.{at_place, IsVerdictTable, taken_by, taken_in}
 use Rattle.steal_pool.proofs.VerdictTables.{reweighed}
 use Rattle.steal_pool.proofs.EachPlace.{none_stand, all_merged}
 use Rattle.steal_pool.proofs.merging.merge.Goals as goal

@@ -1,8 +1,4 @@
-use Rattle.std.proofs.Common.{◌≡◌, ℕ, ◌-◌, ap, ◌∙◌, arith}
-use Rattle.std.specs.List.{sum_by, range_with_len}
-use Rattle.std.proofs.lemmas.List.{length-set}
-use Rattle.rule_engine.specs.ChoiceMoves.{verdicts_of}
-use Rattle.steal_pool.specs.VerdictTables.{at_place}
+use Rattle.steal_pool.proofs.Prelude.{◌≡◌, ℕ, ◌-◌, ap, ◌∙◌, arith, sum_by, range_with_len, length-set, verdicts_of, at_place}
 use Rattle.steal_pool.proofs.VerdictTables.{no_places, verdict_there, reweighed, writes_one}
 use Rattle.steal_pool.proofs.merging.write_block.Goals as goal
 

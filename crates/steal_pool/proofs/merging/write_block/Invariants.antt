@@ -1,7 +1,4 @@
-use Rattle.std.proofs.Common.{◌≡◌, ℕ, ◌+◌, ◌-◌, ◌≤◌, length}
-use Rattle.std.specs.List.{sum_by, range_with_len}
-use Rattle.rule_engine.specs.ChoiceMoves.{verdicts_of}
-use Rattle.steal_pool.specs.VerdictTables.{at_place, IsVerdictTable}
+use Rattle.steal_pool.proofs.Prelude.{◌≡◌, ℕ, ◌+◌, ◌-◌, ◌≤◌, length, sum_by, range_with_len, verdicts_of, at_place, IsVerdictTable}
 use Rattle.steal_pool.proofs.merging.write_block.Given as goal
 
 abbrev pub invariant-loop-place : goal.invariant-loop-place

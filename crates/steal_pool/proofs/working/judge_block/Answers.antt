@@ -1,8 +1,4 @@
-use Rattle.std.proofs.Common.{◌≡◌, ℕ, ◌-◌, List, [], ◌∷◌, ◌++◌, length, length-append, append-nil, sym, ap, subst, ◌∙◌, arith}
-use Rattle.std.specs.List.{range_with_len}
-use Rattle.rule_engine.specs.ChoiceMoves.{verdicts_of}
-use Rattle.rule_engine.proofs.NodeScans.{ok_branch}
-use Rattle.steal_pool.specs.Hands.{AreOf}
+use Rattle.steal_pool.proofs.Prelude.{◌≡◌, ℕ, ◌-◌, List, [], ◌∷◌, ◌++◌, length, length-append, append-nil, sym, ap, subst, ◌∙◌, arith, range_with_len, verdicts_of, ok_branch, AreOf}
 use Rattle.steal_pool.proofs.VerdictTables.{no_places, verdict_there, judges_one}
 use Rattle.steal_pool.proofs.working.judge_block.Goals as goal
 

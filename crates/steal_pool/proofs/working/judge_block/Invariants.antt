@@ -1,7 +1,4 @@
-use Rattle.std.proofs.Common.{ℕ, ◌+◌, ◌-◌, ◌≤◌, List, ◌++◌, length, vec_capacity}
-use Rattle.std.specs.List.{range_with_len}
-use Rattle.rule_engine.specs.ChoiceMoves.{verdicts_of}
-use Rattle.steal_pool.specs.Hands.{AreOf}
+use Rattle.steal_pool.proofs.Prelude.{ℕ, ◌+◌, ◌-◌, ◌≤◌, List, ◌++◌, length, vec_capacity, range_with_len, verdicts_of, AreOf}
 use Rattle.steal_pool.proofs.working.judge_block.Given as goal
 
 abbrev pub invariant-loop-place : goal.invariant-loop-place

@@ -1,7 +1,4 @@
-use Rattle.std.proofs.Common.{◌≤◌, ◌+◌, ◌*◌, arith}
-use Rattle.std.proofs.lemmas.List.Elements.{All-weaker}
-use Rattle.charge_laws.specs.Epochs.{IsBoundedEpoch}
-use Rattle.step_log.specs.Epochs.{epochs_along}
+use Rattle.step_log.proofs.Prelude.{◌≤◌, ◌+◌, ◌*◌, arith, All-weaker, IsBoundedEpoch, epochs_along}
 use Rattle.step_log.proofs.law.epochs_by_name.Goals as goal
 
 pub returns-clause-hsu_huang : goal.returns-clause-hsu_huang

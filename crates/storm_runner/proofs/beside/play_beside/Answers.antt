@@ -1,5 +1,4 @@
-use Rattle.std.proofs.Common.{◌≡◌, length, arith}
-use Rattle.locked_net.specs.Nets.{setting_of}
+use Rattle.storm_runner.proofs.Prelude.{◌≡◌, length, arith, setting_of}
 use Rattle.storm_runner.proofs.FreshRoamers.{told_beside}
 use Rattle.storm_runner.proofs.beside.play_beside.Goals as goal
 

@@ -1,6 +1,4 @@
-use Rattle.std.proofs.Common.{◌≡◌, ◌+◌, ◌-◌, ◌++◌, ℕ, Some, drop, slice_get, subst, arith}
-use Rattle.rule_machine.specs.Base.{dropped}
-use Rattle.line_text.specs.EntryText.{entry_line, entry_lines}
+use Rattle.storm_runner.proofs.Prelude.{◌≡◌, ◌+◌, ◌-◌, ◌++◌, ℕ, Some, drop, slice_get, subst, arith, dropped, entry_line, entry_lines}
 use Rattle.storm_runner.proofs.EntryOutput.{one_more, grown_more}
 use Rattle.storm_runner.proofs.log.append_entries.Goals as goal
 

@@ -1,7 +1,4 @@
-use Rattle.std.proofs.Common.{◌≡◌, ◌+◌, ◌-◌, ◌≤◌, ◌++◌, drop}
-use Rattle.rule_machine.specs.Base.{dropped}
-use Rattle.line_text.specs.Words.{Extends}
-use Rattle.line_text.specs.EntryText.{entry_lines}
+use Rattle.storm_runner.proofs.Prelude.{◌≡◌, ◌+◌, ◌-◌, ◌≤◌, ◌++◌, drop, dropped, Extends, entry_lines}
 use Rattle.storm_runner.proofs.log.append_entries.Given as goal
 
 abbrev pub invariant-loop-before : goal.invariant-loop-before

@@ -1,6 +1,4 @@
-use Rattle.std.proofs.Common.{◌≡◌, vec_len}
-use Rattle.std.specs.List.{All}
-use Rattle.locked_net.specs.Receipts.{fresh}
+use Rattle.storm_runner.proofs.Prelude.{◌≡◌, vec_len, All, fresh}
 use Rattle.storm_runner.proofs.run.clerks_of.Given as goal
 
 abbrev pub invariant-loop : goal.invariant-loop

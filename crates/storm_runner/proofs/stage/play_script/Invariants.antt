@@ -1,9 +1,4 @@
-use Rattle.std.proofs.Common.{◌≡◌, IfSome, take}
-use Rattle.std.specs.Option.{is_some}
-use Rattle.locked_net.specs.Nets.{book_of, setting_of}
-use Rattle.locked_net.specs.Receipts.{IsOfBook}
-use Rattle.storm_runner.specs.Storm.{AreScriptReceipts, IsLastCheckpoint, has_checkpoint}
-use Rattle.storm_runner.specs.PlayedCommands.{scene_of}
+use Rattle.storm_runner.proofs.Prelude.{◌≡◌, IfSome, take, is_some, book_of, setting_of, IsOfBook, AreScriptReceipts, IsLastCheckpoint, has_checkpoint, scene_of}
 use Rattle.storm_runner.proofs.stage.play_script.Given as goal
 
 abbrev pub invariant-loop-line : goal.invariant-loop-line

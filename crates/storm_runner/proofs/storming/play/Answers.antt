@@ -1,7 +1,4 @@
-use Rattle.std.proofs.Common.{◌∙◌, arith}
-use Rattle.locked_net.specs.Nets.{name_count_of, first_nodes_of, log_limit_of}
-use Rattle.script_run.specs.RunOptions.{asked_of}
-use Rattle.step_log.specs.JournalViews.{kept_of}
+use Rattle.storm_runner.proofs.Prelude.{◌∙◌, arith, name_count_of, first_nodes_of, log_limit_of, asked_of, kept_of}
 use Rattle.storm_runner.proofs.StormResults.{leaves_as_asked}
 use Rattle.storm_runner.proofs.storming.play.Goals as goal
 

@@ -1,6 +1,4 @@
-use Rattle.std.proofs.Common.{rules, ◌≡◌}
-use Rattle.locked_net.specs.Nets.{setting_of}
-use Rattle.seeded_turns.specs.DrawnEvents.{pcg32_stream, seeded_stream}
+use Rattle.storm_runner.proofs.Prelude.{rules, ◌≡◌, setting_of, pcg32_stream, seeded_stream}
 use Rattle.storm_runner.proofs.TurnEnds.{drives}
 use Rattle.storm_runner.proofs.turns.drive.Goals as goal
 

@@ -1,4 +1,3 @@
-use Rattle.std.proofs.Common.{sym, subst, refl}
 use Rattle.storm_runner.proofs.ClerkNotes.{nothing_before}
 use Rattle.storm_runner.proofs.turns.recall.Goals as goal
 

@@ -1,7 +1,4 @@
-use Rattle.std.proofs.Common.{◌≡◌}
-use mathlib.Core.List.{IsPrefix}
-use Rattle.locked_net.specs.Nets.{book_of, setting_of}
-use Rattle.locked_net.specs.Receipts.{IsOfBook, noted}
+use Rattle.storm_runner.proofs.Prelude.{◌≡◌, IsPrefix, book_of, setting_of, IsOfBook, noted}
 use Rattle.storm_runner.proofs.TurnAddition.{Above, Took}
 use Rattle.storm_runner.proofs.turns.take_turns.Given as goal
 

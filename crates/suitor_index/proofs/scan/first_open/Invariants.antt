@@ -1,5 +1,4 @@
-use Rattle.std.proofs.Common.{◌≡◌, ℕ, find, drop}
-use Rattle.rule_machine.specs.State.{pointer_of, flag_of}
+use Rattle.suitor_index.proofs.Prelude.{◌≡◌, ℕ, find, drop, pointer_of, flag_of}
 use Rattle.suitor_index.proofs.scan.first_open.Given as goal
 
 abbrev pub invariant-loop-w : goal.invariant-loop-w

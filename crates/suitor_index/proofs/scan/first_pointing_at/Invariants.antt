@@ -1,5 +1,4 @@
-use Rattle.std.proofs.Common.{◌≡◌, find, drop}
-use Rattle.rule_machine.specs.State.{points}
+use Rattle.suitor_index.proofs.Prelude.{◌≡◌, find, drop, points}
 use Rattle.suitor_index.proofs.scan.first_pointing_at.Given as goal
 
 abbrev pub invariant-loop-w : goal.invariant-loop-w

@@ -1,5 +1,4 @@
-use Rattle.std.proofs.Common.{◌≡◌, ℕ, Bool, find, take, reverse, ◌&&◌, nat_lt}
-use Rattle.rule_machine.specs.State.{pointer_of, flag_of}
+use Rattle.suitor_index.proofs.Prelude.{◌≡◌, ℕ, Bool, find, take, reverse, ◌&&◌, nat_lt, pointer_of, flag_of}
 use Rattle.suitor_index.proofs.scan.last_open_above.Given as goal
 
 -- nothing was found after the index

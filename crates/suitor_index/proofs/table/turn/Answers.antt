@@ -1,6 +1,4 @@
-use Rattle.std.proofs.Common.{◌≡◌, ◌∙◌, ◌&&◌, ℕ, Bool, true, nat_eq, take, sym, ap₂}
-use Rattle.std.specs.List.{list_any}
-use Rattle.rules_api.specs.LocalViews.{asks_for}
+use Rattle.suitor_index.proofs.Prelude.{◌≡◌, ◌∙◌, ◌&&◌, ℕ, Bool, true, nat_eq, take, sym, ap₂, list_any, asks_for}
 use Rattle.suitor_index.proofs.Loops.{turned_both, turned_alike, can_turn_still, not_before, near_more, near_apart, near_there, all_ask_more, asked_so_far}
 use Rattle.suitor_index.proofs.table.turn.Goals as goal
 

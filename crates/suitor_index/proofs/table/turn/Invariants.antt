@@ -1,6 +1,4 @@
-use Rattle.std.proofs.Common.{nat_eq, take}
-use Rattle.std.specs.List.{list_any}
-use Rattle.suitor_index.specs.TallyChanges.{IsTurned}
+use Rattle.suitor_index.proofs.Prelude.{nat_eq, take, list_any, IsTurned}
 use Rattle.suitor_index.proofs.Loops.{AllAsk}
 use Rattle.suitor_index.proofs.table.turn.Given as goal
 

@@ -1,7 +1,4 @@
-use Rattle.std.proofs.Common.{◌≡◌, ◌++◌, ◌-◌, filter}
-use Rattle.std.specs.List.{range_with_len, flat_map}
-use Rattle.rule_machine.specs.Network.{present}
-use Rattle.transcript_view.specs.Picture.{edge_lines_at}
+use Rattle.transcript_view.proofs.Prelude.{◌≡◌, ◌++◌, ◌-◌, filter, range_with_len, flat_map, present, edge_lines_at}
 use Rattle.transcript_view.proofs.edges.put_edges.Given as goal
 
 abbrev pub invariant-loop-name : goal.invariant-loop-name

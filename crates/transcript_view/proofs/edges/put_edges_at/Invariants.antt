@@ -1,8 +1,4 @@
-use Rattle.std.proofs.Common.{◌≡◌, ◌++◌, take, filter}
-use Rattle.std.specs.Prelude.{nat_lt}
-use Rattle.std.specs.List.{flat_map}
-use Rattle.rule_machine.specs.Network.{neighbours}
-use Rattle.transcript_view.specs.Picture.{edge_line}
+use Rattle.transcript_view.proofs.Prelude.{◌≡◌, ◌++◌, take, filter, nat_lt, flat_map, neighbours, edge_line}
 use Rattle.transcript_view.proofs.edges.put_edges_at.Given as goal
 
 abbrev pub invariant-loop-w : goal.invariant-loop-w

@@ -1,9 +1,4 @@
-use Rattle.std.proofs.Common.{◌≡◌, ◌++◌, ◌∷◌, [], ◌-◌, ◌∙◌, ap, Bool, List, ℕ, filter, arith}
-use Rattle.std.specs.List.{range_with_len, flat_map}
-use Rattle.rule_machine.specs.Network.{present}
-use Rattle.rule_machine.specs.Tables.{table_of}
-use Rattle.reply_checker.proofs.ExactAnswers.{some_iff_at}
-use Rattle.transcript_view.specs.Picture.{node_line}
+use Rattle.transcript_view.proofs.Prelude.{◌≡◌, ◌++◌, ◌∷◌, [], ◌-◌, ◌∙◌, ap, Bool, List, ℕ, filter, arith, range_with_len, flat_map, present, table_of, some_iff_at, node_line}
 use Rattle.transcript_view.proofs.Names.{names_more}
 use Rattle.transcript_view.proofs.nodes.put_nodes.Goals as goal
 

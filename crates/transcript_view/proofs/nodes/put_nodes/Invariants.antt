@@ -1,8 +1,4 @@
-use Rattle.std.proofs.Common.{◌≡◌, ◌++◌, ◌-◌, filter}
-use Rattle.std.specs.List.{range_with_len, flat_map}
-use Rattle.rule_machine.specs.Tables.{table_of}
-use Rattle.rule_machine.specs.Network.{present}
-use Rattle.transcript_view.specs.Picture.{node_line}
+use Rattle.transcript_view.proofs.Prelude.{◌≡◌, ◌++◌, ◌-◌, filter, range_with_len, flat_map, table_of, present, node_line}
 use Rattle.transcript_view.proofs.nodes.put_nodes.Given as goal
 
 abbrev pub invariant-loop-name : goal.invariant-loop-name

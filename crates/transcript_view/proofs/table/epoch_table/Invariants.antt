@@ -1,7 +1,4 @@
-use Rattle.std.proofs.Common.{◌≡◌, ◌++◌, take}
-use Rattle.std.specs.Prelude.{codes}
-use Rattle.std.specs.List.{flat_map}
-use Rattle.transcript_view.specs.Table.{epoch_row}
+use Rattle.transcript_view.proofs.Prelude.{◌≡◌, ◌++◌, take, codes, flat_map, epoch_row}
 use Rattle.transcript_view.proofs.table.epoch_table.Given as goal
 
 abbrev pub invariant-loop-row : goal.invariant-loop-row

@@ -1,6 +1,4 @@
-use Rattle.std.proofs.Common.{◌≤◌, ◌+◌, ◌*◌, arith, subst, sym}
-use Rattle.rule_machine.specs.Network.{edge_count, node_count}
-use Rattle.auditor.specs.Position.{Position}
+use Rattle.auditor.proofs.Prelude.{◌≤◌, ◌+◌, ◌*◌, arith, subst, sym, edge_count, node_count, Position}
 use Rattle.auditor.proofs.Spent.{spent_fits}
 use Rattle.auditor.proofs.check.Audit.base.Goals as goal
 

@@ -1,10 +1,4 @@
-use Rattle.std.proofs.Common.{◌≡◌, ◌∙◌, ◌+◌, ℕ, false, refl, sym, ap, subst, arith}
-use Rattle.entry_grammar.specs.Spelling.{SpellsEntry}
-use Rattle.rule_machine.specs.Answer.{Answers, spent_after}
-use Rattle.rule_machine.specs.declared.event.Event.{Event}
-use Rattle.rule_machine.specs.declared.reply.Reply.{Reply}
-use Rattle.rule_machine.specs.Tables.{table_of}
-use Rattle.auditor.specs.Position.{BadReply, Position, counted_more}
+use Rattle.auditor.proofs.Prelude.{◌≡◌, ◌∙◌, ◌+◌, ℕ, false, refl, sym, ap, subst, arith, SpellsEntry, Answers, spent_after, Event, Reply, table_of, BadReply, Position, counted_more}
 use Rattle.auditor.proofs.check.Audit.check_line.Goals as goal
 
 pub returns-then-not-right : goal.returns-then-not-right

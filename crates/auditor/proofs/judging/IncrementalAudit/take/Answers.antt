@@ -1,5 +1,4 @@
-use Rattle.std.proofs.Common.{◌<◌, ◌+◌, ◌^◌, ◌∙◌, ◌++◌, ℕ, length, refl, ap, arith}
-use Rattle.std.proofs.lemmas.List.{length-append}
+use Rattle.auditor.proofs.Prelude.{◌<◌, ◌+◌, ◌^◌, ◌∙◌, ◌++◌, ℕ, length, refl, ap, arith, length-append}
 use Rattle.auditor.proofs.PieceReading.{for_both, for_err, grown_somewhere, held_compared, held_some}
 use Rattle.auditor.proofs.judging.IncrementalAudit.take.Goals as goal
 

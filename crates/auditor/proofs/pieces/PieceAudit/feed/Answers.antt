@@ -1,6 +1,5 @@
-use Rattle.std.proofs.Common.{◌++◌}
-use Rattle.std.proofs.Math.Logic.{∥∥₁_map}
-use Rattle.auditor.proofs.IncrementalAudits.{none_by, some_read, tried_more, tried_on, tried_read, tried_still}
+use Rattle.auditor.proofs.Prelude.{◌++◌, ∥∥₁_map}
+use Rattle.auditor.proofs.IncrementalAudits.{fed_read, none_by, some_read, taken_read, tried_more, tried_on, tried_read, tried_still}
 use Rattle.auditor.proofs.pieces.PieceAudit.feed.Goals as goal
 
 pub returns-in-Some-clause-fed : goal.returns-in-Some-clause-fed
@@ -36,3 +35,13 @@ invariant_of-self-in-Err c =
       few = c.take.ensures.few;
       some = ∥∥₁_map old.some (λ b. (b.0 ++ c.args.piece.now, λ more. c.in-Err.ensures.fault b.0 more (tried_read b.0 old.trial old.fault none b.1)));
     }
+
+pub returns-in-Some-clause-never_read : goal.returns-in-Some-clause-never_read
+returns-in-Some-clause-never_read c =
+    let old = c.args.self.now in
+    fed_read old.trial old.fault c.in-Some.fault old.some c.in-Some.is
+
+pub returns-in-Err-clause-never_read : goal.returns-in-Err-clause-never_read
+returns-in-Err-clause-never_read c =
+    let old = c.args.self.now in
+    taken_read old.trial c.args.piece.now c.in-Err.fault (some_read old.trial old.fault (none_by old.fault c.in_default.not-Some) old.some) c.in-Err.ensures.fault

@@ -1,24 +1,16 @@
-use Rattle.std.proofs.Common.{Err}
-use Rattle.auditor.proofs.VerdictUniqueness.{judged_accepts, judged_names}
-use Rattle.auditor.proofs.IncrementalAudits.{some_read, tried_read, tried_whole}
+use Rattle.std.proofs.Common.{◌∙◌, subst, sym}
+use Rattle.auditor.specs.Verdict.{IsJudged, JudgesDamage, JudgesRuns}
+use Rattle.auditor.proofs.TranscriptEnds.{ends_judged, fault_in}
 use Rattle.auditor.proofs.pieces.PieceAudit.finish.Goals as goal
 
-pub finish-requires : goal.finish-requires
-finish-requires c =
-    let self = c.args.self in
-    (self.few, some_read self.trial self.fault c.in-None.is self.some)
+pub returns-clause-judged : goal.returns-clause-judged
+returns-clause-judged c bytes fed = subst (IsJudged bytes) (sym c.summary_of.ensures) (ends_judged bytes c.into_end.result (c.into_end.ensures.ended bytes fed))
 
-pub returns-in-Some-clause-judged : goal.returns-in-Some-clause-judged
-returns-in-Some-clause-judged c bytes fed = tried_whole bytes c.args.self.trial c.args.self.fault c.in-Some.fault c.in-Some.is fed
+pub returns-clause-accepts_runs : goal.returns-clause-accepts_runs
+returns-clause-accepts_runs c bytes fed = subst (JudgesRuns bytes) (sym c.summary_of.ensures) (c.into_end.ensures.accepts_runs bytes fed)
 
-pub returns-in-Some-clause-accepts_runs : goal.returns-in-Some-clause-accepts_runs
-returns-in-Some-clause-accepts_runs c bytes fed = judged_accepts bytes (Err c.in-Some.fault) (tried_whole bytes c.args.self.trial c.args.self.fault c.in-Some.fault c.in-Some.is fed)
+pub returns-clause-names_damage : goal.returns-clause-names_damage
+returns-clause-names_damage c bytes fed = subst (JudgesDamage bytes) (sym c.summary_of.ensures) (c.into_end.ensures.names_damage bytes fed)
 
-pub returns-in-Some-clause-names_damage : goal.returns-in-Some-clause-names_damage
-returns-in-Some-clause-names_damage c bytes fed = judged_names bytes (Err c.in-Some.fault) (tried_whole bytes c.args.self.trial c.args.self.fault c.in-Some.fault c.in-Some.is fed)
-
-pub returns-in-None-clause-accepts_runs : goal.returns-in-None-clause-accepts_runs
-returns-in-None-clause-accepts_runs c bytes fed = judged_accepts bytes c.finish.result (c.finish.ensures bytes (tried_read bytes c.args.self.trial c.args.self.fault c.in-None.is fed))
-
-pub returns-in-None-clause-names_damage : goal.returns-in-None-clause-names_damage
-returns-in-None-clause-names_damage c bytes fed = judged_names bytes c.finish.result (c.finish.ensures bytes (tried_read bytes c.args.self.trial c.args.self.fault c.in-None.is fed))
+pub returns-clause-never_read : goal.returns-clause-never_read
+returns-clause-never_read c e = c.into_end.ensures.never_read (fault_in c.into_end.result _ (sym c.summary_of.ensures ∙ e))

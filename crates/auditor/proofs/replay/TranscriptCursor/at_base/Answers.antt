@@ -1,10 +1,4 @@
-use Rattle.std.proofs.Common.{ℕ, ◌+◌, ◌<◌, ◌≤◌, ◌++◌, arith, refl, subst, sym}
-use Rattle.auditor.specs.declared.damage.Damage.TheVariants.{BadBase}
-use Rattle.auditor.specs.declared.damage.JudgeFault.TheVariants.{Damaged}
-use Rattle.entry_grammar.specs.BaseLines.{base_lines}
-use Rattle.line_text.specs.BaseText.{base_head}
-use Rattle.auditor.specs.Damage.{line_feeds}
-use Rattle.auditor.specs.EntryWindows.{IsMetFirst}
+use Rattle.auditor.proofs.Prelude.{ℕ, ◌+◌, ◌<◌, ◌≤◌, ◌++◌, arith, refl, subst, sym, BadBase, base_lines, base_head, line_feeds, IsMetFirst}
 use Rattle.auditor.proofs.ReadOpenings.{base_opened, breaks_few, edges_rise}
 use Rattle.auditor.proofs.NextParts.{broken_more, cut_base_start, nowhere_more}
 use Rattle.auditor.proofs.Windows.{base_few}
@@ -26,7 +20,7 @@ pub returns-in-Err-BadLine-clause-fault : goal.returns-in-Err-BadLine-clause-fau
 returns-in-Err-BadLine-clause-fault c more =
     let bad = c.in-Err-BadLine in
     let whole : bad.number ≤ line_feeds c.args.rest.now = subst (λ (n : ℕ). bad.number ≤ n) c.line_feeds.ensures (subst (λ (n : ℕ). n ≤ c.line_feeds.result) bad.number-is c.if-line_feeds-number.false) in
-    subst (λ (n : ℕ). IsMetFirst (c.args.text.now ++ more) (Damaged (BadBase (n + 1)))) (sym bad.number-is)
+    subst (λ (n : ℕ). IsMetFirst (c.args.text.now ++ more) (BadBase (n + 1))) (sym bad.number-is)
     (broken_more c.args.text.now c.args.rest.now more c.args.rules c.args.size bad.number c.requires.few c.requires.first (bad.ensures.bad bad.number bad.field-0-is) whole)
 
 pub returns-then-base-gt-MAX_ENTRIES-clause-fault : goal.returns-then-base-gt-MAX_ENTRIES-clause-fault

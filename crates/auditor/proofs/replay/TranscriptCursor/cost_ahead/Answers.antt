@@ -1,6 +1,4 @@
-use Rattle.std.proofs.Common.{◌∙◌, ap}
-use Rattle.rule_machine.specs.declared.event.Event.{Event}
-use Rattle.reply_checker.specs.ReplyVerdicts.{cost_by}
+use Rattle.auditor.proofs.Prelude.{◌∙◌, ap, Event, cost_by}
 use Rattle.auditor.proofs.NextCosts.{entry_ahead}
 use Rattle.auditor.proofs.replay.TranscriptCursor.cost_ahead.Goals as goal
 

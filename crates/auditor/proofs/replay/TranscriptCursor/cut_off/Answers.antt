@@ -1,5 +1,4 @@
-use Rattle.std.proofs.Common.{ℕ, ◌+◌, ap, arith, rules}
-use Rattle.auditor.specs.Damage.{BeginsBase}
+use Rattle.auditor.proofs.Prelude.{ℕ, ◌+◌, ap, arith, rules, BeginsBase}
 use Rattle.auditor.proofs.LineCounts.{feeds_few}
 use Rattle.auditor.proofs.WholeTranscripts.{somewhere_few}
 use Rattle.auditor.proofs.NextParts.{cut_line, cut_wanted}

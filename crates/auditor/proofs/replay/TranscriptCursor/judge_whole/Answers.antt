@@ -1,9 +1,5 @@
-use Rattle.std.proofs.Common.{◌≡◌, ◌∙◌, [], length, sym, subst, eqb-true}
-use Rattle.std.proofs.lemmas.List.{nil_from_length}
-use Rattle.auditor.specs.declared.summary.Summary.{Summary}
-use Rattle.auditor.specs.AcceptedRuns.{IsAccepted}
+use Rattle.auditor.proofs.Prelude.{◌≡◌, ◌∙◌, List, ℕ, [], length, sym, subst, eqb-true, nil_from_length, IsCursorAt, IsReachable}
 use Rattle.auditor.proofs.WholeTranscripts.{behind_judged, passed_at, passed_compared, passed_shorter, passed_somewhere}
-use Rattle.auditor.proofs.AuditPositions.{reached_end}
 use Rattle.auditor.proofs.replay.TranscriptCursor.judge_whole.Goals as goal
 
 pub loop-left-smaller : goal.loop-left-smaller
@@ -22,14 +18,18 @@ loop-left-preserved c =
       compared = passed_compared old new left behind passed;
     }
 
-pub returns-in-Err : goal.returns-in-Err
-returns-in-Err c bytes start =
+pub returns-in-Err-clause-ended : goal.returns-in-Err-clause-ended
+returns-in-Err-clause-ended c bytes start =
     behind_judged bytes c.loop-left.replay.audit.number c.in-Err.fault (c.in-Err.ensures.fault bytes (c.loop-left.invariant.at bytes start))
 
-pub returns : goal.returns
-returns c bytes start =
-    let replay = c.loop-left.replay in
+pub into_end-requires : goal.into_end-requires
+into_end-requires c =
     let left = c.loop-left.left.now in
     let none : left ≡ [] = nil_from_length left (eqb-true (length left) 0 (sym c.is_empty.ensures ∙ c.loop-left-test.false)) in
-    subst (λ (counted : Summary). IsAccepted bytes counted) (sym c.counted.ensures.counted)
-    (reached_end bytes replay.rules replay.size replay.audit left (c.loop-left.invariant.at bytes start).reached none)
+    subst (λ (l : List ℕ). IsReachable c.loop-left.replay l) none c.loop-left.invariant.somewhere
+
+pub returns-clause-ended : goal.returns-clause-ended
+returns-clause-ended c bytes start =
+    let left = c.loop-left.left.now in
+    let none : left ≡ [] = nil_from_length left (eqb-true (length left) 0 (sym c.is_empty.ensures ∙ c.loop-left-test.false)) in
+    c.into_end.ensures.ended bytes (subst (λ (l : List ℕ). IsCursorAt bytes c.loop-left.replay l) none (c.loop-left.invariant.at bytes start))

@@ -1,5 +1,4 @@
-use Rattle.std.proofs.Common.{ℕ, List, length}
-use Rattle.auditor.specs.TranscriptCursors.{IsCursorAt, IsCompared, IsReachable}
+use Rattle.auditor.proofs.Prelude.{ℕ, List, length, IsCursorAt, IsCompared, IsReachable}
 use Rattle.auditor.proofs.replay.TranscriptCursor.judge_whole.Given as goal
 
 abbrev pub invariant-loop-left : goal.invariant-loop-left

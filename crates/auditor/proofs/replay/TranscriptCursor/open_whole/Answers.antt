@@ -1,5 +1,4 @@
-use Rattle.std.proofs.Common.{[], List, ℕ, append-nil, subst}
-use Rattle.auditor.specs.EntryWindows.{IsMetFirst}
+use Rattle.auditor.proofs.Prelude.{[], List, ℕ, append-nil, subst, IsMetFirst}
 use Rattle.auditor.proofs.replay.TranscriptCursor.open_whole.Goals as goal
 
 pub returns-in-Err-clause-fault : goal.returns-in-Err-clause-fault

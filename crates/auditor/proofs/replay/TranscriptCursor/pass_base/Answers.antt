@@ -1,9 +1,4 @@
-use Rattle.std.proofs.Common.{◌≡◌, ◌≤◌, ◌+◌, ◌-◌, ◌∙◌, ℕ, List, length, take, drop, refl, sym, ap, subst, arith}
-use Rattle.std.proofs.lemmas.List.{length-drop, take_all}
-use Rattle.std.proofs.Math.Logic.{∥∥₁_elim}
-use Rattle.std.proofs.Props.{props}
-use Rattle.auditor.specs.Damage.{line_feeds}
-use Rattle.auditor.specs.TranscriptCursors.{AreSameUpTo, ArePartedAt, IsPassed}
+use Rattle.auditor.proofs.Prelude.{◌≡◌, ◌≤◌, ◌+◌, ◌-◌, ◌∙◌, ℕ, List, length, take, drop, refl, sym, ap, subst, arith, length-drop, take_all, ∥∥₁_elim, props, line_feeds, AreSameUpTo, ArePartedAt, IsPassed}
 use Rattle.auditor.proofs.LineCounts.{feeds_few}
 use Rattle.auditor.proofs.WholeTranscripts.{somewhere_few}
 use Rattle.auditor.proofs.NextParts.{base_damaged, base_passed, base_waits, wanted_still, wants_made}

@@ -1,7 +1,4 @@
-use Rattle.std.proofs.Common.{◌++◌, Err, sym, subst}
-use Rattle.entry_grammar.proofs.BaseBreaks.{by_error}
-use Rattle.auditor.specs.declared.damage.JudgeFault.{JudgeFault}
-use Rattle.auditor.specs.Verdict.{IsJudged}
+use Rattle.auditor.proofs.Prelude.{◌++◌, Err, sym, subst, by_error, AuditFault, IsJudged}
 use Rattle.auditor.proofs.WholeTranscripts.{passed_at, passed_compared, passed_somewhere, waited}
 use Rattle.auditor.proofs.PieceReading.{ends_further, parts_fault, passed_by, waits_by}
 use Rattle.auditor.proofs.replay.TranscriptCursor.pass_parts.Goals as goal
@@ -9,7 +6,7 @@ use Rattle.auditor.proofs.replay.TranscriptCursor.pass_parts.Goals as goal
 pub returns-in_err-behind-clause-fault : goal.returns-in_err-behind-clause-fault
 returns-in_err-behind-clause-fault c =
     by_error c.from_residual.result _ _ c.from_residual.ensures.1 (λ fault q bytes more start.
-    subst (λ (f : JudgeFault). IsJudged (bytes ++ more) (Err f)) (sym q)
+    subst (λ (f : AuditFault). IsJudged (bytes ++ more) (Err f)) (sym q)
     (parts_fault bytes more c.loop-behind.self c.loop-behind.rest.now c.in_err-behind.field-0.0 c.in_err-behind.ensures.fault (c.loop-behind.invariant.at bytes start)))
 
 pub loop-behind-preserved : goal.loop-behind-preserved

@@ -1,5 +1,4 @@
-use Rattle.std.proofs.Common.{ℕ, List, length}
-use Rattle.auditor.specs.TranscriptCursors.{EndsIn, IsCursorAt, IsCompared, IsReachable}
+use Rattle.auditor.proofs.Prelude.{ℕ, List, length, EndsIn, IsCursorAt, IsCompared, IsReachable}
 use Rattle.auditor.proofs.replay.TranscriptCursor.pass_parts.Given as goal
 
 abbrev pub invariant-loop-behind : goal.invariant-loop-behind

@@ -1,6 +1,4 @@
-use Rattle.std.proofs.Common.{◌≡◌, [], inr, length, refl, ap, arith}
-use Rattle.std.proofs.Math.Logic.{∥∥₁_elim}
-use Rattle.std.proofs.Props.{props}
+use Rattle.auditor.proofs.Prelude.{◌≡◌, [], inr, length, refl, ap, arith, ∥∥₁_elim, props}
 use Rattle.auditor.proofs.NextParts.{wanted_is}
 use Rattle.auditor.proofs.Spent.{reached_within}
 use Rattle.auditor.proofs.replay.TranscriptCursor.want_base.Goals as goal

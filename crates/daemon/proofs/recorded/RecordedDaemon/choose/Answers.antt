@@ -1,6 +1,4 @@
-use Rattle.std.proofs.Common.{rules, ◌≡◌}
-use Rattle.enabled_set.specs.Members.{members}
-use Rattle.daemon.specs.RecordedLists.{played}
+use Rattle.daemon.proofs.Prelude.{rules, ◌≡◌, members, played}
 use Rattle.daemon.proofs.RecordedPlay.{lawful_played, none_played}
 use Rattle.daemon.proofs.recorded.RecordedDaemon.choose.Goals as goal
 

@@ -1,8 +1,4 @@
-use Rattle.std.proofs.Common.{◌≤◌, List, length, ap, sym, subst, ◌∙◌, arith}
-use Rattle.rand_core.specs.Stream.{Stream}
-use Rattle.rule_machine.specs.declared.choice.Item.{Item}
-use Rattle.enabled_set.specs.Members.{members}
-use Rattle.daemon.specs.DaemonLaws.{IsLawful}
+use Rattle.daemon.proofs.Prelude.{◌≤◌, List, length, ap, sym, subst, ◌∙◌, arith, Stream, Item, members, IsLawful}
 use Rattle.daemon.proofs.Odd.{lawful_one, lawful_some}
 use Rattle.daemon.proofs.seeded.SeededDaemon.choose.Goals as goal
 use Rattle.daemon.proofs.seeded.SeededDaemon.choose.Goals.{then-central, else-central+in_ok-choice}

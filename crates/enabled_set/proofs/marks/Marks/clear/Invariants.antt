@@ -1,5 +1,4 @@
-use Rattle.std.proofs.Common.{◌≡◌, length}
-use Rattle.enabled_set.specs.Members.{members}
+use Rattle.enabled_set.proofs.Prelude.{◌≡◌, length, members}
 use Rattle.enabled_set.proofs.marks.Marks.clear.Given as goal
 
 abbrev pub invariant-loop : goal.invariant-loop

@@ -1,6 +1,4 @@
-use Rattle.std.proofs.Common.{◌+◌, ◌<◌, ◌∙◌, ℕ, true, false, length, set, sym, ap, subst, arith}
-use Rattle.std.proofs.lemmas.List.{get_or_read}
-use Rattle.enabled_set.specs.MarkedNames.{AreListed}
+use Rattle.enabled_set.proofs.Prelude.{◌+◌, ◌<◌, ◌∙◌, ℕ, true, false, length, set, sym, ap, subst, arith, get_or_read, AreListed}
 use Rattle.enabled_set.proofs.MarkChanges.{one_listed_more, room_left}
 use Rattle.enabled_set.proofs.marks.Marks.mark.Goals as goal
 

@@ -1,5 +1,4 @@
-use Rattle.std.proofs.Common.{◌≡◌, ◌≤◌, ℕ, true, length}
-use Rattle.enabled_set.specs.Members.{is_in}
+use Rattle.enabled_set.proofs.Prelude.{◌≡◌, ◌≤◌, ℕ, true, length, is_in}
 use Rattle.enabled_set.proofs.marks.Marks.mark_all.Given as goal
 
 abbrev pub invariant-loop-below : goal.invariant-loop-below

@@ -1,6 +1,4 @@
-use Rattle.std.proofs.Common.{◌-◌, ◌∙◌, ℕ, false, set, sym, ap, subst, arith}
-use Rattle.enabled_set.specs.Members.{is_in}
-use Rattle.enabled_set.specs.MarkedNames.{AreListed}
+use Rattle.enabled_set.proofs.Prelude.{◌-◌, ◌∙◌, ℕ, false, set, sym, ap, subst, arith, is_in, AreListed}
 use Rattle.enabled_set.proofs.MarkChanges.{all_listed, at_end, none_marked}
 use Rattle.enabled_set.proofs.marks.Marks.take.Goals as goal
 

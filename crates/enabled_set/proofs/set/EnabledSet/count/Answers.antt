@@ -1,5 +1,4 @@
-use Rattle.std.proofs.Common.{length, sym, ap, ◌∙◌}
-use Rattle.enabled_set.specs.Members.{members, first_bits}
+use Rattle.enabled_set.proofs.Prelude.{length, sym, ap, ◌∙◌, members, first_bits}
 use Rattle.enabled_set.proofs.Members.{length-members}
 use Rattle.enabled_set.proofs.set.EnabledSet.count.Goals as goal
 

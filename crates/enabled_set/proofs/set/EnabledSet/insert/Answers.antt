@@ -1,6 +1,4 @@
-use Rattle.std.proofs.Common.{◌≡◌, ◌+◌, ◌/◌, ◌<◌, true, length, set, arith, ap, sym, ◌∙◌}
-use Rattle.enabled_set.specs.Members.{first_bits}
-use Rattle.enabled_set.specs.Counts.{HasRightCounts}
+use Rattle.enabled_set.proofs.Prelude.{◌≡◌, ◌+◌, ◌/◌, ◌<◌, true, length, set, arith, ap, sym, ◌∙◌, first_bits, HasRightCounts}
 use Rattle.enabled_set.proofs.Stretches.{count_few}
 use Rattle.enabled_set.proofs.Changes.{count_read, bit_read, put_same, total_few, counted_more}
 use Rattle.enabled_set.proofs.set.EnabledSet.insert.Goals as goal

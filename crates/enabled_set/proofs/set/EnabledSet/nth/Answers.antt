@@ -1,8 +1,5 @@
-use Rattle.std.proofs.Common.{◌≡◌, ◌≤◌, ◌<◌, slice_get, get_or, length, ap, sym, subst, ◌∙◌, arith}
-use Rattle.std.proofs.lemmas.List.{get_or_read}
-use Rattle.std.specs.Prelude.{SomeIff}
-use Rattle.enabled_set.specs.Members.{members, has_bit, first_bits}
-use Rattle.enabled_set.specs.Counts.{tally}
+use Rattle.enabled_set.proofs.Prelude.{◌≡◌, ◌≤◌, ◌<◌, get_or, length, ap, sym, subst, ◌∙◌, arith, get_or_read, SomeIff, members, has_bit, first_bits, tally}
+use Rattle.std.proofs.Common.{slice_get}
 use Rattle.enabled_set.proofs.Nth.{enough_lots, enough_groups, enough_words, passed, nth_none, nth_some}
 use Rattle.enabled_set.proofs.set.EnabledSet.nth.Goals as goal
 use Rattle.enabled_set.proofs.set.EnabledSet.nth.Goals.{After-pass_words-spot, After-index}

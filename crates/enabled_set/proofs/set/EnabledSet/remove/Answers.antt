@@ -1,6 +1,4 @@
-use Rattle.std.proofs.Common.{◌≡◌, ◌-◌, ◌/◌, ◌<◌, true, false, length, set, arith, ap, sym, ◌∙◌}
-use Rattle.enabled_set.specs.Members.{is_in, is_bit_on, first_bits}
-use Rattle.enabled_set.specs.Counts.{HasRightCounts}
+use Rattle.enabled_set.proofs.Prelude.{◌≡◌, ◌-◌, ◌/◌, ◌<◌, true, false, length, set, arith, ap, sym, ◌∙◌, is_in, is_bit_on, first_bits, HasRightCounts}
 use Rattle.enabled_set.proofs.Members.{inside}
 use Rattle.enabled_set.proofs.Stretches.{count_some}
 use Rattle.enabled_set.proofs.Changes.{count_read, bit_read, put_same, total_some, counted_less}

@@ -1,5 +1,4 @@
-use Rattle.std.proofs.Common.{◌*◌, ◌≤◌, length, ap, sym, ◌∙◌, arith}
-use Rattle.enabled_set.specs.Members.{members, is_bit_on, first_bits}
+use Rattle.enabled_set.proofs.Prelude.{◌*◌, ◌≤◌, length, ap, sym, ◌∙◌, arith, members, is_bit_on, first_bits}
 use Rattle.enabled_set.proofs.Members.{below_none}
 use Rattle.enabled_set.proofs.Nth.{below_all}
 use Rattle.enabled_set.proofs.set.EnabledSet.to_list.Goals as goal

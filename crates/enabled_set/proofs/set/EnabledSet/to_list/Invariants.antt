@@ -1,6 +1,4 @@
-use Rattle.std.proofs.Common.{◌≡◌, ◌*◌}
-use Rattle.enabled_set.specs.Members.{is_bit_on}
-use Rattle.enabled_set.specs.Counts.{below}
+use Rattle.enabled_set.proofs.Prelude.{◌≡◌, ◌*◌, is_bit_on, below}
 use Rattle.enabled_set.proofs.set.EnabledSet.to_list.Given as goal
 
 abbrev pub invariant-loop-place : goal.invariant-loop-place

@@ -1,5 +1,4 @@
-use Rattle.std.proofs.Common.{sym, ◌∙◌, arith}
-use Rattle.std.proofs.lemmas.Bool.{true≢false}
+use Rattle.entry_grammar.proofs.Prelude.{sym, ◌∙◌, arith, true≢false}
 use Rattle.entry_grammar.proofs.InFront.{pair_of_word, pair_rest}
 use Rattle.entry_grammar.proofs.tokens.EdgeToken.read.Goals as goal
 

@@ -1,5 +1,4 @@
-use Rattle.std.proofs.Common.{◌++◌, sym, ◌∙◌, arith}
-use Rattle.entry_grammar.specs.Parsing.{deed_text}
+use Rattle.entry_grammar.proofs.Prelude.{◌++◌, sym, ◌∙◌, arith, deed_text}
 use Rattle.entry_grammar.proofs.MarkedNames.{marked_once}
 use Rattle.entry_grammar.proofs.TokensOnce.{whole_move}
 use Rattle.entry_grammar.proofs.tokens.MovedToken.read.Goals as goal

@@ -1,9 +1,7 @@
-use Rattle.std.proofs.Common.{◌≡◌, ◌++◌, sym, ◌∙◌, arith}
-use Rattle.std.proofs.lemmas.Bool.{true≢false}
-use Rattle.line_text.specs.ReplyText.{act_word}
+use Rattle.entry_grammar.proofs.Prelude.{◌≡◌, ◌++◌, sym, ◌∙◌, arith, true≢false, act_word}
 use Rattle.entry_grammar.proofs.MarkedNames.{marked_once}
 use Rattle.entry_grammar.proofs.TokensOnce.{whole_enabled}
-use Rattle.entry_grammar.proofs.InFront.{act_first}
+use Rattle.entry_grammar.proofs.TokensOnce.{act_first}
 use Rattle.entry_grammar.proofs.tokens.Tuple2NodeActToken.read.Goals as goal
 
 pub returns-in_default-read_act : goal.returns-in_default-read_act

@@ -1,8 +1,4 @@
-use Rattle.std.proofs.Common.{◌≡◌, arith, ap, sym, refl, subst, ◌∙◌, true, false}
-use Rattle.std.proofs.lemmas.Bool.{le-leb, lt-leb}
-use Rattle.rule_machine.specs.Network.{edge_count}
-use Rattle.graph_store.specs.Graph.{Graph}
-use Rattle.graph_store.specs.Rows.{IsGapFor}
+use Rattle.graph_store.proofs.Prelude.{◌≡◌, arith, ap, sym, refl, subst, ◌∙◌, true, false, le-leb, lt-leb, edge_count, Graph, IsGapFor}
 use Rattle.graph_store.proofs.Faults.{ends_known, link_fault_is}
 use Rattle.graph_store.proofs.AscendingLists.{there_at_place, absent_at_gap}
 use Rattle.graph_store.proofs.edge_store.EdgeStore.check_link.Goals as goal

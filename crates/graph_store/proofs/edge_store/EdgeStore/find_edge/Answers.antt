@@ -1,8 +1,4 @@
-use Rattle.std.proofs.Common.{◌≡◌, arith, ap, sym, subst, ◌∙◌, true}
-use Rattle.std.specs.List.Sorted.{IsStrictlyIncreasing}
-use Rattle.std.proofs.lemmas.Bool.{true≢false}
-use Rattle.graph_store.specs.Graph.{Graph}
-use Rattle.graph_store.specs.Rows.{contents, has, IsPlaceOf}
+use Rattle.graph_store.proofs.Prelude.{◌≡◌, arith, ap, sym, subst, ◌∙◌, true, IsStrictlyIncreasing, true≢false, Graph, contents, has, IsPlaceOf}
 use Rattle.graph_store.proofs.Faults.{are_joined, has_row, row_here}
 use Rattle.graph_store.proofs.AscendingLists.{absent_at_gap}
 use Rattle.graph_store.proofs.Store.{linked_by, neighbours_by}

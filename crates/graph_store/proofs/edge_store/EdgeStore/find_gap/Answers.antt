@@ -1,5 +1,4 @@
-use Rattle.std.proofs.Common.{subst, ◌∙◌}
-use Rattle.graph_store.specs.Rows.{IsGapFor}
+use Rattle.graph_store.proofs.Prelude.{subst, ◌∙◌, IsGapFor}
 use Rattle.graph_store.proofs.edge_store.EdgeStore.find_gap.Goals as goal
 
 pub find_gap-requires-clause-apart : goal.find_gap-requires-clause-apart

@@ -1,5 +1,4 @@
-use Rattle.std.proofs.Common.{subst, ◌∙◌}
-use Rattle.graph_store.specs.Rows.{IsGapFor}
+use Rattle.graph_store.proofs.Prelude.{subst, ◌∙◌, IsGapFor}
 use Rattle.graph_store.proofs.edge_store.EdgeStore.guess_gap.Goals as goal
 
 pub guess_gap-requires-clause-apart : goal.guess_gap-requires-clause-apart

@@ -1,6 +1,4 @@
-use Rattle.std.proofs.Common.{ap, ◌∙◌}
-use Rattle.graph_store.specs.Graph.{Graph}
-use Rattle.graph_store.specs.Rows.{contents}
+use Rattle.graph_store.proofs.Prelude.{ap, ◌∙◌, Graph, contents}
 use Rattle.graph_store.proofs.Faults.{row_here}
 use Rattle.graph_store.proofs.LeavingNodes.{last_of}
 use Rattle.graph_store.proofs.edge_store.EdgeStore.last_neighbour.Goals as goal

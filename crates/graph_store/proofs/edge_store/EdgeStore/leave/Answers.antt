@@ -1,6 +1,4 @@
-use Rattle.std.proofs.Common.{◌≡◌, ◌<◌, None, OnOk, ap, sym, refl, subst, ◌∙◌}
-use Rattle.rule_machine.specs.Network.{edge_count, present, without_edge, without_node}
-use Rattle.graph_store.specs.Fault.{unlink_fault}
+use Rattle.graph_store.proofs.Prelude.{◌≡◌, ◌<◌, None, OnOk, ap, sym, refl, subst, ◌∙◌, edge_count, present, without_edge, without_node, unlink_fault}
 use Rattle.graph_store.proofs.LeavingNodes.{without_edge_at, edge_falls, may_unlink, may_leave}
 use Rattle.graph_store.proofs.edge_store.EdgeStore.leave.Goals as goal
 

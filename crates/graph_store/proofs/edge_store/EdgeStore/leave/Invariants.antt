@@ -1,6 +1,4 @@
-use Rattle.std.proofs.Common.{◌≡◌}
-use Rattle.std.specs.Prelude.{IsTrue}
-use Rattle.rule_machine.specs.Network.{edge_count, present, without_node}
+use Rattle.graph_store.proofs.Prelude.{◌≡◌, IsTrue, edge_count, present, without_node}
 use Rattle.graph_store.proofs.edge_store.EdgeStore.leave.Given as goal
 
 abbrev pub invariant-loop-w : goal.invariant-loop-w

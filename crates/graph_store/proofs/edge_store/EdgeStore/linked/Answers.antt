@@ -1,9 +1,4 @@
-use Rattle.std.proofs.Common.{◌<◌, length, arith, ap, sym, subst, ◌∙◌}
-use Rattle.std.specs.Prelude.{IsTrue}
-use Rattle.std.specs.List.Sorted.{IsStrictlyIncreasing}
-use Rattle.rule_machine.specs.Network.{linked, present}
-use Rattle.graph_store.specs.Graph.{Graph}
-use Rattle.graph_store.specs.Rows.{contents, has}
+use Rattle.graph_store.proofs.Prelude.{◌<◌, length, arith, ap, sym, subst, ◌∙◌, IsTrue, IsStrictlyIncreasing, linked, present, Graph, contents, has}
 use Rattle.graph_store.proofs.Contents.{row_read, row_past, found}
 use Rattle.graph_store.proofs.Faults.{are_joined}
 use Rattle.graph_store.proofs.Store.{linked_by, linked_present}

@@ -1,10 +1,4 @@
-use Rattle.std.proofs.Common.{◌≡◌, length, ap, sym, ◌∙◌, arith}
-use Rattle.std.proofs.lemmas.List.{length-map}
-use Rattle.std.specs.FinMap.{len-entries}
-use Rattle.std.proofs.lemmas.Result.{IfOk-weaker}
-use Rattle.rule_machine.specs.Network.{edge_list}
-use Rattle.graph_store.specs.Graph.{Graph}
-use Rattle.graph_store.specs.Rows.{contents, network_of, pairs_from, row_at}
+use Rattle.graph_store.proofs.Prelude.{◌≡◌, length, ap, sym, ◌∙◌, arith, length-map, len-entries, IfOk-weaker, edge_list, Graph, contents, network_of, pairs_from, row_at}
 use Rattle.graph_store.proofs.PairLists.{edges_listed, nobody_row}
 use Rattle.graph_store.proofs.edge_store.EdgeStore.list.Goals as goal
 

@@ -1,7 +1,4 @@
-use Rattle.std.proofs.Common.{◌≡◌, ◌-◌, ◌<◌, map, length, arith, ap, sym, subst, OnOk}
-use Rattle.std.specs.Vec.{vec_len, vec_capacity}
-use Rattle.std.proofs.lemmas.List.{with_items_is}
-use Rattle.graph_store.specs.Graph.{Graph, HasRoomFor}
+use Rattle.graph_store.proofs.Prelude.{◌≡◌, ◌-◌, ◌<◌, map, length, arith, ap, sym, subst, OnOk, vec_len, vec_capacity, with_items_is, Graph, HasRoomFor}
 use Rattle.graph_store.proofs.Contents.{room_counted}
 use Rattle.graph_store.proofs.Faults.{has_row}
 use Rattle.graph_store.proofs.Results.{on_ok_map_err}

@@ -1,11 +1,5 @@
-use Rattle.std.proofs.Common.{◌≡◌, arith, ap, sym, subst, refl, ◌∙◌}
-use Rattle.std.specs.Prelude.{All, IsTrue}
-use Rattle.std.specs.List.Sorted.{IsStrictlyIncreasing}
-use Rattle.rule_machine.specs.Network.{Network, neighbours, linked, present}
-use Rattle.graph_store.specs.Graph.{Graph}
-use Rattle.graph_store.specs.Rows.{contents, has, row_at}
+use Rattle.graph_store.proofs.Prelude.{◌≡◌, arith, ap, sym, subst, refl, ◌∙◌, All, IsTrue, IsStrictlyIncreasing, Network, neighbours, linked, present, Graph, contents, has, row_at, present_range}
 use Rattle.graph_store.proofs.Contents.{row_read, length_contents}
-use Rattle.machine_laws.specs.Neighbours.{present_range}
 use Rattle.graph_store.proofs.Store.{linked_by, neighbours_row, all_linked, all_present}
 use Rattle.graph_store.proofs.edge_store.EdgeStore.neighbours.Goals as goal
 

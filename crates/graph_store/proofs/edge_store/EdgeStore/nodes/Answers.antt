@@ -1,11 +1,4 @@
-use Rattle.std.proofs.Common.{length, arith, ap, ◌∙◌}
-use Rattle.std.proofs.lemmas.List.Sums.{length-filter}
-use Rattle.std.proofs.lemmas.List.FromFn.{length-range_with_len}
-use Rattle.rule_machine.specs.Network.{node_count, present}
-use Rattle.std.specs.List.{range_with_len}
-use Rattle.std.proofs.lemmas.List.Sums.{count_by-le-length}
-use Rattle.graph_store.specs.Graph.{Graph}
-use Rattle.graph_store.specs.Rows.{contents, network_of}
+use Rattle.graph_store.proofs.Prelude.{length, arith, ap, ◌∙◌, length-filter, length-range_with_len, node_count, present, range_with_len, count_by-le-length, Graph, contents, network_of}
 use Rattle.graph_store.proofs.PresentRows.{members_names}
 use Rattle.graph_store.proofs.edge_store.EdgeStore.nodes.Goals as goal
 

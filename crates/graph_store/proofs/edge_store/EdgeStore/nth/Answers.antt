@@ -1,8 +1,4 @@
-use Rattle.std.proofs.Common.{ap, ◌∙◌}
-use Rattle.std.specs.Prelude.{slice_get}
-use Rattle.rule_machine.specs.Network.{names}
-use Rattle.graph_store.specs.Graph.{Graph}
-use Rattle.graph_store.specs.Rows.{contents, network_of}
+use Rattle.graph_store.proofs.Prelude.{ap, ◌∙◌, slice_get, names, Graph, contents, network_of}
 use Rattle.graph_store.proofs.PresentRows.{members_names}
 use Rattle.graph_store.proofs.edge_store.EdgeStore.nth.Goals as goal
 

@@ -1,8 +1,4 @@
-use Rattle.std.proofs.Common.{◌≡◌, [], ap, sym, subst, ◌∙◌}
-use Rattle.rule_machine.specs.Network.{without_node}
-use Rattle.graph_store.specs.Graph.{Graph}
-use Rattle.graph_store.specs.Rows.{contents, row_at, network_of, IsStore}
-use Rattle.machine_laws.specs.Neighbours.{present_range}
+use Rattle.graph_store.proofs.Prelude.{◌≡◌, [], ap, sym, subst, ◌∙◌, without_node, Graph, contents, row_at, network_of, IsStore, present_range}
 use Rattle.graph_store.proofs.Store.{neighbours_by}
 use Rattle.graph_store.proofs.LeavingNodes.{parted_store, parted_network}
 use Rattle.graph_store.proofs.edge_store.EdgeStore.part.Goals as goal

@@ -1,14 +1,5 @@
-use Rattle.std.proofs.Common.{◌≡◌, ◌+◌, ◌≤◌, ℕ, List, length, arith, ap, sym, subst, ◌∙◌}
-use Rattle.std.specs.declared.vec.Vec.{Vec}
-use Rattle.std.specs.declared.alloc.Global.{Global}
-use Rattle.std.specs.Vec.{with_items}
-use Rattle.std.proofs.lemmas.Bool.{eqb-false}
-use Rattle.std.proofs.lemmas.List.{with_items_is}
-use Rattle.rule_machine.specs.Network.{Network, with_edge, edge_count}
-use Rattle.graph_store.specs.Graph.{Graph}
-use Rattle.graph_store.specs.Rows.{contents, row_at, network_of, put_both, IsStore, IsGapFor}
+use Rattle.graph_store.proofs.Prelude.{◌≡◌, ◌+◌, ◌≤◌, ℕ, List, length, arith, ap, sym, subst, ◌∙◌, Vec, Global, with_items, eqb-false, with_items_is, Network, with_edge, edge_count, Graph, contents, row_at, network_of, put_both, IsStore, IsGapFor, open_among}
 use Rattle.graph_store.proofs.Faults.{may_link, known}
-use Rattle.graph_store.specs.EdgeStances.{open_among}
 use Rattle.graph_store.proofs.OpenEdges.{bool_few, few_open, open_linked, open_number}
 use Rattle.graph_store.proofs.Store.{neighbours_by}
 use Rattle.graph_store.proofs.Switch.{link_rows}

@@ -1,16 +1,7 @@
-use Rattle.std.proofs.Common.{◌≡◌, ◌-◌, ◌<◌, ℕ, List, length, arith, ap, sym, refl, subst, ◌∙◌}
-use Rattle.std.specs.declared.vec.Vec.{Vec}
-use Rattle.std.specs.declared.alloc.Global.{Global}
-use Rattle.std.specs.Vec.{with_items}
-use Rattle.std.proofs.lemmas.List.{with_items_is}
+use Rattle.graph_store.proofs.Prelude.{◌≡◌, ◌-◌, ◌<◌, ℕ, List, length, arith, ap, sym, refl, subst, ◌∙◌, Vec, Global, with_items, with_items_is, Network, edge, without_edge, edge_count, Graph, open_among, contents, row_at, network_of, take_both, IsStore, IsPlaceOf, present_range}
 use Rattle.std.specs.FinMap as map
-use Rattle.rule_machine.specs.Network.{Network, edge, without_edge, edge_count}
-use Rattle.graph_store.specs.Graph.{Graph}
-use Rattle.graph_store.specs.EdgeStances.{open_among}
-use Rattle.graph_store.specs.Rows.{contents, row_at, network_of, take_both, IsStore, IsPlaceOf}
 use Rattle.graph_store.proofs.Faults.{are_joined, has_row, known, some_edge}
 use Rattle.graph_store.proofs.OpenEdges.{open_number, open_unlinked}
-use Rattle.machine_laws.specs.Neighbours.{present_range}
 use Rattle.graph_store.proofs.Store.{neighbours_by}
 use Rattle.graph_store.proofs.Switch.{unlink_rows}
 use Rattle.graph_store.proofs.edge_store.EdgeStore.remove_edge.Goals as goal

@@ -1,13 +1,5 @@
-use Rattle.std.proofs.Common.{◌≡◌, ◌≤◌, ◌<◌, ◌+◌, ℕ, List, length, count_by, set, get_or, arith, ap, sym, subst, ◌∙◌}
-use Rattle.std.specs.Prelude.{All, IsTrue}
-use Rattle.std.proofs.lemmas.List.{with_items_is, length-set}
-use Rattle.rule_machine.specs.Network.{present}
-use Rattle.graph_store.specs.declared.ends.EdgeStance.{EdgeStance}
-use Rattle.graph_store.specs.Graph.{Graph}
-use Rattle.graph_store.specs.EdgeStances.{are_open, end_at, open_among}
-use Rattle.graph_store.specs.Rows.{contents, row_at, edges_of, network_of}
+use Rattle.graph_store.proofs.Prelude.{◌≡◌, ◌≤◌, ◌<◌, ◌+◌, ℕ, List, length, count_by, set, get_or, arith, ap, sym, subst, ◌∙◌, All, IsTrue, with_items_is, length-set, present, EdgeStance, Graph, are_open, end_at, open_among, contents, row_at, edges_of, network_of, present_range}
 use Rattle.graph_store.proofs.OpenEdges.{few_open, few_in_row, open_at_few, open_turned, row_named}
-use Rattle.machine_laws.specs.Neighbours.{present_range}
 use Rattle.graph_store.proofs.Store.{all_present}
 use Rattle.graph_store.proofs.edge_store.EdgeStore.set_stance.Goals as goal
 

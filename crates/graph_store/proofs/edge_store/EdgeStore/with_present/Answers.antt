@@ -1,8 +1,4 @@
-use Rattle.std.proofs.Common.{◌≡◌, ◌+◌, [], replicate, ap, sym, subst, ◌∙◌}
-use Rattle.rule_machine.specs.Network.{first_names}
-use Rattle.graph_store.specs.Rows.{contents, network_of, IsStore}
-use Rattle.graph_store.specs.EdgeStances.{CountsOpenEdges}
-use Rattle.graph_store.specs.declared.ends.EdgeStance.TheVariants.{Shut}
+use Rattle.graph_store.proofs.Prelude.{◌≡◌, ◌+◌, [], replicate, ap, sym, subst, ◌∙◌, first_names, contents, network_of, IsStore, CountsOpenEdges, Shut}
 use Rattle.graph_store.proofs.OpenEdges.{none_counted}
 use Rattle.graph_store.proofs.Store.{empty_network, empty_store}
 use Rattle.graph_store.proofs.Results.{from_map_err}

@@ -1,6 +1,4 @@
-use Rattle.std.proofs.Common.{◌≡◌, ap, ◌∙◌, subst}
-use Rattle.snapshots.specs.Row.{IsRun}
-use Rattle.snapshots.specs.Views.{BoardName, ReaderView}
+use Rattle.locked_net.proofs.Prelude.{◌≡◌, ap, ◌∙◌, subst, IsRun, BoardName, ReaderView}
 use Rattle.locked_net.proofs.BoardReads.{shows}
 use Rattle.locked_net.proofs.board_reader.BoardReader.front.Goals as goal
 

@@ -1,5 +1,4 @@
-use Rattle.std.proofs.Common.{◌≡◌, sym, ap, ◌∙◌, subst}
-use Rattle.locked_net.specs.Receipts.{ClerkView, front_of}
+use Rattle.locked_net.proofs.Prelude.{◌≡◌, sym, ap, ◌∙◌, subst, ClerkView, front_of}
 use Rattle.locked_net.proofs.Fronts.{front_last}
 use Rattle.locked_net.proofs.clerk.Clerk.front.Goals as goal
 

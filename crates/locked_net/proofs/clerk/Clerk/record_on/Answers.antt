@@ -1,25 +1,37 @@
-use Rattle.std.proofs.Common.{◌≡◌, ◌∷◌, ◌++◌, [], None, sym, ap, ap₂, ◌∙◌, subst}
-use Rattle.step_log.specs.declared.receipt.Receipt.{Receipt}
-use Rattle.locked_net.specs.Receipts.{ClerkView, front_of, noted}
-use Rattle.locked_net.specs.Calls.{call_fault}
-use Rattle.locked_net.proofs.ReceiptAddition.{front_after, is_clerk_after}
-use Rattle.locked_net.proofs.ChosenEvents.{begins_in}
+use Rattle.locked_net.proofs.Prelude.{◌≡◌, ◌∷◌, ◌++◌, [], None, Ok, refl, sym, ap₂, ◌∙◌, subst, Receipt, ClerkView, seen_by, call_fault, RecordsEvent, each, HeldCall}
+use Rattle.locked_net.proofs.ReceiptAddition.{front_free, is_clerk_after}
+use Rattle.locked_net.proofs.ClerkCalls.{recorded_call}
 use Rattle.locked_net.proofs.clerk.Clerk.record_on.Goals as goal
 
 pub invariant_of-self-2 : goal.invariant_of-self-2
 invariant_of-self-2 g c =
     let log = c.args.desk.now.log in
-    let old = c.self.inside.receipts.items in
+    let inside = c.self.inside in
+    let old : ClerkView = record { receipts = inside.receipts.items; note = inside.note; base = inside.base } in
     let told = c.in_ok-recorded.ensures in
-    let free : call_fault (front_of old) log ≡ None = subst (λ (v : ClerkView). call_fault (front_of v.receipts) log ≡ None) (sym c.self.view_is) c.requires in
-    is_clerk_after g.R.Rules.table log c.record.new.self.log c.args.event c.in_ok-recorded.recorded.note old c.keep.new.receipts.items c.keep.new.note c.self.inside.base c.self.invariant.rise free told.log told.note.0
+    let free : call_fault (seen_by old) log ≡ None = subst (λ (v : ClerkView). call_fault (seen_by v) log ≡ None) (sym c.self.view_is) c.requires in
+    is_clerk_after g.R.Rules.table log c.record.new.self.log c.args.event c.in_ok-recorded.recorded.note old.receipts c.keep.new.receipts.items c.keep.new.note inside.base c.self.invariant.rise (front_free old log free) told.log told.note.0
     (c.keep.ensures.receipt ∙ ap₂ (λ rs (r : Receipt). rs ++ r ∷ []) c.in_ok-reserve.ensures.items told.receipt) c.keep.ensures.note
 
-pub returns-clause-front : goal.returns-clause-front
-returns-clause-front g c =
-    front_after g.R.Rules.table c.args.desk.now.log c.args.event _ _ (c.keep.ensures.receipt ∙ ap₂ (λ rs (r : Receipt). rs ++ r ∷ []) c.in_ok-reserve.ensures.items c.in_ok-recorded.ensures.receipt)
-
-pub returns-clause-begins : goal.returns-clause-begins
-returns-clause-begins g c =
+pub returns-clause-call : goal.returns-clause-call
+returns-clause-call g c =
+    let desk = c.args.desk.now in
+    let inside = c.self.inside in
+    let old : ClerkView = record { receipts = inside.receipts.items; note = inside.note; base = inside.base } in
+    let new : ClerkView = record { receipts = c.keep.new.receipts.items; note = c.keep.new.note; base = inside.base } in
     let told = c.in_ok-recorded.ensures in
-    begins_in g.R.Rules.table c.args.desk.now.log c.record.new.self.log c.args.event c.keep.new.note told.log (ap noted c.keep.ensures.note ∙ told.note.0)
+    let free : call_fault (seen_by old) desk.log ≡ None = subst (λ (v : ClerkView). call_fault (seen_by v) desk.log ≡ None) (sym c.self.view_is) c.requires in
+    subst (λ (v : ClerkView). HeldCall each desk c.record.new.self v new (Ok c.keep.result)) c.self.view_is
+    (recorded_call g.R.Rules.table desk c.record.new.self old new c.args.event c.keep.result c.in_ok-recorded.recorded.note told.key free told.log told.note.0 told.note.1
+    (c.keep.ensures.receipt ∙ ap₂ (λ rs (r : Receipt). rs ++ r ∷ []) c.in_ok-reserve.ensures.items told.receipt) c.keep.ensures.note refl)
+
+pub returns-clause-recorded : goal.returns-clause-recorded
+returns-clause-recorded g c =
+    let told = c.in_ok-recorded.ensures in
+    let new = c.keep.new.receipts.items in
+    subst (λ (v : ClerkView). RecordsEvent g.R.Rules.table c.args.desk.now.log c.record.new.self.log v.receipts new c.args.event c.keep.result) c.self.view_is
+    (record {
+      log = told.log;
+      receipt = c.keep.ensures.receipt ∙ ap₂ (λ rs (r : Receipt). rs ++ r ∷ []) c.in_ok-reserve.ensures.items told.receipt;
+      reply_is = c.keep.ensures.reply ∙ told.reply;
+    })

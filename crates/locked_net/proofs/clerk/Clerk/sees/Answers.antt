@@ -1,6 +1,5 @@
-use Rattle.std.proofs.Common.{refl, sym, subst}
+use Rattle.locked_net.proofs.Prelude.{refl, sym, subst, ClerkView, noted}
 use mathlib.Core.List.{IsPrefix}
-use Rattle.locked_net.specs.Receipts.{ClerkView, noted}
 use Rattle.locked_net.proofs.BoardReads.{sees_more}
 use Rattle.locked_net.proofs.clerk.Clerk.sees.Goals as goal
 

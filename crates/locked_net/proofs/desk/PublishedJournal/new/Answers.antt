@@ -1,5 +1,4 @@
-use Rattle.std.proofs.Common.{refl}
-use Rattle.rule_machine.specs.Run.{beginning_with}
+use Rattle.locked_net.proofs.Prelude.{refl, beginning_with}
 use Rattle.locked_net.proofs.desk.PublishedJournal.new.Goals as goal
 
 pub new-requires-clause-law : goal.new-requires-clause-law

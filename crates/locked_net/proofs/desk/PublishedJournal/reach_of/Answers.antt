@@ -1,6 +1,4 @@
-use Rattle.std.proofs.Common.{IfOk, subst}
-use Rattle.rule_engine.specs.DisturbanceReach.{Spares}
-use Rattle.locked_net.specs.PublishedJournals.{PublishedJournalView}
+use Rattle.locked_net.proofs.Prelude.{IfOk, subst, Spares, PublishedJournalView}
 use Rattle.locked_net.proofs.desk.PublishedJournal.reach_of.Goals as goal
 
 pub returns-clause-spares : goal.returns-clause-spares

@@ -1,5 +1,4 @@
-use Rattle.std.proofs.Common.{ap, ◌∙◌}
-use Rattle.snapshots.specs.Views.{BoardName}
+use Rattle.locked_net.proofs.Prelude.{ap, ◌∙◌, BoardName}
 use Rattle.locked_net.proofs.net.LockedNet.is_at_rest.Goals as goal
 
 pub returns : goal.returns

@@ -1,5 +1,4 @@
-use Rattle.std.proofs.Common.{Result, Ok, Err, IfOk, ap, ◌∙◌}
-use Rattle.snapshots.specs.Views.{BoardName}
+use Rattle.locked_net.proofs.Prelude.{Result, Ok, Err, IfOk, ap, ◌∙◌, BoardName}
 use Rattle.locked_net.proofs.net.LockedNet.reach_of.Goals as goal
 
 together : {T E : Type 0} (r : Result T E) (P Q N S : T → Type 0) → IfOk r P → IfOk r Q → IfOk r N → ((x : T) → P x → Q x → N x → S x) → IfOk r S

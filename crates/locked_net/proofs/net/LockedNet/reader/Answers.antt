@@ -1,5 +1,4 @@
-use Rattle.std.proofs.Common.{ap, ◌∙◌}
-use Rattle.snapshots.specs.Views.{ReaderView}
+use Rattle.locked_net.proofs.Prelude.{ap, ◌∙◌, ReaderView}
 use Rattle.locked_net.proofs.net.LockedNet.reader.Goals as goal
 
 pub returns-in-Ok-clause-seen : goal.returns-in-Ok-clause-seen

@@ -1,10 +1,4 @@
-use Rattle.std.proofs.Common.{◌≡◌, None, sym, subst, ◌∙◌}
-use Rattle.std.proofs.lemmas.Bool.{true≢false, eq-eqb}
-use Rattle.rule_machine.specs.Network.{Network}
-use Rattle.rule_machine.specs.State.{IsState}
-use Rattle.machine_laws.specs.StatePreservation.{link_keeps}
-use Rattle.graph_store.specs.Fault.{link_fault}
-use Rattle.net_state.specs.StateViews.{StateView, state_of}
+use Rattle.net_state.proofs.Prelude.{◌≡◌, None, ap, sym, subst, ◌∙◌, true≢false, eq-eqb, Network, IsState, after_link, link_keeps, link_fault, StateView, state_of}
 use Rattle.net_state.proofs.Edges.{new_edge}
 use Rattle.net_state.proofs.net.NetState.link_reserved.Goals as goal
 
@@ -16,5 +10,11 @@ invariant_of-self c =
     let ends = new_edge net c.args.a c.args.b free in
     subst (λ (n : Network). IsState (state_of n r)) (sym c.link_reserved.ensures.network) (link_keeps (state_of net r) c.args.a c.args.b c.self.invariant ends.lower ends.upper (λ same. true≢false (sym (eq-eqb c.args.a c.args.b same) ∙ ends.apart)))
 
-pub returns-clause-sound : goal.returns-clause-sound
-returns-clause-sound c = invariant_of-self c
+pub returns-clause-changed : goal.returns-clause-changed
+returns-clause-changed c = record {
+  was_state = subst (λ (h : StateView). IsState h.state) c.self.view_is c.self.invariant;
+  is_state = invariant_of-self c;
+  due = c.requires.free;
+  made = ap (λ n. state_of n c.self.inside.registers) c.link_reserved.ensures.network ∙ ap (λ (h : StateView). after_link h.state c.args.a c.args.b) c.self.view_is;
+  ends = c.link_reserved.ensures.ends ∙ ap (λ (h : StateView). h.ends) c.self.view_is;
+}

@@ -1,11 +1,4 @@
-use Rattle.std.proofs.Common.{◌≡◌, ◌∙◌, ◌+◌, ◌++◌, ℕ, Option, ap, filter_map, length, option_to_list, arith}
-use Rattle.std.proofs.lemmas.List.{length-map}
-use Rattle.std.specs.List.{range_with_len}
-use Rattle.std.proofs.lemmas.Grind.{common_steps}
-use Rattle.rule_machine.specs.declared.base.NodeRecord.{NodeRecord}
-use Rattle.rule_machine.specs.Network.{names, node_count}
-use Rattle.rule_machine.specs.Base.{node_record_at}
-use Rattle.net_state.specs.StateViews.{place_in}
+use Rattle.net_state.proofs.Prelude.{◌≡◌, ◌∙◌, ◌+◌, ◌++◌, ℕ, Option, ap, filter_map, length, option_to_list, arith, length-map, range_with_len, common_steps, NodeRecord, names, node_count, node_record_at, place_in}
 use Rattle.net_state.proofs.NodeRecords.{places_found, found_more, some_iff_at}
 use Rattle.net_state.proofs.net.NetState.list_places.Goals as goal
 use Rattle.net_state.proofs.net.NetState.list_places.Goals.{in-Some+in_ok-push, in_default}

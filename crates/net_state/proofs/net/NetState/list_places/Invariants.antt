@@ -1,6 +1,4 @@
-use Rattle.std.proofs.Common.{◌≡◌, filter_map}
-use Rattle.std.specs.List.{range_with_len}
-use Rattle.net_state.specs.StateViews.{place_in}
+use Rattle.net_state.proofs.Prelude.{◌≡◌, filter_map, range_with_len, place_in}
 use Rattle.net_state.proofs.net.NetState.list_places.Given as goal
 
 abbrev pub invariant-loop-below : goal.invariant-loop-below

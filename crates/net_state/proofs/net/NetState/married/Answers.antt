@@ -1,7 +1,4 @@
-use Rattle.std.proofs.Common.{◌≡◌, ◌∙◌, sym, subst}
-use Rattle.rule_machine.specs.State.{married}
-use Rattle.machine_laws.specs.TwoPasses.{married_answered}
-use Rattle.net_state.specs.StateViews.{StateView, state_of}
+use Rattle.net_state.proofs.Prelude.{◌≡◌, ◌∙◌, sym, subst, married, married_answered, StateView, state_of}
 use Rattle.net_state.proofs.net.NetState.married.Goals as goal
 
 pub returns : goal.returns

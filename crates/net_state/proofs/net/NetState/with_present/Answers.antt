@@ -1,7 +1,4 @@
-use Rattle.std.proofs.Common.{◌≡◌, sym, ap₂, subst}
-use Rattle.rule_machine.specs.State.{State, IsState, opening_with}
-use Rattle.machine_laws.specs.StatePreservation.{opening_is_state}
-use Rattle.net_state.specs.StateViews.{state_of}
+use Rattle.net_state.proofs.Prelude.{◌≡◌, sym, ap₂, subst, State, IsState, opening_with, opening_is_state, state_of}
 use Rattle.net_state.proofs.net.NetState.with_present.Goals as goal
 
 pub invariant_of-result : goal.invariant_of-result

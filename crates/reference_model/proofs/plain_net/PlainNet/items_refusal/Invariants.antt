@@ -1,6 +1,5 @@
-use Rattle.std.proofs.Common.{◌≡◌, [], take, drop}
+use Rattle.reference_model.proofs.Prelude.{◌≡◌, [], take, drop, table_of}
 use Rattle.rule_machine.specs.Refuse as refuse
-use Rattle.rule_machine.specs.Tables.{table_of}
 use Rattle.reference_model.proofs.plain_net.PlainNet.items_refusal.Given as goal
 
 abbrev pub invariant-loop-place : goal.invariant-loop-place

@@ -1,6 +1,4 @@
-use Rattle.std.proofs.Common.{◌≡◌, find, filter, drop}
-use Rattle.rule_machine.specs.Network.{present, linked}
-use Rattle.rule_machine.specs.Tables.{table_of}
+use Rattle.reference_model.proofs.Prelude.{◌≡◌, find, filter, drop, present, linked, table_of}
 use Rattle.reference_model.proofs.plain_net.PlainNet.least_target.Given as goal
 
 abbrev pub invariant-loop-w : goal.invariant-loop-w

@@ -1,6 +1,5 @@
-use Rattle.std.proofs.Common.{◌≡◌, ◌≤◌, not, take}
+use Rattle.reference_model.proofs.Prelude.{◌≡◌, ◌≤◌, not, take, is_closed}
 use Rattle.std.specs.Prelude.{count_by}
-use Rattle.reference_model.specs.Rules.{is_closed}
 use Rattle.reference_model.proofs.plain_net.PlainNet.open_edges.Given as goal
 
 abbrev pub invariant-loop-e : goal.invariant-loop-e

@@ -1,5 +1,4 @@
-use Rattle.std.proofs.Common.{◌≡◌, ℕ, None, cond, take, length}
-use Rattle.reply_checker.specs.Choices.{ruled_at, is_item_node}
+use Rattle.reply_checker.proofs.Prelude.{◌≡◌, ℕ, None, cond, take, length, ruled_at, is_item_node}
 use Rattle.reply_checker.proofs.choices.ChosenItems.clear.Given as goal
 
 abbrev pub invariant-loop-item : goal.invariant-loop-item

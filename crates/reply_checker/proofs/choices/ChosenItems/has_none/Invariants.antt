@@ -1,6 +1,4 @@
-use Rattle.std.proofs.Common.{◌≡◌, true, take, is_none}
-use Rattle.std.specs.List.{list_all}
-use Rattle.reply_checker.specs.Choices.{ruled_at}
+use Rattle.reply_checker.proofs.Prelude.{◌≡◌, true, take, is_none, list_all, ruled_at}
 use Rattle.reply_checker.proofs.choices.ChosenItems.has_none.Given as goal
 
 abbrev pub invariant-loop-item : goal.invariant-loop-item

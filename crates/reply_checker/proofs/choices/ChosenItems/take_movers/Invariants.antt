@@ -1,5 +1,4 @@
-use Rattle.std.proofs.Common.{◌≡◌, ℕ, None, cond, take, length}
-use Rattle.reply_checker.specs.Choices.{ruled_at, is_mover}
+use Rattle.reply_checker.proofs.Prelude.{◌≡◌, ℕ, None, cond, take, length, ruled_at, is_mover}
 use Rattle.reply_checker.proofs.choices.ChosenItems.take_movers.Given as goal
 
 abbrev pub invariant-loop-made : goal.invariant-loop-made

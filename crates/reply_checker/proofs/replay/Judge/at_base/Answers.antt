@@ -1,11 +1,4 @@
-use Rattle.std.proofs.Common.{◌≡◌, ◌≤◌, ◌∙◌, ℕ, false, length, sym, subst}
-use Rattle.std.proofs.lemmas.Bool.{true≢false}
-use Rattle.charge_laws.specs.ChargeWords.{charge_bound}
-use Rattle.rule_machine.specs.declared.rules.RuleSet.{RuleSet}
-use Rattle.rule_machine.specs.Base.{IsBaseMoment}
-use Rattle.rule_machine.specs.State.{State, flag}
-use Rattle.rule_machine.specs.Tables.{table_of, weight_of}
-use Rattle.reply_checker.specs.Bases.{HasLines}
+use Rattle.reply_checker.proofs.Prelude.{◌≡◌, ◌≤◌, ◌∙◌, ℕ, false, length, sym, subst, true≢false, charge_bound, RuleSet, IsBaseMoment, State, flag, table_of, weight_of, HasLines}
 use Rattle.reply_checker.proofs.BaseStarts.{too_much, fit_flags, begins, lines_made}
 use Rattle.reply_checker.proofs.replay.Judge.at_base.Goals as goal
 

@@ -1,6 +1,4 @@
-use Rattle.std.proofs.Common.{◌+◌, ◌∙◌, length, ap, arith}
-use Rattle.std.proofs.lemmas.List.{length-replicate}
-use Rattle.reply_checker.specs.Contributions.{absent_contribution}
+use Rattle.reply_checker.proofs.Prelude.{◌+◌, ◌∙◌, length, ap, arith, length-replicate, absent_contribution}
 use Rattle.reply_checker.proofs.ContributionSums.{none_light, none_summed}
 use Rattle.reply_checker.proofs.shares.Contributions.new.Goals as goal
 

@@ -1,8 +1,5 @@
-use Rattle.std.proofs.Common.{◌≡◌, ◌-◌, ◌+◌, ◌∙◌, ℕ, cond, get_or, set, is_some, sym, ap, subst, arith, length-set}
-use Rattle.std.proofs.lemmas.List.Elements.{All-set}
-use Rattle.reply_checker.specs.declared.share.Contribution.{Contribution}
-use Rattle.reply_checker.specs.Contributions.{FitsTwoBits, AreStatusSums}
-use Rattle.enabled_set.proofs.Sums.{one_byte, sum_fits, sum_put}
+use Rattle.reply_checker.proofs.Prelude.{◌≡◌, ◌-◌, ◌+◌, ◌∙◌, ℕ, cond, get_or, set, is_some, sym, ap, subst, arith, All-set, Contribution, FitsTwoBits, AreStatusSums, one_byte, sum_fits, sum_put}
+use Rattle.std.proofs.Common.{length-set}
 use Rattle.reply_checker.proofs.ContributionSums.{few_tests}
 use Rattle.reply_checker.proofs.shares.Contributions.put.Goals as goal
 

@@ -1,15 +1,13 @@
-use Rattle.std.proofs.Common.{ℕ, cond, arith}
-use Rattle.std.proofs.lemmas.List.Sums.{sum_by-le}
-use Rattle.reply_checker.specs.declared.share.Contribution.{Contribution}
+use Rattle.reply_checker.proofs.Prelude.{ℕ, cond, arith, sum_by-le, Contribution}
 use Rattle.reply_checker.proofs.ChargeSums.{counted, IsCounted}
 use Rattle.reply_checker.proofs.ContributionSums.{few_tests}
 use Rattle.reply_checker.proofs.survey.CountedNet.count.Goals as goal
 
 -- what the sums are
-sums : (c : goal.After-open_edges) → IsCounted c.args.self.now.rules c.args.self.now.net.state c.args.self.now.net.ends c.args.self.now.shares.pairs c.args.self.now.shares.enabled c.args.self.now.shares.added c.args.self.now.shares.closing
+sums : (c : goal.After-open_edges) → IsCounted c.args.self.now.shares.rules c.args.self.now.net.state c.args.self.now.net.ends c.args.self.now.shares.pairs c.args.self.now.shares.enabled c.args.self.now.shares.added c.args.self.now.shares.closing
 sums c =
     let it = c.args.self.now in
-    counted it.rules it.net.state it.net.ends it.shares.each.items it.shares.touched it.shares.due it.shares.pairs it.shares.enabled it.shares.added it.shares.closing it.told c.requires it.shares.summed
+    counted it.shares.rules it.net.state it.net.ends it.shares.each.items it.shares.touched it.shares.due it.shares.pairs it.shares.enabled it.shares.added it.shares.closing it.told c.requires it.shares.summed
 
 pub overflow_add-charge : goal.overflow_add-charge
 overflow_add-charge c =

@@ -1,11 +1,10 @@
-use Rattle.std.proofs.Common.{◌≡◌, length}
-use Rattle.enabled_set.specs.Members.{members}
+use Rattle.reply_checker.proofs.Prelude.{◌≡◌, length, members}
 use Rattle.reply_checker.proofs.survey.CountedNet.look.Given as goal
 
 abbrev pub invariant-loop-v : goal.invariant-loop-v
 invariant-loop-v l = record {
   state : l.self.net.state ≡ l.initial.self.net.state;
-  rules : l.self.rules ≡ l.initial.self.rules;
+  rules : l.self.shares.rules ≡ l.initial.self.shares.rules;
   touched : l.self.shares.touched ≡ l.initial.self.shares.touched;
 }
 

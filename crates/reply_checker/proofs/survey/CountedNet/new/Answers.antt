@@ -1,9 +1,4 @@
-use Rattle.std.proofs.Common.{◌+◌, ◌∙◌, ℕ, List, length, ap, arith}
-use Rattle.std.proofs.lemmas.List.{length-replicate}
-use Rattle.enabled_set.proofs.Sums.{everywhere}
-use Rattle.rule_machine.specs.declared.rules.RuleSet.TheVariants.{Hh}
-use Rattle.reply_checker.specs.declared.share.Contribution.{Contribution}
-use Rattle.reply_checker.specs.Contributions.{absent_contribution, contribution_of_name}
+use Rattle.reply_checker.proofs.Prelude.{◌+◌, ◌∙◌, ℕ, List, length, ap, arith, length-replicate, everywhere, Contribution, absent_contribution, contribution_of_name}
 use Rattle.reply_checker.proofs.StoredContributions.{told_of_none}
 use Rattle.reply_checker.proofs.survey.CountedNet.new.Goals as goal
 
@@ -14,7 +9,7 @@ invariant_of-result c =
     let size = c.capacity.ensures.size in
     let places = ap (λ (n : ℕ). n + 1) size in
     record {
-      told = told_of_none Hh c.args.net.state c.args.net.ends it.each.items it.touched it.due c.capacity.ensures.sound
+      told = told_of_none it.rules c.args.net.state c.args.net.ends it.each.items it.touched it.due c.capacity.ensures.sound
           (ap length made.each ∙ length-replicate _ absent_contribution ∙ places) (ap length made.touched ∙ length-replicate _ _ ∙ places) (made.places ∙ places)
           (ap (λ (l : List Contribution). contribution_of_name l 0) made.each ∙ everywhere _ 0 absent_contribution)
           (λ v low high. made.due v low (omega (arith, high, size)));

@@ -2,7 +2,7 @@ use Rattle.std.proofs.Common.{◌∙◌, IsTrue, sym, subst}
 use Rattle.rule_machine.specs.HsuHuang.{hsu_huang}
 use Rattle.rule_machine.specs.Manne.{manne}
 use Rattle.rule_machine.specs.Tables.{table_of}
-use Rattle.containment_laws.specs.Proved as proved
+use Rattle.containment_laws.proofs.Proved as proved
 use Rattle.rudekpi_c.specs.declared.session.Machine.{Machine}
 use Rattle.rudekpi_c.specs.declared.session.Machine.TheVariants.{Hh, Manne}
 use Rattle.rudekpi_c.specs.ReachCalls.{StaysAtRest}

@@ -1,12 +1,7 @@
-use Rattle.std.proofs.Common.{All, ◌∙◌, sym, subst}
-use Rattle.rule_machine.specs.declared.event.Event.TheVariants.{Step}
-use Rattle.machine_laws.specs.StatePreservation.{IsMoveIn}
+use Rattle.rule_engine.proofs.Prelude.{All, ◌∙◌, sym, subst, Step, IsMoveIn}
 use Rattle.rule_engine.proofs.ReplyMoves.{told_moves_in}
 use Rattle.rule_engine.proofs.engine.Engine.commit_step.Goals as goal
 
-pub make_moves-requires : goal.make_moves-requires
-make_moves-requires g c =
-    let laws = g.R.Rules.laws in
-    let s = c.args.self.now.state in
-    let all = told_moves_in g.R.Rules.table laws.table s c.requires.0 (Step c.args.choice.now) c.in-Moves.moves (sym c.in-Moves.is ∙ c.requires.1) in
-    subst (All (IsMoveIn s.network)) (sym c.as_slice.ensures) all
+pub take_step-requires : goal.take_step-requires
+take_step-requires g c =
+    subst (All (IsMoveIn c.args.self.now.state.network)) (sym c.as_slice.ensures) (told_moves_in g.R.Rules.table g.R.Rules.laws.table c.args.self.now.state c.requires.0 (Step c.args.choice.now) c.in-Moves.moves (sym c.in-Moves.is ∙ c.requires.1))

@@ -1,8 +1,4 @@
-use Rattle.std.proofs.Common.{subst}
-use Rattle.indexed_state.specs.IndexedViews.{IndexedView}
-use Rattle.rule_machine.specs.State.{IsState}
-use Rattle.machine_laws.specs.Laws.{maximal_from_stable, stable_from_maximal}
-use Rattle.rule_engine.specs.EngineStates.{AreOn}
+use Rattle.rule_engine.proofs.Prelude.{subst, StateView, IsState, maximal_from_stable, stable_from_maximal, AreOn}
 use Rattle.rule_engine.proofs.EnabledRefresh.{quiet_by_count}
 use Rattle.rule_engine.proofs.engine.Engine.is_quiet.Goals as goal
 
@@ -11,9 +7,9 @@ returns g c =
     let t = g.R.Rules.table in
     let laws = g.R.Rules.laws in
     let s = c.args.self.now.state in
-    let good : IsState s = subst (λ (n : IndexedView). IsState n.state) c.self.view_is c.self.invariant.is_state in
-    let on : AreOn t s c.self.inside.enabled = subst (λ (n : IndexedView). AreOn t n.state c.self.inside.enabled) c.self.view_is c.self.invariant.enabled in
-    let quiet = quiet_by_count t s c.self.inside.enabled c.count.result on c.count.ensures in
+    let good : IsState s = subst (λ (n : StateView). IsState n.state) c.self.view_is c.self.invariant.0.index.is_state in
+    let on : AreOn t s c.self.inside.derived.enabled = subst (λ (n : StateView). AreOn t n.state c.self.inside.derived.enabled) c.self.view_is c.self.invariant.0.enabled in
+    let quiet = quiet_by_count t s c.self.inside.derived.enabled c.count.result on c.count.ensures in
     record {
       quiet = quiet;
       stable = (λ yes. laws.quiet_is_stable s good (quiet.0 yes), λ stable. quiet.1 (laws.stable_is_quiet s good stable));

@@ -1,6 +1,4 @@
-use Rattle.std.proofs.Common.{sym, subst}
-use Rattle.std.specs.declared.alloc.AllocError.{AllocError}
-use Rattle.rule_engine.specs.EventReplies.{Prepares, stored_reply}
+use Rattle.rule_engine.proofs.Prelude.{sym, subst, AllocError, Prepares, stored_reply}
 use Rattle.rule_engine.proofs.engine.Engine.prepare.Goals as goal
 
 pub returns-in-Link : goal.returns-in-Link

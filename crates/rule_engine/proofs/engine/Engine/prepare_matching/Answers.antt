@@ -1,8 +1,4 @@
-use Rattle.std.proofs.Common.{Result, refl, sym, subst}
-use Rattle.std.specs.declared.alloc.AllocError.{AllocError}
-use Rattle.rule_machine.specs.declared.event.Event.TheVariants.{Matching}
-use Rattle.rule_machine.specs.declared.reply.Reply.{Reply}
-use Rattle.rule_engine.specs.EventReplies.{Prepares}
+use Rattle.rule_engine.proofs.Prelude.{Result, refl, sym, subst, AllocError, Matching, Reply, Prepares}
 use Rattle.rule_engine.proofs.PreparedReplies.{asked_prepares}
 use Rattle.rule_engine.proofs.engine.Engine.prepare_matching.Goals as goal
 

@@ -1,7 +1,4 @@
-use Rattle.std.proofs.Common.{rules, sym, subst}
-use Rattle.std.proofs.lemmas.List.Sorted.{IsNonDecreasingBy-from_sort_by_key}
-use Rattle.rule_machine.specs.declared.act.Moved.{Moved}
-use Rattle.rule_engine.specs.ChoiceMoves.{AreLeast}
+use Rattle.rule_engine.proofs.Prelude.{rules, sym, subst, IsNonDecreasingBy-from_sort_by_key, Moved, AreLeast}
 use Rattle.rule_engine.proofs.AscendingMoves.{least_from_sorted}
 use Rattle.rule_engine.proofs.moves.CollectedMoves.into_ascending.Goals as goal
 

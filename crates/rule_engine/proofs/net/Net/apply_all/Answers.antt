@@ -1,10 +1,4 @@
-use Rattle.std.proofs.Common.{◌≡◌, ◌++◌, ◌+◌, ap, sym, subst, ◌∙◌, arith}
-use Rattle.rule_machine.specs.State.{IsState}
-use Rattle.rule_machine.specs.Least.{replies_of}
-use Rattle.rule_engine.specs.EventReplies.{moment_after_all}
-use Rattle.rule_engine.specs.PreparedEvents.{NetView, net_moment}
-use Rattle.std.proofs.lemmas.Bool.{true≢false}
-use Rattle.std.proofs.lemmas.List.{drop_all, append-nil}
+use Rattle.rule_engine.proofs.Prelude.{◌≡◌, ◌++◌, ◌+◌, ap, sym, subst, ◌∙◌, arith, IsState, replies_of, moment_after_all, NetView, net_moment, true≢false, drop_all, append-nil}
 use Rattle.rule_engine.proofs.Moments.{moment_after_more, replies_more, rest_more, run_from, stopped_at, stopped_first, on_err}
 use Rattle.rule_engine.proofs.NodeScans.{ok_branch}
 use Rattle.rule_engine.proofs.net.Net.apply_all.Goals as goal

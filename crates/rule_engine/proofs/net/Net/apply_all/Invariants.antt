@@ -1,7 +1,4 @@
-use Rattle.std.proofs.Common.{◌≡◌, ◌++◌, ◌≤◌, drop, take, length, vec_len, vec_capacity}
-use Rattle.rule_machine.specs.Least.{replies_of}
-use Rattle.rule_engine.specs.EventReplies.{moment_after_all}
-use Rattle.rule_engine.specs.PreparedEvents.{net_moment}
+use Rattle.rule_engine.proofs.Prelude.{◌≡◌, ◌++◌, ◌≤◌, drop, take, length, vec_len, vec_capacity, replies_of, moment_after_all, net_moment}
 use Rattle.rule_engine.proofs.net.Net.apply_all.Given as goal
 
 -- the replies so far and those to what is left are those to all

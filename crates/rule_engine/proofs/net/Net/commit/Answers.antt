@@ -1,28 +1,16 @@
-use Rattle.std.proofs.Common.{◌≡◌, ap, sym, subst, arith}
-use Rattle.rule_machine.specs.Least.{reply_of}
-use Rattle.charge_laws.specs.ChargeWords.{charge_bound}
-use Rattle.rule_engine.specs.EventReplies.{IsWithinBudget}
-use Rattle.rule_engine.specs.EngineStates.{moment}
-use Rattle.rule_engine.specs.PreparedEvents.{NetView}
-use Rattle.rule_machine.specs.Answer.{Answers}
+use Rattle.rule_engine.proofs.Prelude.{◌≡◌, ap, sym, subst, arith, reply_of, charge_bound, IsWithinBudget, moment, NetView, Answers}
 use Rattle.rule_engine.proofs.Moments.{turn_answers, prepared_is_paid}
 use Rattle.rule_engine.proofs.net.Net.commit.Goals as goal
 
 pub spent_after-self-inside-requires : goal.spent_after-self-inside-requires
 spent_after-self-inside-requires g c =
     let laws = g.R.Rules.laws in
-    let t = g.R.Rules.table in
-    let weight = g.R.Rules.NODE_WEIGHT in
-    let within = (prepared_is_paid t weight laws.table laws.charged _ _ c.self.view_is c.self.invariant c.args.event.now c.args.reply.now c.requires c.commit.new.self.state c.commit.ensures).within in
-    let bound = ap (charge_bound weight) c.store.ensures.network in
-    omega (arith, within, bound)
+    omega (arith, (prepared_is_paid g.R.Rules.table g.R.Rules.NODE_WEIGHT laws.table laws.charged _ _ c.self.view_is c.self.invariant c.args.event.now c.args.reply.now c.requires c.commit.new.self.state c.commit.ensures).within, ap (charge_bound g.R.Rules.NODE_WEIGHT) c.store.ensures.network)
 
 pub invariant_of-self : goal.invariant_of-self
 invariant_of-self g c =
     let laws = g.R.Rules.laws in
-    let t = g.R.Rules.table in
-    let weight = g.R.Rules.NODE_WEIGHT in
-    subst (λ n. IsWithinBudget t weight (moment c.commit.new.self.state n)) (sym c.spent_after-self-inside.ensures) (prepared_is_paid t weight laws.table laws.charged _ _ c.self.view_is c.self.invariant c.args.event.now c.args.reply.now c.requires c.commit.new.self.state c.commit.ensures)
+    subst (λ n. IsWithinBudget g.R.Rules.table g.R.Rules.NODE_WEIGHT (moment c.commit.new.self.state n)) (sym c.spent_after-self-inside.ensures) (prepared_is_paid g.R.Rules.table g.R.Rules.NODE_WEIGHT laws.table laws.charged _ _ c.self.view_is c.self.invariant c.args.event.now c.args.reply.now c.requires c.commit.new.self.state c.commit.ensures)
 
 pub returns-clause-machine : goal.returns-clause-machine
 returns-clause-machine g c =

@@ -1,7 +1,4 @@
-use Rattle.std.proofs.Common.{◌≡◌, ◌∙◌, None, sym, subst}
-use Rattle.rule_machine.specs.RuleTable.{rule_at}
-use Rattle.containment_laws.specs.IdleNodes.{at_rest_idle}
-use Rattle.rule_engine.specs.PreparedEvents.{NetView}
+use Rattle.rule_engine.proofs.Prelude.{◌≡◌, ◌∙◌, None, sym, subst, rule_at, at_rest_idle, NetView}
 use Rattle.rule_engine.proofs.net.Net.is_at_rest.Goals as goal
 
 pub returns-clause-idle : goal.returns-clause-idle

@@ -1,7 +1,4 @@
-use Rattle.std.proofs.Common.{subst}
-use Rattle.rule_machine.specs.Stable.{IsMaximalMatching, mutual_pairs}
-use Rattle.machine_laws.specs.HalfMatchings.{maximal_is_half}
-use Rattle.rule_engine.specs.PreparedEvents.{NetView}
+use Rattle.rule_engine.proofs.Prelude.{subst, IsMaximalMatching, mutual_pairs, maximal_is_half, NetView}
 use Rattle.rule_engine.proofs.net.Net.is_quiet.Goals as goal
 
 -- a maximal matching has at least half of the edges of any other

@@ -1,8 +1,4 @@
-use Rattle.std.proofs.Common.{◌≡◌, ◌∙◌, ap, sym, subst}
-use Rattle.rule_machine.specs.Network.{node_count}
-use Rattle.node_bound.specs.MovesLeft.{moves_left, BoundsMoves}
-use Rattle.node_bound.proofs.SmallerBound.{smaller_bounds}
-use Rattle.rule_engine.specs.PreparedEvents.{NetView}
+use Rattle.rule_engine.proofs.Prelude.{◌≡◌, ◌∙◌, ap, sym, subst, node_count, moves_left, BoundsMoves, smaller_bounds, NetView}
 use Rattle.rule_engine.proofs.net.Net.moves_left.Goals as goal
 
 pub returns-clause-promise : goal.returns-clause-promise

@@ -1,11 +1,4 @@
-use Rattle.std.proofs.Common.{◌≡◌, ◌∙◌, None, IfOk, OnErr, ap, sym, subst}
-use Rattle.rule_machine.specs.declared.event.Event.TheVariants.{Step}
-use Rattle.rule_machine.specs.State.{State}
-use Rattle.rule_machine.specs.Refuse.{step_refusal}
-use Rattle.rule_machine.specs.Least.{reply_of}
-use Rattle.rule_engine.specs.EventReplies.{IsWithinBudget}
-use Rattle.rule_engine.specs.EngineStates.{moment}
-use Rattle.rule_engine.specs.PreparedEvents.{NetView, net_moment}
+use Rattle.rule_engine.proofs.Prelude.{◌≡◌, ◌∙◌, None, IfOk, OnErr, ap, sym, subst, Step, State, step_refusal, reply_of, IsWithinBudget, moment, NetView, net_moment}
 use Rattle.rule_engine.proofs.PreparedReplies.{engine_prepared, engine_allows}
 use Rattle.rule_engine.proofs.net.Net.prepare_step.Goals as goal
 

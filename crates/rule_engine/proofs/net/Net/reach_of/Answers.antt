@@ -1,7 +1,4 @@
-use Rattle.std.proofs.Common.{IfOk, subst}
-use Rattle.std.proofs.lemmas.Result.{IfOk-weaker}
-use Rattle.rule_engine.specs.PreparedEvents.{NetView}
-use Rattle.rule_engine.specs.DisturbanceReach.{Spares}
+use Rattle.rule_engine.proofs.Prelude.{IfOk, subst, IfOk-weaker, NetView, Spares}
 use Rattle.rule_engine.proofs.ReachLists.{spares_others}
 use Rattle.rule_engine.proofs.net.Net.reach_of.Goals as goal
 

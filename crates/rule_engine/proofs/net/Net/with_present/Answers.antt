@@ -1,7 +1,4 @@
-use Rattle.std.proofs.Common.{sym, subst}
-use Rattle.rule_machine.specs.State.{State}
-use Rattle.rule_engine.specs.EventReplies.{IsWithinBudget}
-use Rattle.rule_engine.specs.EngineStates.{moment}
+use Rattle.rule_engine.proofs.Prelude.{sym, subst, State, IsWithinBudget, moment}
 use Rattle.rule_engine.proofs.Moments.{beginning_is_paid}
 use Rattle.rule_engine.proofs.net.Net.with_present.Goals as goal
 

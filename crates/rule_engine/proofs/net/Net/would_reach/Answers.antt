@@ -1,6 +1,4 @@
-use Rattle.std.proofs.Common.{◌∙◌, ap}
-use Rattle.rule_engine.specs.PreparedEvents.{NetView}
-use Rattle.rule_engine.specs.DisturbanceReach.{would_reach}
+use Rattle.rule_engine.proofs.Prelude.{◌∙◌, ap, NetView, would_reach}
 use Rattle.rule_engine.proofs.net.Net.would_reach.Goals as goal
 
 pub returns : goal.returns

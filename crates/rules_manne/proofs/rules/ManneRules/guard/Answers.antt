@@ -1,5 +1,4 @@
-use Rattle.std.proofs.Common.{◌≡◌, true, false, cond, not, None, is_some, sym, ap, ap₂, ◌∙◌}
-use Rattle.rule_machine.specs.State.{pointer, has_suitor, married, is_settled}
+use Rattle.charge_laws.proofs.Prelude.{◌≡◌, true, false, cond, not, None, is_some, sym, ap, ap₂, ◌∙◌, pointer, has_suitor, married, is_settled}
 use Rattle.rule_machine.specs.RuleTable.{last_open_above}
 use Rattle.rules_manne.specs.GreatestTarget.{greatest}
 use Rattle.rules_manne.specs.Rule.{null_rule, settled_from_test}

@@ -1,13 +1,11 @@
-use Rattle.std.proofs.Common.{◌≡◌, ◌&&◌, ◌||◌, is_none, true, false, Some, sym, ap, ap₂, ◌∙◌}
+use Rattle.charge_laws.proofs.Prelude.{◌≡◌, ◌&&◌, ◌||◌, is_none, true, false, Some, sym, ap, ap₂, ◌∙◌, cond-true, cond-false, is_at, suits, linked, manne}
 use Rattle.std.specs.Option.{option_or}
-use Rattle.std.proofs.lemmas.Bool.{cond-true, cond-false}
-use Rattle.rule_machine.specs.State.{is_at, suits, first_suitor}
-use Rattle.rule_machine.specs.Network.{linked}
+use Rattle.rule_machine.specs.State.{first_suitor}
 use Rattle.rule_machine.specs.RuleTable.{last_open_above}
-use Rattle.rule_machine.specs.Manne.{manne}
 use Rattle.rules_api.specs.Target.{target_at}
 use Rattle.rules_manne.specs.GreatestTarget.{greatest}
-use Rattle.rules_manne.specs.Target.{is_free_node, may_point, bound_target, bound_wish, manne_free_target, manne_free_wish}
+use Rattle.rules_manne.specs.Target.{is_free_node}
+use Rattle.rules_manne.proofs.Target.{may_point, bound_target, bound_wish, manne_free_target, manne_free_wish}
 use Rattle.rules_manne.proofs.rules.ManneRules.target.Goals as goal
 
 pub returns-in-None : goal.returns-in-None

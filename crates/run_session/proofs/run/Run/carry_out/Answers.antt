@@ -1,17 +1,23 @@
-use Rattle.std.proofs.Common.{◌∙◌, Ok, ap, subst}
-use Rattle.std.specs.Option.{MatchOption}
-use Rattle.line_text.specs.Parsing.{kept_if}
-use Rattle.script_text.specs.Command.{Says, SaysNothing}
-use Rattle.rule_machine.specs.State.{IsState}
-use Rattle.run_session.proofs.Silence.{followed_silent}
+use Rattle.run_session.proofs.Prelude.{◌≡◌, [], Bool, sym, subst, MatchOption, kept_if, enabled_names, CommandEnds, SaysSome, progress, Run}
+use Rattle.run_session.proofs.Silence.{empty_is_no_drive, followed_silent}
+use Rattle.run_session.proofs.run.Run.carry_out.Goals.{then-branch+in_ok-follow, else-branch}
 use Rattle.run_session.proofs.run.Run.carry_out.Goals as goal
 
-pub returns-in-Ok-true-clause-silent : goal.returns-in-Ok-true-clause-silent
-returns-in-Ok-true-clause-silent g c turns says done few =
+pub returns-clause-silent : goal.returns-clause-silent
+returns-clause-silent g c turns says done few =
     let laws = g.R.Rules.laws in
     let t = g.R.Rules.table in
-    let weight = g.R.Rules.NODE_WEIGHT in
-    let good : IsState c.args.self.now.recorder.state = subst IsState c.net.ensures.state c.registers.ensures.state in
-    let said : Says c.args.line.now c.read_line_into.new.command =
-    subst (λ b. MatchOption (kept_if b c.read_line_into.new.command) (SaysNothing c.args.line.now) (λ found. Says c.args.line.now found)) c.if-not-branch.false c.in_ok-read_line_into.ensures in
-    followed_silent t weight laws.table laws.charged _ c.args.line.now c.read_line_into.new.command _ _ _ c.follow.ensures.ends (c.in-Ok-true.is ∙ ap (λ b. Ok b) c.in-Ok-true.field-0-test) said good turns says few
+    let run = c.args.self.now in
+    let line = c.args.line.now in
+    let command = c.read_command.new.command in
+    let before = progress run.rules run.recorder run.text.items in
+    let Reads : Bool → Type 0 = λ b. MatchOption (kept_if b command) (line ≡ []) (λ found. SaysSome line found) in
+    elim c.if-branch.branch [
+      | then-branch+in_ok-follow w ↦
+          let after = w.follow.new.self in
+          let some : SaysSome line command = subst Reads w.if-branch.true c.in_ok-read_command.ensures.command in
+          let does = subst (CommandEnds t run.recorder.limit command before (progress after.rules after.recorder after.text.items)) w.in_ok-follow.was w.follow.ensures.ends in
+          let silent = followed_silent t g.R.Rules.NODE_WEIGHT laws.table laws.charged run.recorder.limit line command before (progress after.rules after.recorder after.text.items) does some.1 c.has_state.ensures turns says few in
+          subst (λ (r : Run g.row.R.Denot). enabled_names t r.recorder.state ≡ []) (sym w.self-is) silent
+      | else-branch w ↦ absurd (empty_is_no_drive line turns (subst Reads w.if-branch.false c.in_ok-read_command.ensures.command) says)
+    ]

@@ -1,8 +1,6 @@
-use Rattle.std.proofs.Common.{◌≡◌, ◌∙◌, ◌<◌, ◌≤◌, Option, None, Some, refl, sym, ap, arith}
-use Rattle.rule_machine.specs.declared.event.Event.{Event}
-use Rattle.rule_machine.specs.State.{State}
-use Rattle.run_session.specs.Line.{progress}
-use Rattle.run_session.proofs.TurnProgress.{turned_begun, turned_more, turned_last, turned_full, turned_all, turned_want, begun_ends, below_limit, logged}
+use Rattle.std.proofs.Common.{◌≡◌, ◌∙◌, ◌<◌, ◌≤◌, None, Some, refl, arith}
+use Rattle.run_session.proofs.Returned.{returned}
+use Rattle.run_session.proofs.TurnProgress.{turned_begun, turned_more, turned_last, turned_full, turned_all, turned_failed, below_limit}
 use Rattle.run_session.proofs.run.Run.take_turns.Goals as goal
 
 pub returns-then-is_full-clause-ends : goal.returns-then-is_full-clause-ends
@@ -17,18 +15,16 @@ returns-in_default-clause-ends g c =
     let below : run.recorder.len < c.args.self.now.recorder.limit =
     omega (arith, below_limit run.recorder.len run.recorder.limit c.is_full.ensures.room c.if-is_full.ensures.full.1, c.loop.invariant.limit) in
     let drawn : g.S.EventSource.draws g.R.Rules.table run.recorder.state (g.S.EventSource.stream c.loop.source) ≡ (None, g.S.EventSource.stream c.next_event.new.self) =
-    ap (λ (s : State). g.S.EventSource.draws g.R.Rules.table s (g.S.EventSource.stream c.loop.source)) (sym c.net.ensures.state) ∙ sym c.in_ok-event.ensures.event
-    ∙ ap (λ (o : Option Event). (o, g.S.EventSource.stream c.next_event.new.self)) c.in_default.is in
+    grind (arith, c.net.ensures.state, c.in_ok-event.ensures.event, c.in_default.is) in
     turned_last _ _ _ _ _ _ _ _ _ c.loop.invariant.turned c.loop-test.true (g.S.EventSource.stream c.next_event.new.self) below drawn
 
 pub loop-preserved : goal.loop-preserved
 loop-preserved g c =
     let run = c.loop.self in
-    let done = logged g.R.Rules.table run.recorder.limit c.in-Some.event (progress run.rules run.recorder run.text.items) (progress c.log.new.self.rules c.log.new.self.recorder c.log.new.self.text.items) c.log.result c.in_ok-log.field-0 c.log.ensures.ends c.in_ok-log.was c.if-not-branch.false in
+    let done = rw c.in_ok-log.was at c.log.ensures.ends in
     let below : run.recorder.len < c.args.self.now.recorder.limit = omega (arith, done.0, c.loop.invariant.limit) in
     let drawn : g.S.EventSource.draws g.R.Rules.table run.recorder.state (g.S.EventSource.stream c.loop.source) ≡ (Some c.in-Some.event, g.S.EventSource.stream c.next_event.new.self) =
-    ap (λ (s : State). g.S.EventSource.draws g.R.Rules.table s (g.S.EventSource.stream c.loop.source)) (sym c.net.ensures.state) ∙ sym c.in_ok-event.ensures.event
-    ∙ ap (λ (o : Option Event). (o, g.S.EventSource.stream c.next_event.new.self)) c.in-Some.is in
+    grind (arith, c.net.ensures.state, c.in_ok-event.ensures.event, c.in-Some.is) in
     record {
       limit = c.log.ensures.limit ∙ c.loop.invariant.limit;
       turned = turned_more _ _ _ _ _ _ _ _ _ c.loop.invariant.turned c.loop-test.true c.in-Some.event (g.S.EventSource.stream c.next_event.new.self) _ below drawn done.1;
@@ -36,26 +32,13 @@ loop-preserved g c =
     }
 
 pub returns-in_err-event-clause-ends : goal.returns-in_err-event-clause-ends
-returns-in_err-event-clause-ends g c =
-    let begun = c.args.self.now in
-    let draws = g.S.EventSource.draws in
-    let t = g.R.Rules.table in
-    let first = g.S.EventSource.stream c.args.source.now in
-    let start = progress begun.rules begun.recorder begun.text.items in
-    let run = c.loop.self in
-    begun_ends draws t begun.recorder.limit c.args.count first start (progress run.rules run.recorder run.text.items) c.from_residual.result c.from_residual.ensures.0
-    (turned_begun _ _ _ _ _ _ _ _ _ c.loop.invariant.turned)
+returns-in_err-event-clause-ends g c = rw (returned _ _ c.from_residual.ensures.1) (turned_begun _ _ _ _ _ _ _ _ _ c.loop.invariant.turned)
 
 pub returns-in_err-log-clause-ends : goal.returns-in_err-log-clause-ends
 returns-in_err-log-clause-ends g c =
-    let begun = c.args.self.now in
-    let draws = g.S.EventSource.draws in
-    let t = g.R.Rules.table in
-    let first = g.S.EventSource.stream c.args.source.now in
-    let start = progress begun.rules begun.recorder begun.text.items in
-    let run = c.log.new.self in
-    begun_ends draws t begun.recorder.limit c.args.count first start (progress run.rules run.recorder run.text.items) c.from_residual-in_err-log.result c.from_residual-in_err-log.ensures.0
-    (turned_want _ _ _ _ _ _ _ _ _ _ _ c.in-Some.event _ c.log.result c.loop.invariant.turned c.log.ensures.ends c.in_err-log.was)
+    let run = c.loop.self in
+    let below : run.recorder.len < run.recorder.limit = below_limit run.recorder.len run.recorder.limit c.is_full.ensures.room c.if-is_full.ensures.full.1 in
+    turned_failed _ _ _ _ _ _ _ _ _ _ _ c.in-Some.event _ c.from_residual-in_err-log.result c.loop.invariant.turned below (rw c.in_err-log.was at c.log.ensures.ends) (returned _ _ c.from_residual-in_err-log.ensures.1)
 
 pub returns-clause-ends : goal.returns-clause-ends
 returns-clause-ends g c = turned_all _ _ _ _ _ _ _ _ _ c.loop.invariant.turned c.loop-test.false

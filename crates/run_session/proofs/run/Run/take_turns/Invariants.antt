@@ -1,5 +1,4 @@
-use Rattle.std.proofs.Common.{◌≡◌}
-use Rattle.run_session.specs.Line.{progress}
+use Rattle.run_session.proofs.Prelude.{◌≡◌, progress}
 use Rattle.run_session.proofs.TurnProgress.{Turned}
 use Rattle.run_session.proofs.run.Run.take_turns.Given as goal
 

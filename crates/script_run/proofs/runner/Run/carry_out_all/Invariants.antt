@@ -1,5 +1,4 @@
-use Rattle.std.proofs.Common.{◌≡◌, ◌≤◌, ◌+◌, ◌-◌, ◌*◌, length}
-use Rattle.run_session.specs.Line.{progress}
+use Rattle.script_run.proofs.Prelude.{◌≡◌, ◌≤◌, ◌+◌, ◌-◌, ◌*◌, length, progress}
 use Rattle.script_run.proofs.RunProgress.{Came}
 use Rattle.script_run.proofs.runner.Run.carry_out_all.Given as goal
 

@@ -1,7 +1,4 @@
-use Rattle.std.proofs.Common.{◌≡◌, ◌≤◌, ◌+◌, ℕ, List, Option, length}
-use Rattle.script_text.specs.Script.{Progress}
-use Rattle.run_session.specs.Line.{progress}
-use Rattle.script_run.specs.ReadProgress.{IsReadUpTo}
+use Rattle.script_run.proofs.Prelude.{◌≡◌, ◌≤◌, ◌+◌, ℕ, List, Option, length, Progress, progress, IsReadUpTo}
 use Rattle.script_run.proofs.runner.Run.carry_out_piece.Given as goal
 
 abbrev pub invariant-loop-end : goal.invariant-loop-end

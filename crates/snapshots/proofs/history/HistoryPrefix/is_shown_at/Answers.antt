@@ -1,7 +1,5 @@
-use Rattle.std.proofs.Common.{◌+◌, ◌≤◌, ap, subst, arith, length, List}
-use Rattle.std.proofs.lemmas.Bool.Decides.{nat_tests}
+use Rattle.snapshots.proofs.Prelude.{◌+◌, ◌≤◌, ap, subst, arith, length, List, nat_tests, Mark}
 use mathlib.Core.List.{IsPrefix}
-use Rattle.snapshots.specs.History.{Mark}
 use Rattle.snapshots.proofs.Fronts.{is_shown}
 use Rattle.snapshots.proofs.history.HistoryPrefix.is_shown_at.Goals as goal
 

@@ -1,6 +1,5 @@
-use Rattle.std.proofs.Common.{◌≤◌, ap, subst, arith, length, List}
+use Rattle.snapshots.proofs.Prelude.{◌≤◌, ap, subst, arith, length, List, Mark}
 use mathlib.Core.List.{IsPrefix}
-use Rattle.snapshots.specs.History.{Mark}
 use Rattle.snapshots.proofs.Fronts.{prefix_shorter}
 use Rattle.snapshots.proofs.history.HistoryPrefix.longer.Goals as goal
 

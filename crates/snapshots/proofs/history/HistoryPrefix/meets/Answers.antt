@@ -1,6 +1,5 @@
-use Rattle.std.proofs.Common.{ap, subst, List}
+use Rattle.snapshots.proofs.Prelude.{ap, subst, List, Mark}
 use mathlib.Core.List.{IsPrefix}
-use Rattle.snapshots.specs.History.{Mark}
 use Rattle.snapshots.proofs.OneLog.{told_and_shown, both_told, both_shown}
 use Rattle.snapshots.proofs.history.HistoryPrefix.meets.Goals as goal
 

@@ -1,8 +1,4 @@
-use Rattle.std.proofs.Common.{◌≡◌, List, ℕ, length, sym, subst, ap, ◌∙◌, arith}
-use Rattle.index_deque.specs.Ends.{EndView, end_hold, end_taken}
-use Rattle.rule_engine.specs.ChoiceMoves.{verdicts_of}
-use Rattle.steal_pool.specs.Hands.{AreOf}
-use Rattle.steal_pool.specs.Once.{StandOnce, places_of}
+use Rattle.steal_pool.proofs.Prelude.{◌≡◌, List, ℕ, length, sym, subst, ap, ◌∙◌, arith, EndView, end_hold, end_taken, verdicts_of, AreOf, StandOnce, places_of}
 use Rattle.steal_pool.proofs.EachPlace.{some_stand, judges_its_places}
 use Rattle.steal_pool.proofs.VerdictTables.{as_many, more_taken}
 use Rattle.steal_pool.proofs.hand.Hand.work.Goals as goal

@@ -1,8 +1,4 @@
-use Rattle.std.proofs.Common.{◌≡◌, ◌-◌, ◌≤◌, length, vec_capacity}
-use Rattle.index_deque.specs.Ends.{end_hold, end_taken}
-use Rattle.rule_engine.specs.ChoiceMoves.{verdicts_of}
-use Rattle.steal_pool.specs.Hands.{hand_hold, AreOf}
-use Rattle.steal_pool.specs.Once.{StandOnce}
+use Rattle.steal_pool.proofs.Prelude.{◌≡◌, ◌-◌, ◌≤◌, length, vec_capacity, end_hold, end_taken, verdicts_of, hand_hold, AreOf, StandOnce}
 use Rattle.steal_pool.proofs.hand.Hand.work.Given as goal
 
 abbrev pub invariant-loop-block : goal.invariant-loop-block

@@ -1,11 +1,4 @@
-use Rattle.std.proofs.Common.{◌≡◌, ◌∙◌, ℕ, List, Some, ap, ap₂, sym, subst}
-use Rattle.rule_machine.specs.declared.base.Base.{Base}
-use Rattle.rule_machine.specs.declared.base.EpochStart.{EpochStart}
-use Rattle.rule_machine.specs.declared.base.EpochStart.TheVariants.{Forgotten}
-use Rattle.rule_machine.specs.Run.{Entry}
-use Rattle.rule_machine.specs.Base.{base_of}
-use Rattle.step_log.specs.JournalViews.{JournalView, IsJournal, kept_of}
-use Rattle.step_log.specs.RetainedLogs.{RetainedLog, IsBaseOfGraph, last_number, moment_in}
+use Rattle.step_log.proofs.Prelude.{◌≡◌, ◌∙◌, ℕ, List, Some, ap, ap₂, sym, subst, Base, EpochStart, Forgotten, Entry, base_of, JournalView, IsJournal, kept_of, RetainedLog, IsBaseOfGraph, last_number, moment_in}
 use Rattle.step_log.proofs.LogGrowth.{checkpointed_is_journal}
 use Rattle.step_log.proofs.journal.Journal.checkpoint.Goals as goal
 

@@ -1,10 +1,4 @@
-use Rattle.std.proofs.Common.{◌≡◌, ℕ, [], ◌∷◌, ◌++◌, map, ap, ap₂, ◌∙◌, subst, sym, arith}
-use Rattle.rule_machine.specs.declared.event.Event.{Event}
-use Rattle.rule_machine.specs.declared.reply.Reply.{Reply}
-use Rattle.rule_machine.specs.Run.{Entry, Moment, moment_after, open_at}
-use Rattle.step_log.specs.declared.receipt.Receipt.{Receipt}
-use Rattle.step_log.specs.Epochs.{begun_by, ended_by, of_run}
-use Rattle.step_log.specs.JournalViews.{JournalView, IsNextReceipt}
+use Rattle.step_log.proofs.Prelude.{◌≡◌, ℕ, [], ◌∷◌, ◌++◌, map, ap, ap₂, ◌∙◌, subst, sym, arith, Event, Reply, Entry, Moment, moment_after, open_at, Receipt, begun_by, ended_by, of_run, JournalView, IsNextReceipt}
 use Rattle.step_log.proofs.LogGrowth.{next_is_journal}
 use Rattle.step_log.proofs.journal.Journal.commit.Goals as goal
 

@@ -1,8 +1,4 @@
-use Rattle.std.proofs.Common.{subst}
-use Rattle.std.specs.Prelude.{IfOk}
-use Rattle.std.proofs.lemmas.Result.{IfOk-weaker}
-use Rattle.step_log.specs.Epochs.{AreEpochs}
-use Rattle.step_log.specs.JournalViews.{JournalView, kept_of}
+use Rattle.step_log.proofs.Prelude.{subst, IfOk, IfOk-weaker, AreEpochs, JournalView, kept_of}
 use Rattle.step_log.proofs.EpochPaths.{told_epochs, told_bounded}
 use Rattle.step_log.proofs.journal.Journal.epochs.Goals as goal
 

@@ -1,6 +1,4 @@
-use Rattle.std.proofs.Common.{subst}
-use Rattle.step_log.specs.JournalViews.{JournalView, kept_of}
-use Rattle.step_log.specs.Headline.{Upholds}
+use Rattle.step_log.proofs.Prelude.{subst, JournalView, kept_of, Upholds}
 use Rattle.step_log.proofs.Wholes.{held_is_log}
 use Rattle.step_log.proofs.HeadlineProof.{upheld}
 use Rattle.step_log.proofs.journal.Journal.net.Goals as goal

@@ -1,9 +1,4 @@
-use Rattle.std.proofs.Common.{ℕ, ap, ap₂, ◌∙◌}
-use Rattle.rule_machine.specs.declared.reply.Reply.{Reply}
-use Rattle.rule_machine.specs.Least.{reply_of}
-use Rattle.log_entry.specs.Kinds.{fits}
-use Rattle.step_log.specs.JournalViews.{JournalView}
-use Rattle.step_log.specs.RetainedLogs.{RetainedLog}
+use Rattle.step_log.proofs.Prelude.{ℕ, ap, ap₂, ◌∙◌, Reply, reply_of, fits, JournalView, RetainedLog}
 use Rattle.step_log.proofs.LogGrowth.{next_fits}
 use Rattle.step_log.proofs.journal.Journal.prepare.Goals as goal
 

@@ -1,6 +1,4 @@
-use Rattle.std.proofs.Common.{ap, ◌∙◌}
-use Rattle.rule_machine.specs.declared.event.Event.TheVariants.{Step}
-use Rattle.log_entry.specs.Kinds.{fits}
+use Rattle.step_log.proofs.Prelude.{ap, ◌∙◌, Step, fits}
 use Rattle.step_log.proofs.LogGrowth.{next_fits}
 use Rattle.step_log.proofs.journal.Journal.prepare_step.Goals as goal
 

@@ -1,10 +1,4 @@
-use Rattle.std.proofs.Common.{◌≤◌, List, None, ap₂, subst, sym, arith}
-use Rattle.rule_machine.specs.declared.base.EpochStart.{EpochStart}
-use Rattle.rule_machine.specs.declared.base.EpochStart.TheVariants.{At}
-use Rattle.rule_machine.specs.Run.{Entry, Moment}
-use Rattle.step_log.specs.JournalViews.{IsJournal}
-use Rattle.step_log.specs.RetainedLogs.{RetainedLog}
-use Rattle.step_log.specs.Log.{max_entries}
+use Rattle.step_log.proofs.Prelude.{◌≤◌, List, None, ap₂, subst, sym, arith, EpochStart, At, Entry, Moment, IsJournal, RetainedLog, max_entries}
 use Rattle.step_log.proofs.LogGrowth.{opening_is_journal}
 use Rattle.step_log.proofs.journal.Journal.with_present.Goals as goal
 

@@ -1,9 +1,4 @@
-use Rattle.std.proofs.Common.{◌≡◌, ◌<◌, ◌+◌, ◌∙◌, ◌++◌, ap, subst, arith}
-use Rattle.rule_machine.specs.declared.reply.Reply.{Reply}
-use Rattle.rule_machine.specs.Least.{reply_of}
-use Rattle.rule_machine.specs.Run.{Moment, moment_after}
-use Rattle.line_text.specs.EntryText.{entry_line}
-use Rattle.step_log.specs.Recording.{Recording}
+use Rattle.step_log.proofs.Prelude.{◌≡◌, ◌<◌, ◌+◌, ◌∙◌, ◌++◌, ap, subst, arith, Reply, reply_of, Moment, moment_after, entry_line, Recording}
 use Rattle.step_log.proofs.RecordedEvents.{entered_is_recording}
 use Rattle.step_log.proofs.recorder.Recorder.log_entry.Goals as goal
 

@@ -1,8 +1,4 @@
-use Rattle.std.proofs.Common.{◌<◌, subst, arith}
-use Rattle.rule_machine.specs.declared.event.Event.TheVariants.{Step}
-use Rattle.rule_machine.specs.Answer.{Answers}
-use Rattle.rule_machine.specs.Run.{Moment}
-use Rattle.step_log.specs.Recording.{Recording}
+use Rattle.step_log.proofs.Prelude.{◌<◌, subst, arith, Step, Answers, Moment, Recording}
 use Rattle.step_log.proofs.RecordedEvents.{entered_is_recording, reply_answers}
 use Rattle.step_log.proofs.recorder.Recorder.log_step.Goals as goal
 

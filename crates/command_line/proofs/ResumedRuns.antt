@@ -1,0 +1,46 @@
+-- The end of a run that was to go on where the run of a file ended.
+use Rattle.std.proofs.Common.{ℕ, List, Option, None, Some, ◌≡◌, Result, Ok, Err, OnErr, IfOk, refl, inl, inr, subst}
+use Rattle.std.specs.Prelude.{IfSome}
+use Rattle.std.proofs.KnownBytes.{Keeps-refl}
+use Rattle.rule_machine.specs.declared.rules.RuleSet.{RuleSet}
+use Rattle.rule_machine.specs.Tables.{table_of}
+use Rattle.script_text.specs.Script.{Progress}
+use Rattle.auditor.specs.declared.end.TranscriptEnd.{TranscriptEnd}
+use Rattle.auditor.specs.declared.fault.AuditFault.{AuditFault}
+use Rattle.auditor.specs.declared.fault.AuditFault.TheVariants.{BadHeader, NotALine, OutOfOrder, NotTheMachines, BadBase, Read, Memory}
+use Rattle.auditor.specs.TranscriptEnds.{MayGoOn}
+use Rattle.script_run.specs.declared.fault.RunFault.TheVariants as run
+use Rattle.command_line.specs.FaultText.{run_fault_line}
+use Rattle.command_line.specs.ResumeEnds.{ResumesFile, TellsAuditFault, TellsDamage, TellsRunFrom, damaged_line, start_at}
+use Rattle.command_line.specs.WriterStates.{WriterState, WrittenBytes, WritesLine}
+
+-- a damage is reported, or that memory ran out for its line
+damage_told : {V E : Type 0} (items : V → List ℕ) (line : Result V E) (text file : List ℕ) (damage : AuditFault) (known before : WrittenBytes) (after : WriterState) (status : ℕ) → text ≡ damaged_line file damage
+    → IfOk line (λ v. items v ≡ text) → IfOk line (λ v. (status ≡ 1) × WritesLine before after (items v)) → OnErr line ((status ≡ 4) × WritesLine before after (run_fault_line run.Memory))
+    → TellsDamage file damage known known before after status
+damage_told items (Ok v) text file damage known before after status same is told memory =
+    inl (told.0, Keeps-refl known, subst (λ (l : List ℕ). WritesLine before after l) same (subst (λ (l : List ℕ). WritesLine before after l) is told.1))
+damage_told items (Err e) text file damage known before after status same is told memory = inr (memory.0, Keeps-refl known, memory.1)
+
+-- any fault but a failed read and want of memory is a damage
+pub fault_told : {V E : Type 0} (items : V → List ℕ) (line : Result V E) (file : List ℕ) (fault : AuditFault) (known before : WrittenBytes) (after : WriterState) (status : ℕ) → (fault ≡ Read → ⊥) → (fault ≡ Memory → ⊥)
+    → IfOk line (λ v. items v ≡ damaged_line file fault) → IfOk line (λ v. (status ≡ 1) × WritesLine before after (items v)) → OnErr line ((status ≡ 4) × WritesLine before after (run_fault_line run.Memory))
+    → TellsAuditFault file fault known known before after status
+fault_told items line file BadHeader known before after status read want is told memory = damage_told items line _ file BadHeader known before after status refl is told memory
+fault_told items line file (NotALine n) known before after status read want is told memory = damage_told items line _ file (NotALine n) known before after status refl is told memory
+fault_told items line file (OutOfOrder n) known before after status read want is told memory = damage_told items line _ file (OutOfOrder n) known before after status refl is told memory
+fault_told items line file (NotTheMachines n) known before after status read want is told memory = damage_told items line _ file (NotTheMachines n) known before after status refl is told memory
+fault_told items line file (BadBase n) known before after status read want is told memory = damage_told items line _ file (BadBase n) known before after status refl is told memory
+fault_told items line file Read known before after status read want is told memory = absurd (read refl)
+fault_told items line file Memory known before after status read want is told memory = absurd (want refl)
+
+-- the script was run from the end of the file
+pub went_on : (input : Option (List ℕ)) (end : TranscriptEnd) (rules : RuleSet) (limit : ℕ) (start : Progress) (file : List ℕ) (old new before : WrittenBytes) (after : WriterState) (status : ℕ)
+    → MayGoOn end → rules ≡ end.rules → limit ≡ 16777216 → start ≡ start_at end
+    → IfSome input (λ script. TellsRunFrom (table_of rules) limit start script old new before after status)
+    → IfSome input (λ script. ResumesFile file script old new before after status)
+went_on None end rules limit start file old new before after status may same most first told = tt
+went_on (Some script) end rules limit start file old new before after status may same most first told =
+    let under = subst (λ (z : RuleSet). TellsRunFrom (table_of z) limit start script old new before after status) same told in
+    let within = subst (λ (z : ℕ). TellsRunFrom (table_of end.rules) z start script old new before after status) most under in
+    (Ok end, (may, subst (λ (z : Progress). TellsRunFrom (table_of end.rules) 16777216 z script old new before after status) first within))

@@ -1,0 +1,60 @@
+-- How a run ends that goes on where the run of a file ended: what the writers have, and the exit status.
+use Rattle.std.specs.Prelude.{◌≡◌, ◌⊎◌, ℕ, List, [], ◌++◌, Result, Ok, Err, codes}
+use Rattle.std.specs.Io.KnownBytes.{Keeps}
+use Rattle.rule_machine.specs.RuleTable.{RuleTable}
+use Rattle.rule_machine.specs.Tables.{table_of}
+use Rattle.script_text.specs.Script.{Progress, with_checkpoint}
+use Rattle.auditor.specs.declared.end.TranscriptEnd.{TranscriptEnd}
+use Rattle.auditor.specs.declared.fault.AuditFault.{AuditFault}
+use Rattle.auditor.specs.declared.fault.AuditFault.TheVariants as audit
+use Rattle.auditor.specs.TranscriptEnds.{MayGoOn}
+use Rattle.script_run.specs.declared.fault.RunFault.{RunFault}
+use Rattle.script_run.specs.declared.fault.RunFault.TheVariants as run
+use Rattle.script_run.specs.Outcome.{EndsFrom}
+use Rattle.command_line.specs.declared.verdict.CheckEnd.TheVariants as verdict
+use Rattle.command_line.specs.FaultText.{run_fault_line}
+use Rattle.command_line.specs.Status.{ended_status}
+use Rattle.command_line.specs.VerdictText.{verdict_line}
+use Rattle.command_line.specs.ViewEnds.{TellsEarly, TellsFault}
+use Rattle.command_line.specs.WriterStates.{WrittenBytes, WriterState, WritesLine}
+
+-- the line of a file's damage: the file's name, and an audit's verdict with its LF
+abbrev pub damaged_line : List ℕ → AuditFault → List ℕ
+damaged_line file damage = codes "! " ++ (file ++ (codes ": " ++ verdict_line (verdict.Refused damage)))
+
+-- the damage is reported, or memory ran out for its line; nothing is written to the writer
+abbrev pub TellsDamage : List ℕ → AuditFault → WrittenBytes → WrittenBytes → WrittenBytes → WriterState → ℕ → Type 0
+TellsDamage file damage old new before after status =
+    ((status ≡ 1) × Keeps old new × WritesLine before after (damaged_line file damage))
+    ⊎ TellsEarly run.Memory old new before after status
+
+-- an audit's fault is reported: a failed read and want of memory as those of a run, any other as damage
+abbrev pub TellsAuditFault : List ℕ → AuditFault → WrittenBytes → WrittenBytes → WrittenBytes → WriterState → ℕ → Type 0
+TellsAuditFault file audit.Read old new before after status = TellsEarly run.Read old new before after status
+TellsAuditFault file audit.Memory old new before after status = TellsEarly run.Memory old new before after status
+TellsAuditFault file damage old new before after status = TellsDamage file damage old new before after status
+
+-- the script was run from this start, the writer has the text, a fault was reported, and the exit status fits
+abbrev pub TellsRunFrom : RuleTable → ℕ → Progress → List ℕ → WrittenBytes → WrittenBytes → WrittenBytes → WriterState → ℕ → Type 0
+TellsRunFrom t limit start script old new before after status =
+    (ended : Result Unit RunFault) × EndsFrom t limit start script old new ended × TellsFault before after ended × (status ≡ ended_status ended)
+
+-- the end of a transcript as the start of a run, whose text begins with the base there
+abbrev pub start_at : TranscriptEnd → Progress
+start_at end = with_checkpoint (record {
+  rules = end.rules;
+  moment = record { state = end.net.state; spent = end.spent };
+  count = end.number;
+  text = [];
+})
+
+-- what is done with the audit of a file: the run goes on from its end, or a fault is reported
+abbrev pub ResumesAfter : Result TranscriptEnd AuditFault → List ℕ → List ℕ → WrittenBytes → WrittenBytes → WrittenBytes → WriterState → ℕ → Type 0
+ResumesAfter (Ok end) file script old new before after status =
+    MayGoOn end × TellsRunFrom (table_of end.rules) 16777216 (start_at end) script old new before after status
+ResumesAfter (Err fault) file script old new before after status = TellsAuditFault file fault old new before after status
+
+-- some audit's result was reported so; nothing is said of what the file holds
+abbrev pub ResumesFile : List ℕ → List ℕ → WrittenBytes → WrittenBytes → WrittenBytes → WriterState → ℕ → Type 0
+ResumesFile file script old new before after status =
+    (audited : Result TranscriptEnd AuditFault) × ResumesAfter audited file script old new before after status

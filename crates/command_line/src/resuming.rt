@@ -1,0 +1,149 @@
+//! Going on where the run of a file ended.
+
+ghost use Rattle.std.specs.Prelude.{◌≡◌, ◌⊎◌, IfOk, IfSome, OnErr};
+ghost use Rattle.rule_machine.specs.Tables.{table_of};
+ghost use Rattle.auditor.specs.TranscriptEnds.{MayGoOn};
+ghost use Rattle.script_run.specs.Restarts.{restarted};
+ghost use Rattle.command_line.specs.FaultText.{run_fault_line};
+ghost use Rattle.command_line.specs.ResumeEnds.{ResumesFile, TellsAuditFault, TellsRunFrom, damaged_line, start_at};
+ghost use Rattle.command_line.specs.Status.{IsRunStatus, IsStatus};
+ghost use Rattle.command_line.specs.WriterStates.{heard, WrittenBytes, WritesLine};
+
+use crate::program::tell;
+use crate::verdict::CheckEnd;
+use crate::verdict_line::verdict_line;
+use auditor::{AuditFault, TranscriptEnd, end_of};
+use byte_streams::{CountingReader, FailStopWriter};
+use script_run::{Restart, RunFault, resume};
+use std::alloc::{AllocError, Global};
+use std::fs::File;
+use std::io::{Read, Write};
+use std::rt::Files;
+use std::sync::Wait;
+use std::thread::Threads;
+
+// `Read` if the file cannot be opened.
+fn end_of_file<T: Files>(rt: &T, alloc: Global, file: &str) -> Result<TranscriptEnd, AuditFault>
+    ensures { IfOk result MayGoOn }
+{
+    match File::open(rt, file) {
+        Ok(opened) => end_of(alloc, &mut CountingReader::new(opened)),
+        Err(_) => Err(AuditFault::Read),
+    }
+}
+
+fn damaged_line(alloc: Global, file: &str, damage: AuditFault) -> Result<Vec<u8>, AllocError>
+    ensures { IfOk result (λ line. line.items ≡ damaged_line file.now damage) }
+{
+    let verdict = verdict_line(alloc, CheckEnd::Refused(damage))?;
+    let mut line = Vec::new(alloc);
+    line.extend_from_slice(b"! ")?;
+    line.extend_from_slice(file.as_bytes())?;
+    line.extend_from_slice(b": ")?;
+    line.extend_from_slice(&verdict)?;
+    Ok(line)
+}
+
+fn tell_damage<Faults: Write>(
+    line: Result<Vec<u8>, AllocError>,
+    faults: &mut FailStopWriter<Faults>,
+) -> u8
+    ensures told { IfOk line (λ text. (result ≡ 1) × WritesLine (Faults.contents faults.old.writer) (heard Faults.contents faults.new)
+        text.items) }
+    ensures memory { OnErr line ((result ≡ 4) × WritesLine (Faults.contents faults.old.writer) (heard Faults.contents faults.new)
+        (run_fault_line RunFault.Memory)) }
+    ensures status { IsStatus result }
+{
+    match line {
+        Ok(text) => {
+            let _ = faults.finish(&text);
+            1
+        }
+        Err(_) => tell(RunFault::Memory, faults),
+    }
+}
+
+// Nothing is written to another writer, whatever that has received.
+fn refuse_file<Faults: Write>(
+    alloc: Global,
+    file: &str,
+    fault: AuditFault,
+    faults: &mut FailStopWriter<Faults>,
+) -> u8
+    ensures told { (known : WrittenBytes) → TellsAuditFault file.now fault known known
+        (Faults.contents faults.old.writer) (heard Faults.contents faults.new) result }
+    ensures status { IsStatus result }
+{
+    match fault {
+        AuditFault::Read => tell(RunFault::Read, faults),
+        AuditFault::Memory => tell(RunFault::Memory, faults),
+        _ => tell_damage(damaged_line(alloc, file, fault), faults),
+    }
+}
+
+fn restart_at(end: TranscriptEnd, workers: u16) -> Restart
+    requires { MayGoOn end }
+    ensures start { restarted result ≡ start_at end }
+    ensures rules { result.rules ≡ end.rules }
+    ensures limit { result.limit ≡ 16777216 }
+{
+    let TranscriptEnd {
+        rules,
+        net,
+        spent,
+        number,
+        ..
+    } = end;
+    Restart::new(rules, net, spent, number).with_workers(u32::from(workers))
+}
+
+fn run_from<In: Read, Out: Write, Faults: Write, T: Threads + Wait + Sync>(
+    rt: &T,
+    alloc: Global,
+    restart: Restart,
+    reader: &mut CountingReader<In>,
+    writer: &mut FailStopWriter<Out>,
+    faults: &mut FailStopWriter<Faults>,
+) -> u8
+    ensures outcome { IfSome (In.remaining reader.old.reader) (λ script.
+        TellsRunFrom (table_of restart.rules) restart.limit (restarted restart) script
+        (Out.contents writer.old.writer) (Out.contents writer.new.writer)
+        (Faults.contents faults.old.writer) (heard Faults.contents faults.new) result) }
+    ensures status { IsRunStatus result }
+{
+    match resume(rt, alloc, reader, writer, restart) {
+        Ok(()) => 0,
+        Err(fault) => tell(fault, faults),
+    }
+}
+
+/// Runs the script from where the run of a file ended, and returns the exit status.
+///
+/// The file is a transcript or a base alone, and is audited first.
+///
+/// | Status | When |
+/// |---|---|
+/// | 0 | the whole script was run |
+/// | 1 | the file is refused; `faults` has its name and the audit's verdict |
+/// | 2 | a line is not a command |
+/// | 3 | the file could not be opened, or a read or a write failed |
+/// | 4 | memory ran out, or the log is full |
+pub fn resume_file<In: Read, Out: Write, Faults: Write, T: Threads + Wait + Sync + Files>(
+    rt: &T,
+    alloc: Global,
+    file: &str,
+    workers: u16,
+    reader: &mut CountingReader<In>,
+    writer: &mut FailStopWriter<Out>,
+    faults: &mut FailStopWriter<Faults>,
+) -> u8
+    ensures resumed { IfSome (In.remaining reader.old.reader) (λ script. ResumesFile file.now script
+        (Out.contents writer.old.writer) (Out.contents writer.new.writer)
+        (Faults.contents faults.old.writer) (heard Faults.contents faults.new) result) }
+    ensures status { IsStatus result }
+{
+    match end_of_file(rt, alloc, file) {
+        Ok(end) => run_from(rt, alloc, restart_at(end, workers), reader, writer, faults),
+        Err(fault) => refuse_file(alloc, file, fault, faults),
+    }
+}

@@ -1,0 +1,12 @@
+pub mod Prelude
+pub mod AtRest
+pub mod IdleNodes
+pub mod Steps
+pub mod Edits
+pub mod Containment
+pub mod Partings
+pub mod Proved
+pub mod NearReach
+pub mod ExactReach
+pub mod ReachSize
+pub mod LostPairs

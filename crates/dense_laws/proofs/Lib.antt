@@ -1,0 +1,13 @@
+pub mod Prelude
+pub mod Counts
+pub mod NodeKinds
+pub mod Arithmetic
+pub mod Moves
+pub mod Starts
+pub mod Falls
+pub mod Runs
+pub mod SilentRuns
+pub mod Plays
+pub mod Schedule
+pub mod CompleteNetworks
+pub mod Bound

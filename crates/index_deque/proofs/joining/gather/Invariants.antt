@@ -1,8 +1,0 @@
-use Rattle.index_deque.proofs.Joinings.{Joining}
-use Rattle.index_deque.proofs.joining.gather.Given as goal
-
-abbrev pub invariant-loop-end : goal.invariant-loop-end
-invariant-loop-end l = Joining l.count l.fn.ends.items l.owner l.ends.items
-
-abbrev pub decreases-loop-end : goal.decreases-loop-end
-decreases-loop-end l = goal.left-loop-end l

@@ -1,0 +1,108 @@
+-- What an event that is not refused guarantees, and that it leads to a state.
+use Rattle.machine_laws.proofs.Prelude.{nat_le, leb-true, ◌≡◌, ℕ, zero, suc, ◌<◌, Bool, true, false, cond, not, ◌&&◌, List, [], ◌∷◌, ◌++◌, length, Option, None, Some, IsTrue, nat_eq, nat_lt, refl, sym, ◌∙◌, subst, get_or, arith, list_any, option_or, cond-true, cond-false, true≢false, and_parts, or_parts, list_any-append, none-some, same_Some, Act, Item, Moved, Outcome, Event, Link, Unlink, Point, Flag, Step, Join, Leave, Refusal, UnknownNode, NotNeighbour, NoFlag, ChosenTwice, NotEnabled, BadTarget, present, linked, State, IsState, RuleTable, both_present, rule_refusal, item_refusal, items_refusal, step_refusal, refusal_of, outcome_at, outcome_of, move_in, item_of, accepted_state, state_by, state_after}
+use Rattle.std.proofs.Common.{eq-eqb}
+use Rattle.rule_machine.specs.declared.verdict.Outcome.TheVariants as outcome
+use Rattle.machine_laws.proofs.StatePreservation.{link_keeps, unlink_keeps, point_keeps, flag_keeps, join_keeps, leave_keeps}
+use Rattle.machine_laws.proofs.LeastMoves.{IsTable, step_keeps}
+
+-- ---- refusals
+
+-- if no reason is given, the test before it did not fail
+pub cond_none : {X : Type 0} (b : Bool) (x : X) (o : Option X) → cond b (Some x) o ≡ None → (b ≡ false) × (o ≡ None)
+cond_none x y o e = grind (arith, none-some)
+
+pub none_cond : {X : Type 0} (b : Bool) (x : X) → cond b None (Some x) ≡ None → b ≡ true
+none_cond b x e = grind arith
+
+option_or_none : {X : Type 0} (o p : Option X) → option_or o p ≡ None → (o ≡ None) × (p ≡ None)
+option_or_none x p e = grind (arith, none-some)
+
+pub true_from_not : (b : Bool) → not b ≡ false → b ≡ true
+true_from_not b e = grind arith
+
+-- why an item of this outcome is refused, if it is
+abbrev pub refusal_by_outcome : Outcome → Option Refusal
+refusal_by_outcome outcome.Absent = Some UnknownNode
+refusal_by_outcome outcome.Idle = Some NotEnabled
+refusal_by_outcome outcome.Wrong = Some BadTarget
+refusal_by_outcome (outcome.Moves m) = None
+
+refusal_by_rule : (t : RuleTable) (s : State) (item : Item) (r : Option Act) → rule_refusal t s item r ≡ refusal_by_outcome (outcome_at t s item r)
+refusal_by_rule t s item r = grind arith
+
+refusal_by_present : (b twice : Bool) (refusal : Option Refusal) (o : Outcome) → refusal ≡ refusal_by_outcome o → cond (not b) (Some UnknownNode) (cond twice (Some ChosenTwice) refusal) ≡ cond (not b) (Some UnknownNode) (cond twice (Some ChosenTwice) (refusal_by_outcome (cond b o outcome.Absent)))
+refusal_by_present b twice refusal o e = grind arith
+
+-- An item is refused if its node is absent, then if the node was chosen before, and else by its outcome.
+pub outcome_refusal : (t : RuleTable) (s : State) (earlier : List Item) (item : Item) → item_refusal t s earlier item ≡ cond (not (present s.network item.node)) (Some UnknownNode) (cond (list_any (λ i. nat_eq i.node item.node) earlier) (Some ChosenTwice) (refusal_by_outcome (outcome_of t s item)))
+outcome_refusal t s earlier item = grind (arith, refusal_by_present, refusal_by_rule)
+
+move_from_none : (o : Outcome) → refusal_by_outcome o ≡ None → (m : Moved) × (move_in o ≡ Some m)
+move_from_none outcome.Absent e = absurd (none-some UnknownNode (sym e))
+move_from_none outcome.Idle e = absurd (none-some NotEnabled (sym e))
+move_from_none outcome.Wrong e = absurd (none-some BadTarget (sym e))
+move_from_none (outcome.Moves m) e = (m, refl)
+
+-- an item that is not refused after the earlier items: its node is present and was not chosen before, and
+-- the item makes a move
+pub record IsTaken (t : RuleTable) (s : State) (earlier : List Item) (item : Item) : Type 0 where
+  pub has : IsTrue (present s.network item.node)
+  pub fresh : list_any (λ i. nat_eq i.node item.node) earlier ≡ false
+  pub move : (m : Moved) × (move_in (outcome_of t s item) ≡ Some m)
+
+pub taken_from_none : (t : RuleTable) (s : State) (earlier : List Item) (item : Item) → item_refusal t s earlier item ≡ None → IsTaken t s earlier item
+taken_from_none t s earlier item e = grind (arith, cond_none, outcome_refusal, true_from_not, move_from_none)
+
+-- Each item of a choice that is not refused is taken, and is the first of its node. By induction: the head is
+-- found at once; a later item is fresh after the head too, so the head has another node, and the search
+-- continues after it.
+pub taken_at : (t : RuleTable) (s : State) (earlier items : List Item) → items_refusal t s earlier items ≡ None → (k : ℕ) (d : Item) → k < length items → IsTaken t s earlier (get_or items k d) × (item_of items (get_or items k d).node ≡ Some (get_or items k d))
+taken_at t s earlier [] e k d below = absurd (omega arith)
+taken_at t s earlier (item ∷ items) e zero d below = grind (arith, option_or_none, taken_from_none, cond-true, eq-eqb)
+taken_at t s earlier (item ∷ items) e (suc k) d below =
+    let none = option_or_none (item_refusal t s earlier item) (items_refusal t s (earlier ++ item ∷ []) items) e in
+    let later = get_or items k d in
+    let same : Item → Bool = λ i. nat_eq i.node later.node in
+    let rest = taken_at t s (earlier ++ item ∷ []) items none.1 k d (omega (arith, below)) in
+    let apart = or_parts (list_any same earlier) (list_any same (item ∷ [])) (sym (list_any-append same earlier (item ∷ [])) ∙ rest.0.fresh) in
+    let other = or_parts (same item) false apart.1 in
+    (record { has = rest.0.has; fresh = apart.0; move = rest.0.move }, cond-false (same item) (Some item) (item_of items later.node) other.0 ∙ rest.1)
+
+-- what the choice of a step that is not refused has: at least one item, and exactly one under a central
+-- daemon
+pub record IsStepChoice (t : RuleTable) (s : State) (items : List Item) : Type 0 where
+  pub some : nat_eq (length items) 0 ≡ false
+  pub alone : (t.central && nat_lt 1 (length items)) ≡ false
+  pub taken : items_refusal t s [] items ≡ None
+
+pub choice_from_none : (t : RuleTable) (s : State) (items : List Item) → step_refusal t s items ≡ None → IsStepChoice t s items
+choice_from_none t s items e = grind (arith, cond_none, nat_lt)
+
+-- ---- the state after an event
+
+-- an event that is not refused leaves a state
+pub accepted_keeps : (t : RuleTable) → IsTable t → (s : State) → IsState s → (event : Event) → refusal_of t s event ≡ None → IsState (accepted_state t s event)
+accepted_keeps t table s good (Link a b) e = grind (arith, cond_none, and_parts, true_from_not, link_keeps, true≢false, eq-eqb)
+accepted_keeps t table s good (Unlink a b) e = unlink_keeps s a b good
+accepted_keeps t table s good (Point v None) e = point_keeps s v None good (λ x none. absurd (none-some x none))
+accepted_keeps t table s good (Point v (Some w)) e =
+    let first = cond_none (not (both_present s.network v w)) UnknownNode _ e in
+    let near = none_cond (linked s.network v w) NotNeighbour first.1 in
+    point_keeps s v (Some w) good (λ x same. subst (λ y. IsTrue (linked s.network v y)) (same_Some w x same) near)
+accepted_keeps t table s good (Flag v value) e =
+    let first = cond_none (not t.flags) NoFlag _ e in
+    flag_keeps s v value good (none_cond (present s.network v) UnknownNode first.1)
+accepted_keeps t table s good (Join v) e =
+    let first = cond_none (not (nat_le 1 v && nat_le v s.network.size)) UnknownNode _ e in
+    join_keeps s v (leb-true 1 v (and_parts (nat_le 1 v) (nat_le v s.network.size) (true_from_not (nat_le 1 v && nat_le v s.network.size) first.0)).0) good
+accepted_keeps t table s good (Leave v) e = leave_keeps s v good
+accepted_keeps t table s good (Step items) e = step_keeps t table s good items
+accepted_keeps t table s good event e = good
+
+state_by_keeps : (t : RuleTable) → IsTable t → (s : State) → IsState s → (event : Event) (r : Option Refusal) → refusal_of t s event ≡ r → IsState (state_by t s event r)
+state_by_keeps t table s good event None e = accepted_keeps t table s good event e
+state_by_keeps t table s good event (Some refusal) e = good
+
+-- every event leaves a state
+pub state_after_keeps : (t : RuleTable) → IsTable t → (s : State) → IsState s → (event : Event) → IsState (state_after t s event)
+state_after_keeps t table s good event = state_by_keeps t table s good event (refusal_of t s event) refl

@@ -1,0 +1,77 @@
+-- The mutual pairs of a state are a matching; of a stable one a maximal matching, and the other way round.
+use Rattle.machine_laws.proofs.Prelude.{◌≡◌, ℕ, min, max, Bool, None, Some, IfSome, IsTrue, All, Any, Contains, sym, ap, ap₂, ◌∙◌, inl, inr, ⊎_elim, ◌⊎◌, arith, cases_order, Contains-get_or, linked, present, State, IsState, pointer, flag, married, IsStable, IsMaximalMatching, ShareAnEnd, mutual_pairs}
+use Rattle.std.specs.FinMap as map
+use Rattle.machine_laws.proofs.Neighbours.{option_cases, linked_pair}
+use Rattle.machine_laws.proofs.Pointers.{pointer_linked}
+use Rattle.machine_laws.proofs.Writes.{if_some_at}
+use Rattle.machine_laws.proofs.Pairs.{IsMutualPair, pair_from, pair_at}
+
+-- each mutual pair is an edge, since pointers cross edges
+pub pairs_are_edges : (s : State) → IsState s → All (λ e. IsTrue (map.contains_key s.network.edges e)) (mutual_pairs s)
+pairs_are_edges s is_state k d within =
+    let e = pair_from s _ (Contains-get_or (mutual_pairs s) k d within) in
+    sym (linked_pair s.network _ _ e.ordered) ∙ pointer_linked s _ _ is_state e.there
+
+-- Two pairs that share an end are equal: the end points at the other end of both. If it is the lower end of
+-- one and the higher end of the other, that other end is both above and below it.
+same_pair : (s : State) (e f : ℕ × ℕ) → IsMutualPair s e → IsMutualPair s f → ShareAnEnd e f → e ≡ f
+same_pair s e f pe pf shared = grind arith
+
+pub pairs_apart : (s : State) (e f : ℕ × ℕ) → Contains (mutual_pairs s) e → Contains (mutual_pairs s) f → ShareAnEnd e f → e ≡ f
+pairs_apart s e f in_e in_f shared = same_pair s e f (pair_from s e in_e) (pair_from s f in_f) shared
+
+-- Of an edge's two ends one points somewhere, and is answered: that pair shares the end with the edge.
+touched : (uses_flags : Bool) (s : State) → IsState s → IsStable uses_flags s → (e : ℕ × ℕ) → IsTrue (map.contains_key s.network.edges e) → Any (ShareAnEnd e) (mutual_pairs s)
+touched uses_flags s is_state stable e h =
+    ⊎_elim
+    (
+    λ null. ⊎_elim
+    (λ other. absurd (stable.covered e.0 e.1 edge null other))
+    (
+    λ some. let found = pair_at s e.1 some.0 is_state some.1 (answer e.1 some.0 some.1) in
+    (found.0, found.1, found.2, found.3, ⊎_elim (λ p. inr (inr (inl p))) (λ p. inr (inr (inr p))) found.4)
+    )
+    (option_cases (pointer s e.1))
+    )
+    (
+    λ some. let found = pair_at s e.0 some.0 is_state some.1 (answer e.0 some.0 some.1) in
+    (found.0, found.1, found.2, found.3, ⊎_elim (λ p. inl p) (λ p. inr (inl p)) found.4)
+    )
+    (option_cases (pointer s e.0))
+  where
+    edge : IsTrue (linked s.network e.0 e.1)
+    edge = linked_pair s.network e.0 e.1 (is_state.is_network.low_first e.0 e.1 h) ∙ h
+
+    answer : (v w : ℕ) → pointer s v ≡ Some w → pointer s w ≡ Some v
+    answer v w there = if_some_at (pointer s v) (λ x. pointer s x ≡ Some v) w there (stable.answered v)
+
+pub maximal_from_stable : (uses_flags : Bool) (s : State) → IsState s → IsStable uses_flags s → IsMaximalMatching s.network (mutual_pairs s)
+maximal_from_stable uses_flags s is_state stable = record {
+  of_edges = pairs_are_edges s is_state;
+  apart = pairs_apart s;
+  maximal = touched uses_flags s is_state stable;
+}
+
+-- An edge with two null ends would share an end with a pair, whose ends both point somewhere.
+uncovered : (s : State) → IsMaximalMatching s.network (mutual_pairs s) → (v w : ℕ) → IsTrue (linked s.network v w) → pointer s v ≡ None → pointer s w ≡ None → ⊥
+uncovered s matching v w h null other =
+    let found = matching.maximal (min v w, max v w) h in
+    let pair = pair_from s found.1 (found.0, found.2, found.3) in
+    let clash : (a b : ℕ) → pointer s a ≡ None → a ≡ b → (x : ℕ) → pointer s b ≡ Some x → ⊥ = λ a b p q x r. let same = ap (pointer s) q in absurd cc in
+    ⊎_elim
+    (λ p. clash _ _ low p _ pair.there)
+    (⊎_elim (λ p. clash _ _ low p _ pair.back) (⊎_elim (λ p. clash _ _ high p _ pair.there) (λ p. clash _ _ high p _ pair.back)))
+    found.4
+  where
+    one : (x : ℕ) → (x ≡ v) ⊎ (x ≡ w) → pointer s x ≡ None
+    one x k = ⊎_elim (λ p. ap (pointer s) p ∙ null) (λ p. ap (pointer s) p ∙ other) k
+
+    low : pointer s (min v w) ≡ None
+    low = one (min v w) (⊎_elim (λ p. inl (omega arith)) (⊎_elim (λ p. inl (omega arith)) (λ p. inr (omega arith))) (cases_order v w))
+
+    high : pointer s (max v w) ≡ None
+    high = one (max v w) (⊎_elim (λ p. inl (omega arith)) (⊎_elim (λ p. inr (omega arith)) (λ p. inl (omega arith))) (cases_order v w))
+
+pub stable_from_maximal : (uses_flags : Bool) (s : State) → IsState s → ((v : ℕ) → IfSome (pointer s v) (λ w. pointer s w ≡ Some v)) → (IsTrue uses_flags → (v : ℕ) → IsTrue (present s.network v) → flag s v ≡ married s v) → IsMaximalMatching s.network (mutual_pairs s) → IsStable uses_flags s
+stable_from_maximal uses_flags s is_state answered flagged matching =
+    record { answered = answered; covered = uncovered s matching; flagged = flagged }

@@ -1,0 +1,6 @@
+use Rattle.std.proofs.Common.{◌↔◌, drop}
+use Rattle.net_state.specs.BaseLines.{NamesRise}
+use Rattle.net_state.proofs.lines.names_rise.Given as goal
+
+abbrev pub invariant-loop-place : goal.invariant-loop-place
+invariant-loop-place l = NamesRise 0 l.nodes ↔ NamesRise l.last (drop l.place-index l.nodes)

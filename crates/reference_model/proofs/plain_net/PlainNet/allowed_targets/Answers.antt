@@ -1,6 +1,0 @@
-use Rattle.std.proofs.Common.{arith}
-use Rattle.std.proofs.lemmas.Grind.{common_steps}
-use Rattle.reference_model.proofs.plain_net.PlainNet.allowed_targets.Goals as goal
-
-pub loop-target-preserved : goal.loop-target-preserved
-loop-target-preserved c = grind (arith, common_steps)

@@ -1,7 +1,0 @@
-use Rattle.std.proofs.Common.{◌≡◌, find, filter, drop}
-use Rattle.rule_machine.specs.Network.{present, linked}
-use Rattle.rule_machine.specs.State.{suits}
-use Rattle.reference_model.proofs.plain_net.PlainNet.first_suitor.Given as goal
-
-abbrev pub invariant-loop-w : goal.invariant-loop-w
-invariant-loop-w l = find (suits l.self l.v) (filter (linked l.self.network l.v) (filter (present l.self.network) l.w-items)) ≡ find (suits l.self l.v) (filter (linked l.self.network l.v) (filter (present l.self.network) (drop l.w-index l.w-items)))

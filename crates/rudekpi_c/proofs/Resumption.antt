@@ -1,0 +1,26 @@
+-- A session that goes on where a transcript's run ended.
+use Rattle.std.proofs.Common.{◌≡◌, ◌⊎◌, ℕ, List, Option, None, Some, Result, Ok, Err, inl, inr, refl, sym, ap, subst}
+use Rattle.auditor.specs.declared.end.TranscriptEnd.{TranscriptEnd}
+use Rattle.auditor.specs.declared.fault.AuditFault.{AuditFault}
+use Rattle.auditor.specs.declared.fault.AuditFault.TheVariants.{Memory}
+use Rattle.auditor.specs.TranscriptEnds.{EndsRun, summary_in}
+use Rattle.auditor.specs.Verdict.{JudgesDamage, JudgesRuns}
+use Rattle.auditor.proofs.TranscriptEnds.{ends_judged}
+use Rattle.rudekpi_c.specs.declared.judged.Verdict.{Verdict}
+use Rattle.rudekpi_c.specs.declared.session.Session.{Session}
+use Rattle.rudekpi_c.specs.AuditCalls.{found_status}
+use Rattle.rudekpi_c.specs.AuditVerdicts.{JudgedAs, audit_verdict}
+use Rattle.rudekpi_c.specs.Resumption.{ResumesSession}
+use Rattle.rudekpi_c.proofs.AuditVerdicts.{judged_as}
+
+-- the verdict is that of the bytes
+pub end_judged : (bytes : List ℕ) (found : Result TranscriptEnd AuditFault) (v : Verdict) → v ≡ audit_verdict (summary_in found) → EndsRun bytes found → JudgesRuns bytes (summary_in found) → JudgesDamage bytes (summary_in found) → JudgedAs bytes v
+end_judged bytes found v told ended accepts names = judged_as bytes (summary_in found) v told (ends_judged bytes found ended) accepts names
+
+abbrev pub failed : AuditFault → Result Unit AuditFault
+failed fault = Err fault
+
+-- no session goes on from damaged bytes, or if memory runs out
+pub not_resumed : (bytes : List ℕ) (fault : AuditFault) (status : ℕ) (v : Verdict) (new : Option Session) → JudgedAs bytes v → EndsRun bytes (Err fault) → status ≡ found_status (failed fault) → new ≡ None → ResumesSession bytes status v new
+not_resumed bytes Memory status v new judged ended is none = (judged, inr (inr (is, none)))
+not_resumed bytes damage status v new judged ended is none = (judged, inr (inl (is, (damage, ended), none)))

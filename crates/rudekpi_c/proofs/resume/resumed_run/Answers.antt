@@ -1,0 +1,21 @@
+use Rattle.std.proofs.Common.{◌≡◌, ◌∙◌, ℕ, ◌≤◌, [], IfOk, ap, subst, arith}
+use Rattle.std.specs.Prelude.{max, min}
+use Rattle.step_log.specs.Recording.{Recording, resumed_recording}
+use Rattle.script_text.specs.Script.{with_checkpoint}
+use Rattle.run_session.specs.Line.{progress, progress_of}
+use Rattle.rudekpi_c.proofs.resume.resumed_run.Goals as goal
+
+limit_kept : (number : ℕ) → number ≤ 16777216 → max number (min 16777216 16777216) ≡ 16777216
+limit_kept number few = grind arith
+
+pub returns-clause-begins : goal.returns-clause-begins
+returns-clause-begins g c =
+    let end = c.args.end in
+    let same = c.of_net.ensures ∙ ap (λ m. resumed_recording m end.number 16777216) c.in_ok-net.ensures in
+    subst (λ (r : Recording). IfOk c.resume.result (λ run. progress_of run ≡ with_checkpoint (progress end.rules r []))) same c.resume.ensures.begins
+
+pub returns-clause-limit : goal.returns-clause-limit
+returns-clause-limit g c =
+    let end = c.args.end in
+    let same = c.of_net.ensures ∙ ap (λ m. resumed_recording m end.number 16777216) c.in_ok-net.ensures in
+    subst (λ n. IfOk c.resume.result (λ run. run.recorder.limit ≡ n)) (ap (λ (r : Recording). r.limit) same ∙ limit_kept end.number c.requires.goes_on.few) c.resume.ensures.limit

@@ -1,0 +1,41 @@
+-- Sessions that go on where the run of a transcript ended.
+use Rattle.std.specs.Prelude.{◌≡◌, ◌⊎◌, ℕ, true, List, [], Option, None, Some}
+use Rattle.rule_machine.specs.declared.reply.Reply.TheVariants.{Accepted}
+use Rattle.script_text.specs.Script.{Progress, with_checkpoint}
+use Rattle.auditor.specs.declared.end.TranscriptEnd.{TranscriptEnd}
+use Rattle.auditor.specs.declared.fault.AuditFault.{AuditFault}
+use Rattle.auditor.specs.Damage.{IsDamage}
+use Rattle.auditor.specs.TranscriptEnds.{IsTranscriptEnd, end_moment}
+use Rattle.rudekpi_c.specs.AuditVerdicts.{JudgedAs}
+use Rattle.rudekpi_c.specs.Session.{stands, rules_of, limit_of}
+use Rattle.rudekpi_c.specs.declared.judged.Verdict.{Verdict}
+use Rattle.rudekpi_c.specs.declared.session.Session.{Session}
+
+-- the progress at the end of a transcript's run, with the base there as text
+abbrev pub resumed : TranscriptEnd → Progress
+resumed end = with_checkpoint (record { rules = end.rules; moment = (end_moment end).moment; count = end.number; text = [] })
+
+-- a session that goes on from this end, keeps its transcript and has no answer
+pub record GoesOnFrom (end : TranscriptEnd) (session : Session) : Type 0 where
+  pub stands_is : stands session ≡ resumed end
+  pub rules_is : rules_of session ≡ end.rules
+  pub limit_is : limit_of session ≡ 16777216
+  pub lines_is : session.lines ≡ 0
+  pub keeps_is : session.keeps ≡ true
+  pub answer_is : session.answer.reply ≡ Accepted
+
+-- C keeps a session that goes on from the end of the run whose transcript the bytes are
+pub record IsResumedSession (bytes : List ℕ) (new : Option Session) : Type 0 where
+  pub session : Session
+  pub is : new ≡ Some session
+  pub end : TranscriptEnd
+  pub ended : IsTranscriptEnd bytes end
+  pub goes_on : GoesOnFrom end session
+
+-- 0: the session goes on; 7: the bytes are damaged; 3: memory ran out; after 7 and 3 there is no session
+abbrev pub ResumesSession : List ℕ → ℕ → Verdict → Option Session → Type 0
+ResumesSession bytes status verdict new =
+    JudgedAs bytes verdict
+    × (((status ≡ 0) × IsResumedSession bytes new)
+    ⊎ ((status ≡ 7) × ((d : AuditFault) × IsDamage bytes d) × (new ≡ None))
+    ⊎ ((status ≡ 3) × (new ≡ None)))

@@ -1,0 +1,93 @@
+//! Updates the set of enabled nodes after a change of the network.
+
+ghost use Rattle.std.specs.Prelude.{◌≡◌, ◌+◌, ◌||◌, List, Bool, length, nat_eq, IfSome, IsTrue};
+ghost use Rattle.net_state.specs.declared.change.Change.TheVariants.{Pointed, Flagged, Joined};
+ghost use Rattle.rule_machine.specs.Network.{present};
+ghost use Rattle.rule_engine.specs.EngineStates.{AreOn};
+ghost use Rattle.rule_engine.specs.DerivedValues.{WereOn};
+ghost use Rattle.rule_engine.specs.GuardRefresh.{IsRefreshed};
+
+use crate::look::{look_after_write, look_at, look_at_target};
+use enabled_set::EnabledSet;
+use net_state::Change;
+use rule_machine::Node;
+use rules_api::Rules;
+use suitor_index::IndexedNet;
+
+fn pointed<R: Rules>(
+    state: &IndexedNet<'_, R>,
+    enabled: &mut EnabledSet,
+    v: Node,
+    was: Option<Node>,
+    is: Option<Node>,
+)
+    requires told { WereOn R.table enabled.old (Pointed v was is) state.now }
+    requires here { IsTrue (present state.now.state.network v) }
+    requires was { IfSome was (λ w. IsTrue (present state.now.state.network w)) }
+    requires is { IfSome is (λ w. IsTrue (present state.now.state.network w)) }
+    requires places { length enabled.old ≡ state.now.state.network.size + 1 }
+    ensures { AreOn R.table state.now.state enabled.new }
+{
+    // Copied: the prover drops facts about a moved value.
+    let left = was;
+    let courted = is;
+    let flag = state.registers().flag(v);
+    let turned = R::opens(was, flag) != R::opens(is, flag);
+    look_at_target(state, enabled, left);
+    look_at_target(state, enabled, courted);
+    look_after_write(state, enabled, v, turned);
+}
+
+fn flagged<R: Rules>(
+    state: &IndexedNet<'_, R>,
+    enabled: &mut EnabledSet,
+    v: Node,
+    was: bool,
+    is: bool,
+)
+    requires told { WereOn R.table enabled.old (Flagged v was is) state.now }
+    requires here { IsTrue (present state.now.state.network v) }
+    requires places { length enabled.old ≡ state.now.state.network.size + 1 }
+    ensures { AreOn R.table state.now.state enabled.new }
+{
+    let pointer = state.registers().pointer(v);
+    // Copied: the prover drops facts about a moved value.
+    let same = pointer;
+    let turned = R::opens(pointer, was) != R::opens(same, is);
+    look_after_write(state, enabled, v, turned);
+}
+
+fn look_at_ends<R: Rules>(state: &IndexedNet<'_, R>, enabled: &mut EnabledSet, a: Node, b: Node)
+    requires has_a { IsTrue (present state.now.state.network a) }
+    requires has_b { IsTrue (present state.now.state.network b) }
+    requires places { length enabled.old ≡ state.now.state.network.size + 1 }
+    ensures { IsRefreshed R.table state.now.state (λ w. nat_eq w a || nat_eq w b) enabled.old enabled.new }
+{
+    look_at(state, enabled, a);
+    look_at(state, enabled, b);
+}
+
+fn joined<R: Rules>(state: &IndexedNet<'_, R>, enabled: &mut EnabledSet, v: Node)
+    requires told { WereOn R.table enabled.old (Joined v) state.now }
+    requires here { IsTrue (present state.now.state.network v) }
+    requires places { length enabled.old ≡ state.now.state.network.size + 1 }
+    ensures { AreOn R.table state.now.state enabled.new }
+{
+    look_at(state, enabled, v);
+}
+
+/// Evaluates guards again at the nodes whose guard the change may have changed.
+#[inline(always)]
+pub(crate) fn refresh<R: Rules>(state: &IndexedNet<'_, R>, enabled: &mut EnabledSet, change: Change)
+    requires { WereOn R.table enabled.old change state.now }
+    ensures { AreOn R.table state.now.state enabled.new }
+{
+    match change {
+        Change::Pointed(v, was, is) => pointed(state, enabled, v, was, is),
+        Change::Flagged(v, was, is) => flagged(state, enabled, v, was, is),
+        Change::Linked(a, b) => look_at_ends(state, enabled, a, b),
+        Change::Unlinked(a, b) => look_at_ends(state, enabled, a, b),
+        Change::Joined(v) => joined(state, enabled, v),
+        Change::Removed(v) => enabled.remove(v),
+    }
+}

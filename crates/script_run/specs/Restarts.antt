@@ -1,0 +1,23 @@
+-- Where a run goes on.
+use Rattle.std.specs.Prelude.{ℕ, []}
+use Rattle.rule_machine.specs.declared.rules.RuleSet.{RuleSet}
+use Rattle.rule_machine.specs.State.{State}
+use Rattle.script_text.specs.Script.{Progress, with_checkpoint}
+use Rattle.script_run.specs.declared.restart.Restart.{Restart}
+
+-- the rule set, the state, the moves spent, the number of the last entry, the limit of entries and the workers
+-- for a step
+pub record RestartView : Type 0 where
+  pub rules : RuleSet
+  pub state : State
+  pub spent : ℕ
+  pub number : ℕ
+  pub limit : ℕ
+  pub workers : ℕ
+
+abbrev pub restart_of : Restart → RestartView
+restart_of r = record { rules = r.rules; state = r.net.state; spent = r.spent; number = r.number; limit = r.limit; workers = r.workers }
+
+-- the progress of a run that goes on: the moment reached, the number of entries, and the base as text
+abbrev pub restarted : Restart → Progress
+restarted r = with_checkpoint (record { rules = r.rules; moment = record { state = r.net.state; spent = r.spent }; count = r.number; text = [] })

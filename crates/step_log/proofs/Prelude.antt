@@ -1,0 +1,62 @@
+-- What the proofs of this crate import from the crates below and from its own definitions.
+pub use Rattle.std.proofs.Common.{◌≡◌, ℕ, suc, ◌<◌, false, List, [], ◌∷◌, get_or, nat_eq, arith, ◌≢◌, ◌+◌, ◌*◌, ◌≤◌, ◌++◌, length, map, All, append_assoc, refl, sym, ap, ap₂, ◌∙◌, subst, true, Some, cond, ◌&&◌, filter_map, Any, Option, None, is_some, is_none, nat_le, option_and_then, le-leb}
+pub use Rattle.std.proofs.lemmas.Bool.{ne_eqb}
+pub use Rattle.std.proofs.lemmas.List.{append-nil, get_or-map, map-append, length-map, length-append}
+pub use Rattle.std.proofs.lemmas.List.Elements.{recursion_from_All, All-weaker}
+pub use Rattle.std.proofs.lemmas.List.FromFn.{length-range_with_len}
+pub use Rattle.std.proofs.lemmas.List.Kept.{AllPairs-from_increasing}
+pub use Rattle.std.proofs.lemmas.List.Sums.{list_all-from_AllPass, length-filter, count_by-le-length}
+pub use Rattle.std.proofs.lemmas.Option.{none-some}
+pub use Rattle.std.proofs.lemmas.Result.{IfOk-weaker}
+pub use Rattle.std.specs.List.{list_all, cons_option, range_with_len}
+pub use Rattle.std.specs.List.Sorted.{IsStrictlyIncreasing}
+pub use Rattle.std.specs.Option.{option_map}
+pub use Rattle.std.specs.Prelude.{IfOk}
+pub use Rattle.charge_laws.proofs.Epochs.{epochs_are_bounded}
+pub use Rattle.charge_laws.proofs.Laws.{moves_are_paid}
+pub use Rattle.charge_laws.proofs.Runs.{Effect, rests, steps, disturbs, effect, step_network}
+pub use Rattle.charge_laws.proofs.RunsFromBases.{begins_in_state, begins_once, begins_within, may_begin_again}
+pub use Rattle.charge_laws.specs.ChargeWords.{charge_bound, IsCharged}
+pub use Rattle.charge_laws.specs.Epochs.{IsPath, IsBoundedEpoch}
+pub use Rattle.line_text.specs.EntryText.{entry_line}
+pub use Rattle.log_entry.specs.Kinds.{fits, takes_target, is_move, are_moves}
+pub use Rattle.machine_laws.proofs.AcceptedEvents.{state_after_keeps}
+pub use Rattle.machine_laws.proofs.Bases.{run_splits}
+pub use Rattle.machine_laws.proofs.Determinism.{answers_once}
+pub use Rattle.machine_laws.proofs.LeastAnswers.{least_answers}
+pub use Rattle.machine_laws.proofs.LeastMoves.{IsTable}
+pub use Rattle.machine_laws.proofs.MaximalMatchings.{maximal_from_stable, stable_from_maximal}
+pub use Rattle.machine_laws.proofs.Runs.{runs_end_in_states, run_add}
+pub use Rattle.machine_laws.proofs.Sizes.{runs_keep_size}
+pub use Rattle.machine_laws.proofs.UnusedFlags.{IsFlagless}
+pub use Rattle.rule_engine.proofs.AscendingMoves.{rises_tail}
+pub use Rattle.rule_machine.specs.Answer.{Answers, spent_after, Does, AnswersBy}
+pub use Rattle.rule_machine.specs.Base.{begun_at, dropped, BeginsAt, base_of}
+pub use Rattle.rule_machine.specs.Least.{reply_of, state_after, spent_by, outcome_of, move_in, item_of, least_moves, accepted_reply, reply_by}
+pub use Rattle.rule_machine.specs.Network.{node_count, edge_count, Network, names, present}
+pub use Rattle.rule_machine.specs.Refuse.{refusal_of}
+pub use Rattle.rule_machine.specs.RuleTable.{RuleTable, enabled_names, enabled, rule_at}
+pub use Rattle.rule_machine.specs.Run.{Entry, Moment, epochs_by, epochs_from, open_at, Run, beginning_with, moment_after}
+pub use Rattle.rule_machine.specs.Stable.{IsStable, mutual_pairs, pair_above}
+pub use Rattle.rule_machine.specs.State.{State, IsState, partner}
+pub use Rattle.rule_machine.specs.Step.{IsTarget, IsMoveOf, IsStep}
+pub use Rattle.rule_machine.specs.declared.act.Act.{Act}
+pub use Rattle.rule_machine.specs.declared.act.Act.TheVariants.{Update, Marry, Seduce, Abandon}
+pub use Rattle.rule_machine.specs.declared.act.Moved.{Moved}
+pub use Rattle.rule_machine.specs.declared.base.Base.{Base}
+pub use Rattle.rule_machine.specs.declared.base.EpochStart.{EpochStart}
+pub use Rattle.rule_machine.specs.declared.base.EpochStart.TheVariants.{At, Forgotten}
+pub use Rattle.rule_machine.specs.declared.choice.Item.{Item}
+pub use Rattle.rule_machine.specs.declared.event.Event.{Event}
+pub use Rattle.rule_machine.specs.declared.event.Event.TheVariants.{Link, Unlink, Point, Flag, Step, Show, Enabled, Matching, Status, Join, Leave}
+pub use Rattle.rule_machine.specs.declared.refusal.Refusal.{Refusal}
+pub use Rattle.rule_machine.specs.declared.reply.Reply.{Reply}
+pub use Rattle.rule_machine.specs.declared.reply.Reply.TheVariants.{Accepted, Refused, Moves, Shown, EnabledAre, Pairs, Counts}
+pub use Rattle.step_log.specs.Epochs.{AreEpochs, IsEpochWithinBound, IsEpochPath, begun_by, ended_by, epochs_along, of_run, open_in, over_in, path_end}
+pub use Rattle.step_log.specs.Headline.{Upholds, LeadsTo}
+pub use Rattle.step_log.specs.JournalViews.{IsJournal, JournalView, kept_of, undropped_log, IsNextReceipt}
+pub use Rattle.step_log.specs.Log.{empty_log_with, max_entries, Log, IsLog}
+pub use Rattle.step_log.specs.Recording.{Recording, IsRecording}
+pub use Rattle.step_log.specs.RetainedLogs.{RetainedLog, Begins, moment_in, IsRetainedRun, IsBaseOfGraph, checkpointed, kept_with, last_number, next_entry, whole, log_in}
+pub use Rattle.step_log.specs.declared.epoch.Epoch.{Epoch}
+pub use Rattle.step_log.specs.declared.receipt.Receipt.{Receipt}

@@ -1,0 +1,21 @@
+use Rattle.suitor_index.proofs.NodeChanges.{old_counted, new_fits, new_within, half_pointed, told_rise, told_within, told_fits, told_index}
+use Rattle.suitor_index.proofs.changes.pointed.Goals as goal
+
+pub leave-requires-clause-counted : goal.leave-requires-clause-counted
+leave-requires-clause-counted g c = old_counted _ _ _ _ _ _ _ c.requires.told
+
+pub court-requires-clause-within : goal.court-requires-clause-within
+court-requires-clause-within g c = new_within _ _ _ _ _ _ _ c.requires.told _ c.leave.ensures
+
+pub court-requires-clause-room : goal.court-requires-clause-room
+court-requires-clause-room g c = new_fits _ _ _ _ _ _ _ c.requires.told _ c.leave.ensures
+
+pub turn-requires : goal.turn-requires
+turn-requires g c =
+    let half = half_pointed _ _ _ _ _ _ _ c.requires.told _ _ _ _ _ _ c.leave.ensures c.court.ensures c.neighbours.ensures.all c.flag-flag.ensures c.opens-was_open.ensures c.opens-is_open.ensures in
+    record { rising = told_rise _ _ _ _ _ _ _ _ _ _ half; within = told_within _ _ _ _ _ _ _ _ _ _ half; turns = told_fits _ _ _ _ _ _ _ _ _ _ half }
+
+pub returns : goal.returns
+returns g c =
+    let half = half_pointed _ _ _ _ _ _ _ c.requires.told _ _ _ _ _ _ c.leave.ensures c.court.ensures c.neighbours.ensures.all c.flag-flag.ensures c.opens-was_open.ensures c.opens-is_open.ensures in
+    told_index _ _ _ _ _ _ _ _ _ _ _ half c.turn.ensures
