@@ -34,7 +34,7 @@ enum {
     RUDEKPI_NO_SESSION = 4,   /* the slot holds no session, or no audit */
     RUDEKPI_BAD_ARGUMENT = 5, /* an argument is out of range; nothing changed */
     RUDEKPI_REFUSED = 6,      /* the machine refused the event, and an entry says so; the network is unchanged */
-    RUDEKPI_DAMAGED = 7,      /* the bytes fed to an audit begin no transcript, whatever follows */
+    RUDEKPI_DAMAGED = 7,      /* the bytes are no transcript; those fed to an audit, whatever follows */
     RUDEKPI_NOT_SILENT = 8    /* a rule is enabled, and the call needs a silent network; nothing changed */
 };
 
@@ -59,6 +59,17 @@ uint32_t rudekpi_version(void);
  * DONE; BAD_ARGUMENT for unknown rules, too many names, or more present nodes than names; NO_MEMORY. The slot
  * is empty after an error. */
 uint32_t rudekpi_session_new(uint32_t rules, uint32_t nodes, uint32_t present, struct rudekpi_slot *slot);
+
+struct rudekpi_verdict;
+
+/* Begins a session that goes on where the run of a transcript ended, and replaces what the slot held. The
+ * bytes are a transcript, or a base alone. `verdict` becomes what rudekpi_audit says of them. The session's
+ * text begins with the base at the end of the run, and the next entry has the next number: so the bytes with
+ * the session's text appended are one transcript. Lines are counted from 1 again. Costs an audit, and a look
+ * at all names and edges.
+ * DONE; DAMAGED if the bytes are no transcript; NO_MEMORY. The slot is empty after an error. */
+uint32_t rudekpi_session_resume(struct rudekpi_slot *slot, const uint8_t *bytes, size_t length,
+                                struct rudekpi_verdict *verdict);
 
 /* Carries out the next line of a script, given without its LF. Writes the line's number, counted from 1, and
  * appends the text of the line's entries to the session's text.

@@ -112,6 +112,16 @@ export declare class Network {
    * transcript is kept only from the last checkpoint on.
    */
   constructor(rules?: RuleSet, nodes?: number | Iterable<Name>, options?: { present?: number; keep?: boolean });
+  /**
+   * Returns a network that goes on where the run of a transcript, or of a base alone, ended. Its own transcript
+   * begins with the base there, and its next entry has the next number: appended to the given transcript, it
+   * makes one transcript. `nodes` are the names of all numbers up to the transcript's. Throws `Damaged` if the
+   * text is no transcript.
+   */
+  static resume(
+    transcript: string | ArrayBuffer | ArrayBufferView,
+    options?: { nodes?: Iterable<Name>; keep?: boolean },
+  ): Network;
   readonly rules: RuleSet;
   /**
    * Ends the network and frees its memory; the transcript stays. If there is no memory for the transcript's

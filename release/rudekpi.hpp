@@ -95,6 +95,13 @@ struct Verdict : rudekpi_verdict {
     }
 };
 
+/* The bytes are no transcript: the verdict has the first wrong line and what is wrong with it. */
+class Damaged : public std::runtime_error {
+  public:
+    explicit Damaged(const Verdict &verdict) : std::runtime_error("line " + std::to_string(verdict.line) + ": " + verdict.text()), verdict(verdict) {}
+    Verdict verdict;
+};
+
 namespace detail {
 
 inline std::optional<Node> node_or_null(Node node) {
@@ -142,6 +149,18 @@ class Network {
 
     Network(Rules rules, std::uint32_t nodes, std::uint32_t present) : slot_(new rudekpi_slot(RUDEKPI_NONE)) {
         detail::check(rudekpi_session_new(static_cast<std::uint32_t>(rules), nodes, present, slot_.get()));
+    }
+
+    /* Returns a network that goes on where the run of a transcript, or of a base alone, ended. Its own transcript
+     * begins with the base there, and its next entry has the next number. Throws Damaged if the bytes are no
+     * transcript. */
+    static Network resume(std::string_view transcript) {
+        Network net;
+        Verdict verdict{};
+        auto status = rudekpi_session_resume(net.slot(), detail::bytes_of(transcript), transcript.size(), &verdict);
+        if (status == RUDEKPI_DAMAGED) throw Damaged(verdict);
+        detail::check(status);
+        return net;
     }
 
     /* Edits and faults; each returns the number of its entry. */
@@ -307,6 +326,8 @@ class Network {
     }
 
   private:
+    Network() : slot_(new rudekpi_slot(RUDEKPI_NONE)) {}
+
     rudekpi_slot *slot() {
         return slot_.get();
     }

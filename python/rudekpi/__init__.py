@@ -12,7 +12,7 @@ program ends, `Ended` is raised with the program's status and last line.
 
 `drive` and `scramble` write one entry a turn, an unknown number. So the client asks for the `status` after
 them. This last entry marks their end, and is part of the transcript and the reply. `checkpoint` writes a
-base, which is no entry.
+base, which is no entry. `Network.resume` goes on where the run of a transcript ended.
 
 The path of the program is the argument `program`, else that in RUDEKPI_CONSOLE, else `bin/console` in this
 package, else the `console` of its repository. The path of the library is that in RUDEKPI_LIBRARY, else

@@ -19,7 +19,7 @@ STEP = 2
 
 
 class Setting:
-    """What stays the same in a run."""
+    """What stays the same in a run. Without a header the run's text begins with a base."""
 
     def __init__(self, names: Names, header: bytes, base_head: bytes, keeps: bool) -> None:
         self.names, self.header, self.base_head, self.keeps = names, header, base_head, keeps
@@ -132,7 +132,7 @@ class Answers:
             return
         self.lines += 1
         pending = self.asked.get(self.front)
-        if pending and pending._is_base:
+        if (pending and pending._is_base) or (self.entries < 0 and not self.setting.header):
             return self.take_of_base(pending, line)
         self.entries = entry = self.entries + 1
         head = b"%d " % entry
@@ -143,15 +143,21 @@ class Answers:
         elif entry or line != self.setting.header:
             self.garble(pending, line)
 
-    def take_of_base(self, pending: Pending[object], line: bytes) -> None:
-        """Gives a line of a base to its checkpoint, whose answer is all lines of the base."""
+    def take_of_base(self, pending: Optional[Pending[object]], line: bytes) -> None:
+        """Gives a line of a base to its checkpoint, whose answer is all lines of the base.
+
+        The base that a run goes on from answers no checkpoint.
+        """
         if not self.is_next_of_base(line):
             return self.garble(pending, line)
         self.hold(line)
         if self.held_size == self.base_size:
             lines = self.all_held()
             self.last_base = (self.lines, lines)
-            self.answer(pending, b"\n".join(lines))
+            if pending:
+                self.answer(pending, b"\n".join(lines))
+            else:
+                self.entries = int(lines[1].split(b" ")[1])
 
     def is_next_of_base(self, line: bytes) -> bool:
         """Whether this may be the next line of a base, checked as far as finding its end needs."""
@@ -161,9 +167,11 @@ class Answers:
         if place > 1:
             return line.startswith(b"node " if place < 2 + self.base_nodes else b"edge ")
         found = BASE.fullmatch(text_of(line))
-        if found:
-            self.base_nodes, self.base_size = int(found[3]), 2 + int(found[3]) + int(found[4])
-        return found is not None and int(found[1]) == self.entries
+        if not found:
+            return False
+        self.base_nodes, self.base_size = int(found[3]), 2 + int(found[3]) + int(found[4])
+        # the base that a run goes on from may have any number
+        return self.entries < 0 or int(found[1]) == self.entries
 
     def answer(self, pending: Pending[object], text: bytes) -> None:
         """Stores the answer to the command that has waited longest."""

@@ -184,3 +184,9 @@ class Batch:
 
     def checkpoint(self) -> Answer[Base]:
         return self._ask(read_base, CHECKPOINT)
+
+    def _written_base(self) -> tuple[Base, bytes]:
+        """A checkpoint's base, and its lines."""
+        asked = Asked(self._session, CHECKPOINT, read_base, self._kept)
+        self._session.ask(asked)
+        return asked.result(), asked._text + b"\n"

@@ -301,12 +301,23 @@ class DirectBatch(Batch):
         return Done((turns_of, self._names, entry, read, lines, counts))
 
     def checkpoint(self) -> Answer[Base]:
+        return Done((base_of, self._names, *self._checkpointed()))
+
+    def _written_base(self) -> tuple[Base, bytes]:
+        entry, lines = self._checkpointed()
+        try:
+            return base_of(self._names, entry, lines), lines
+        except MemoryError:
+            raise NoReply(entry) from None
+
+    def _checkpointed(self) -> tuple[int, bytes]:
+        """A checkpoint's last entry before it, and its lines."""
         session = self._direct
         entry, lines = self._written("checkpoint")
         if not session.keeps:
             with session.lock:
                 session.text_kept.forget()
-        return Done((base_of, self._names, entry, lines))
+        return entry, lines
 
     def _written(self, word: str, *words: object) -> tuple[int, bytes]:
         """Makes a call that writes several lines: its last entry, and the lines. Raises its error."""

@@ -8,10 +8,11 @@ is asked in the same C call, which no handler interrupts.
 from __future__ import annotations
 
 import ctypes
+import mmap
 import os
 import threading
 import weakref
-from typing import TYPE_CHECKING, Callable, Optional, Sequence
+from typing import TYPE_CHECKING, Callable, Optional, Sequence, Union
 
 from .batch import Batch
 from .calls import DirectBatch, Rooms
@@ -37,7 +38,15 @@ class Direct:
     # the owner of a session that is not fully built
     owner = 0
 
-    def __init__(self, library: Library, names: Names, rules: str, present: int, keeps: bool) -> None:
+    def __init__(
+        self,
+        library: Library,
+        names: Names,
+        rules: str,
+        present: int,
+        keeps: bool,
+        transcript: Union[bytes, mmap.mmap, None] = None,
+    ) -> None:
         self.library, self.names, self.rules, self.keeps = library, names, rules, keeps
         self.lock = threading.RLock()
         self.ended: Optional[Ended] = None
@@ -45,7 +54,10 @@ class Direct:
         # the target of all calls: the session, until it is closed
         self.at: _CArgObject = ctypes.byref(self.slot)
         self.text_kept, self.rooms = KeptText(library, self.at, keeps), Rooms()
-        if library.session_new(("hh", "manne").index(rules), names.count, present, self.at):
+        if transcript is not None:
+            # the run goes on from there, where its rules, names and present nodes are
+            library.resume(self.at, transcript)
+        elif library.session_new(("hh", "manne").index(rules), names.count, present, self.at):
             raise MemoryError("no memory for a network")
         SESSIONS.add(self)
 

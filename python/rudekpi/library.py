@@ -2,20 +2,23 @@
 
 from __future__ import annotations
 
+import contextlib
 import ctypes
 import functools
 import mmap
 import os
 import platform
-from typing import Callable, Optional, Union
+from typing import TYPE_CHECKING, Callable, Iterator, Optional, Union
 
 from .costs import COSTED
 from .errors import Damaged
 from .program import PACKAGE, Program
 from .replies import Summary
 
-DONE, BAD_LINE, LOG_FULL, NO_MEMORY, NO_SESSION, BAD_ARGUMENT, REFUSED = range(7)
-NOT_SILENT = 8
+if TYPE_CHECKING:
+    from ctypes import _CArgObject
+
+DONE, BAD_LINE, LOG_FULL, NO_MEMORY, NO_SESSION, BAD_ARGUMENT, REFUSED, DAMAGED, NOT_SILENT = range(9)
 ENGINES = ("library", "program")
 # numbered from 1
 REFUSALS = (
@@ -89,6 +92,7 @@ SHORT = (
 )
 LONG = (
     "session_new",
+    "session_resume",
     "session_feed",
     "join",
     "leave",
@@ -105,6 +109,18 @@ LONG = (
 )
 SIZES = ("rows", "session_length", "session_read")
 NONE = ("session_free", "audit_free")
+
+
+@contextlib.contextmanager
+def address_of(text: Union[bytes, mmap.mmap]) -> Iterator[int]:
+    """The address of bytes, or of a mapped file, which is not closed meanwhile."""
+    if isinstance(text, bytes):
+        at: int = ctypes.cast(ctypes.c_char_p(text), ctypes.c_void_p).value  # type: ignore[assignment]
+        yield at
+    else:
+        # a mapping ends when nothing refers to it: an interrupt may keep this reference for a while
+        first = ctypes.c_char.from_buffer(text)
+        yield ctypes.addressof(first)
 
 
 class Library:
@@ -154,8 +170,8 @@ class Library:
         return summary_of(verdict)
 
     def audit_bytes(self, text: bytes, start: int = 0, end: Optional[int] = None) -> Summary:
-        at: int = ctypes.cast(ctypes.c_char_p(text), ctypes.c_void_p).value  # type: ignore[assignment]
-        return self.audit(at + start, (len(text) if end is None else end) - start)
+        with address_of(text) as at:
+            return self.audit(at + start, (len(text) if end is None else end) - start)
 
     def audit_file(self, file: int, start: int, end: int) -> Summary:
         """The verdict on a range of an open file, given by its number. The file is not read whole."""
@@ -164,13 +180,21 @@ class Library:
             return self.audit_bytes(b"")
         before = start % mmap.ALLOCATIONGRANULARITY
         # ctypes needs a mapping that may be written to; it is not written to
-        with mmap.mmap(file, end - start + before, access=mmap.ACCESS_COPY, offset=start - before) as held:
-            first = ctypes.c_char.from_buffer(held)
-            try:
-                return self.audit(ctypes.addressof(first) + before, end - start)
-            finally:
-                # the mapping can't be closed while something refers to it
-                del first
+        held = mmap.mmap(file, end - start + before, access=mmap.ACCESS_COPY, offset=start - before)
+        with address_of(held) as at:
+            return self.audit(at + before, end - start)
+
+    def resume(self, slot: _CArgObject, transcript: Union[bytes, mmap.mmap]) -> None:
+        """Begins a session at the end of a transcript's run. Raises `Damaged`, or `MemoryError`."""
+        verdict = Verdict()
+        with address_of(transcript) as at:
+            status = self.session_resume(
+                slot, ctypes.c_void_p(at), ctypes.c_size_t(len(transcript)), ctypes.byref(verdict)
+            )
+        if status == DAMAGED or verdict.kind:
+            summary_of(verdict)
+        if status != DONE:
+            raise MemoryError("no memory for a network")
 
 
 @functools.lru_cache(maxsize=None)

@@ -3,6 +3,7 @@
 from __future__ import annotations
 
 import itertools
+import mmap
 import re
 from collections import Counter
 from operator import index
@@ -146,25 +147,35 @@ class Names:
         return None if given is None else self.name_of(given)
 
 
-PRESENT = re.compile(r"^(?:[0-9]+ join ([0-9]+) = ok|node ([0-9]+) .*)$", re.MULTILINE)
+PRESENT = re.compile(rb"^(?:[0-9]+ join ([0-9]+) = ok|node ([0-9]+) .*)$", re.MULTILINE)
 
 
-def most_present(transcript: str) -> tuple[int, int]:
+def head_of(transcript: Union[str, bytes, mmap.mmap]) -> tuple[int, int]:
+    """The capacity in the first line of a transcript, and how many nodes that line makes present."""
+    if isinstance(transcript, str):
+        line = transcript.partition("\n")[0].encode()
+    else:
+        line = transcript[: transcript.find(b"\n")]
+    kind, _, count, *rest = line.split(b" ")
+    return int(count), int((rest or [count])[0]) if kind == b"matching" else 0
+
+
+def most_present(transcript: Union[str, bytes, mmap.mmap]) -> tuple[int, int]:
     """The capacity of an accepted transcript, and the greatest number of a node that is ever present."""
-    kind, _, count, *rest = transcript.partition("\n")[0].split(" ")
-    first = int((rest or [count])[0]) if kind == "matching" else 0
-    return int(count), max([first, *(int(found[1] or found[2]) for found in PRESENT.finditer(transcript))])
+    capacity, first = head_of(transcript)
+    text = transcript.encode() if isinstance(transcript, str) else transcript
+    return capacity, max([first, *(int(found[1] or found[2]) for found in PRESENT.finditer(text))])
 
 
-def names_for(transcript: str, names: Optional[Iterable[Name]]) -> Names:
+def names_for(transcript: Union[str, bytes, mmap.mmap], names: Optional[Iterable[Name]]) -> Names:
     """The names of the nodes of an accepted transcript: the caller's, or the numbers.
 
     Raises `ValueError` if a node that is ever present has no name, or there are more names than the capacity.
     """
-    capacity, most = most_present(transcript)
     if names is None:
-        return Names(capacity)
+        return Names(head_of(transcript)[0])
     own = own_names(names)
+    capacity, most = most_present(transcript)
     if not most <= len(own) <= capacity:
         raise ValueError(f"{counted(len(own), 'name')} for {most if len(own) < most else capacity} nodes")
     return Names(own, capacity)

@@ -12,13 +12,14 @@ from .choices import Daemon, checked_choice
 from .costs import numbers_of_edit, why_refused
 from .daemons import AnyDaemon, Seeded, check_daemon, named
 from .direct import Direct
-from .errors import PastBound
+from .errors import Ended, PastBound
 from .files import write_whole
 from .graphs import Graph, from_networkx, is_networkx
 from .labels import named_picture
 from .name_files import names_text
 from .names import Names
 from .numbers import MOST_NODES, MOST_SEED, counted, number_within
+from .processes import GIVEN
 from .program import Program, found_program
 from .replies import (
     Accepted,
@@ -38,6 +39,7 @@ from .replies import (
 )
 from .rules import moves_left
 from .session import Session
+from .sources import Source, Transcript, refusal_of, source_of
 from .state import Follower, Seen, State
 
 
@@ -83,24 +85,64 @@ class Network:
         count = self._names.given
         start = count if present is None else number_within(present, count, "a number of nodes that are present")
         held = library.chosen(engine, program)
-        self.engine = "library" if held else "program"
-        self._session: Union[Direct, Session] = (
-            Direct(held, self._names, rules, start, keep) if held else self._run(start, keep)
-        )
-        self._single = self._session.batch(keeps=False)
-        self._follower = Follower(self._session)
+        self._use(Direct(held, self._names, rules, start, keep) if held else self._run(start, keep))
         if graph and graph.edges:
             with self.batch() as batch:
                 for a, b in graph.edges:
                     batch.link(a, b)
+
+    @classmethod
+    def resume(
+        cls,
+        transcript: Transcript,
+        *,
+        nodes: Optional[Iterable[Name]] = None,
+        program: Program = None,
+        keep: bool = True,
+        engine: Optional[str] = None,
+    ) -> Network:
+        """A network that goes on where the run of a transcript ended; the transcript may be a base alone.
+
+        `transcript` is bytes, the path of a file, or an open file, which is read to its end. The new
+        network's transcript begins with the base at the end of the run, and its next entry has the next
+        number: appended to the given transcript, it makes one transcript. `nodes` are the caller's names, in
+        the order of the numbers, one for each node that was ever present. The rules and the capacity are the
+        transcript's.
+
+        Raises `Damaged` if `audit` refuses the transcript, `ValueError` if the number of names differs, and
+        `OSError` if the file can't be read.
+        """
+        held = library.chosen(engine, program)
+        net = cls.__new__(cls)
+        with source_of(transcript) as source:
+            net.rules, net._names = source.begun(nodes, program, engine)
+            net._program = program
+            net._use(Direct(held, net._names, net.rules, 0, keep, source.text) if held else net._run_from(source, keep))
+        return net
+
+    def _use(self, session: Union[Direct, Session]) -> None:
+        self.engine = "library" if isinstance(session, Direct) else "program"
+        self._session = session
+        self._single = session.batch(keeps=False)
+        self._follower = Follower(session)
 
     def _run(self, start: int, keep: bool) -> Session:
         rules, count = self.rules, self._names.count
         first = [] if start == count else [str(start)]
         header = " ".join(["matching", rules, str(count), *first]).encode()
         words = ["run", "--rules", rules, "--nodes", str(count), *(["--present", *first] if first else [])]
-        setting = Setting(self._names, header, f"matching2 {rules} {count}".encode(), keep)
-        return Session([found_program(self._program), *words], setting)
+        return Session([found_program(self._program), *words], self._setting(header, keep))
+
+    def _run_from(self, source: Source, keep: bool) -> Session:
+        words = [found_program(self._program), "run", "--from", GIVEN]
+        with source.opened() as file:
+            try:
+                return Session(words, self._setting(b"", keep), file)
+            except Ended as ended:
+                raise refusal_of(ended) from None
+
+    def _setting(self, header: bytes, keep: bool) -> Setting:
+        return Setting(self._names, header, f"matching2 {self.rules} {self._names.count}".encode(), keep)
 
     def __enter__(self) -> Network:
         return self
@@ -258,9 +300,18 @@ class Network:
         """
         return self._single.scramble(seed, faults).result()
 
-    def checkpoint(self) -> Base:
-        """Adds the lines of a base, which are no entry, to the transcript; returns the current state."""
-        return self._single.checkpoint().result()
+    def checkpoint(self, path: Union[str, os.PathLike[str], None] = None) -> Base:
+        """Adds the lines of a base, which are no entry, to the transcript; returns the current state.
+
+        With a path the base is also written to a file, from which `resume` goes on. The file is replaced whole
+        or not at all, and is on the disk when the call returns. Raises `OSError` if it cannot be written; the
+        transcript then has the base, and a file at that path is unchanged.
+        """
+        if path is None:
+            return self._single.checkpoint().result()
+        base, lines = self._single._written_base()
+        write_whole(path, lines, flushes=True)
+        return base
 
     def cost_of(self, word: str, *given: Name) -> int:
         """The cost in moves of an edit or a fault if it came now: `net.cost_of("unlink", "ann", "bob")`.

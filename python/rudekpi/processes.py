@@ -15,7 +15,7 @@ import os
 import signal
 import tempfile
 import time
-from typing import IO, Iterator, Sequence, Union
+from typing import IO, Any, Iterator, Optional, Sequence, Union
 
 # signals that Python ignores, and a program should not
 IGNORED = [getattr(signal, name) for name in ("SIGPIPE", "SIGXFSZ") if hasattr(signal, name)]
@@ -25,6 +25,8 @@ READ = 1 << 16
 IS_NONE = functools.partial(operator.is_, None)
 # how many seconds a program may take to end after the end of its text
 LAST_SECONDS = 10
+# the path at which a program finds the file that it is given
+GIVEN = "/dev/fd/3"
 # how many bytes of standard error are read
 LONGEST_TOLD = 1 << 16
 
@@ -32,14 +34,26 @@ LONGEST_TOLD = 1 << 16
 @contextlib.contextmanager
 def no_low_numbers() -> Iterator[None]:
     """While this context lasts, no opened file gets the number of a standard stream, even of a closed one."""
-    held: list[int] = []
+    # files close themselves if an interrupt comes before they are closed here
+    held: list[io.FileIO] = []
     try:
-        while not held or held[-1] < 3:
-            held.extend(map(os.open, (os.devnull,), (os.O_RDONLY,)))
+        while not held or held[-1].fileno() < 3:
+            held.extend(map(io.FileIO, map(os.open, (os.devnull,), (os.O_RDONLY,))))
         yield
     finally:
-        for number in held:
-            os.close(number)
+        for file in held:
+            file.close()
+
+
+def add_nameless(files: list[Any]) -> None:
+    """Adds a nameless file to a list, in one C call.
+
+    One of `tempfile` is closed twice if an interrupt cuts its making short.
+    """
+    if hasattr(os, "memfd_create"):
+        files.extend(map(io.FileIO, map(os.memfd_create, ("told",)), ("rb+",)))
+    else:
+        files.append(tempfile.TemporaryFile())
 
 
 class Run:
@@ -55,13 +69,17 @@ class Run:
         self.numbers: list[int] = []
         self.statuses: list[tuple[int, int]] = []
 
-    def start(self, words: Sequence[str]) -> None:
-        """Starts the program in its own session. Raises `OSError` if there is none."""
+    def start(self, words: Sequence[str], given: Optional[io.FileIO] = None) -> None:
+        """Starts the program in its own session, with a given file at the path `GIVEN`.
+
+        Raises `OSError` if there is no such program.
+        """
         with no_low_numbers():
             made = itertools.chain.from_iterable(itertools.starmap(os.pipe, ((), ())))
             self.ends.extend(map(io.FileIO, made, ("rb", "wb", "rb", "wb")))
             self.add_file()
-            ends = self.ends[0], self.ends[3], self.files[0]
+            # the given file comes last: its number there may be another end's here
+            ends = [self.ends[0], self.ends[3], self.files[0], *([given] if given else [])]
             moved = [(os.POSIX_SPAWN_DUP2, end.fileno(), number) for number, end in enumerate(ends)]
             spawn = functools.partial(os.posix_spawnp, file_actions=moved, setsid=True, setsigdef=IGNORED)
             self.numbers.extend(map(spawn, (words[0],), (list(words),), (dict(os.environ),)))
@@ -71,11 +89,7 @@ class Run:
             os.set_blocking(end.fileno(), False)
 
     def add_file(self) -> None:
-        """Makes a nameless file. One of `tempfile` is closed twice if an interrupt cuts its making short."""
-        if hasattr(os, "memfd_create"):
-            self.files.extend(map(io.FileIO, map(os.memfd_create, ("told",)), ("rb+",)))
-        else:
-            self.files.append(tempfile.TemporaryFile())
+        add_nameless(self.files)
 
     @property
     def to(self) -> io.FileIO:

@@ -24,8 +24,9 @@ def replay(
     """A network in the state at the end of a transcript, so that it can go on.
 
     The network's own transcript is the given one, but steps with other targets than the least have these
-    targets as wishes. No run begins with a base. If the given transcript does, edits and faults lead to the
-    state of the base; then the numbers of the entries differ, and moves before the base are not counted.
+    targets as wishes. If the given transcript begins with a base, edits and faults lead to the state of the
+    base; then the numbers of the entries differ, and moves before the base are not counted.
+    `Network.resume` plays nothing again and keeps the numbers; its transcript begins at the end of this one.
     `names` are the caller's, in the order of the numbers, one for each node that was ever present.
 
     Raises `Damaged` if `audit` refuses the transcript, and `ValueError` if the number of names differs.

@@ -2,6 +2,7 @@
 
 from __future__ import annotations
 
+import io
 import itertools
 from typing import Optional, Sequence
 
@@ -26,7 +27,7 @@ class Session:
     made from an older `Answers` or `Load` is then dropped, since a later one is already there.
     """
 
-    def __init__(self, words: Sequence[str], setting: Setting) -> None:
+    def __init__(self, words: Sequence[str], setting: Setting, given: Optional[io.FileIO] = None) -> None:
         self.names = setting.names
         # the commands that wait, by number, and the source of numbers
         self.asked: dict[int, Pending[object]] = {}
@@ -38,7 +39,7 @@ class Session:
         self.is_closed = self.is_told = False
         # about how many bytes are asked beyond those under way
         self.unloaded_bytes = 0
-        self.talk = Talk(words)
+        self.talk = Talk(words, given)
         while self.answers.entries < 0 or self.answers.wrong:
             self.exchange()
 

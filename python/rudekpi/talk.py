@@ -9,6 +9,7 @@ That call finds the position, moves the bytes, and records the move before the n
 from __future__ import annotations
 
 import atexit
+import io
 import itertools
 import os
 import select
@@ -49,7 +50,7 @@ class Talk:
     ended: Optional[Ended] = None
     owner = 0
 
-    def __init__(self, words: Sequence[str]) -> None:
+    def __init__(self, words: Sequence[str], given: Optional[io.FileIO] = None) -> None:
         self.is_deaf = False
         self.pause = 1
         self.reached = Load(b"", 0)
@@ -59,7 +60,7 @@ class Talk:
         self.run, self.owner = Run(), os.getpid()
         TALKS.add(self)
         try:
-            self.run.start(words)
+            self.run.start(words, given)
         except BaseException:
             self.kill()
             raise

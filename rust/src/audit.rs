@@ -46,7 +46,7 @@ pub enum Verdict {
 
 impl Verdict {
     /// The verdict from C's numbers; a fault if memory ran out.
-    fn of(raw: RawVerdict) -> Result<Verdict, Fault> {
+    pub(crate) fn of(raw: RawVerdict) -> Result<Verdict, Fault> {
         let damage = match raw.kind {
             0 => {
                 let RawVerdict {

@@ -1,5 +1,6 @@
 //! Why a call failed.
 
+use crate::audit::Damage;
 use crate::ffi::{self, Told};
 use std::fmt;
 
@@ -72,6 +73,8 @@ pub enum Fault {
     BadArgument,
     /// Line `number` is neither empty nor a command. Nothing changed.
     BadLine { number: u64 },
+    /// The bytes are no transcript; `line` is the first wrong line, from 1. Nothing was begun.
+    Damaged { line: u64, damage: Damage },
 }
 
 impl fmt::Display for Fault {
@@ -82,6 +85,7 @@ impl fmt::Display for Fault {
             Fault::NoMemory => f.write_str("memory was refused"),
             Fault::BadArgument => f.write_str("a number is out of its range"),
             Fault::BadLine { number } => write!(f, "line {number}: not a command"),
+            Fault::Damaged { line, damage } => write!(f, "line {line}: {}", damage.text()),
         }
     }
 }

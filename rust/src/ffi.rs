@@ -64,6 +64,12 @@ pub(crate) struct RawVerdict {
 extern "C" {
     pub(crate) fn rudekpi_version() -> u32;
     pub(crate) fn rudekpi_session_new(rules: u32, nodes: u32, present: u32, slot: *mut Slot) -> u32;
+    pub(crate) fn rudekpi_session_resume(
+        slot: *mut Slot,
+        bytes: *const u8,
+        length: usize,
+        verdict: *mut RawVerdict,
+    ) -> u32;
     pub(crate) fn rudekpi_session_feed(slot: *mut Slot, line: *const u8, length: usize, number: *mut u64) -> u32;
     pub(crate) fn rudekpi_session_length(slot: *mut Slot) -> usize;
     pub(crate) fn rudekpi_session_read(slot: *mut Slot, out: *mut u8, room: usize) -> usize;

@@ -1,7 +1,8 @@
 //! A network, its edits, faults, steps and questions.
 
+use crate::audit::Verdict;
 use crate::fault::{answer, fault, Fault};
-use crate::ffi::{self, RawItem, Row, Slot, Told};
+use crate::ffi::{self, RawItem, RawVerdict, Row, Slot, Told};
 use crate::Node;
 
 /// A rule set.
@@ -140,6 +141,23 @@ impl Network {
     pub fn with_present(rules: Rules, nodes: u32, present: u32) -> Result<Network, Fault> {
         let mut slot = Slot::empty();
         match unsafe { ffi::rudekpi_session_new(rules as u32, nodes, present, &mut *slot) } {
+            ffi::DONE => Ok(Network { slot }),
+            status => Err(fault(status)),
+        }
+    }
+
+    /// Returns a network that goes on where the run of a transcript, or of a base alone, ended.
+    ///
+    /// Its own transcript begins with the base there, and its next entry has the next number. Returns
+    /// `Fault::Damaged` if the bytes are no transcript.
+    pub fn resume(transcript: &[u8]) -> Result<Network, Fault> {
+        let (mut slot, mut raw) = (Slot::empty(), RawVerdict::default());
+        let (bytes, length) = (transcript.as_ptr(), transcript.len());
+        let status = unsafe { ffi::rudekpi_session_resume(&mut *slot, bytes, length, &mut raw) };
+        if let Verdict::Damaged { line, damage } = Verdict::of(raw)? {
+            return Err(Fault::Damaged { line, damage });
+        }
+        match status {
             ffi::DONE => Ok(Network { slot }),
             status => Err(fault(status)),
         }

@@ -133,6 +133,33 @@ fn audits() {
 }
 
 #[test]
+fn resumptions() {
+    let mut net = row(Rules::Manne);
+    net.step(&[Item { node: 1, wish: None }]).expect("a move");
+    let text = net.take_transcript();
+    let mut other = Network::resume(&text).expect("a network");
+    let base = other.take_transcript();
+    let head = b"matching2 manne 4\nbase 3 spent=1 nodes=3 edges=2\nnode 1 2 0\n";
+    assert!(base.starts_with(head));
+    assert_eq!(other.status().map(|it| (it.edges, it.spent)), Ok((2, 1)));
+    assert_eq!(other.join(4), Ok(5));
+    let whole = [text.clone(), base.clone(), other.take_transcript()].concat();
+    let verdict = audit(&whole).expect("memory");
+    assert_eq!(verdict.to_string(), "accepted: 5 entries, 4 epochs, 1 moves");
+    assert_eq!(Network::resume(&base).and_then(|mut it| it.link(1, 3)), Ok(4));
+    let damaged = Fault::Damaged {
+        line: 5,
+        damage: Damage::NotTheReply,
+    };
+    assert_eq!(
+        Network::resume(&[&text[..], b"4 link 1 2 = ok\n"].concat()).err(),
+        Some(damaged)
+    );
+    assert_eq!(damaged.to_string(), "line 5: not the machine's reply");
+    assert!(matches!(Network::resume(b""), Err(Fault::Damaged { line: 1, .. })));
+}
+
+#[test]
 fn version_of_the_package() {
     let number = version();
     let text = format!("{}.{}.{}", number / 1_000_000, number / 1000 % 1000, number % 1000);

@@ -301,6 +301,75 @@ test("a transcript that is not kept begins with its last base", { skip }, () => 
   assert.deepEqual(net.audit(), { entries: 1, epochs: 1, moves: 1 });
 });
 
+/** A text without the base that begins it. */
+function withoutBase(text) {
+  const [, nodes, edges] = /^matching2 .*\nbase \d+ spent=\d+ nodes=(\d+) edges=(\d+)\n/.exec(text);
+  return text.split("\n").slice(2 + Number(nodes) + Number(edges)).join("\n");
+}
+
+test("a network that goes on where a run ended writes the bytes of the whole run but for the base", { skip }, () => {
+  for (let seed = 1; seed <= SCRIPTS / 4; seed += 1) {
+    const script = scriptOf(seed + 400);
+    const lines = linesOf(script);
+    const cut = script.next(lines.length + 1);
+    const begun = () => new Network(script.rules, script.names, { present: script.present });
+    const [whole, first] = [begun(), begun()];
+    lines.forEach((line) => entriesOf(whole, line));
+    lines.slice(0, cut).forEach((line) => entriesOf(first, line));
+    const start = first.transcript();
+    for (const given of [start, Buffer.from(start), new TextEncoder().encode(start).buffer]) {
+      const rest = Network.resume(given);
+      assert.equal(rest.rules, script.rules);
+      lines.slice(cut).forEach((line) => entriesOf(rest, line));
+      assert.equal(start + withoutBase(rest.transcript()), whole.transcript(), `seed ${seed}`);
+      assert.equal(program(["audit"], start + rest.transcript()).status, 0, `seed ${seed}`);
+      rest.checkpoint();
+      compareState(rest, rest.transcript(), seed);
+      rest.close();
+    }
+    whole.close();
+    first.close();
+  }
+});
+
+test("a network goes on from a base alone, under the caller's names", { skip }, () => {
+  const base = "matching2 manne 4\nbase 9 spent=1 nodes=3 edges=1\nnode 1 2 0\nnode 2 1 0\nnode 4 - 0\nedge 1 2\n";
+  const net = Network.resume(base, { nodes: ["ann", "bob", "cleo", "dan"], keep: false });
+  assert.equal(net.transcript(), base);
+  assert.deepEqual([net.present, net.partner("ann")], [["ann", "bob", "dan"], "bob"]);
+  const { entry, spent, charge } = net.status();
+  assert.deepEqual([entry, spent, charge > 0], [10, 1, true]);
+  assert.deepEqual(net.join("cleo"), { entry: 11 });
+  assert.equal(net.checkpoint().number, 11);
+  assert.ok(net.transcript().startsWith("matching2 manne 4\nbase 11 spent=0 nodes=4 edges=1\n"));
+  for (const nodes of [["ann"], ["a", "b", "c", "d", "e"], ["a", "a", "b", "c"]]) {
+    assert.throws(() => Network.resume(base, { nodes }), { name: "RangeError" });
+  }
+  for (const nodes of ["abcd", 4.5, [null, 1, 2, 3]]) {
+    assert.throws(() => Network.resume(base, { nodes }), { name: "TypeError" });
+  }
+});
+
+test("what is no transcript is refused with the audit's verdict", { skip }, () => {
+  const text = "matching hh 2\n1 link 1 2 = ok\n2 step 1 = 1:seduce>2\n";
+  for (const wrong of
+         ["", "\n", "matching hh x\n", text.slice(0, -1), `${text}3 sh`, text.replace("2 step", "3 step"),
+          text.replace("= ok", "= refused 3 already-linked"), `${text}matching2 hh 2\nbase 2 spent=0 nodes=2 edges=1\n`,
+          "matching \u00e9"]) {
+    let said = null;
+    try {
+      audit(wrong);
+    } catch (damage) {
+      said = damage.message;
+    }
+    assert.throws(
+      () => Network.resume(wrong), (damage) => damage instanceof Damaged && damage.message === said, `${wrong}`);
+  }
+  for (const wrong of [7, null, undefined, ["matching hh 2\n"]]) {
+    assert.throws(() => Network.resume(wrong), { name: "TypeError" });
+  }
+});
+
 /** The module's verdict, at once or in pieces, in the program's words. */
 function verdict(judge) {
   try {

@@ -148,6 +148,32 @@ test("each growth is refused in turn: what could not be done was not done, and t
   assert.ok(cut > 3 && full > 0 && unread < cut, `${cut} cut short, ${full} whole, ${unread} not read`);
 });
 
+test("a transcript to go on from is refused whole if memory runs out", { skip }, async () => {
+  const bytes = moduleOfPage();
+  const { text } = played(await Engine.load(bytes), linesOfGrowth());
+  const { pages } = memoryOf(bytes);
+  const before = inUse.engine;
+  let [refused, begun] = [0, 0];
+  try {
+    for (let most = pages + 16; begun < 3; most += 4) {
+      inUse.engine = await Engine.load(limited(bytes, most));
+      try {
+        const net = Network.resume(text);
+        assert.equal(net.transcript().slice(0, 12), "matching2 hh");
+        net.close();
+        begun += 1;
+      } catch (wrong) {
+        assert.ok(wrong instanceof MemoryError, `${wrong}`);
+        assert.equal(begun, 0, `${most} pages`);
+        refused += 1;
+      }
+    }
+  } finally {
+    inUse.engine = before;
+  }
+  assert.ok(refused > 3, `${refused} refused`);
+});
+
 test("networks and audits throw a MemoryError, and live on", { skip }, async () => {
   const bytes = moduleOfPage();
   const before = inUse.engine;

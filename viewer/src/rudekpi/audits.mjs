@@ -3,7 +3,7 @@ import {DONE, Engine, inUse, NO_SESSION} from "./engine.mjs";
 import {Damaged, MemoryError} from "./errors.mjs";
 import {shown} from "./names.mjs";
 
-const VERDICT_BYTES = 32;
+export const VERDICT_BYTES = 32;
 // how many bytes an audit gets at once
 const PIECE = 1 << 20;
 const ACCEPTED = 0;
@@ -15,7 +15,7 @@ const WHYS = ["", "bad header", "not a transcript line", "out of order", "not th
  * @param {any} text
  * @returns {Uint8Array}
  */
-function bytesOf(text) {
+export function bytesOf(text) {
   if (typeof text === "string") {
     return new TextEncoder().encode(text);
   }
@@ -34,7 +34,7 @@ function bytesOf(text) {
  * @param {bigint} at
  * @returns {Summary}
  */
-function read(engine, at) {
+export function readVerdict(engine, at) {
   const told = new DataView(engine.memory.buffer, Number(at), VERDICT_BYTES);
   const [kind, entries, epochs] = [0, 4, 8].map((place) => told.getUint32(place, true));
   const [moves, line] = [16, 24].map((place) => Number(told.getBigUint64(place, true)));
@@ -139,7 +139,7 @@ export class Audit {
     const at = engine.taken.of(VERDICT_BYTES);
     engine.calls.rudekpi_audit_finish(this.#slot, at);
     try {
-      return { summary: read(engine, at) };
+      return { summary: readVerdict(engine, at) };
     } catch (wrong) {
       return { wrong };
     }

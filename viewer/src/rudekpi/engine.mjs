@@ -13,6 +13,7 @@ export const LOG_FULL = 2;
 export const NO_MEMORY = 3;
 export const NO_SESSION = 4;
 export const REFUSED = 6;
+export const DAMAGED = 7;
 export const NOT_SILENT = 8;
 
 /** The rule sets, by the numbers that the calls take. */
@@ -268,11 +269,15 @@ export class Session {
    * @param {RuleName} rules
    * @param {number} names
    * @param {number} present
+   * @param {bigint | null} begun the slot of a session that has begun already
    */
-  constructor(engine, rules, names, present) {
+  constructor(engine, rules, names, present, begun = null) {
     this.engine = engine;
     this.calls = engine.calls;
-    this.slot = engine.slot();
+    this.slot = begun ?? engine.slot();
+    if (begun !== null) {
+      return;
+    }
     const status = this.calls.rudekpi_session_new(RULE_SET_NAMES.indexOf(rules), names, present, this.slot);
     if (status !== DONE) {
       this.calls.rudekpi_give_back(this.slot);

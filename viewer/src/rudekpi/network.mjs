@@ -1,8 +1,8 @@
 // A network run by the engine in this page or program, one command a call. rudekpi.d.ts documents the calls.
 import {readBase} from "../transcript.mjs";
-import {summaryOf} from "./audits.mjs";
+import {bytesOf, readVerdict, summaryOf, VERDICT_BYTES} from "./audits.mjs";
 import {numbersOfEdit, whyRefused} from "./costs.mjs";
-import {DONE, Engine, inUse, LOG_FULL, NO_MEMORY, NO_SESSION, NOT_SILENT, REFUSED, RULE_SET_NAMES, Session} from "./engine.mjs";
+import {DAMAGED, DONE, Engine, inUse, LOG_FULL, NO_MEMORY, NO_SESSION, NOT_SILENT, REFUSED, RULE_SET_NAMES, Session} from "./engine.mjs";
 import {Ended, EngineFault, MemoryError, NoReply, Refused} from "./errors.mjs";
 import {MOST_NODES, MOST_TURNS, Names, numberWithin, seedOf, shown} from "./names.mjs";
 import {baseOf, enabledOfRows, faultOfLine, listWith, matchingOfRows, movesOfLine, movesOfRows, REFUSALS, Wish} from "./replies.mjs";
@@ -27,6 +27,37 @@ function begin(rules, names, present) {
     return new Session(inUse.engine, rules, names, present);
   } catch (wrong) {
     throw wrong instanceof EngineFault ? new MemoryError("no memory for a network") : wrong;
+  }
+}
+
+/**
+ * The slot of a session that goes on where the run of a transcript ended. Throws `Damaged` if the bytes are no
+ * transcript, and `MemoryError` if memory runs out.
+ * @param {Engine} engine
+ * @param {Uint8Array} bytes
+ */
+function resumed(engine, bytes) {
+  const verdict = engine.taken.of(VERDICT_BYTES);
+  const at = engine.roomFor(bytes.length + 1);
+  let slot = 0n;
+  try {
+    slot = engine.slot();
+    engine.bytesAt(at, bytes.length).set(bytes);
+    const status = engine.calls.rudekpi_session_resume(slot, at, BigInt(bytes.length), verdict);
+    if (status === DAMAGED) {
+      readVerdict(engine, verdict);
+    }
+    if (status !== DONE) {
+      throw new MemoryError("no memory for a network");
+    }
+    return slot;
+  } catch (wrong) {
+    if (slot !== 0n) {
+      engine.calls.rudekpi_give_back(slot);
+    }
+    throw wrong;
+  } finally {
+    engine.calls.rudekpi_give_back(at);
   }
 }
 
@@ -89,8 +120,9 @@ export class Network {
    * @param {RuleName} rules
    * @param {number | Iterable<Name>} nodes
    * @param {{ present?: number, keep?: boolean }} options
+   * @param {Session | null} begun a session that goes on from a transcript
    */
-  constructor(rules = "manne", nodes = 0, { present, keep = true } = {}) {
+  constructor(rules = "manne", nodes = 0, { present, keep = true } = {}, begun = null) {
     if (!RULE_SET_NAMES.includes(rules)) {
       throw new RangeError(`rules are "hh" or "manne", and not ${shown(rules)}`);
     }
@@ -99,12 +131,37 @@ export class Network {
     this.#keeps = keep;
     const { count } = this.#names;
     const start = present === undefined ? count : numberWithin(present, count, "a number of nodes that are present");
-    this.#session = begin(rules, count, start);
+    this.#session = begun ?? begin(rules, count, start);
     this.#engine = this.#session.engine;
     this.#calls = this.#engine.calls;
     this.#slot = this.#session.slot;
     this.#told = this.#engine.told;
     FORGOTTEN.register(this, this.#session, this);
+  }
+
+  /**
+   * @param {string | ArrayBuffer | ArrayBufferView} transcript
+   * @param {{ nodes?: Iterable<Name>, keep?: boolean }} options
+   */
+  static resume(transcript, { nodes, keep = true } = {}) {
+    const engine = inUse.engine;
+    const slot = resumed(engine, bytesOf(transcript));
+    const session = new Session(engine, "hh", 0, 0, slot);
+    try {
+      // the base that the session has written
+      const base = session.read();
+      const [, rules, count] = base.slice(0, base.indexOf("\n")).split(" ");
+      const net = new Network(/** @type {RuleName} */ (rules), nodes ?? Number(count), { keep }, session);
+      if (net.#names.count !== Number(count)) {
+        FORGOTTEN.unregister(net);
+        throw new RangeError(`${net.#names.count} names for ${count} nodes`);
+      }
+      net.#parts.push(base);
+      return net;
+    } catch (wrong) {
+      session.free();
+      throw wrong;
+    }
   }
 
   close() {
