@@ -20,7 +20,7 @@ _rudekpi_files() {
 _rudekpi_flags() {
     case ${COMP_WORDS[0]##*/},$1 in
         rudekpi,picture) _rudekpi_words --entry --output --names --program --help ;;
-        *,run) _rudekpi_words --rules --nodes --present --workers --help ;;
+        *,run) _rudekpi_words --rules --nodes --present --workers --from --help ;;
         *,audit) _rudekpi_words --help ;;
         *,picture) _rudekpi_words --entry --help ;;
         *,epochs) _rudekpi_words --help ;;
@@ -74,7 +74,7 @@ _rudekpi() {
         *'<' | *'>') _rudekpi_files ;;
         --rules) _rudekpi_words hh manne ;;
         --nodes | --present | --workers | --entry | --roam | --turns | --seeds | --first-seed | --faults | --joins | --leaves | --cut | --add | --rewire | --move | --every | --processes | --dask | --seconds | --seed) : a number, which nobody can complete ;;
-        --graph | --csv | --plot | --program | --output | --names | --page) _rudekpi_files ;;
+        --from | --graph | --csv | --plot | --program | --output | --names | --page) _rudekpi_files ;;
         --daemon) _rudekpi_words synchronous least greatest age seeded greedy helpful ;;
         --registers) _rudekpi_words any pointer flag ;;
         *)

@@ -38,7 +38,7 @@ _rudekpi_rest() {
     case ${service:-console},$1 in
         *,help) _describe command found ;;
         rudekpi,picture) _arguments '--entry[after which entry]:number: ' '--output[a file]:file:_files' '--names[a file of the nodes names, of which line K is that of node K]:file:_files' '--program[the program that draws]:file:_files' '--help[tells of the command]' '*:file:_files' ;;
-        *,run) _arguments '--rules[the rules]:word:(hh manne)' '--nodes[how many nodes there are]:number: ' '--present[how many of them are present at the start]:number: ' '--workers[how many workers judge a step]:number: ' '--help[tells of the command]' ;;
+        *,run) _arguments '--rules[the rules]:word:(hh manne)' '--nodes[how many nodes there are]:number: ' '--present[how many of them are present at the start]:number: ' '--workers[how many workers judge a step]:number: ' '--from[the file of a run to go on with]:file:_files' '--help[tells of the command]' ;;
         *,audit) _arguments '--help[tells of the command]' ;;
         *,picture) _arguments '--entry[behind which entry]:number: ' '--help[tells of the command]' ;;
         *,epochs) _arguments '--help[tells of the command]' ;;

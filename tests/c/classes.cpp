@@ -111,6 +111,31 @@ static void audits() {
     expect("no text is kept", net.transcript().empty());
 }
 
+static void resumptions() {
+    Network net(Rules::manne, 4, 3);
+    net.link(1, 2);
+    net.link(2, 3);
+    net.step({{1, std::nullopt}});
+    const auto text = net.transcript();
+    Network other = Network::resume(text);
+    const std::string base = "matching2 manne 4\nbase 3 spent=1 nodes=3 edges=2\nnode 1 2 0\nnode 2 - 0\nnode 3 - 0\n"
+                             "edge 1 2\nedge 2 3\n";
+    expect("the base at the end", other.transcript() == base);
+    auto counts = other.status();
+    expect("goes on", counts.nodes == 3 && counts.edges == 2 && counts.spent == 1 && other.join(4) == 5);
+    expect("one transcript", rudekpi::audit(text + base + other.transcript()).entries == 5);
+    expect("a base alone", Network::resume(base).link(1, 3) == 4);
+    throws<rudekpi::Damaged>("no transcript", [] { Network::resume({}); });
+    try {
+        Network::resume(text + "4 link 1 2 = ok\n");
+    } catch (const rudekpi::Damaged &it) {
+        expect("verdict", it.verdict.kind == RUDEKPI_NOT_THE_REPLY && it.verdict.line == 5 && !it.verdict.accepted() &&
+                              it.what() == std::string("line 5: not the machine's reply"));
+        return;
+    }
+    expect("damaged", false);
+}
+
 static void versions() {
     const std::uint32_t number = rudekpi::version();
     const std::string text = std::to_string(number / 1000000) + "." + std::to_string(number / 1000 % 1000) + "." +
@@ -125,6 +150,7 @@ int main() {
     silent_costs();
     exceptions();
     audits();
+    resumptions();
     std::cout << "classes: " << wrong << " wrong\n";
     return wrong != 0;
 }

@@ -1,5 +1,5 @@
-/* Refuses the N-th allocation of sessions of the library for C, for N = 1, 2, .. until none is refused. A
- * line that lacked memory is given again. Without lines that ask for turns the text must be the one with
+/* Refuses the N-th allocation of sessions of the library for C, for N = 1, 2, .. until none is refused, also
+ * of a session that goes on from a transcript. A line that lacked memory is given again. Without lines that ask for turns the text must be the one with
  * memory; otherwise it must be that of a run. Link with -Wl,--wrap=malloc,--wrap=realloc. */
 #include <stdio.h>
 #include <stdlib.h>
@@ -62,6 +62,51 @@ static void play(const char *const *lines, struct text *text) {
     rudekpi_session_free(&slot);
 }
 
+/* A session that goes on from a text, begun again if memory is refused; then the same lines. */
+static void go_on(const struct text *from, const char *const *lines, struct text *text) {
+    struct rudekpi_slot slot = RUDEKPI_NONE;
+    struct rudekpi_verdict verdict;
+    uint64_t number = 0;
+    uint32_t status = rudekpi_session_new(RUDEKPI_HSU_HUANG, 2, 2, &slot);
+    if (status == RUDEKPI_NO_MEMORY && was_refused) status = rudekpi_session_new(RUDEKPI_HSU_HUANG, 2, 2, &slot);
+    if (status != RUDEKPI_DONE) fail("no session");
+    status = rudekpi_session_resume(&slot, from->bytes, from->length, &verdict);
+    if (status == RUDEKPI_NO_MEMORY) {
+        if (slot.full || !was_refused) fail("a session of no memory goes on");
+        if (verdict.kind != RUDEKPI_ACCEPTED && verdict.kind != RUDEKPI_UNJUDGED) fail("a verdict of no memory");
+        status = rudekpi_session_resume(&slot, from->bytes, from->length, &verdict);
+    }
+    if (status != RUDEKPI_DONE || verdict.kind != RUDEKPI_ACCEPTED || !slot.full) fail("no session goes on");
+    for (; *lines; lines++) {
+        status = rudekpi_session_feed(&slot, (const uint8_t *)*lines, strlen(*lines), &number);
+        if (status == RUDEKPI_NO_MEMORY && was_refused)
+            status = rudekpi_session_feed(&slot, (const uint8_t *)*lines, strlen(*lines), &number);
+        if (status != RUDEKPI_DONE) fail(*lines);
+    }
+    text->length = rudekpi_session_read(&slot, text->bytes, sizeof text->bytes);
+    status = rudekpi_session_resume(&slot, (const uint8_t *)"matching hh x\n", 14, &verdict);
+    if (status == RUDEKPI_NO_MEMORY && was_refused)
+        status = rudekpi_session_resume(&slot, (const uint8_t *)"matching hh x\n", 14, &verdict);
+    if (status != RUDEKPI_DAMAGED || slot.full || verdict.kind != RUDEKPI_BAD_HEADER || verdict.line != 1)
+        fail("what is no transcript");
+    rudekpi_session_free(&slot);
+}
+
+static unsigned long refuse_each_to_go_on(void) {
+    static const char *const lines[] = {"show 1", "link 2 4", "enabled", "checkpoint", "join 6", "status", NULL};
+    static struct text from, whole, text;
+    refused_number = 0;
+    play(events, &from);
+    go_on(&from, lines, &whole);
+    for (refused_number = 1;; refused_number++) {
+        allocations = 0;
+        was_refused = false;
+        go_on(&from, lines, &text);
+        if (text.length != whole.length || memcmp(text.bytes, whole.bytes, whole.length)) fail("another text goes on");
+        if (!was_refused) return refused_number - 1;
+    }
+}
+
 static unsigned long refuse_each(const char *const *lines, bool same) {
     static struct text whole, text;
     struct rudekpi_verdict verdict;
@@ -82,6 +127,7 @@ static unsigned long refuse_each(const char *const *lines, bool same) {
 
 int main(void) {
     unsigned long of_events = refuse_each(events, true), of_turns = refuse_each(turns, false);
-    printf("refused: %lu and %lu\n", of_events, of_turns);
-    return of_events && of_turns ? 0 : 1;
+    unsigned long of_going_on = refuse_each_to_go_on();
+    printf("refused: %lu, %lu and %lu\n", of_events, of_turns, of_going_on);
+    return of_events && of_turns && of_going_on ? 0 : 1;
 }
