@@ -80,9 +80,6 @@ abbrev pub IsInner : BaseLine → Type 0
 IsInner (Head rules size) = ⊥
 IsInner line = Unit {0}
 
-abbrev first_is : ℕ → List ℕ → Type 0
-first_is b bytes = get_or bytes 0 0 ≡ b
-
 inner_other : (line : BaseLine) (more z : List ℕ) → IsInner line → base_line_text line ++ 10 ∷ more ≡ 109 ∷ z → ⊥
 inner_other (Head rules size) more z inner e = inner
 inner_other (Base number spent nodes edges) more z inner e =

@@ -124,16 +124,6 @@ all_good bytes rules log end rest f none =
     let same : bytes ≡ f.good = f.splits ∙ ap (λ (z : List ℕ). f.good ++ z) none ∙ append-nil f.good in
     subst (λ (b : List ℕ). IsTranscript b rules f.opening log end) (sym same) f.transcript
 
-pub reached_end : (bytes : List ℕ) (rules : RuleSet) (size : ℕ) (p : Position) (rest : List ℕ) → IsPositionAfter bytes rules size p rest → rest ≡ [] → IsAccepted bytes p.counted
-reached_end bytes rules size p rest r none = record {
-  rules = rules;
-  opening = r.follows.opening;
-  log = r.log;
-  end = stand_of p;
-  transcript = all_good bytes rules r.log (stand_of p) rest r.follows none;
-  counts = r.counts;
-}
-
 abbrev beginning : (bytes : List ℕ) (rules : RuleSet) (size : ℕ) (p : Position) (rest : List ℕ) → IsPositionAfter bytes rules size p rest → TranscriptPrefix bytes
 beginning bytes rules size p rest r = record { rules = rules; log = r.log; end = stand_of p; rest = rest; follows = r.follows }
 

@@ -19,11 +19,6 @@ judged_read bytes result judged e = subst (IsJudged bytes) e judged
 
 -- ---- the same of an audit, which may not have read the text
 
-pub heard_accepted : (bytes : List ℕ) (result : Result Summary AuditFault) → IsAuditResult bytes result → IfOk result (IsAccepted bytes)
-heard_accepted bytes (Ok c) (inl judged) = judged
-heard_accepted bytes (Ok c) (inr e) = absurd cc
-heard_accepted bytes (Err fault) heard = tt
-
 pub heard_damage : (bytes : List ℕ) (result : Result Summary AuditFault) → IsAuditResult bytes result → IfErr result (IsAuditFault bytes)
 heard_damage bytes (Ok c) heard = tt
 heard_damage bytes (Err Read) heard = tt

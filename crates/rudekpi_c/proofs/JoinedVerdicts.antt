@@ -95,9 +95,3 @@ was_joined lines old next new first second both known had also told is judged = 
       judged_as (m.own ++ latter) both new told whole (judged_accepts (m.own ++ latter) both whole) (judged_names (m.own ++ latter) both whole);
   is = λ v w e f. told ∙ ap audit_verdict (is ∙ joined_reads lines old next first second v w had also e f) ∙ heard_verdict (seams.joined_verdict v lines w);
 }
-
-pub was_not_joined : (lines : ℕ) (old next new : Verdict) (first second : seams.Verdict) → new ≡ old → first ≡ said_by old → second ≡ said_by next → (FitsFields (seams.joined_verdict first lines second) → ⊥) → IsUnjoined lines old next new
-was_not_joined lines old next new first second kept had also misfits = record {
-  kept = kept;
-  why = inr (inr (λ v w e f fits. misfits (subst FitsFields (sym (joined_reads lines old next first second v w had also e f)) (heard_fits (seams.joined_verdict v lines w) fits))));
-}

@@ -1,6 +1,13 @@
 -- The set of enabled nodes, found name by name.
-use Rattle.rule_engine.proofs.Prelude.{◌≡◌, ◌≢◌, ℕ, ◌+◌, ◌<◌, ◌≤◌, Bool, true, false, List, length, set, None, is_some, IsTrue, cond, refl, sym, ap, subst, ◌∙◌, ⊎_elim, arith, cases_eq, cases_lt, length-set, length-replicate, get_or-set_same, get_or-set_other, replicate, State, present, RuleTable, rule_at, is_in, present_range, AreOn, is_enabled_at}
-use Rattle.rule_engine.proofs.OpeningState.{blank_at}
+use Rattle.rule_engine.proofs.Prelude.{◌≡◌, ◌≢◌, ℕ, ◌+◌, ◌<◌, ◌≤◌, Bool, true, false, List, length, set, None, is_some, IsTrue, cond, refl, sym, ap, subst, ◌∙◌, ⊎_elim, arith, cases_eq, cases_lt, length-set, length-replicate, get_or-set_same, get_or-set_other, replicate, State, present, RuleTable, rule_at, is_in, present_range, AreOn, is_enabled_at, get_or, get_or-replicate, get_or_past}
+
+-- a table of one value
+blank_at : {X : Type 0} (n v : ℕ) (x : X) → get_or (replicate n x) v x ≡ x
+blank_at n v x =
+    ⊎_elim
+    (λ (below : v < n). get_or-replicate n v x x below)
+    (λ (past : n ≤ v). get_or_past (replicate n x) v x (let k = length-replicate n x in omega (arith, k)))
+    (cases_lt v n)
 
 -- the set has a place for each name; the first names are members if they are enabled, the others are not
 pub record AreFirstOn (t : RuleTable) (s : State) (below : ℕ) (bits : List Bool) : Type 0 where

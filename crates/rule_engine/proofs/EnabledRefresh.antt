@@ -1,6 +1,5 @@
 -- Looks again near a change keep the set of enabled nodes.
 use Rattle.rule_engine.proofs.Prelude.{◌≡◌, ℕ, suc, ◌+◌, Bool, true, false, cond, ◌&&◌, ◌||◌, List, [], ◌∷◌, length, filter, find, replicate, Option, None, is_some, nat_eq, refl, sym, ap, ◌∙◌, subst, ⊎_elim, arith, range_with_len, cases_Bool, cond-true, cond-false, eqb-true, eq-eqb, length-replicate, nil_from_length, filter_agree, Act, Network, present, State, IsState, RuleTable, acts, rule_at, enabled_names, SameAt, quiet_at, act_none, is_in, members, is_enabled_at, AreOn, IsRefreshed, kept_twice}
-use Rattle.rule_engine.proofs.OpeningState.{blank_at}
 
 -- a guard depends only on what its node shows
 abbrev pub IsLocal : RuleTable → Type 0
@@ -43,17 +42,6 @@ members_on t s bits on =
     ∙ ap (λ a. filter (is_in bits) (range_with_len a s.network.size)) (let one : 0 + 1 ≡ 1 = omega arith in one)
     ∙ filter_agree (is_in bits) (λ v. present s.network v && is_some (rule_at t s v)) (λ v. on.each v ∙ by_presence (present s.network v) (rule_at t s v)) (range_with_len 1 s.network.size)
     ∙ sym (kept_twice (λ v. is_some (rule_at t s v)) (present s.network) (range_with_len 1 s.network.size))
-
-none_on : (t : RuleTable) (s : State) (v : ℕ) (b : Bool) → present s.network v ≡ b → enabled_names t s ≡ [] → is_some (cond b (rule_at t s v) None) ≡ false
-none_on t s v true has quiet = ap is_some (act_none (t.guard s v) (quiet_at t s quiet v has))
-none_on t s v false has quiet = refl
-
--- if no rule is enabled, an empty set is kept
-pub kept_quiet : (t : RuleTable) (s : State) (bits : List Bool) → enabled_names t s ≡ [] → bits ≡ replicate (s.network.size + 1) false → AreOn t s bits
-kept_quiet t s bits quiet empty = record {
-  places = ap length empty ∙ length-replicate (s.network.size + 1) false;
-  each = λ v. ap (λ l. is_in l v) empty ∙ blank_at (s.network.size + 1) v false ∙ sym (none_on t s v (present s.network v) refl quiet);
-}
 
 -- it counts no members exactly if no rule is enabled
 pub quiet_by_count : (t : RuleTable) (s : State) (bits : List Bool) (count : ℕ) → AreOn t s bits → count ≡ length (members bits) → (nat_eq count 0 ≡ true → enabled_names t s ≡ []) × (enabled_names t s ≡ [] → nat_eq count 0 ≡ true)

@@ -13,7 +13,6 @@ pub mod WriteRefresh
 pub mod EnabledRefresh
 pub mod JoinedNodes
 pub mod LeavingNodes
-pub mod OpeningState
 pub mod NodeMarks
 pub mod AscendingItems
 pub mod AscendingMoves

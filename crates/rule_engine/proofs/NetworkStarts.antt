@@ -24,10 +24,6 @@ pub edges_out_of_order : (size : ℕ) (base : Base) (edges : List (ℕ × ℕ)) 
 edges_out_of_order size base edges rise same tests none =
     unordered_edges size base.nodes base.edges (λ up. true≢false (sym (tests.1 (subst (EdgesAscend (0, 0)) (sym same) up)) ∙ none))
 
-pub lines_of_none : (size : ℕ) (base : Base) (nodes : List NodeRecord) (edges : List (ℕ × ℕ)) → nodes ≡ base.nodes → edges ≡ base.edges → NoStateHas size nodes edges → NoStateHas size base.nodes base.edges
-lines_of_none size base nodes edges same_nodes same_edges none s good lines =
-    none s good (record { size_is = lines.size_is; nodes_are = lines.nodes_are ∙ sym same_nodes; edges_are = lines.edges_are ∙ sym same_edges })
-
 -- the lines of the state that is made
 pub lines_made : (size : ℕ) (base : Base) (nodes : List NodeRecord) (edges : List (ℕ × ℕ)) (s : State) → HasLines size nodes edges s → nodes ≡ base.nodes → edges ≡ base.edges → HasLines size base.nodes base.edges s
 lines_made size base nodes edges s lines same_nodes same_edges =

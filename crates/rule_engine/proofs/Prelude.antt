@@ -29,8 +29,8 @@ pub use Rattle.containment_laws.proofs.IdleNodes.{at_rest_idle}
 pub use Rattle.containment_laws.proofs.ReachSize.{reach_is_small}
 pub use Rattle.containment_laws.specs.Reach.{is_in_reach, reach_size}
 pub use Rattle.enabled_set.specs.Members.{is_in, members}
-pub use Rattle.indexed_state.proofs.NodeScans.{kept_twice, few_names, found_kept, pairs_scanned}
-pub use Rattle.indexed_state.specs.Contributions.{node_part, answered_by, is_lower_end}
+pub use Rattle.net_totals.proofs.NodeScans.{kept_twice, few_names, found_kept, pairs_scanned}
+pub use Rattle.net_totals.specs.Contributions.{node_part, answered_by, is_lower_end}
 pub use Rattle.machine_laws.proofs.AcceptedEvents.{taken_from_none, taken_at, choice_from_none, state_after_keeps}
 pub use Rattle.machine_laws.proofs.Edges.{present_other, linked_comm, contains-empty}
 pub use Rattle.machine_laws.proofs.EnabledNodes.{quiet_at, act_none}

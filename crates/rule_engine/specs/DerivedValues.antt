@@ -1,7 +1,7 @@
 -- Values that are derived from a state.
 use Rattle.std.specs.Prelude.{ℕ, Bool, List}
-use Rattle.indexed_state.specs.declared.share.Contribution.{Contribution}
-use Rattle.indexed_state.specs.Contributions.{IsExactState}
+use Rattle.net_totals.specs.declared.contribution.Contribution.{Contribution}
+use Rattle.net_totals.specs.Contributions.{IsExactState}
 use Rattle.net_state.specs.StateViews.{StateView}
 use Rattle.net_state.specs.Changes.{IsChange}
 use Rattle.net_state.specs.declared.change.Change.{Change}

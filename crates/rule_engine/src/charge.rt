@@ -7,7 +7,7 @@ ghost use Rattle.rule_machine.specs.Network.{names, edge_list};
 ghost use Rattle.rule_machine.specs.Stable.{mutual_pairs};
 ghost use Rattle.rules_api.specs.ChargeInputs.{ends_open};
 ghost use Rattle.rule_machine.specs.State.{IsState};
-ghost use Rattle.indexed_state.specs.Contributions.{node_part};
+ghost use Rattle.net_totals.specs.Contributions.{node_part};
 
 use crate::Derived;
 use graph_store::{EdgeStore, MAX_EDGES};
@@ -42,7 +42,7 @@ pub(crate) fn totals_of<R: Rules>(net: &mut NetState, derived: &mut Derived<R>) 
     ensures pairs { result.pairs ≡ length (mutual_pairs net.old.state) }
     ensures charge { result.charge ≡ R.table.charge net.old.state }
 {
-    let all = derived.shares.totals(net, &derived.suitors);
+    let all = derived.contributions.totals(net, &derived.suitors);
     Totals {
         pairs: all.pairs,
         charge: charge_by::<R>(net, all.open_edges, all.added, all.closing),

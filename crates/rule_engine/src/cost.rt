@@ -23,7 +23,7 @@ impl<R: Rules> Touched for TouchedNodes<'_, R> {
         state.registers().pointer(v)
     }
 
-    #[tactic(auto, using(indexed_state::proofs::NodeScans::few_neighbours))]
+    #[tactic(auto, using(net_totals::proofs::NodeScans::few_neighbours))]
     fn degree(&self, v: Node) -> u32 {
         let state = self.state;
         state.store().neighbours(v).len() as u32

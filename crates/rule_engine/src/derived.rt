@@ -4,7 +4,7 @@ ghost use Rattle.rule_engine.specs.DerivedValues.{IsDerived};
 
 use crate::refresh::refresh;
 use enabled_set::EnabledSet;
-use indexed_state::Contributions;
+use net_totals::Contributions;
 use net_state::{Change, NetState, Observer};
 use rules_api::Rules;
 use suitor_index::{IndexedNet, Suitors};
@@ -13,12 +13,12 @@ use suitor_index::{IndexedNet, Suitors};
 #[derive(Drop)]
 pub(crate) struct Derived<R: Rules> {
     pub(crate) suitors: Suitors<R>,
-    pub(crate) shares: Contributions<R>,
+    pub(crate) contributions: Contributions<R>,
     pub(crate) enabled: EnabledSet,
 }
 
 impl<R: Rules> Observer for Derived<R> {
-    ghost fits = { λ net it. IsDerived R.COURTS_HIGHER_ONLY R.COURTED_PAIR_CLOSES_EDGE R.table R.closes R.adds net it.suitors.tallies.items it.shares.each.items it.shares.lower_ends it.shares.stale it.enabled };
+    ghost fits = { λ net it. IsDerived R.COURTS_HIGHER_ONLY R.COURTED_PAIR_CLOSES_EDGE R.table R.closes R.adds net it.suitors.tallies.items it.contributions.each.items it.contributions.lower_ends it.contributions.stale it.enabled };
 
     #[inline(always)]
     fn saw(&mut self, net: &NetState, change: Change) {
@@ -26,7 +26,7 @@ impl<R: Rules> Observer for Derived<R> {
         let marked = change;
         let refreshed = change;
         self.suitors.saw(net, change);
-        self.shares.saw(net, marked);
+        self.contributions.saw(net, marked);
         // The guards read the counts, so the counts come first.
         refresh(
             &IndexedNet::new(net, &self.suitors),

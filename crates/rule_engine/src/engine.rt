@@ -66,7 +66,7 @@ impl<R: Rules> Model for Engine<R> {
 
     ghost view = { λ n. n.net };
 
-    ghost invariant = { λ n. IsDerived R.COURTS_HIGHER_ONLY R.COURTED_PAIR_CLOSES_EDGE R.table R.closes R.adds n.net n.derived.suitors.tallies.items n.derived.shares.each.items n.derived.shares.lower_ends n.derived.shares.stale n.derived.enabled × HasMarks n.net.state n.chosen };
+    ghost invariant = { λ n. IsDerived R.COURTS_HIGHER_ONLY R.COURTED_PAIR_CLOSES_EDGE R.table R.closes R.adds n.net n.derived.suitors.tallies.items n.derived.contributions.each.items n.derived.contributions.lower_ends n.derived.contributions.stale n.derived.enabled × HasMarks n.net.state n.chosen };
 }
 
 impl<R: Rules> Engine<R> {

@@ -6,7 +6,7 @@ ghost use Rattle.rule_engine.specs.EngineStates.{AreOn};
 use crate::Derived;
 use crate::guard::rule_enabled;
 use enabled_set::EnabledSet;
-use indexed_state::Contributions;
+use net_totals::Contributions;
 use net_state::{NetState, Observer};
 use rule_machine::{Node, Want};
 use rules_api::Rules;
@@ -38,11 +38,11 @@ impl<R: Rules> Derived<R> {
         // Gives the prover `IsState`.
         let nodes = net.capacity();
         let suitors = Suitors::of(alloc, net)?;
-        let shares = Contributions::new(alloc, nodes)?;
+        let contributions = Contributions::new(alloc, nodes)?;
         let enabled = enabled_of(alloc, &IndexedNet::new(net, &suitors))?;
         Ok(Derived {
             suitors,
-            shares,
+            contributions,
             enabled,
         })
     }

@@ -3,7 +3,7 @@
 ghost use Rattle.std.specs.Prelude.{All, ◌≡◌, IfOk, IsTrue, filter_map};
 ghost use Rattle.rule_machine.specs.RuleTable.{enabled_names, enabled};
 ghost use Rattle.rule_machine.specs.Stable.{mutual_pairs, pair_above};
-ghost use Rattle.indexed_state.specs.Contributions.{answered_by, is_lower_end};
+ghost use Rattle.net_totals.specs.Contributions.{answered_by, is_lower_end};
 
 use crate::Derived;
 use crate::guard::rule_enabled;
@@ -68,6 +68,6 @@ pub(crate) fn mutual_edges<R: Rules>(
     ensures derived { ⟦<Derived<R> as Observer>⟧.fits net.new derived.new }
     ensures pairs { IfOk result (λ pairs. pairs.items ≡ mutual_pairs net.old.state) }
 {
-    let ends = derived.shares.lower_ends(net, &derived.suitors)?;
+    let ends = derived.contributions.lower_ends(net, &derived.suitors)?;
     pairs_of(alloc, net.registers(), &ends)
 }

@@ -20,10 +20,6 @@ told_one scene front event old new reply kept above =
     let P = λ (r : Receipt). base_from old.base < r.seq in
     record { own = receipt ∷ []; added = kept.added; fits = (refl, All-cons P receipt [] (last_above old new old.base receipt refl kept.added above) (All-nil P)) }
 
--- a clerk's note has the history that it had before a call was recalled
-pub recalled : (book : Book) (old new : ClerkView) (before : Option PublishedLog) → HasNoteOf book old → IfSome before (λ told. told.book ≡ book) → MatchOption before (new ≡ old) (λ told. HasNoteOf told.book new) → HasNoteOf book new
-recalled book old new before has own now = grind arith
-
 -- what no note shows begins what any note shows
 pub nothing_before : (before note : Option PublishedLog) → ((told : PublishedLog) → before ≡ Some told → ⊥) → IsPrefix (noted before) (noted note)
 nothing_before None note none = (noted note, refl)
