@@ -4,8 +4,8 @@ ghost use Rattle.rule_engine.specs.DerivedValues.{IsDerived};
 
 use crate::refresh::refresh;
 use enabled_set::EnabledSet;
-use net_totals::Contributions;
 use net_state::{Change, NetState, Observer};
+use net_totals::Contributions;
 use rules_api::Rules;
 use suitor_index::{IndexedNet, Suitors};
 
