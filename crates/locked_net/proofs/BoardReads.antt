@@ -1,5 +1,5 @@
 -- A look at a board, and the log that the board shows.
-use Rattle.locked_net.proofs.Prelude.{◌≡◌, ℕ, ◌+◌, ◌<◌, ◌≤◌, ◌⊎◌, ⊎_elim, inl, inr, Bool, true, false, IsTrue, nat_le, slice_index_or, le-leb, List, [], ◌∷◌, ◌++◌, length, fold, Option, None, Some, IfSome, if◌then◌else◌, nat_lt, refl, sym, ap, ◌∙◌, subst, arith, length-append, slice_get, replicate, and_from, and_left, and_right, lt-leb, ltb-true, ltb-false, length-replicate, get_or_append_left, same_Some, none-some, slice_get-get_or, slice_get_within, get_or_from_slice_get, Network, present, State, pointer, RuleTable, Entry, Moment, beginning_with, Row, BoardShape, pointer_in, partner_in, row_effect, pointers_after, here_after, IsRun, held_in, found_after, BoardName, ReaderView, PublishedLog, run_names, run_pointers, effect_length, Receipt, ClerkView, noted, IsClerk, IsReceiptOf, NotesLast, StandsLastFrom, StandsLast, Shows}
+use Rattle.locked_net.proofs.Prelude.{◌≡◌, ℕ, ◌+◌, ◌<◌, ◌≤◌, ◌⊎◌, ⊎_elim, inl, inr, Bool, true, false, IsTrue, nat_le, slice_index_or, le-leb, List, [], ◌∷◌, ◌++◌, length, fold, Option, None, Some, IfSome, if◌then◌else◌, nat_lt, refl, sym, ap, ◌∙◌, subst, arith, length-append, slice_get, and_from, and_left, and_right, lt-leb, ltb-true, ltb-false, get_or_append_left, same_Some, none-some, slice_get-get_or, slice_get_within, get_or_from_slice_get, Network, present, State, pointer, RuleTable, Entry, Moment, Row, BoardShape, pointer_in, partner_in, row_effect, here_by, row_at_start, pointers_after, here_after, IsRun, held_in, found_after, BoardName, ReaderView, PublishedLog, run_names, run_pointers, start_row, start_here, start_size, row_places, effect_length, Receipt, ClerkView, noted, IsClerk, IsReceiptOf, NotesLast, StandsLastFrom, StandsLast, Shows}
 use mathlib.Core.List.{IsPrefix}
 
 -- ---- the places
@@ -8,8 +8,8 @@ row_length : (row : Row) (log : List Entry) → length (fold row_effect row log)
 row_length row [] = refl
 row_length row (entry ∷ log) = row_length (row_effect row entry) log ∙ effect_length row entry
 
-places_are : (places : ℕ) (log : List Entry) → length (pointers_after places log) ≡ places
-places_are places log = row_length (replicate places None) log ∙ length-replicate places None
+places_are : (extent : BoardShape) (log : List Entry) → length (pointers_after extent log) ≡ extent.places
+places_are extent log = row_length (row_at_start extent) log ∙ row_places extent
 
 -- what is found at a place
 pub record IsFound (row : Row) (here : List Bool) (place : ℕ) (found : Option ℕ × Option ℕ) : Type 0 where
@@ -53,21 +53,19 @@ not_named net v far = and_right (nat_le 1 v) _ (and_left (nat_le v net.size) _ (
 
 -- a state with the pointers and the nodes of the log
 pub record IsEnd (extent : BoardShape) (log : List Entry) (s : State) : Type 0 where
-  pub pointers : s.registers.pointers ≡ pointers_after extent.places log
+  pub pointers : s.registers.pointers ≡ pointers_after extent log
   pub here : s.network.here ≡ here_after extent log
   pub size : s.network.size + 1 ≡ extent.places
 
 -- the log is a run, whose end has them
 pub shows : (t : RuleTable) (extent : BoardShape) (log : List Entry) (P : State → Type 0) → IsRun t extent log → ((s : State) → IsEnd extent log s → P s) → Shows t extent log P
-shows t extent log P (size, end, is, run) f =
-    let begun : Moment = beginning_with size extent.present in
-    let at : ℕ → BoardShape = λ n. record { places = n; present = extent.present } in
+shows t extent log P (size, start, end, is, begins, run) f =
     let ends : IsEnd extent log end.state = record {
-      pointers = run_pointers t begun log end run ∙ ap (λ n. pointers_after n log) (sym is);
-      here = ap (λ n. n.1) (run_names t begun log end run) ∙ ap (λ n. here_after (at n) log) (sym is);
-      size = ap (λ n. n.0 + 1) (run_names t begun log end run) ∙ sym is;
+      pointers = run_pointers t start log end run ∙ ap (λ row. fold row_effect row log) (start_row t size extent start is begins);
+      here = ap (λ n. n.1) (run_names t start log end run) ∙ ap (λ here. fold here_by here log) (start_here t size extent start is begins);
+      size = ap (λ n. n.0 + 1) (run_names t start log end run) ∙ ap (λ n. n + 1) (start_size t size extent.present extent.base start begins) ∙ sym is;
     } in
-    (size, end, is, run, f end.state ends)
+    (size, start, end, is, begins, run, f end.state ends)
 
 -- a look at a place of a log that is a run found this
 pub record IsLooked (t : RuleTable) (extent : BoardShape) (place : ℕ) (log : List Entry) (found : Option (Option ℕ × Option ℕ)) : Type 0 where
@@ -89,14 +87,14 @@ pub absent : (t : RuleTable) (extent : BoardShape) (place : ℕ) (log : List Ent
     → Shows t extent log (λ s. present s.network place ≡ false)
 absent t extent place log (Some here) look none = absurd (none here refl)
 absent t extent place log None look none =
-    let row : Row = pointers_after extent.places log in
+    let row : Row = pointers_after extent log in
     let here : List Bool = here_after extent log in
     shows t extent log (λ s. present s.network place ≡ false) look.run
     (λ s end.
     ⊎_elim
     (λ (gone : slice_index_or here place false ≡ false). not_there s.network place (ap (λ l. slice_index_or l place false) end.here ∙ gone))
     (λ (far : length row ≤ place).
-    let beyond : s.network.size < place = omega (arith, far, places_are extent.places log, end.size) in
+    let beyond : s.network.size < place = omega (arith, far, places_are extent log, end.size) in
     not_named s.network place beyond)
     (missing_where row here place (slice_index_or here place false) refl (sym look.is)))
 
@@ -109,13 +107,13 @@ pub record IsShown (t : RuleTable) (extent : BoardShape) (place : ℕ) (log : Li
 pub is_shown : (t : RuleTable) (extent : BoardShape) (place : ℕ) (log : List Entry) (found : Option (Option ℕ × Option ℕ)) (held : Option ℕ × Option ℕ) → 1 ≤ place → IsLooked t extent place log found → found ≡ Some held
     → IsShown t extent place log held
 is_shown t extent place log found held low look some =
-    let row : Row = pointers_after extent.places log in
+    let row : Row = pointers_after extent log in
     let here : List Bool = here_after extent log in
     let at : IsFound row here place held = found_where row here place held (slice_index_or here place false) refl (sym look.is ∙ some) in
     record {
       present_is = shows t extent log (λ s. IsTrue (present s.network place)) look.run
           (λ s end.
-          let high : place ≤ s.network.size = omega (arith, at.within, places_are extent.places log, end.size) in
+          let high : place ≤ s.network.size = omega (arith, at.within, places_are extent log, end.size) in
           is_present s.network place low high (ap (λ l. slice_index_or l place false) end.here ∙ at.there));
       pointer_is = shows t extent log (λ s. held.0 ≡ pointer s place) look.run (λ s end. at.pointer_is ∙ ap (λ (r : Row). pointer_in r place) (sym end.pointers));
       partner_is = shows t extent log (λ s. held.1 ≡ partner_in s.registers.pointers place) look.run (λ s end. at.partner_is ∙ ap (λ (r : Row). partner_in r place) (sym end.pointers));
@@ -136,30 +134,30 @@ entry_stays some all n entry p at =
     let same = get_or_append_left some p.0 entry n within ∙ get_or_from_slice_get some n entry entry at in
     subst (λ (l : List Entry). slice_get l n ≡ Some entry) p.1 (here ∙ ap Some same)
 
-receipt_stays : (some all : List Entry) (receipt : Receipt) → IsPrefix some all → IsReceiptOf some receipt → IsReceiptOf all receipt
-receipt_stays some all receipt p is = record { numbered = is.numbered; same = entry_stays some all _ _ p is.same }
+receipt_stays : (start : ℕ) (some all : List Entry) (receipt : Receipt) → IsPrefix some all → IsReceiptOf start some receipt → IsReceiptOf start all receipt
+receipt_stays start some all receipt p is = record { numbered = is.numbered; same = entry_stays some all _ _ p is.same }
 
-stays_from : (some all : List Entry) (first : Receipt) (receipts : List Receipt) → IsPrefix some all → StandsLastFrom some first receipts → StandsLastFrom all first receipts
-stays_from some all first [] p is = receipt_stays some all first p is
-stays_from some all first (next ∷ receipts) p is = stays_from some all next receipts p is
+stays_from : (start : ℕ) (some all : List Entry) (first : Receipt) (receipts : List Receipt) → IsPrefix some all → StandsLastFrom start some first receipts → StandsLastFrom start all first receipts
+stays_from start some all first [] p is = receipt_stays start some all first p is
+stays_from start some all first (next ∷ receipts) p is = stays_from start some all next receipts p is
 
 -- the last receipt's entry is in each log that continues one with it
-pub stays_last : (some all : List Entry) (receipts : List Receipt) → IsPrefix some all → StandsLast some receipts → StandsLast all receipts
-stays_last some all [] p is = tt
-stays_last some all (first ∷ receipts) p is = stays_from some all first receipts p is
+pub stays_last : (start : ℕ) (some all : List Entry) (receipts : List Receipt) → IsPrefix some all → StandsLast start some receipts → StandsLast start all receipts
+stays_last start some all [] p is = tt
+stays_last start some all (first ∷ receipts) p is = stays_from start some all first receipts p is
 
-last_of : (receipts : List Receipt) (note : Option PublishedLog) (all : List Entry) → NotesLast receipts note → IfSome note (λ told. IsPrefix told.log all) → StandsLast all receipts
-last_of receipts None all none p = subst (StandsLast all) (sym none) tt
-last_of receipts (Some told) all stands p = stays_last told.log all receipts p stands
+last_of : (start : ℕ) (receipts : List Receipt) (note : Option PublishedLog) (all : List Entry) → NotesLast start receipts note → IfSome note (λ told. IsPrefix told.log all) → StandsLast start all receipts
+last_of start receipts None all none p = subst (StandsLast start all) (sym none) tt
+last_of start receipts (Some told) all stands p = stays_last start told.log all receipts p stands
 
 -- and in each that continues a clerk's note
-pub noted_last : (clerk : ClerkView) (all : List Entry) → IsClerk clerk → IfSome clerk.note (λ told. IsPrefix told.log all) → StandsLast all clerk.receipts
-noted_last clerk all is p = last_of clerk.receipts clerk.note all is.last p
+pub noted_last : (clerk : ClerkView) (all : List Entry) → IsClerk clerk → IfSome clerk.note (λ told. IsPrefix told.log all) → StandsLast clerk.start all clerk.receipts
+noted_last clerk all is p = last_of clerk.start clerk.receipts clerk.note all is.last p
 
-last_in : (receipts : List Receipt) (note : Option PublishedLog) (all : List Entry) → NotesLast receipts note → IsPrefix (noted note) all → StandsLast all receipts
-last_in receipts None all none p = subst (StandsLast all) (sym none) tt
-last_in receipts (Some told) all stands p = stays_last told.log all receipts p stands
+last_in : (start : ℕ) (receipts : List Receipt) (note : Option PublishedLog) (all : List Entry) → NotesLast start receipts note → IsPrefix (noted note) all → StandsLast start all receipts
+last_in start receipts None all none p = subst (StandsLast start all) (sym none) tt
+last_in start receipts (Some told) all stands p = stays_last start told.log all receipts p stands
 
 -- a clerk stays a clerk with a note of more entries
-pub sees_more : (clerk : ClerkView) (told : PublishedLog) → IsClerk clerk → IsPrefix (noted clerk.note) told.log → IsClerk (record { receipts = clerk.receipts; note = Some told; base = clerk.base })
-sees_more clerk told is p = record { rise = is.rise; last = last_in clerk.receipts clerk.note told.log is.last p }
+pub sees_more : (clerk : ClerkView) (told : PublishedLog) → IsClerk clerk → IsPrefix (noted clerk.note) told.log → IsClerk (record { receipts = clerk.receipts; note = Some told; base = clerk.base; start = clerk.start })
+sees_more clerk told is p = record { rise = is.rise; last = last_in clerk.start clerk.receipts clerk.note told.log is.last p }

@@ -1,29 +1,29 @@
 -- What a clerk can expect of a fault that a log explains.
-use Rattle.locked_net.proofs.Prelude.{◌≡◌, ℕ, zero, suc, Bool, true, false, Option, None, Some, Result, Ok, Err, OnOk, length, if◌then◌else◌, nat_eq, nat_lt, refl, sym, subst, arith, ltb-true, Log, CallFault, Behind, LogFull, StepFault, call_fault, checkpoint_fault, ExplainsCallFault, ExplainsStep, MayAnswer, MayAnswerStep, MayRefuseCheckpoint}
+use Rattle.locked_net.proofs.Prelude.{◌≡◌, ℕ, zero, suc, Bool, true, false, Option, None, Some, Result, Ok, Err, OnOk, if◌then◌else◌, nat_eq, nat_lt, refl, sym, subst, arith, ltb-true, RetainedLog, last_number, CallFault, Behind, LogFull, StepFault, call_fault, checkpoint_fault, ExplainsCallFault, ExplainsStep, MayAnswer, MayAnswerStep, MayRefuseCheckpoint}
 
-may : (seen : ℕ) (log : Log) (fault : CallFault) (behind full : Bool) → nat_lt (length log.entries) seen ≡ behind
-    → ExplainsCallFault (if behind then Some (Behind (length log.entries) seen) else (if full then Some LogFull else None)) fault → MayAnswer seen fault
-may seen log fault true full less is = subst (MayAnswer seen) (sym is) (refl, ltb-true (length log.entries) seen less)
+may : (seen : ℕ) (log : RetainedLog) (fault : CallFault) (behind full : Bool) → nat_lt (last_number log) seen ≡ behind
+    → ExplainsCallFault (if behind then Some (Behind (last_number log) seen) else (if full then Some LogFull else None)) fault → MayAnswer seen fault
+may seen log fault true full less is = subst (MayAnswer seen) (sym is) (refl, ltb-true (last_number log) seen less)
 may seen log fault false true less is = subst (MayAnswer seen) (sym is) tt
 may seen log fault false false less is = subst (MayAnswer seen) (sym is) tt
 
-pub may_answer : (seen : ℕ) (log : Log) (fault : CallFault) → ExplainsCallFault (call_fault seen log) fault → MayAnswer seen fault
-may_answer seen log fault is = may seen log fault (nat_lt (length log.entries) seen) (nat_eq (length log.entries) log.limit) refl is
+pub may_answer : (seen : ℕ) (log : RetainedLog) (fault : CallFault) → ExplainsCallFault (call_fault seen log) fault → MayAnswer seen fault
+may_answer seen log fault is = may seen log fault (nat_lt (last_number log) seen) (nat_eq (last_number log) log.limit) refl is
 
-may_not : (seen : ℕ) (log : Log) (fault : CallFault) (behind : Bool) → nat_lt (length log.entries) seen ≡ behind
-    → ExplainsCallFault (if behind then Some (Behind (length log.entries) seen) else None) fault → MayRefuseCheckpoint seen fault
-may_not seen log fault true less is = subst (MayRefuseCheckpoint seen) (sym is) (refl, ltb-true (length log.entries) seen less)
+may_not : (seen : ℕ) (log : RetainedLog) (fault : CallFault) (behind : Bool) → nat_lt (last_number log) seen ≡ behind
+    → ExplainsCallFault (if behind then Some (Behind (last_number log) seen) else None) fault → MayRefuseCheckpoint seen fault
+may_not seen log fault true less is = subst (MayRefuseCheckpoint seen) (sym is) (refl, ltb-true (last_number log) seen less)
 may_not seen log fault false less is = subst (MayRefuseCheckpoint seen) (sym is) tt
 
-pub may_refuse_checkpoint : (seen : ℕ) (log : Log) (fault : CallFault) → ExplainsCallFault (checkpoint_fault seen log) fault → MayRefuseCheckpoint seen fault
-may_refuse_checkpoint seen log fault is = may_not seen log fault (nat_lt (length log.entries) seen) refl is
+pub may_refuse_checkpoint : (seen : ℕ) (log : RetainedLog) (fault : CallFault) → ExplainsCallFault (checkpoint_fault seen log) fault → MayRefuseCheckpoint seen fault
+may_refuse_checkpoint seen log fault is = may_not seen log fault (nat_lt (last_number log) seen) refl is
 
-may_step : (seen workers : ℕ) (log : Log) (fault : StepFault) (behind full : Bool) → nat_lt (length log.entries) seen ≡ behind
-    → ExplainsStep (if behind then Some (Behind (length log.entries) seen) else (if full then Some LogFull else None)) workers fault → MayAnswerStep seen workers fault
-may_step seen workers log fault true full less is = subst (MayAnswerStep seen workers) (sym is) (refl, ltb-true (length log.entries) seen less)
+may_step : (seen workers : ℕ) (log : RetainedLog) (fault : StepFault) (behind full : Bool) → nat_lt (last_number log) seen ≡ behind
+    → ExplainsStep (if behind then Some (Behind (last_number log) seen) else (if full then Some LogFull else None)) workers fault → MayAnswerStep seen workers fault
+may_step seen workers log fault true full less is = subst (MayAnswerStep seen workers) (sym is) (refl, ltb-true (last_number log) seen less)
 may_step seen workers log fault false true less is = subst (MayAnswerStep seen workers) (sym is) tt
 may_step seen zero log fault false false less is = subst (MayAnswerStep seen zero) (sym is) refl
 may_step seen (suc others) log fault false false less is = subst (MayAnswerStep seen (suc others)) (sym is) (omega arith)
 
-pub may_answer_step : (seen workers : ℕ) (log : Log) (fault : StepFault) → ExplainsStep (call_fault seen log) workers fault → MayAnswerStep seen workers fault
-may_answer_step seen workers log fault is = may_step seen workers log fault (nat_lt (length log.entries) seen) (nat_eq (length log.entries) log.limit) refl is
+pub may_answer_step : (seen workers : ℕ) (log : RetainedLog) (fault : StepFault) → ExplainsStep (call_fault seen log) workers fault → MayAnswerStep seen workers fault
+may_answer_step seen workers log fault is = may_step seen workers log fault (nat_lt (last_number log) seen) (nat_eq (last_number log) log.limit) refl is

@@ -1,12 +1,12 @@
 -- Events that a daemon or an injector chose, and calls that fail.
-use Rattle.locked_net.proofs.Prelude.{◌≡◌, ◌∷◌, ◌++◌, [], ℕ, Bool, List, Option, None, Some, Result, Ok, Err, IfOk, IfErr, IfSome, OnOk, IsNone, MatchOption, ◌↔◌, ◌+◌, ◌<◌, ◌≤◌, length, refl, ap, sym, ◌∙◌, subst, arith, Item, Event, Step, Reply, node_count, State, RuleTable, enabled_names, Receipt, PublishedLog, Log, entry_of, recorded, receipt_of, ClerkView, front_of, seen_by, noted, PublishedJournalView, Setting, IsLogIn, call_fault, checkpoint_fault, RecordsEvent, Drives, Breaks, Keeps, KeepsStep, KeepsFault, some_of, HeldCall, Admits, AdmitsStep, ChoosesStep, ChoosesOn, ClerkTakes, HoldsAll, Refuses, RefusesCheckpoint, RefusesStep, CallFault, StepFault}
+use Rattle.locked_net.proofs.Prelude.{◌≡◌, ◌∷◌, ◌++◌, [], ℕ, Bool, List, Option, None, Some, Result, Ok, Err, IfOk, IfErr, IfSome, OnOk, IsNone, MatchOption, ◌↔◌, ◌+◌, ◌<◌, ◌≤◌, refl, ap, sym, ◌∙◌, subst, arith, Item, Event, Step, Reply, node_count, State, RuleTable, enabled_names, Receipt, PublishedLog, RetainedLog, last_number, next_entry, kept_with, next_receipt, ClerkView, front_of, seen_by, noted, PublishedJournalView, Setting, IsLogIn, call_fault, checkpoint_fault, RecordsEvent, Drives, Breaks, Keeps, KeepsStep, KeepsFault, some_of, HeldCall, Admits, AdmitsStep, ChoosesStep, ChoosesOn, ClerkTakes, HoldsAll, Refuses, RefusesCheckpoint, RefusesStep, CallFault, StepFault}
 use mathlib.Core.List.{IsPrefix}
 use Rattle.locked_net.proofs.CallFaults.{may_answer, may_answer_step, may_refuse_checkpoint}
 use Rattle.locked_net.proofs.ReceiptAddition.{seen_few, seen_at_checkpoint, front_free}
 
 -- a choice that was recorded
-pub choice_on : (t : RuleTable) (log : Log) (Chooses : List ℕ → Bool → Option (List Item) → Type 0) (names : List ℕ) (central : Bool) (found : Option (List Item)) (items : List Item) (old new : List Receipt) (reply : Reply)
-    → names ≡ enabled_names t log.state → central ≡ t.central → found ≡ Some items → Chooses names central found → reply ≡ (receipt_of t log (Step items)).reply → new ≡ old ++ receipt_of t log (Step items) ∷ []
+pub choice_on : (t : RuleTable) (log : RetainedLog) (Chooses : List ℕ → Bool → Option (List Item) → Type 0) (names : List ℕ) (central : Bool) (found : Option (List Item)) (items : List Item) (old new : List Receipt) (reply : Reply)
+    → names ≡ enabled_names t log.state → central ≡ t.central → found ≡ Some items → Chooses names central found → reply ≡ (next_receipt t log (Step items)).reply → new ≡ old ++ next_receipt t log (Step items) ∷ []
     → ChoosesOn t log (ChoosesStep t (λ those choice. Chooses those t.central choice)) old new (Some reply)
 choice_on t log Chooses names central found items old new reply enabled same some chosen told receipt = record {
   event = Some (Step items);
@@ -15,8 +15,8 @@ choice_on t log Chooses names central found items old new reply enabled same som
 }
 
 -- a log to which an event was added is a prefix of the note then
-pub begins_in : (t : RuleTable) (log after : Log) (event : Event) (note : Option PublishedLog) → after ≡ recorded t log event → noted note ≡ after.entries → IsPrefix log.entries (noted note)
-begins_in t log after event note is tells = (entry_of t log event ∷ [], sym (tells ∙ ap (λ (l : Log). l.entries) is))
+pub begins_in : (t : RuleTable) (log after : RetainedLog) (event : Event) (note : Option PublishedLog) → after ≡ kept_with t log event → noted note ≡ after.entries → IsPrefix log.entries (noted note)
+begins_in t log after event note is tells = (next_entry t log event ∷ [], sym (tells ∙ ap (λ (l : RetainedLog). l.entries) is))
 
 if_some : {A : Type 0} (N P : Type 0) (told : Option A) → MatchOption told N (λ _. P) → IfSome told (λ _. P)
 if_some N P None idle = tt
@@ -50,21 +50,21 @@ finds_none setting Chooses before after old new (Err fault) own free taken none 
 
 -- ---- receipts
 
-keeps : (t : RuleTable) (log after : Log) (old : ClerkView) (new : List Receipt) (event : Event) (reply : Reply) → call_fault (seen_by old) log ≡ None → RecordsEvent t log after old.receipts new event reply → Keeps old.receipts new event reply
+keeps : (t : RuleTable) (log after : RetainedLog) (old : ClerkView) (new : List Receipt) (event : Event) (reply : Reply) → call_fault (seen_by old) log ≡ None → RecordsEvent t log after old.receipts new event reply → Keeps old.receipts new event reply
 keeps t log after old new event reply free is =
     let few = seen_few (front_of old.receipts) log (front_free old log free) in
     record {
-      seq = length log.entries + 1;
+      seq = last_number log + 1;
       above = omega (arith, few);
-      added = is.receipt ∙ ap (λ (r : Reply). old.receipts ++ record { seq = length log.entries + 1; event = event; reply = r } ∷ []) (sym is.reply_is);
+      added = is.receipt ∙ ap (λ (r : Reply). old.receipts ++ record { seq = last_number log + 1; event = event; reply = r } ∷ []) (sym is.reply_is);
     }
 
-pub keeps_call : (t : RuleTable) (log after : Log) (old : ClerkView) (new : List Receipt) (event : Event) (result : Result Reply CallFault) → Admits (call_fault (seen_by old) log) result → IfOk result (RecordsEvent t log after old.receipts new event)
+pub keeps_call : (t : RuleTable) (log after : RetainedLog) (old : ClerkView) (new : List Receipt) (event : Event) (result : Result Reply CallFault) → Admits (call_fault (seen_by old) log) result → IfOk result (RecordsEvent t log after old.receipts new event)
     → IfOk result (Keeps old.receipts new event)
 keeps_call t log after old new event (Err fault) free is = tt
 keeps_call t log after old new event (Ok reply) free is = keeps t log after old new event reply free is
 
-pub keeps_judged : (t : RuleTable) (log after : Log) (old : ClerkView) (new : List Receipt) (event : Event) (workers : ℕ) (result : Result Reply StepFault) → AdmitsStep (call_fault (seen_by old) log) workers result → IfOk result (RecordsEvent t log after old.receipts new event)
+pub keeps_judged : (t : RuleTable) (log after : RetainedLog) (old : ClerkView) (new : List Receipt) (event : Event) (workers : ℕ) (result : Result Reply StepFault) → AdmitsStep (call_fault (seen_by old) log) workers result → IfOk result (RecordsEvent t log after old.receipts new event)
     → IfOk result (Keeps old.receipts new event)
 keeps_judged t log after old new event workers (Err fault) free is = tt
 keeps_judged t log after old new event workers (Ok reply) free is = keeps t log after old new event reply free.0 is
@@ -74,7 +74,7 @@ some_workers found workers (Ok answer) is = is.1
 some_workers found workers (Err fault) is = tt
 
 -- a step that was recorded is kept
-pub keeps_step : (t : RuleTable) (log after : Log) (old new : ClerkView) (Same : Type 0) (result : Result (Option Reply) CallFault) → Admits (call_fault (seen_by old) log) result
+pub keeps_step : (t : RuleTable) (log after : RetainedLog) (old new : ClerkView) (Same : Type 0) (result : Result (Option Reply) CallFault) → Admits (call_fault (seen_by old) log) result
     → IfOk result (λ told. MatchOption told ((new ≡ old) × Same) (λ reply. Drives t log after old.receipts new.receipts reply)) → IfOk result (λ told. MatchOption told (new ≡ old) (KeepsStep t.central old.receipts new.receipts))
 keeps_step t log after old new Same (Err fault) free is = tt
 keeps_step t log after old new Same (Ok None) free is = is.0
@@ -87,7 +87,7 @@ keeps_step t log after old new Same (Ok (Some reply)) free is = record {
 }
 
 -- a fault that was recorded is kept
-pub keeps_fault : (t : RuleTable) (log after : Log) (old new : ClerkView) (Same : Type 0) (result : Result (Option Reply) CallFault) → Admits (call_fault (seen_by old) log) result
+pub keeps_fault : (t : RuleTable) (log after : RetainedLog) (old new : ClerkView) (Same : Type 0) (result : Result (Option Reply) CallFault) → Admits (call_fault (seen_by old) log) result
     → IfOk result (λ told. MatchOption told ((new ≡ old) × Same) (λ reply. Breaks t log after old.receipts new.receipts reply)) → IfOk result (λ told. MatchOption told (new ≡ old) (KeepsFault old.receipts new.receipts))
 keeps_fault t log after old new Same (Err fault) free is = tt
 keeps_fault t log after old new Same (Ok None) free is = is.0
@@ -100,20 +100,20 @@ keeps_fault t log after old new Same (Ok (Some reply)) free is = record {
 
 -- ---- faults
 
-pub refuses : {A : Type 0} (setting : Setting) (seen : ℕ) (log : Log) (result : Result A CallFault) → IsLogIn setting log → Admits (call_fault seen log) result → IfErr result (Refuses setting seen)
+pub refuses : {A : Type 0} (setting : Setting) (seen : ℕ) (log : RetainedLog) (result : Result A CallFault) → IsLogIn setting log → Admits (call_fault seen log) result → IfErr result (Refuses setting seen)
 refuses setting seen log (Ok answer) own is = tt
 refuses setting seen log (Err fault) own is = record { log = log; own = own; explained = is; may = may_answer seen log fault is }
 
-pub refuses_step : {A : Type 0} (setting : Setting) (seen workers : ℕ) (log : Log) (result : Result A StepFault) → IsLogIn setting log → AdmitsStep (call_fault seen log) workers result → IfErr result (RefusesStep setting seen workers)
+pub refuses_step : {A : Type 0} (setting : Setting) (seen workers : ℕ) (log : RetainedLog) (result : Result A StepFault) → IsLogIn setting log → AdmitsStep (call_fault seen log) workers result → IfErr result (RefusesStep setting seen workers)
 refuses_step setting seen workers log (Ok answer) own is = tt
 refuses_step setting seen workers log (Err fault) own is = record { log = log; own = own; explained = is; may = may_answer_step seen workers log fault is }
 
 -- ---- a checkpoint
 
-pub holds_all : (setting : Setting) (seen : ℕ) (log : Log) (result : Result ℕ CallFault) → IsLogIn setting log → IfOk result (λ number. number ≡ length log.entries) → Admits (checkpoint_fault seen log) result → IfOk result (HoldsAll setting seen)
+pub holds_all : (setting : Setting) (seen : ℕ) (log : RetainedLog) (result : Result ℕ CallFault) → IsLogIn setting log → IfOk result (λ number. number ≡ last_number log) → Admits (checkpoint_fault seen log) result → IfOk result (HoldsAll setting seen)
 holds_all setting seen log (Ok number) own count none = record { log = log; own = own; count = count; all = subst (λ n. seen ≤ n) (sym count) (seen_at_checkpoint seen log none) }
 holds_all setting seen log (Err fault) own count none = tt
 
-pub refuses_checkpoint : (setting : Setting) (seen : ℕ) (log : Log) (result : Result ℕ CallFault) → IsLogIn setting log → Admits (checkpoint_fault seen log) result → IfErr result (RefusesCheckpoint setting seen)
+pub refuses_checkpoint : (setting : Setting) (seen : ℕ) (log : RetainedLog) (result : Result ℕ CallFault) → IsLogIn setting log → Admits (checkpoint_fault seen log) result → IfErr result (RefusesCheckpoint setting seen)
 refuses_checkpoint setting seen log (Ok number) own is = tt
 refuses_checkpoint setting seen log (Err fault) own is = record { log = log; own = own; explained = is; may = may_refuse_checkpoint seen log fault is }

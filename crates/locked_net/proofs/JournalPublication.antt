@@ -1,18 +1,28 @@
--- A desk publishes a run of the rules, and stays a desk after the next entry and after a checkpoint.
-use Rattle.locked_net.proofs.Prelude.{◌≡◌, ◌+◌, ◌<◌, ℕ, [], ◌∷◌, ◌++◌, length, Result, Ok, Err, OnOk, OnErr, refl, sym, ap, ◌∙◌, subst, arith, Event, RuleTable, Entry, Run, beginning_with, IsTable, BoardShape, IsRun, BoardView, JournalView, kept_of, RetainedLog, checkpointed, kept_with, last_number, next_entry, recorded, log_over, IsPublishedJournal}
-use Rattle.locked_net.proofs.RetainedParts.{above_len, end_of, recorded_is_log, recorded_size, recorded_above, checkpoint_above}
+-- A desk publishes a run of the rules, and stays a desk after the next entry and after a checkpoint. It is one
+-- before any entry.
+use Rattle.locked_net.proofs.Prelude.{◌≡◌, ◌+◌, ◌<◌, ◌≤◌, ℕ, List, [], ◌∷◌, ◌++◌, length, Option, Some, None, Result, Ok, Err, OnOk, OnErr, inl, refl, sym, ap, ap₂, ◌∙◌, subst, arith, Event, State, RuleTable, Entry, Run, Base, Moment, beginning_with, dropped, IsTable, BoardShape, IsRun, BoardView, StartsAt, IsStart, BeginsIn, JournalView, kept_of, RetainedLog, checkpointed, kept_with, last_number, moment_in, next_entry, whole, empty_log_with, kept_from, max_entries, IsWholeLog, log_over, IsPublishedJournal, IsPublishedFrom}
+use Rattle.locked_net.proofs.RetainedParts.{above_len, recorded_is_log, recorded_size, recorded_above, checkpoint_above}
+use Rattle.std.proofs.Common.{false}
+use Rattle.std.proofs.lemmas.List.{length-map}
+use Rattle.rule_machine.specs.Base.{base_of, node_record_at, node_records}
+use Rattle.rule_machine.specs.Network.{names, node_count}
+use Rattle.rule_machine.specs.State.{IsState, flag}
+use Rattle.step_log.specs.BaseStarts.{resumed_log}
+
+-- the next number is within the limit
+below_limit : (t : RuleTable) (kept : RetainedLog) (board : BoardView) → IsPublishedJournal t kept board → last_number kept < kept.limit → last_number (log_over kept board) < kept.limit
+below_limit t kept board desk below = omega (arith, below, above_len t (log_over kept board) kept desk.above)
 
 -- the board's entries and the next one are a run
 run_more : (t : RuleTable) → IsTable t → (kept : RetainedLog) (board : BoardView) (event : Event) → IsPublishedJournal t kept board → last_number kept < kept.limit → IsRun t board.name.extent (board.list ++ next_entry t kept event ∷ [])
 run_more t table kept board event desk below =
-    let log = log_over kept board.list in
-    let after = recorded t log event in
-    let few : length board.list < kept.limit = omega (arith, below, above_len t log kept desk.above) in
-    let is = recorded_is_log t table log desk.is_log few event in
+    let log = log_over kept board in
+    let after = kept_with t log event in
+    let is = recorded_is_log t table log desk.is_log (below_limit t kept board desk below) event in
     let size = recorded_size t table log desk.is_log event in
     let places : board.name.extent.places ≡ after.state.network.size + 1 = ap (λ (e : BoardShape). e.places) desk.extent ∙ ap (λ n. n + 1) (sym size) in
     let present : board.name.extent.present ≡ kept.present = ap (λ (e : BoardShape). e.present) desk.extent in
-    (after.state.network.size, end_of after, places, subst (λ (n : ℕ). Run t (beginning_with after.state.network.size n) after.entries (end_of after)) (sym present) is.run)
+    (after.state.network.size, is.start, moment_in after, places, subst (λ (n : ℕ). StartsAt t after.state.network.size n board.name.extent.base is.start) (sym present) is.begins, is.run)
 
 -- with the entry that is posted
 pub is_run_posted : (t : RuleTable) → IsTable t → (kept : RetainedLog) (board now : BoardView) (event : Event) (entry : Entry) → IsPublishedJournal t kept board → last_number kept < kept.limit → entry ≡ next_entry t kept event → now ≡ record board { posted = entry ∷ [] }
@@ -21,28 +31,126 @@ is_run_posted t table kept board now event entry desk below next posted =
     subst (λ (b : BoardView). IsRun t b.name.extent (b.list ++ b.posted)) (sym posted)
     (subst (λ (e : Entry). IsRun t board.name.extent (board.list ++ e ∷ [])) (sym next) (run_more t table kept board event desk below))
 
+-- there is room for one more entry
+pub post_room : (t : RuleTable) (kept : RetainedLog) (board : BoardView) → IsPublishedJournal t kept board → last_number kept < kept.limit → dropped board.name.extent.base + length board.list < max_entries
+post_room t kept board desk below =
+    let most : kept.limit ≤ max_entries = desk.is_log.limit in
+    let few = below_limit t kept board desk below in
+    omega (arith, few, most)
+
+-- the whole log once it is recorded and published
+pub log_after : (t : RuleTable) (kept after : RetainedLog) (board now : BoardView) (event : Event) (entry : Entry) → entry ≡ next_entry t kept event → after ≡ kept_with t kept event → now ≡ record { list = board.list ++ entry ∷ []; posted = []; name = board.name }
+    → log_over after now ≡ kept_with t (log_over kept board) event
+log_after t kept after board now event entry next told shown =
+    ap₂ log_over told (shown ∙ ap (λ (e : Entry). record { list = board.list ++ e ∷ []; posted = []; name = board.name }) next)
+
 -- once it is recorded and published
 pub desk_after : (t : RuleTable) → IsTable t → (kept after : RetainedLog) (board now : BoardView) (event : Event) (entry : Entry) → IsPublishedJournal t kept board → last_number kept < kept.limit → entry ≡ next_entry t kept event → after ≡ kept_with t kept event
     → now ≡ record { list = board.list ++ entry ∷ []; posted = []; name = board.name } → IsPublishedJournal t after now
 desk_after t table kept after board now event entry desk below next told shown =
-    let log = log_over kept board.list in
-    let few : length board.list < kept.limit = omega (arith, below, above_len t log kept desk.above) in
+    let log = log_over kept board in
     let size = recorded_size t table log desk.is_log event in
     let there : IsPublishedJournal t (kept_with t kept event) (record { list = board.list ++ next_entry t kept event ∷ []; posted = []; name = board.name }) = record {
-      is_log = recorded_is_log t table log desk.is_log few event;
+      is_log = recorded_is_log t table log desk.is_log (below_limit t kept board desk below) event;
       above = recorded_above t table log kept desk.is_log desk.above event;
       posted = refl;
-      extent = desk.extent ∙ ap (λ (n : ℕ). record { places = n + 1; present = kept.present }) (sym size);
+      extent = desk.extent ∙ ap (λ (n : ℕ). record { places = n + 1; present = kept.present; base = board.name.extent.base }) (sym size);
     } in
     subst (λ (k : RetainedLog). IsPublishedJournal t k now) (sym told)
     (subst (IsPublishedJournal t (kept_with t kept event)) (sym (shown ∙ ap (λ (e : Entry). record { list = board.list ++ e ∷ []; posted = []; name = board.name }) next)) there)
 
 -- after a checkpoint
-pub desk_checkpointed : (t : RuleTable) (kept after : RetainedLog) (board : BoardView) → IsPublishedJournal t kept board → after ≡ checkpointed kept → IsPublishedJournal t after board
+desk_checkpointed : (t : RuleTable) (kept after : RetainedLog) (board : BoardView) → IsPublishedJournal t kept board → after ≡ checkpointed kept → IsPublishedJournal t after board
 desk_checkpointed t kept after board desk told =
     subst (λ (k : RetainedLog). IsPublishedJournal t k board) (sym told)
-    record { is_log = desk.is_log; above = checkpoint_above t (log_over kept board.list) kept desk.is_log desk.above; posted = desk.posted; extent = desk.extent }
+    record { is_log = desk.is_log; above = checkpoint_above t (log_over kept board) kept desk.is_log desk.above; posted = desk.posted; extent = desk.extent }
 
-pub desk_kept : {A B : Type 0} (t : RuleTable) (held after : JournalView) (board : BoardView) (result : Result A B) → IsPublishedJournal t (kept_of held) board → OnOk result (kept_of after ≡ checkpointed (kept_of held)) → OnErr result (after ≡ held) → IsPublishedJournal t (kept_of after) board
-desk_kept t held after board (Ok number) desk told same = desk_checkpointed t (kept_of held) (kept_of after) board desk told
-desk_kept t held after board (Err fault) desk told same = subst (λ (h : JournalView). IsPublishedJournal t (kept_of h) board) (sym same) desk
+pub desk_kept : {A B : Type 0} (t : RuleTable) (start : ℕ) (held after : JournalView) (board : BoardView) (result : Result A B) → IsPublishedFrom t start (kept_of held) board → OnOk result (kept_of after ≡ checkpointed (kept_of held)) → OnErr result (after ≡ held) → IsPublishedFrom t start (kept_of after) board
+desk_kept t start held after board (Ok number) desk told same = (desk.0, desk_checkpointed t (kept_of held) (kept_of after) board desk.1 told)
+desk_kept t start held after board (Err fault) desk told same = subst (λ (h : JournalView). IsPublishedFrom t start (kept_of h) board) (sym same) desk
+
+-- ---- before any entry
+
+-- what a board shows before any entry
+record IsBlank (shape : BoardShape) (board : BoardView) : Type 0 where
+  list : board.list ≡ []
+  posted : board.posted ≡ []
+  extent : board.name.extent ≡ shape
+
+begun_desk : (t : RuleTable) (kept : RetainedLog) (board : BoardView) (start : Moment) → kept.entries ≡ [] → IsBlank (record { places = kept.state.network.size + 1; present = kept.present; base = kept.base }) board
+    → StartsAt t kept.state.network.size kept.present kept.base start → moment_in kept ≡ start → kept.state.network.size ≤ 65535 → dropped kept.base ≤ kept.limit → kept.limit ≤ max_entries → IsPublishedJournal t kept board
+begun_desk t kept board start none blank begins same small room limit =
+    let base : board.name.extent.base ≡ kept.base = ap (λ (e : BoardShape). e.base) blank.extent in
+    let run : Run t start board.list (moment_in kept) = subst (λ es. Run t start es (moment_in kept)) (sym blank.list) same in
+    record {
+      is_log = record {
+        start = start;
+        begins = subst (λ b. StartsAt t kept.state.network.size kept.present b start) (sym base) begins;
+        run = run;
+        size = small;
+        room = omega (arith, room, ap dropped base, ap length blank.list);
+        limit = limit;
+      };
+      above = record {
+        below = [];
+        splits = blank.list ∙ sym none;
+        count = omega (arith, ap dropped base);
+        tells = inl (refl, sym base);
+        state = refl;
+        spent = refl;
+        limit = refl;
+        present = refl;
+      };
+      posted = blank.posted;
+      extent = blank.extent ∙ ap (λ b. record { places = kept.state.network.size + 1; present = kept.present; base = b }) (sym base);
+    }
+
+-- from the opening state
+pub opening_desk : (t : RuleTable) (nodes present limit : ℕ) (kept : RetainedLog) (board : BoardView) → kept ≡ whole (empty_log_with nodes present limit) → nodes ≤ 65535 → limit ≤ max_entries
+    → (board.list ≡ []) × (board.posted ≡ []) × (board.name.extent ≡ record { places = nodes + 1; present = present; base = None }) → IsPublishedFrom t 0 kept board
+opening_desk t nodes present limit kept board is small within (list, posted, extent) =
+    let first : RetainedLog = whole (empty_log_with nodes present limit) in
+    let none : dropped first.base ≤ limit = omega arith in (
+      sym (ap (λ (e : BoardShape). dropped e.base) extent),
+      subst (λ (k : RetainedLog). IsPublishedJournal t k board) (sym is)
+          (begun_desk t first board (beginning_with nodes present) refl (record { list = list; posted = posted; extent = extent }) refl refl small none within),
+    )
+
+-- from a base
+pub based_desk : (t : RuleTable) (weight size limit : ℕ) (s : State) (base : Base) (kept : RetainedLog) (board : BoardView) → kept ≡ kept_from s base limit → BeginsIn t weight size base s → size ≤ 65535 → base.number ≤ limit → limit ≤ max_entries
+    → (board.list ≡ []) × (board.posted ≡ []) × (board.name.extent ≡ record { places = size + 1; present = length base.nodes; base = Some base }) → IsPublishedFrom t base.number kept board
+based_desk t weight size limit s base kept board is begins small room within (list, posted, extent) =
+    let first : RetainedLog = kept_from s base limit in
+    let start : Moment = record { state = s; spent = base.spent } in
+    let same : s.network.size ≡ size = begins.size_is in
+    let starts : IsStart t s.network.size base start = record { is_state = begins.is_state; size_is = refl; lines = begins.lines; unflagged = begins.unflagged } in
+    let shape = extent ∙ ap (λ (n : ℕ). record { places = n + 1; present = length base.nodes; base = Some base }) (sym same) in (
+      sym (ap (λ (e : BoardShape). dropped e.base) extent),
+      subst (λ (k : RetainedLog). IsPublishedJournal t k board) (sym is)
+          (begun_desk t first board start refl (record { list = list; posted = posted; extent = shape }) starts refl (omega (arith, small, same)) room within),
+    )
+
+-- where a network goes on
+pub net_desk : (t : RuleTable) (number limit : ℕ) (m : Moment) (kept : RetainedLog) (board : BoardView) → kept ≡ resumed_log m number limit → IsState m.state → (t.flags ≡ false → (v : ℕ) → flag m.state v ≡ false) → m.state.network.size ≤ 65535 → number ≤ max_entries
+    → (board.list ≡ []) × (board.posted ≡ []) × (board.name.extent ≡ record { places = m.state.network.size + 1; present = length (node_records m.state); base = Some (base_of number m) }) → IsPublishedFrom t number kept board
+net_desk t number limit m kept board is good unflagged small few (list, posted, extent) =
+    let first : RetainedLog = resumed_log m number limit in
+    let starts : IsStart t m.state.network.size (base_of number m) m = record { is_state = good; size_is = refl; lines = refl; unflagged = unflagged } in
+    let count : length (node_records m.state) ≡ node_count m.state.network = length-map (names m.state.network) (node_record_at m.state) in
+    let shape = extent ∙ ap (λ (n : ℕ). record { places = m.state.network.size + 1; present = n; base = Some (base_of number m) }) count in
+    let room : number ≤ first.limit = grind arith in
+    let within : first.limit ≤ max_entries = grind (arith, few) in (
+      sym (ap (λ (e : BoardShape). dropped e.base) extent),
+      subst (λ (k : RetainedLog). IsPublishedJournal t k board) (sym is)
+          (begun_desk t first board m refl (record { list = list; posted = posted; extent = shape }) starts refl small room within),
+    )
+
+-- no entry of a board that begins where a network goes on is a run
+pub net_is_run : (t : RuleTable) (number : ℕ) (m : Moment) → IsState m.state → (t.flags ≡ false → (v : ℕ) → flag m.state v ≡ false) → IsRun t (record { places = m.state.network.size + 1; present = length (node_records m.state); base = Some (base_of number m) }) []
+net_is_run t number m good unflagged = (m.state.network.size, m, m, refl, record { is_state = good; size_is = refl; lines = refl; unflagged = unflagged }, refl)
+
+-- no entry of a board from a base is a run
+pub base_is_run : (t : RuleTable) (weight size : ℕ) (s : State) (base : Base) → BeginsIn t weight size base s → IsRun t (record { places = size + 1; present = length base.nodes; base = Some base }) []
+base_is_run t weight size s base begins =
+    let start : Moment = record { state = s; spent = base.spent } in
+    (size, start, start, refl, record { is_state = begins.is_state; size_is = begins.size_is; lines = begins.lines; unflagged = begins.unflagged }, refl)

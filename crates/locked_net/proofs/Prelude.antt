@@ -23,6 +23,7 @@ pub use Rattle.machine_laws.proofs.StatePreservation.{opening_is_state}
 pub use Rattle.rule_engine.proofs.AscendingMoves.{one_least}
 pub use Rattle.rule_engine.specs.DisturbanceReach.{Spares}
 pub use Rattle.rule_machine.specs.Base.{dropped, base_of}
+pub use Rattle.rule_machine.specs.declared.base.Base.{Base}
 pub use Rattle.rule_machine.specs.Least.{least_moves, reply_by, move_in, outcome_of, outcome_at, reply_of, state_after, spent_by}
 pub use Rattle.rule_machine.specs.Network.{Network, present, node_count, names}
 pub use Rattle.rule_machine.specs.Refuse.{wish_refusal, rule_refusal, item_refusal, items_refusal, step_refusal}
@@ -41,30 +42,34 @@ pub use Rattle.rule_machine.specs.declared.verdict.Outcome.TheVariants.{Absent}
 pub use Rattle.snapshots.proofs.Fronts.{prefix_self, prefix_whole}
 pub use Rattle.snapshots.proofs.Machine.{run_names, run_pointers}
 pub use Rattle.snapshots.proofs.Rows.{effect_length}
+pub use Rattle.snapshots.proofs.Starts.{start_row, start_here, start_size, row_places}
 pub use Rattle.snapshots.specs.CopyViews.{held_in, found_after}
 pub use Rattle.snapshots.specs.History.{AreComparable}
-pub use Rattle.snapshots.specs.Row.{Row, BoardShape, pointer_in, partner_in, row_effect, pointers_after, here_after, IsRun}
+pub use Rattle.snapshots.specs.Row.{Row, BoardShape, pointer_in, partner_in, row_effect, row_at_start, here_by, pointers_after, here_after, IsRun}
+pub use Rattle.snapshots.specs.Starts.{StartsAt, IsStart}
 pub use Rattle.snapshots.specs.Views.{BoardName, ReaderView, PublishedLog, BoardView}
 pub use Rattle.step_log.proofs.AscendingNumbers.{rising_distinct}
 pub use Rattle.step_log.proofs.HeadlineProof.{upheld}
 pub use Rattle.step_log.specs.JournalViews.{JournalView, kept_of}
-pub use Rattle.step_log.specs.Log.{Log, entry_of, recorded, receipt_of, IsLog}
-pub use Rattle.step_log.specs.RetainedLogs.{RetainedLog, checkpointed, kept_with, last_number, next_entry, moment_in}
+pub use Rattle.step_log.specs.BaseStarts.{BeginsIn, kept_from}
+pub use Rattle.step_log.specs.Log.{max_entries, empty_log_with}
+pub use Rattle.step_log.specs.RetainedLogs.{RetainedLog, IsRetainedRun, checkpointed, kept_with, last_number, next_entry, next_receipt, moment_in, whole}
 pub use Rattle.step_log.specs.declared.receipt.Receipt.{Receipt}
 pub use Rattle.locked_net.specs.Calls.{call_fault, checkpoint_fault, ExplainsCallFault, ExplainsStep, MayAnswer, MayAnswerStep, MayRefuseCheckpoint, RecordsEvent, Drives, Breaks, Keeps, KeepsStep, KeepsFault}
 pub use Rattle.locked_net.specs.ChosenEvents.{ChoosesStep, ChoosesOn, ClerkTakes, HoldsAll, Refuses, RefusesCheckpoint, RefusesStep}
 pub use Rattle.locked_net.specs.ClerkCalls.{some_of, HeldCall, Admits, AdmitsStep, each, ClerkCall, AddsReceipt}
 pub use Rattle.locked_net.specs.Looks.{IsPublished}
 pub use Rattle.locked_net.specs.Marks.{mark_of, AreReceiptMarks}
-pub use Rattle.locked_net.specs.Nets.{book_of, setting_of}
-pub use Rattle.locked_net.specs.PublishedJournals.{PublishedJournalView, KeepsKey, IsPublishedJournal}
+pub use Rattle.locked_net.specs.Nets.{book_of, name_of, setting_of, start_number_of}
+pub use Rattle.locked_net.specs.PublishedJournals.{PublishedJournalView, KeepsKey, IsPublishedJournal, IsPublishedFrom}
 pub use Rattle.locked_net.specs.ReaderAnswers.{Shows}
-pub use Rattle.locked_net.specs.Receipts.{ClerkView, noted, IsClerk, IsReceiptOf, NotesLast, StandsLastFrom, StandsLast, front_of, seen_by, front_from, RiseAbove, HasNoteOf, base_from}
+pub use Rattle.locked_net.specs.Receipts.{ClerkView, noted, IsClerk, IsReceiptOf, NotesLast, StandsLastFrom, StandsLast, front_of, seen_by, front_from, RiseAbove, HasNoteFrom, base_from, base_number}
 pub use Rattle.locked_net.specs.RetainedParts.{IsPartNoted, log_over, IsLogAboveBase, TellsEnd}
 pub use Rattle.locked_net.specs.RoamResults.{AllEnd, AllKeepNotes, IsLoneStep, Roams, AllRoam, RoamResult, MayMeetRoamFault, TakesTurns, AllTakeTurns, MayEnd, roam_fault, KeepsNote, TakesTurn, MeetsFault}
 pub use Rattle.locked_net.specs.RoamTurns.{mover, lone_items, lone_step, receipts_by, receipts_of_turn, FaultBy, fault_by, fault_of_turn, FaultInTurn}
 pub use Rattle.locked_net.specs.Settings.{Setting, IsLogIn}
-pub use Rattle.locked_net.specs.Settlements.{receipt_count, greatest_base, base_number, IsEntryAbove, StandsAt, Settlement, IsEarlierReceipt, Agrees, IsFirstStranger, HasReceiptNumber, Unsettles}
+pub use Rattle.locked_net.specs.WholeLogs.{IsWholeLog}
+pub use Rattle.locked_net.specs.Settlements.{receipt_count, entry_count, greatest_base, IsEntryAbove, StandsAt, Settlement, IsEarlierReceipt, Agrees, IsFirstStranger, HasReceiptNumber, Unsettles}
 pub use Rattle.locked_net.specs.declared.call_fault.CallFault.{CallFault}
 pub use Rattle.locked_net.specs.declared.call_fault.CallFault.TheVariants.{Behind, LogFull, Memory}
 pub use Rattle.locked_net.specs.declared.roam_fault.RoamFault.{RoamFault}

@@ -1,34 +1,34 @@
 -- A clerk that adds the receipt of an entry after all that it has seen, and a note of the log then, is a
 -- clerk.
-use Rattle.locked_net.proofs.Prelude.{◌≡◌, ℕ, ◌+◌, ◌-◌, ◌<◌, ◌≤◌, Bool, true, false, List, [], ◌∷◌, ◌++◌, length, Option, None, Some, if◌then◌else◌, nat_eq, nat_lt, refl, sym, ap, ◌∙◌, subst, arith, length-append, slice_get, ltb-false, le-ltb, none-some, slice_get-get_or, get_or-append_seam, Event, RuleTable, Entry, PublishedLog, Receipt, Log, entry_of, recorded, receipt_of, ClerkView, front_from, front_of, seen_by, noted, RiseAbove, IsReceiptOf, StandsLastFrom, StandsLast, NotesLast, IsClerk, CallFault, Behind, LogFull, call_fault, checkpoint_fault}
+use Rattle.locked_net.proofs.Prelude.{◌≡◌, ℕ, ◌+◌, ◌-◌, ◌<◌, ◌≤◌, Bool, true, false, List, [], ◌∷◌, ◌++◌, length, Option, None, Some, if◌then◌else◌, nat_eq, nat_lt, refl, sym, ap, ◌∙◌, subst, arith, length-append, slice_get, ltb-false, le-ltb, none-some, slice_get-get_or, get_or-append_seam, Event, RuleTable, Entry, PublishedLog, Receipt, dropped, RetainedLog, last_number, next_entry, kept_with, next_receipt, ClerkView, front_from, front_of, seen_by, noted, RiseAbove, IsReceiptOf, StandsLastFrom, StandsLast, NotesLast, IsClerk, CallFault, Behind, LogFull, call_fault, checkpoint_fault}
 
 not_first : (b : Bool) (fault : CallFault) (other : Option CallFault) → (if b then Some fault else other) ≡ None → b ≡ false
 not_first true fault other e = absurd (none-some fault (sym e))
 not_first false fault other e = refl
 
 -- a clerk that may call has seen at most all entries
-pub seen_few : (seen : ℕ) (log : Log) → call_fault seen log ≡ None → seen ≤ length log.entries
+pub seen_few : (seen : ℕ) (log : RetainedLog) → call_fault seen log ≡ None → seen ≤ last_number log
 seen_few seen log none =
-    ltb-false (length log.entries) seen (not_first (nat_lt (length log.entries) seen) (Behind (length log.entries) seen) (if nat_eq (length log.entries) log.limit then Some LogFull else None) none)
+    ltb-false (last_number log) seen (not_first (nat_lt (last_number log) seen) (Behind (last_number log) seen) (if nat_eq (last_number log) log.limit then Some LogFull else None) none)
 
 -- and the same before a checkpoint
-pub seen_at_checkpoint : (seen : ℕ) (log : Log) → checkpoint_fault seen log ≡ None → seen ≤ length log.entries
-seen_at_checkpoint seen log none = ltb-false (length log.entries) seen (not_first (nat_lt (length log.entries) seen) (Behind (length log.entries) seen) None none)
+pub seen_at_checkpoint : (seen : ℕ) (log : RetainedLog) → checkpoint_fault seen log ≡ None → seen ≤ last_number log
+seen_at_checkpoint seen log none = ltb-false (last_number log) seen (not_first (nat_lt (last_number log) seen) (Behind (last_number log) seen) None none)
 
 -- and may call with less seen
 not_second : (b : Bool) (fault : CallFault) (other : Option CallFault) → (if b then Some fault else other) ≡ None → other ≡ None
 not_second true fault other e = absurd (none-some fault (sym e))
 not_second false fault other e = e
 
-less_seen : (less seen : ℕ) (log : Log) → less ≤ seen → call_fault seen log ≡ None → call_fault less log ≡ None
+less_seen : (less seen : ℕ) (log : RetainedLog) → less ≤ seen → call_fault seen log ≡ None → call_fault less log ≡ None
 less_seen less seen log few none =
-    let here = length log.entries in
+    let here = last_number log in
     let rest : Option CallFault = if nat_eq here log.limit then Some LogFull else None in
     let all : seen ≤ here = seen_few seen log none in
     let low : nat_lt here less ≡ false = le-ltb here less (omega (arith, few, all)) in
     subst (λ (b : Bool). (if b then Some (Behind here less) else rest) ≡ None) (sym low) (not_second (nat_lt here seen) (Behind here seen) rest none)
 
-pub front_free : (clerk : ClerkView) (log : Log) → call_fault (seen_by clerk) log ≡ None → call_fault (front_of clerk.receipts) log ≡ None
+pub front_free : (clerk : ClerkView) (log : RetainedLog) → call_fault (seen_by clerk) log ≡ None → call_fault (front_of clerk.receipts) log ≡ None
 front_free clerk log = less_seen (front_of clerk.receipts) (seen_by clerk) log (omega arith)
 
 -- one more receipt, with a number above the last
@@ -42,8 +42,8 @@ front_more low [] receipt = refl
 front_more low (first ∷ receipts) receipt = front_more first.seq receipts receipt
 
 -- the same of a clerk with the receipt of the next entry
-pub front_after : (t : RuleTable) (log : Log) (event : Event) (old new : List Receipt) → new ≡ old ++ receipt_of t log event ∷ [] → front_of new ≡ length log.entries + 1
-front_after t log event old new added = ap front_of added ∙ front_more 0 old (receipt_of t log event)
+pub front_after : (t : RuleTable) (log : RetainedLog) (event : Event) (old new : List Receipt) → new ≡ old ++ next_receipt t log event ∷ [] → front_of new ≡ last_number log + 1
+front_after t log event old new added = ap front_of added ∙ front_more 0 old (next_receipt t log event)
 
 -- ---- the last receipt
 
@@ -52,32 +52,33 @@ last_entry : (log : List Entry) (entry : Entry) → slice_get (log ++ entry ∷ 
 last_entry log entry =
     slice_get-get_or (log ++ entry ∷ []) (length log) entry (omega (arith, length-append log (entry ∷ []))) ∙ ap Some (get_or-append_seam log entry [] entry)
 
-added_is_entry : (t : RuleTable) (log : Log) (event : Event) → IsReceiptOf (recorded t log event).entries (receipt_of t log event)
+added_is_entry : (t : RuleTable) (log : RetainedLog) (event : Event) → IsReceiptOf (dropped log.base) (kept_with t log event).entries (next_receipt t log event)
 added_is_entry t log event =
-    let place : length log.entries + 1 - 1 ≡ length log.entries = omega arith in
+    let place : last_number log + 1 - dropped log.base - 1 ≡ length log.entries = omega arith in
     record {
       numbered = omega arith;
-      same = ap (λ n. slice_get (recorded t log event).entries n) place ∙ last_entry log.entries (entry_of t log event);
+      same = ap (λ n. slice_get (kept_with t log event).entries n) place ∙ last_entry log.entries (next_entry t log event);
     }
 
-stands_from : (log : List Entry) (first : Receipt) (receipts : List Receipt) (receipt : Receipt) → IsReceiptOf log receipt → StandsLastFrom log first (receipts ++ receipt ∷ [])
-stands_from log first [] receipt is = is
-stands_from log first (next ∷ receipts) receipt is = stands_from log next receipts receipt is
+stands_from : (start : ℕ) (log : List Entry) (first : Receipt) (receipts : List Receipt) (receipt : Receipt) → IsReceiptOf start log receipt → StandsLastFrom start log first (receipts ++ receipt ∷ [])
+stands_from start log first [] receipt is = is
+stands_from start log first (next ∷ receipts) receipt is = stands_from start log next receipts receipt is
 
-stands_last : (log : List Entry) (receipts : List Receipt) (receipt : Receipt) → IsReceiptOf log receipt → StandsLast log (receipts ++ receipt ∷ [])
-stands_last log [] receipt is = is
-stands_last log (first ∷ receipts) receipt is = stands_from log first receipts receipt is
+stands_last : (start : ℕ) (log : List Entry) (receipts : List Receipt) (receipt : Receipt) → IsReceiptOf start log receipt → StandsLast start log (receipts ++ receipt ∷ [])
+stands_last start log [] receipt is = is
+stands_last start log (first ∷ receipts) receipt is = stands_from start log first receipts receipt is
 
 -- a clerk that adds the receipt of an entry, and a note of the log with that entry, is one
-pub is_clerk_after : (t : RuleTable) (log after : Log) (event : Event) (told : PublishedLog) (old new : List Receipt) (note : Option PublishedLog) (base : Option ℕ) → RiseAbove 0 old → call_fault (front_of old) log ≡ None
-    → after ≡ recorded t log event → told.log ≡ after.entries → new ≡ old ++ receipt_of t log event ∷ [] → note ≡ Some told → IsClerk (record { receipts = new; note = note; base = base })
-is_clerk_after t log after event told old new note base rise free is tells added kept =
-    let receipt : Receipt = receipt_of t log event in
+pub is_clerk_after : (t : RuleTable) (log after : RetainedLog) (event : Event) (told : PublishedLog) (old new : List Receipt) (note : Option PublishedLog) (base : Option ℕ) (start : ℕ) → RiseAbove 0 old → call_fault (front_of old) log ≡ None
+    → after ≡ kept_with t log event → told.log ≡ after.entries → new ≡ old ++ next_receipt t log event ∷ [] → note ≡ Some told → start ≡ dropped log.base → IsClerk (record { receipts = new; note = note; base = base; start = start })
+is_clerk_after t log after event told old new note base start rise free is tells added kept from =
+    let receipt : Receipt = next_receipt t log event in
     let few = seen_few (front_of old) log free in
-    let shown : told.log ≡ (recorded t log event).entries = tells ∙ ap (λ (l : Log). l.entries) is in
-    let stands : StandsLast told.log (old ++ receipt ∷ []) =
-    subst (λ l. StandsLast l (old ++ receipt ∷ [])) (sym shown) (stands_last (recorded t log event).entries old receipt (added_is_entry t log event)) in
+    let shown : told.log ≡ (kept_with t log event).entries = tells ∙ ap (λ (l : RetainedLog). l.entries) is in
+    let stands : StandsLast (dropped log.base) told.log (old ++ receipt ∷ []) =
+    subst (λ l. StandsLast (dropped log.base) l (old ++ receipt ∷ [])) (sym shown) (stands_last (dropped log.base) (kept_with t log event).entries old receipt (added_is_entry t log event)) in
+    let here : StandsLast start told.log (old ++ receipt ∷ []) = subst (λ n. StandsLast n told.log (old ++ receipt ∷ [])) (sym from) stands in
     record {
       rise = subst (RiseAbove 0) (sym added) (rise_more 0 old receipt rise (omega (arith, few)));
-      last = subst (λ o. NotesLast new o) (sym kept) (subst (λ rs. NotesLast rs (Some told)) (sym added) stands);
+      last = subst (λ o. NotesLast start new o) (sym kept) (subst (λ rs. NotesLast start rs (Some told)) (sym added) here);
     }

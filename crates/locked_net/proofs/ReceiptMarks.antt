@@ -9,7 +9,7 @@
 -- At the end as many marks are set as there are receipts. That is as many as entries, so all marks are set:
 -- each entry has a receipt, and so a clerk. It has no second clerk, since of two receipts with one number the
 -- later would not agree.
-use Rattle.locked_net.proofs.Prelude.{◌≡◌, ℕ, zero, suc, ◌+◌, ◌-◌, ◌<◌, ◌≤◌, ◌⊎◌, Bool, true, false, cond, List, [], ◌∷◌, length, take, set, get_or, Some, refl, sym, ap, subst, ◌∙◌, inl, inr, ⊎_elim, arith, slice_get, sum_by, count_by, cases_lt, cases_eq, cases_order, false≢true, get_or-set_same, get_or-set_other, length-set, take_all, sum_by-cons, sum_by-set, sum_by_more, get_or-le-sum_by, count_by-le-length, slice_get_read, slice_get_within, get_or_from_slice_get, same_Some, dropped, Entry, RetainedLog, last_number, Receipt, ClerkView, RiseAbove, receipt_count, greatest_base, base_number, IsEntryAbove, StandsAt, Settlement, IsEarlierReceipt, Agrees, IsFirstStranger, mark_of, AreReceiptMarks}
+use Rattle.locked_net.proofs.Prelude.{◌≡◌, ℕ, zero, suc, ◌+◌, ◌-◌, ◌<◌, ◌≤◌, ◌⊎◌, Bool, true, false, cond, List, [], ◌∷◌, length, Option, take, set, get_or, slice_index_or, Some, refl, sym, ap, subst, ◌∙◌, inl, inr, ⊎_elim, arith, slice_get, sum_by, count_by, cases_lt, cases_eq, cases_order, false≢true, get_or-set_same, get_or-set_other, length-set, take_all, sum_by-cons, sum_by-set, sum_by_more, get_or-le-sum_by, count_by-le-length, slice_get_read, slice_get_within, get_or_from_slice_get, same_Some, dropped, Entry, RetainedLog, last_number, Receipt, ClerkView, RiseAbove, base_from, receipt_count, entry_count, greatest_base, base_number, IsEntryAbove, StandsAt, Settlement, IsEarlierReceipt, Agrees, IsFirstStranger, mark_of, AreReceiptMarks}
 
 -- ---- places
 
@@ -90,10 +90,10 @@ all_set (false ∷ marks) k full inside =
 -- ---- the steps
 
 -- the receipt is the log's entry, and no receipt before has marked it: it agrees
-fresh_agrees : (kept : RetainedLog) (clerks : List ClerkView) (c p : ℕ) (marks : List Bool) (receipt : Receipt) → AreReceiptMarks kept clerks c p marks → IsEntryAbove kept receipt → mark_of marks receipt.seq ≡ false → Agrees kept clerks c p receipt
-fresh_agrees kept clerks c p marks receipt so_far entry clear = record {
+fresh_agrees : (begun : Option ℕ) (kept : RetainedLog) (clerks : List ClerkView) (c p : ℕ) (marks : List Bool) (receipt : Receipt) → AreReceiptMarks begun kept clerks c p marks → IsEntryAbove begun kept receipt → mark_of begun marks receipt.seq ≡ false → Agrees begun kept clerks c p receipt
+fresh_agrees begun kept clerks c p marks receipt so_far entry clear = record {
   entry = entry;
-  new = λ d q other before stands same. false≢true (sym clear ∙ subst (λ n. mark_of marks n ≡ true) same (so_far.marked d q other before stands));
+  new = λ d q other before stands same. false≢true (sym clear ∙ subst (λ n. mark_of begun marks n ≡ true) same (so_far.marked d q other before stands));
 }
 
 -- what is at the place is the receipt there
@@ -102,30 +102,30 @@ at_place clerks d q c p other receipt e stands here =
     same_receipt clerks c p other receipt (subst (λ k. StandsAt clerks k p other) e.0 (subst (λ k. StandsAt clerks d k other) e.1 stands)) here
 
 -- one more receipt agrees, and its entry is marked
-pub place_more : (kept : RetainedLog) (clerks : List ClerkView) (c p : ℕ) (marks : List Bool) (receipt : Receipt) → AreReceiptMarks kept clerks c p marks → StandsAt clerks c p receipt → IsEntryAbove kept receipt → mark_of marks receipt.seq ≡ false → AreReceiptMarks kept clerks c (p + 1) (set marks (receipt.seq - 1) true)
-place_more kept clerks c p marks receipt so_far here entry clear =
-    let inside : receipt.seq - 1 < length marks = omega (arith, entry.numbered, entry.within, so_far.size) in
-    let agrees = fresh_agrees kept clerks c p marks receipt so_far entry clear in
+place_more : (begun : Option ℕ) (kept : RetainedLog) (clerks : List ClerkView) (c p : ℕ) (marks : List Bool) (receipt : Receipt) → AreReceiptMarks begun kept clerks c p marks → StandsAt clerks c p receipt → IsEntryAbove begun kept receipt → mark_of begun marks receipt.seq ≡ false → AreReceiptMarks begun kept clerks c (p + 1) (set marks (receipt.seq - base_from begun - 1) true)
+place_more begun kept clerks c p marks receipt so_far here entry clear =
+    let inside : receipt.seq - base_from begun - 1 < length marks = omega (arith, entry.numbered, entry.within, so_far.size) in
+    let agrees = fresh_agrees begun kept clerks c p marks receipt so_far entry clear in
     record {
-      size = length-set marks (receipt.seq - 1) true ∙ so_far.size;
+      size = length-set marks (receipt.seq - base_from begun - 1) true ∙ so_far.size;
       agree = λ d q other before stands.
           ⊎_elim
           (λ (earlier : IsEarlierReceipt d q c p). so_far.agree d q other earlier stands)
           (λ (e : (d ≡ c) × (q ≡ p)).
           let same = at_place clerks d q c p other receipt e stands here in
-          subst (λ k. Agrees kept clerks k q other) (sym e.0) (subst (λ k. Agrees kept clerks c k other) (sym e.1) (subst (λ r. Agrees kept clerks c p r) (sym same) agrees)))
+          subst (λ k. Agrees begun kept clerks k q other) (sym e.0) (subst (λ k. Agrees begun kept clerks c k other) (sym e.1) (subst (λ r. Agrees begun kept clerks c p r) (sym same) agrees)))
           (before_more d q c p before);
       rise = so_far.rise;
       marked = λ d q other before stands.
           ⊎_elim
-          (λ (earlier : IsEarlierReceipt d q c p). still_set marks (receipt.seq - 1) (other.seq - 1) inside (so_far.marked d q other earlier stands))
+          (λ (earlier : IsEarlierReceipt d q c p). still_set marks (receipt.seq - base_from begun - 1) (other.seq - base_from begun - 1) inside (so_far.marked d q other earlier stands))
           (λ (e : (d ≡ c) × (q ≡ p)).
           let same = at_place clerks d q c p other receipt e stands here in
-          subst (λ (r : Receipt). mark_of (set marks (receipt.seq - 1) true) r.seq ≡ true) (sym same) (get_or-set_same marks (receipt.seq - 1) true false inside))
+          subst (λ (r : Receipt). mark_of begun (set marks (receipt.seq - base_from begun - 1) true) r.seq ≡ true) (sym same) (get_or-set_same marks (receipt.seq - base_from begun - 1) true false inside))
           (before_more d q c p before);
       numbered = λ k there.
           ⊎_elim
-          (λ (e : k ≡ receipt.seq - 1). record {
+          (λ (e : k ≡ receipt.seq - base_from begun - 1). record {
             clerk = c;
             place = p;
             receipt = receipt;
@@ -133,8 +133,8 @@ place_more kept clerks c p marks receipt so_far here entry clear =
             stands = here;
             numbered = omega (arith, e, entry.numbered);
           })
-          (λ (ne : k ≡ receipt.seq - 1 → ⊥).
-          let old = so_far.numbered k (sym (get_or-set_other marks (receipt.seq - 1) k true false ne) ∙ there) in
+          (λ (ne : k ≡ receipt.seq - base_from begun - 1 → ⊥).
+          let old = so_far.numbered k (sym (get_or-set_other marks (receipt.seq - base_from begun - 1) k true false ne) ∙ there) in
           record {
             clerk = old.clerk;
             place = old.place;
@@ -143,13 +143,13 @@ place_more kept clerks c p marks receipt so_far here entry clear =
             stands = old.stands;
             numbered = old.numbered;
           })
-          (cases_eq k (receipt.seq - 1));
-      count = let more = count_set marks (receipt.seq - 1) inside clear in omega (arith, more, so_far.count);
+          (cases_eq k (receipt.seq - base_from begun - 1));
+      count = let more = count_set marks (receipt.seq - base_from begun - 1) inside clear in omega (arith, more, so_far.count);
     }
 
 -- all receipts of a clerk agree, and its numbers rise
-pub clerk_more : (kept : RetainedLog) (clerks : List ClerkView) (c : ℕ) (clerk : ClerkView) (marks : List Bool) → slice_get clerks c ≡ Some clerk → RiseAbove 0 clerk.receipts → AreReceiptMarks kept clerks c (length clerk.receipts) marks → AreReceiptMarks kept clerks (c + 1) 0 marks
-clerk_more kept clerks c clerk marks of_clerk rises so_far =
+pub clerk_more : (begun : Option ℕ) (kept : RetainedLog) (clerks : List ClerkView) (c : ℕ) (clerk : ClerkView) (marks : List Bool) → slice_get clerks c ≡ Some clerk → RiseAbove 0 clerk.receipts → AreReceiptMarks begun kept clerks c (length clerk.receipts) marks → AreReceiptMarks begun kept clerks (c + 1) 0 marks
+clerk_more begun kept clerks c clerk marks of_clerk rises so_far =
     let within = slice_get_within clerks c clerk of_clerk in
     record {
       size = so_far.size;
@@ -181,25 +181,38 @@ clerk_more kept clerks c clerk marks of_clerk rises so_far =
     }
 
 -- a receipt whose entry is marked already, or that is not the log's entry, is the first stranger
-pub stranger_found : (kept : RetainedLog) (clerks : List ClerkView) (c p : ℕ) (marks : List Bool) (receipt : Receipt) → AreReceiptMarks kept clerks c p marks → StandsAt clerks c p receipt → (IsEntryAbove kept receipt → mark_of marks receipt.seq ≡ true) → IsFirstStranger kept clerks c p
-stranger_found kept clerks c p marks receipt so_far here taken = record {
+pub stranger_found : (begun : Option ℕ) (kept : RetainedLog) (clerks : List ClerkView) (c p : ℕ) (marks : List Bool) (receipt : Receipt) → AreReceiptMarks begun kept clerks c p marks → StandsAt clerks c p receipt → (IsEntryAbove begun kept receipt → mark_of begun marks receipt.seq ≡ true) → IsFirstStranger begun kept clerks c p
+stranger_found begun kept clerks c p marks receipt so_far here taken = record {
   receipt = receipt;
   stands = here;
   strange = λ agrees.
-      let earlier = so_far.numbered (receipt.seq - 1) (taken agrees.entry) in
+      let earlier = so_far.numbered (receipt.seq - base_from begun - 1) (taken agrees.entry) in
       let same : earlier.receipt.seq ≡ receipt.seq = omega (arith, earlier.numbered, agrees.entry.numbered) in
       agrees.new earlier.clerk earlier.place earlier.receipt earlier.before earlier.stands same;
   first = so_far.agree;
 }
+
+-- ---- the same with the beginning's number as it is read
+
+pub place_more_from : (begun : Option ℕ) (kept : RetainedLog) (clerks : List ClerkView) (c p : ℕ) (marks : List Bool) (receipt : Receipt) (first : ℕ) → first ≡ base_from begun → AreReceiptMarks begun kept clerks c p marks → StandsAt clerks c p receipt → IsEntryAbove begun kept receipt
+    → slice_index_or marks (receipt.seq - first - 1) false ≡ false → AreReceiptMarks begun kept clerks c (p + 1) (set marks (receipt.seq - first - 1) true)
+place_more_from begun kept clerks c p marks receipt first is so_far here entry clear =
+    subst (λ n. AreReceiptMarks begun kept clerks c (p + 1) (set marks (receipt.seq - n - 1) true)) (sym is)
+    (place_more begun kept clerks c p marks receipt so_far here entry (subst (λ n. slice_index_or marks (receipt.seq - n - 1) false ≡ false) is clear))
+
+pub stranger_found_from : (begun : Option ℕ) (kept : RetainedLog) (clerks : List ClerkView) (c p : ℕ) (marks : List Bool) (receipt : Receipt) (first : ℕ) → first ≡ base_from begun → AreReceiptMarks begun kept clerks c p marks → StandsAt clerks c p receipt
+    → slice_index_or marks (receipt.seq - first - 1) false ≡ true → IsFirstStranger begun kept clerks c p
+stranger_found_from begun kept clerks c p marks receipt first is so_far here taken =
+    stranger_found begun kept clerks c p marks receipt so_far here (λ entry. subst (λ n. slice_index_or marks (receipt.seq - n - 1) false ≡ true) is taken)
 
 -- ---- the end
 
 -- All receipts agree, they are as many as entries, and the base is the clerks': all is settled. As many marks
 -- are set as there are, so each is, and each entry has a receipt. No receipt has the number of an earlier
 -- one, so no entry has two clerks.
-pub settles : (kept : RetainedLog) (clerks : List ClerkView) (marks : List Bool) → receipt_count clerks ≡ last_number kept → base_number kept.base ≡ greatest_base clerks → AreReceiptMarks kept clerks (length clerks) 0 marks → Settlement kept clerks
-settles kept clerks marks counted based all =
-    let agree : (c p : ℕ) (receipt : Receipt) → StandsAt clerks c p receipt → Agrees kept clerks c p receipt = λ c p receipt stands.
+pub settles : (begun : Option ℕ) (kept : RetainedLog) (clerks : List ClerkView) (marks : List Bool) → receipt_count clerks ≡ entry_count begun kept → base_number kept.base ≡ greatest_base begun clerks → AreReceiptMarks begun kept clerks (length clerks) 0 marks → Settlement begun kept clerks
+settles begun kept clerks marks counted based all =
+    let agree : (c p : ℕ) (receipt : Receipt) → StandsAt clerks c p receipt → Agrees begun kept clerks c p receipt = λ c p receipt stands.
     all.agree c p receipt (inl (slice_get_within clerks c stands.clerk stands.of_clerk)) stands in
     let full : count_by (λ mark. mark) marks ≡ length marks =
     let whole : receipt_count (take (length clerks) clerks) ≡ receipt_count clerks = ap receipt_count (take_all (length clerks) clerks (omega arith)) in
@@ -209,7 +222,7 @@ settles kept clerks marks counted based all =
       rise = λ c clerk of_clerk. all.rise c clerk (slice_get_within clerks c clerk of_clerk) of_clerk;
       count = counted;
       held = λ n above within.
-          let it = all.numbered (n - 1) (all_set marks (n - 1) full (omega (arith, above, within, all.size))) in
+          let it = all.numbered (n - base_from begun - 1) (all_set marks (n - base_from begun - 1) full (omega (arith, above, within, all.size))) in
           (it.clerk, record { place = it.place; receipt = it.receipt; stands = it.stands; numbered = omega (arith, it.numbered, above) });
       once = λ n c d one other.
           ⊎_elim
@@ -226,10 +239,10 @@ settles kept clerks marks counted based all =
 -- ---- what the code reads
 
 -- an entry that is kept has a number of the log
-pub is_kept : (kept : RetainedLog) (receipt : Receipt) (entry : Entry) → dropped kept.base < receipt.seq → slice_get kept.entries (receipt.seq - dropped kept.base - 1) ≡ Some entry → entry ≡ (receipt.event, receipt.reply) → IsEntryAbove kept receipt
-is_kept kept receipt entry above there same =
+pub is_kept : (begun : Option ℕ) (kept : RetainedLog) (receipt : Receipt) (entry : Entry) → base_from begun < receipt.seq → dropped kept.base < receipt.seq → slice_get kept.entries (receipt.seq - dropped kept.base - 1) ≡ Some entry → entry ≡ (receipt.event, receipt.reply) → IsEntryAbove begun kept receipt
+is_kept begun kept receipt entry numbered above there same =
     let within = slice_get_within kept.entries (receipt.seq - dropped kept.base - 1) entry there in
-    record { numbered = omega (arith, above); within = omega (arith, within, above); same = λ _. there ∙ ap Some same }
+    record { numbered = numbered; within = omega (arith, within, above); same = λ _. there ∙ ap Some same }
 
 -- the receipt that is read at a place of a clerk's list is there
 pub standing : (clerks : List ClerkView) (c p : ℕ) (clerk : ClerkView) (items : List Receipt) (receipt : Receipt) → c < length clerks → clerk ≡ get_or clerks c clerk → items ≡ clerk.receipts → p < length items → receipt ≡ get_or items p receipt → StandsAt clerks c p receipt
@@ -240,8 +253,8 @@ standing clerks c p clerk items receipt there is same inside read = record {
 }
 
 -- a stranger's place is below the number of receipts
-pub place_within : (kept : RetainedLog) (clerks : List ClerkView) (c p : ℕ) → IsFirstStranger kept clerks c p → p < receipt_count clerks
-place_within kept clerks c p found =
+pub place_within : (begun : Option ℕ) (kept : RetainedLog) (clerks : List ClerkView) (c p : ℕ) → IsFirstStranger begun kept clerks c p → p < receipt_count clerks
+place_within begun kept clerks c p found =
     let of_clerk = found.stands.of_clerk in
     let clerk : ClerkView = found.stands.clerk in
     let count_of : ClerkView → ℕ = λ k. length k.receipts in

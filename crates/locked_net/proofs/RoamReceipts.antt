@@ -1,5 +1,5 @@
 -- The receipts of clerks that roamed turn by turn, and their fault.
-use Rattle.locked_net.proofs.Prelude.{◌≡◌, ◌∙◌, ℕ, zero, suc, ◌+◌, ◌<◌, ◌≤◌, Bool, true, false, List, [], ◌∷◌, ◌++◌, length, take, drop, min, Option, None, Some, if◌then◌else◌, nat_eq, nat_lt, refl, sym, ap, subst, ⊎_elim, append_assoc, length-append, arith, All, slice_get, cases_lt, ltb-true, append-nil, drop_all, drop_at, nil_from_length, take_all, take_at, same_Some, none-some, All-nil, All-cons, All-append, RuleTable, Receipt, Log, receipt_of, ClerkView, seen_by, Setting, CallFault, Behind, LogFull, Memory, RoamFault, ExplainsCallFault, MayAnswer, mover, lone_step, receipts_by, receipts_of_turn, FaultBy, IsLoneStep, Roams, AllRoam, RoamResult, MayMeetRoamFault, TakesTurns, AllTakeTurns, MayEnd, AllEnd, roam_fault}
+use Rattle.locked_net.proofs.Prelude.{◌≡◌, ◌∙◌, ℕ, zero, suc, ◌+◌, ◌<◌, ◌≤◌, Bool, true, false, List, [], ◌∷◌, ◌++◌, length, take, drop, min, Option, None, Some, if◌then◌else◌, nat_eq, nat_lt, refl, sym, ap, subst, ⊎_elim, append_assoc, length-append, arith, All, slice_get, cases_lt, ltb-true, append-nil, drop_all, drop_at, nil_from_length, take_all, take_at, same_Some, none-some, All-nil, All-cons, All-append, RuleTable, Receipt, RetainedLog, next_receipt, ClerkView, seen_by, Setting, CallFault, Behind, LogFull, Memory, RoamFault, ExplainsCallFault, MayAnswer, mover, lone_step, receipts_by, receipts_of_turn, FaultBy, IsLoneStep, Roams, AllRoam, RoamResult, MayMeetRoamFault, TakesTurns, AllTakeTurns, MayEnd, AllEnd, roam_fault}
 use Rattle.locked_net.proofs.CallFaults.{may_answer}
 use Rattle.locked_net.proofs.Movers.{mover_answers}
 
@@ -10,11 +10,11 @@ record IsTold (told : List Receipt) : Type 0 where
   few : length told ≤ 1
   lone : All IsLoneStep told
 
-turn_told : (t : RuleTable) (log : Log) (turn : ℕ) (chosen : Option ℕ) → mover t log.state turn ≡ chosen → IsTold (receipts_by t log chosen)
+turn_told : (t : RuleTable) (log : RetainedLog) (turn : ℕ) (chosen : Option ℕ) → mover t log.state turn ≡ chosen → IsTold (receipts_by t log chosen)
 turn_told t log turn None is = record { few = omega arith; lone = All-nil IsLoneStep }
 turn_told t log turn (Some v) is =
     let answered = mover_answers t log.state turn v log.spent is in
-    let receipt : Receipt = receipt_of t log (lone_step v) in
+    let receipt : Receipt = next_receipt t log (lone_step v) in
     let own : IsLoneStep receipt = record { node = v; move = answered.move; stepped = refl; moved = answered.answer; own = answered.own } in
     record { few = omega arith; lone = All-cons IsLoneStep receipt [] own (All-nil IsLoneStep) }
 
@@ -105,7 +105,7 @@ first_taken setting turns count whole part new rest fault value size few same en
 
 -- ---- the fault
 
-met_answers : (seen : ℕ) (log : Log) (chosen : Option ℕ) (fault : CallFault) → FaultBy seen log chosen fault → MayAnswer seen fault
+met_answers : (seen : ℕ) (log : RetainedLog) (chosen : Option ℕ) (fault : CallFault) → FaultBy seen log chosen fault → MayAnswer seen fault
 met_answers seen log None fault met = absurd met
 met_answers seen log (Some v) fault met = may_answer seen log fault met
 

@@ -1,5 +1,5 @@
 -- A settled log has no stranger; a clerk whose numbers rise does not clash with itself.
-use Rattle.locked_net.proofs.Prelude.{◌≡◌, ℕ, zero, suc, ◌<◌, ◌↔◌, List, [], ◌∷◌, Some, sym, subst, ◌∙◌, refl, inl, ⊎_elim, arith, slice_get, same_Some, RetainedLog, Receipt, SettleFault, CountDiffers, BaseDiffers, Stranger, ClerkView, RiseAbove, StandsAt, HasReceiptNumber, IsEntryAbove, Agrees, Settlement, Unsettles}
+use Rattle.locked_net.proofs.Prelude.{◌≡◌, ℕ, zero, suc, ◌<◌, ◌↔◌, List, [], ◌∷◌, Option, Some, sym, subst, ◌∙◌, refl, inl, ⊎_elim, arith, slice_get, same_Some, RetainedLog, Receipt, SettleFault, CountDiffers, BaseDiffers, Stranger, ClerkView, RiseAbove, StandsAt, HasReceiptNumber, IsEntryAbove, Agrees, Settlement, Unsettles}
 use Rattle.locked_net.specs.declared.settle_fault.SettleFault.TheVariants.{Memory}
 
 -- each number is above the start of the rise
@@ -26,8 +26,8 @@ apart clerks d c q p one other rise e lt stands here same =
     omega (arith, less, same)
 
 -- an earlier receipt with the number is an earlier clerk's
-pub agrees_by_clerks : (kept : RetainedLog) (clerks : List ClerkView) (c p : ℕ) (receipt : Receipt) → ((d : ℕ) (clerk : ClerkView) → slice_get clerks d ≡ Some clerk → RiseAbove 0 clerk.receipts) → StandsAt clerks c p receipt → Agrees kept clerks c p receipt ↔ (IsEntryAbove kept receipt × ((d : ℕ) → d < c → HasReceiptNumber clerks d receipt.seq → ⊥))
-agrees_by_clerks kept clerks c p receipt rise here = (
+pub agrees_by_clerks : (begun : Option ℕ) (kept : RetainedLog) (clerks : List ClerkView) (c p : ℕ) (receipt : Receipt) → ((d : ℕ) (clerk : ClerkView) → slice_get clerks d ≡ Some clerk → RiseAbove 0 clerk.receipts) → StandsAt clerks c p receipt → Agrees begun kept clerks c p receipt ↔ (IsEntryAbove begun kept receipt × ((d : ℕ) → d < c → HasReceiptNumber clerks d receipt.seq → ⊥))
+agrees_by_clerks begun kept clerks c p receipt rise here = (
   λ agrees. (agrees.entry, λ d below holds. agrees.new d holds.place holds.receipt (inl below) holds.stands holds.numbered),
   λ own. record {
     entry = own.0;
@@ -39,16 +39,16 @@ agrees_by_clerks kept clerks c p receipt rise here = (
   },
 )
 
-pub all_agree : (kept : RetainedLog) (clerks : List ClerkView) (c p : ℕ) (receipt : Receipt) → Settlement kept clerks → StandsAt clerks c p receipt → Agrees kept clerks c p receipt
-all_agree kept clerks c p receipt settled here =
+pub all_agree : (begun : Option ℕ) (kept : RetainedLog) (clerks : List ClerkView) (c p : ℕ) (receipt : Receipt) → Settlement begun kept clerks → StandsAt clerks c p receipt → Agrees begun kept clerks c p receipt
+all_agree begun kept clerks c p receipt settled here =
     let own : HasReceiptNumber clerks c receipt.seq = record { place = p; receipt = receipt; stands = here; numbered = refl } in
-    (agrees_by_clerks kept clerks c p receipt settled.rise here).1 (
+    (agrees_by_clerks begun kept clerks c p receipt settled.rise here).1 (
       settled.told c p here.clerk receipt here.of_clerk here.at_place,
       λ d below holds. let same = settled.once receipt.seq d c holds own in omega (arith, below, same),
     )
 
-pub settled_not_refused : (kept : RetainedLog) (clerks : List ClerkView) (why : SettleFault) → Settlement kept clerks → Unsettles kept clerks why → why ≡ Memory
-settled_not_refused kept clerks CountDiffers settled differs = absurd (differs settled.count)
-settled_not_refused kept clerks BaseDiffers settled differs = absurd (differs.1 settled.based)
-settled_not_refused kept clerks (Stranger c p) settled (same, based, found) = absurd (found.strange (all_agree kept clerks c p found.receipt settled found.stands))
-settled_not_refused kept clerks Memory settled _ = refl
+pub settled_not_refused : (begun : Option ℕ) (kept : RetainedLog) (clerks : List ClerkView) (why : SettleFault) → Settlement begun kept clerks → Unsettles begun kept clerks why → why ≡ Memory
+settled_not_refused begun kept clerks CountDiffers settled differs = absurd (differs settled.count)
+settled_not_refused begun kept clerks BaseDiffers settled differs = absurd (differs.1 settled.based)
+settled_not_refused begun kept clerks (Stranger c p) settled (same, based, found) = absurd (found.strange (all_agree begun kept clerks c p found.receipt settled found.stands))
+settled_not_refused begun kept clerks Memory settled _ = refl

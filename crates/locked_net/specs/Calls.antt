@@ -11,7 +11,7 @@ use Rattle.fault_injector.specs.DrawnFaults.{is_register_fault}
 use Rattle.step_log.specs.declared.fault.RecordFault.{RecordFault}
 use Rattle.step_log.specs.declared.fault.RecordFault.TheVariants as record_fault
 use Rattle.step_log.specs.declared.receipt.Receipt.{Receipt}
-use Rattle.step_log.specs.Log.{Log, recorded, receipt_of}
+use Rattle.step_log.specs.RetainedLogs.{RetainedLog, last_number, kept_with, next_receipt}
 use Rattle.steal_pool.specs.declared.fault.PoolFault.{PoolFault}
 use Rattle.steal_pool.specs.declared.fault.PoolFault.TheVariants.{ZeroWorkers}
 use Rattle.steal_pool.specs.declared.fault.PoolFault.TheVariants as pool_fault
@@ -22,15 +22,15 @@ use Rattle.locked_net.specs.declared.step_fault.StepFault.{StepFault}
 use Rattle.locked_net.specs.declared.step_fault.StepFault.TheVariants.{Call, Pool}
 
 -- the fault for a clerk that has seen `seen` entries, before memory matters
-abbrev pub call_fault : ℕ → Log → Option CallFault
+abbrev pub call_fault : ℕ → RetainedLog → Option CallFault
 call_fault seen log =
-    if nat_lt (length log.entries) seen then Some (Behind (length log.entries) seen)
-    else (if nat_eq (length log.entries) log.limit then Some LogFull else None)
+    if nat_lt (last_number log) seen then Some (Behind (last_number log) seen)
+    else (if nat_eq (last_number log) log.limit then Some LogFull else None)
 
 -- the fault of a checkpoint, which a full log does not refuse
-abbrev pub checkpoint_fault : ℕ → Log → Option CallFault
+abbrev pub checkpoint_fault : ℕ → RetainedLog → Option CallFault
 checkpoint_fault seen log =
-    if nat_lt (length log.entries) seen then Some (Behind (length log.entries) seen) else None
+    if nat_lt (last_number log) seen then Some (Behind (last_number log) seen) else None
 
 -- the fault is the one found; if none was found, the fault is `Memory`
 abbrev pub ExplainsCallFault : Option CallFault → CallFault → Type 0
@@ -76,13 +76,13 @@ pub record KeepsFault (old new : List Receipt) (reply : Reply) : Type 0 where
   pub accepted : reply ≡ Accepted
 
 -- An event was recorded with this reply, and the receipt of this event was added.
-pub record RecordsEvent (t : RuleTable) (before after : Log) (old new : List Receipt) (event : Event) (reply : Reply) : Type 0 where
-  pub log : after ≡ recorded t before event
-  pub receipt : new ≡ old ++ receipt_of t before event ∷ []
-  pub reply_is : reply ≡ (receipt_of t before event).reply
+pub record RecordsEvent (t : RuleTable) (before after : RetainedLog) (old new : List Receipt) (event : Event) (reply : Reply) : Type 0 where
+  pub log : after ≡ kept_with t before event
+  pub receipt : new ≡ old ++ next_receipt t before event ∷ []
+  pub reply_is : reply ≡ (next_receipt t before event).reply
 
 -- The recorded event is a step with its moves. The step is of one node if the daemon is central.
-pub record Drives (t : RuleTable) (before after : Log) (old new : List Receipt) (reply : Reply) : Type 0 where
+pub record Drives (t : RuleTable) (before after : RetainedLog) (old new : List Receipt) (reply : Reply) : Type 0 where
   pub items : List Item
   pub moves : List Moved
   pub told : RecordsEvent t before after old new (Step items) reply
@@ -90,7 +90,7 @@ pub record Drives (t : RuleTable) (before after : Log) (old new : List Receipt) 
   pub one : IsTrue t.central → length items ≡ 1
 
 -- The recorded event is an accepted change of a register.
-pub record Breaks (t : RuleTable) (before after : Log) (old new : List Receipt) (reply : Reply) : Type 0 where
+pub record Breaks (t : RuleTable) (before after : RetainedLog) (old new : List Receipt) (reply : Reply) : Type 0 where
   pub event : Event
   pub told : RecordsEvent t before after old new event reply
   pub register : IsTrue (is_register_fault event)

@@ -2,7 +2,7 @@
 --
 -- A caller does not see the log. So a clause says that there is a log under the lock: a run of the network's
 -- rules, with the network's nodes and limit.
-use Rattle.std.specs.Prelude.{◌≡◌, ◌↔◌, ◌≤◌, ℕ, Bool, List, [], ◌∷◌, ◌++◌, length, Option, None, Some, IfSome, IsNone}
+use Rattle.std.specs.Prelude.{◌≡◌, ◌↔◌, ◌≤◌, ℕ, Bool, List, [], ◌∷◌, ◌++◌, Option, None, Some, IfSome, IsNone}
 use Rattle.std.specs.Option.{option_map}
 use mathlib.Core.List.{IsPrefix}
 use Rattle.rule_machine.specs.declared.choice.Item.{Item}
@@ -15,7 +15,7 @@ use Rattle.rule_machine.specs.State.{State}
 use Rattle.fault_injector.specs.DrawnFaults.{fault_drawn}
 use Rattle.rule_machine.specs.RuleTable.{RuleTable, enabled_names}
 use Rattle.step_log.specs.declared.receipt.Receipt.{Receipt}
-use Rattle.step_log.specs.Log.{Log, receipt_of}
+use Rattle.step_log.specs.RetainedLogs.{RetainedLog, last_number, next_receipt}
 use Rattle.snapshots.specs.Views.{PublishedLog}
 use Rattle.locked_net.specs.Receipts.{ClerkView, front_of, noted}
 use Rattle.locked_net.specs.Settings.{Setting, IsLogIn}
@@ -45,12 +45,12 @@ abbrev pub NoneIfEmpty : Option Reply → State → Option Event → Type 0
 NoneIfEmpty told s event = IsNone told ↔ (node_count s.network ≡ 0)
 
 -- the reply and the receipt of the event chosen on a log; neither reply nor receipt if no event was chosen
-abbrev pub IsChosenReply : RuleTable → Log → Option Event → List Receipt → List Receipt → Option Reply → Type 0
+abbrev pub IsChosenReply : RuleTable → RetainedLog → Option Event → List Receipt → List Receipt → Option Reply → Type 0
 IsChosenReply t log None old new told = (told ≡ None) × (new ≡ old)
-IsChosenReply t log (Some event) old new told = (told ≡ Some (receipt_of t log event).reply) × (new ≡ old ++ receipt_of t log event ∷ [])
+IsChosenReply t log (Some event) old new told = (told ≡ Some (next_receipt t log event).reply) × (new ≡ old ++ next_receipt t log event ∷ [])
 
 -- An event, or none, was chosen in the state of a log.
-pub record ChoosesOn (t : RuleTable) (log : Log) (Chooses : State → Option Event → Type 0) (old new : List Receipt) (told : Option Reply) : Type 0 where
+pub record ChoosesOn (t : RuleTable) (log : RetainedLog) (Chooses : State → Option Event → Type 0) (old new : List Receipt) (told : Option Reply) : Type 0 where
   pub event : Option Event
   pub chosen : Chooses log.state event
   pub is_told : IsChosenReply t log event old new told
@@ -58,7 +58,7 @@ pub record ChoosesOn (t : RuleTable) (log : Log) (Chooses : State → Option Eve
 -- A log includes all that the clerk has seen and has room for an entry; the event was chosen on this log. If
 -- the event was recorded, this log is a prefix of the log of the clerk's note.
 pub record TakesChoice (setting : Setting) (Chooses : State → Option Event → Type 0) (old new : List Receipt) (note : Option PublishedLog) (told : Option Reply) : Type 0 where
-  pub log : Log
+  pub log : RetainedLog
   pub own : IsLogIn setting log
   pub free : call_fault (front_of old) log ≡ None
   pub taken : ChoosesOn setting.table log Chooses old new told
@@ -71,28 +71,28 @@ ClerkTakes setting Chooses old new told = TakesChoice setting Chooses old.receip
 -- A log gives this fault to a clerk that has seen `seen` entries; `Memory` only if there is no other fault.
 -- `may` is what the clerk can expect without seeing the log.
 pub record Refuses (setting : Setting) (seen : ℕ) (fault : CallFault) : Type 0 where
-  pub log : Log
+  pub log : RetainedLog
   pub own : IsLogIn setting log
   pub explained : ExplainsCallFault (call_fault seen log) fault
   pub may : MayAnswer seen fault
 
--- A log of `number` entries includes all that the clerk has seen.
+-- A log up to the number `number` includes all that the clerk has seen.
 pub record HoldsAll (setting : Setting) (seen number : ℕ) : Type 0 where
-  pub log : Log
+  pub log : RetainedLog
   pub own : IsLogIn setting log
-  pub count : number ≡ length log.entries
+  pub count : number ≡ last_number log
   pub all : seen ≤ number
 
 -- A log gives this fault for a checkpoint.
 pub record RefusesCheckpoint (setting : Setting) (seen : ℕ) (fault : CallFault) : Type 0 where
-  pub log : Log
+  pub log : RetainedLog
   pub own : IsLogIn setting log
   pub explained : ExplainsCallFault (checkpoint_fault seen log) fault
   pub may : MayRefuseCheckpoint seen fault
 
 -- A log gives this fault for a step that workers judge.
 pub record RefusesStep (setting : Setting) (seen workers : ℕ) (fault : StepFault) : Type 0 where
-  pub log : Log
+  pub log : RetainedLog
   pub own : IsLogIn setting log
   pub explained : ExplainsStep (call_fault seen log) workers fault
   pub may : MayAnswerStep seen workers fault

@@ -1,5 +1,6 @@
 pub mod Receipts
 pub mod Settlements
+pub mod WholeLogs
 pub mod Settings
 pub mod RetainedParts
 pub mod Calls

@@ -6,14 +6,13 @@ use Rattle.rule_engine.specs.Costs.{disturbance_cost, BoundsGrowth}
 use Rattle.logbook.specs.Pages.{Book}
 use Rattle.snapshots.specs.Views.{PublishedLog}
 use Rattle.step_log.specs.RetainedLogs.{RetainedLog}
-use Rattle.step_log.specs.Log.{Log}
 use Rattle.locked_net.specs.RetainedParts.{IsPartOfLog}
 use Rattle.locked_net.specs.Settings.{Setting, IsLogIn}
 
 -- The log under the lock is exactly the note's log, published in this history. After this log the event has
 -- this cost; if the event is accepted, the charge grows by at most this cost.
 pub record IsCostSeen (setting : Setting) (book : Book) (weighs : State → Event → ℕ) (event : Event) (cost : ℕ) (note : PublishedLog) : Type 0 where
-  pub log : Log
+  pub log : RetainedLog
   pub own : IsLogIn setting log
   pub published : note.log ≡ log.entries
   pub in_book : note.book ≡ book

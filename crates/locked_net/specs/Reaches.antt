@@ -6,13 +6,13 @@ use Rattle.containment_laws.specs.Rest.{is_at_rest}
 use Rattle.rule_engine.specs.DisturbanceReach.{reach_of, Spares}
 use Rattle.logbook.specs.Pages.{Book}
 use Rattle.snapshots.specs.Views.{PublishedLog}
-use Rattle.step_log.specs.Log.{Log}
+use Rattle.step_log.specs.RetainedLogs.{RetainedLog}
 use Rattle.locked_net.specs.Settings.{Setting, IsLogIn}
 
 -- The log under the lock is exactly the note's log, published in this history. `rests` says whether the node
 -- is at rest after this log. If it is at rest, no rule is enabled at it.
 pub record IsRestSeen (setting : Setting) (book : Book) (v : ℕ) (rests : Bool) (note : PublishedLog) : Type 0 where
-  pub log : Log
+  pub log : RetainedLog
   pub own : IsLogIn setting log
   pub published : note.log ≡ log.entries
   pub in_book : note.book ≡ book
@@ -22,7 +22,7 @@ pub record IsRestSeen (setting : Setting) (book : Book) (v : ℕ) (rests : Bool)
 -- After the note's log the event would reach these nodes. If the event is accepted, each node at rest that
 -- is not among these nodes stays at rest.
 pub record IsReachSeen (setting : Setting) (book : Book) (event : Event) (reach : List ℕ) (note : PublishedLog) : Type 0 where
-  pub log : Log
+  pub log : RetainedLog
   pub own : IsLogIn setting log
   pub published : note.log ≡ log.entries
   pub in_book : note.book ≡ book

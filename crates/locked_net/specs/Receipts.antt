@@ -1,10 +1,13 @@
 -- What a clerk keeps: a receipt for each reply, oldest first, with the number of the log's entry; a note of
 -- what was published at the last receipt or later; and the greatest number that a checkpoint returned.
 use Rattle.std.specs.Prelude.{◌≡◌, ℕ, ◌<◌, ◌-◌, max, List, [], ◌∷◌, Option, None, Some, IfSome, IsSomeAnd, slice_get}
+use Rattle.std.specs.Option.{option_map}
+use Rattle.rule_machine.specs.declared.base.Base.{Base}
+use Rattle.rule_machine.specs.Base.{dropped}
 use Rattle.rule_machine.specs.Run.{Entry}
 use Rattle.step_log.specs.declared.receipt.Receipt.{Receipt}
 use Rattle.logbook.specs.Pages.{Book}
-use Rattle.snapshots.specs.Views.{PublishedLog}
+use Rattle.snapshots.specs.Views.{BoardName, PublishedLog}
 
 -- the number of the last receipt; `front` if there is none
 abbrev pub front_from : ℕ → List Receipt → ℕ
@@ -20,16 +23,23 @@ abbrev pub RiseAbove : ℕ → List Receipt → Type 0
 RiseAbove low [] = Unit {0}
 RiseAbove low (receipt ∷ receipts) = (low < receipt.seq) × RiseAbove receipt.seq receipts
 
--- The receipt is the log's entry with the receipt's number, from 1: the same event with the same reply.
-pub record IsReceiptOf (log : List Entry) (receipt : Receipt) : Type 0 where
-  pub numbered : 0 < receipt.seq
-  pub same : slice_get log (receipt.seq - 1) ≡ Some (receipt.event, receipt.reply)
+-- Entries are numbered after `start`. The receipt is the entry with the receipt's number: the same event with
+-- the same reply.
+pub record IsReceiptOf (start : ℕ) (log : List Entry) (receipt : Receipt) : Type 0 where
+  pub numbered : start < receipt.seq
+  pub same : slice_get log (receipt.seq - start - 1) ≡ Some (receipt.event, receipt.reply)
 
--- a clerk as contracts see it
+-- A clerk as contracts see it. The network of its last receipt numbers its entries after `start`; 0 if there
+-- is no receipt.
 pub record ClerkView : Type 0 where
   pub receipts : List Receipt
   pub note : Option PublishedLog
   pub base : Option ℕ
+  pub start : ℕ
+
+-- the number of the last entry before a base; none if there is no base
+abbrev pub base_number : Option Base → Option ℕ
+base_number base = option_map (λ b. b.number) base
 
 -- the number of a base; 0 if there is none
 abbrev pub base_from : Option ℕ → ℕ
@@ -45,22 +55,22 @@ seen_by clerk = seen_from clerk.base clerk.receipts
 
 -- a clerk that has made no call
 abbrev pub fresh : ClerkView
-fresh = record { receipts = []; note = None; base = None }
+fresh = record { receipts = []; note = None; base = None; start = 0 }
 
 -- the last receipt is the log's entry with the number of this receipt
-abbrev pub StandsLastFrom : List Entry → Receipt → List Receipt → Type 0
-StandsLastFrom log receipt [] = IsReceiptOf log receipt
-StandsLastFrom log receipt (next ∷ receipts) = StandsLastFrom log next receipts
+abbrev pub StandsLastFrom : ℕ → List Entry → Receipt → List Receipt → Type 0
+StandsLastFrom start log receipt [] = IsReceiptOf start log receipt
+StandsLastFrom start log receipt (next ∷ receipts) = StandsLastFrom start log next receipts
 
 -- the same, if there is any receipt
-abbrev pub StandsLast : List Entry → List Receipt → Type 0
-StandsLast log [] = Unit {0}
-StandsLast log (receipt ∷ receipts) = StandsLastFrom log receipt receipts
+abbrev pub StandsLast : ℕ → List Entry → List Receipt → Type 0
+StandsLast start log [] = Unit {0}
+StandsLast start log (receipt ∷ receipts) = StandsLastFrom start log receipt receipts
 
 -- a clerk with a receipt has a note, and the note's log has the entry of the last receipt
-abbrev pub NotesLast : List Receipt → Option PublishedLog → Type 0
-NotesLast receipts None = receipts ≡ []
-NotesLast receipts (Some told) = StandsLast told.log receipts
+abbrev pub NotesLast : ℕ → List Receipt → Option PublishedLog → Type 0
+NotesLast start receipts None = receipts ≡ []
+NotesLast start receipts (Some told) = StandsLast start told.log receipts
 
 -- the entries of a note; none if there is no note
 abbrev pub noted : Option PublishedLog → List Entry
@@ -70,7 +80,7 @@ noted (Some told) = told.log
 -- the numbers of the receipts rise, and the note's log has the entry of the last receipt
 pub record IsClerk (clerk : ClerkView) : Type 0 where
   pub rise : RiseAbove 0 clerk.receipts
-  pub last : NotesLast clerk.receipts clerk.note
+  pub last : NotesLast clerk.start clerk.receipts clerk.note
 
 -- the greater of two numbers; if only one is there, that number
 abbrev pub greater_base : Option ℕ → Option ℕ → Option ℕ
@@ -85,3 +95,8 @@ HasNoteOf book clerk = IsSomeAnd clerk.note (λ told. told.book ≡ book)
 -- if there is a note, the note is of this history
 abbrev pub IsOfBook : Book → ClerkView → Type 0
 IsOfBook book clerk = IfSome clerk.note (λ told. told.book ≡ book)
+
+-- The clerk has a note of the board's history, and its last receipt's entry is numbered after the board's base.
+pub record HasNoteFrom (name : BoardName) (clerk : ClerkView) : Type 0 where
+  pub note : HasNoteOf name.book clerk
+  pub start : clerk.start ≡ dropped name.extent.base

@@ -1,42 +1,45 @@
--- A whole log from the opening state, and the part of it above a journal's base.
-use Rattle.std.specs.Prelude.{◌≡◌, ℕ, ◌++◌, List, Option, None, Some, length}
+-- A whole log from a network's beginning, and the part of it above a journal's base.
+use Rattle.std.specs.Prelude.{◌≡◌, ℕ, ◌+◌, ◌++◌, ◌⊎◌, List, [], Option, Some, length}
 use Rattle.std.specs.List.{All}
 use mathlib.Core.List.{IsPrefix}
 use Rattle.rule_machine.specs.declared.base.Base.{Base}
 use Rattle.rule_machine.specs.RuleTable.{RuleTable}
-use Rattle.rule_machine.specs.Run.{Entry, Moment, Run, beginning_with}
+use Rattle.rule_machine.specs.Run.{Entry, Moment, Run}
 use Rattle.rule_machine.specs.Base.{base_of, dropped}
-use Rattle.step_log.specs.Log.{Log}
-use Rattle.step_log.specs.JournalViews.{JournalView, kept_of}
 use Rattle.step_log.specs.RetainedLogs.{RetainedLog, IsRetainedRun}
+use Rattle.snapshots.specs.Starts.{StartsAt}
+use Rattle.snapshots.specs.Views.{BoardView}
+use Rattle.step_log.specs.JournalViews.{JournalView, kept_of}
 use Rattle.locked_net.specs.Receipts.{ClerkView, noted}
 use Rattle.locked_net.specs.Settings.{Setting, IsLogIn}
 
--- the base, if any, is made from the moment to which these entries lead
-abbrev pub TellsEnd : RuleTable → Moment → List Entry → Option Base → Type 0
-TellsEnd t start entries None = Unit {0}
-TellsEnd t start entries (Some base) = (m : Moment) × Run t start entries m × (base ≡ base_of (length entries) m)
+-- Nothing is below and the base is the log's beginning, or the base is made from the moment to which the
+-- entries below lead.
+abbrev pub TellsEnd : RuleTable → RetainedLog → List Entry → Option Base → Type 0
+TellsEnd t log below base =
+    ((below ≡ []) × (base ≡ log.base))
+    ⊎ ((start : Moment) × (m : Moment) × StartsAt t log.state.network.size log.present log.base start × Run t start below m × (base ≡ Some (base_of (dropped log.base + length below) m)))
 
--- What is kept of the log is the part of its entries above the base. The base is the moment after the
--- entries below. State, spent moves, limit and nodes at the start are the log's.
-pub record IsLogAboveBase (t : RuleTable) (log : Log) (kept : RetainedLog) : Type 0 where
+-- What is kept of the log is the part of its entries above the base. The base is the log's beginning, or the
+-- moment after the entries below. State, spent moves, limit and nodes at the start are the log's.
+pub record IsLogAboveBase (t : RuleTable) (log kept : RetainedLog) : Type 0 where
   pub below : List Entry
   pub splits : log.entries ≡ below ++ kept.entries
-  pub count : length below ≡ dropped kept.base
-  pub tells : TellsEnd t (beginning_with log.state.network.size log.present) below kept.base
+  pub count : dropped log.base + length below ≡ dropped kept.base
+  pub tells : TellsEnd t log below kept.base
   pub state : kept.state ≡ log.state
   pub spent : kept.spent ≡ log.spent
   pub limit : kept.limit ≡ log.limit
   pub present : kept.present ≡ log.present
 
--- a log with these entries, and all else from what is kept
-abbrev pub log_over : RetainedLog → List Entry → Log
-log_over kept entries =
-    record { state = kept.state; spent = kept.spent; entries = entries; limit = kept.limit; present = kept.present }
+-- the whole log that a board publishes: the board's entries from its beginning, and all else from what is kept
+abbrev pub log_over : RetainedLog → BoardView → RetainedLog
+log_over kept board =
+    record { state = kept.state; spent = kept.spent; base = board.name.extent.base; entries = board.list; limit = kept.limit; present = kept.present }
 
 -- There is a whole log in the setting, and the part of this log above the base is kept.
 pub record IsPartOfLog (setting : Setting) (kept : RetainedLog) : Type 0 where
-  pub log : Log
+  pub log : RetainedLog
   pub own : IsLogIn setting log
   pub above : IsLogAboveBase setting.table log kept
 

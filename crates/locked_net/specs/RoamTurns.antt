@@ -6,7 +6,7 @@ use Rattle.rule_machine.specs.declared.event.Event.TheVariants.{Step}
 use Rattle.rule_machine.specs.State.{State}
 use Rattle.rule_machine.specs.RuleTable.{RuleTable, enabled_names}
 use Rattle.step_log.specs.declared.receipt.Receipt.{Receipt}
-use Rattle.step_log.specs.Log.{Log, recorded, receipt_of}
+use Rattle.step_log.specs.RetainedLogs.{RetainedLog, kept_with, next_receipt}
 use Rattle.locked_net.specs.declared.call_fault.CallFault.{CallFault}
 use Rattle.locked_net.specs.Calls.{call_fault, ExplainsCallFault}
 
@@ -22,34 +22,34 @@ abbrev pub lone_step : ℕ → Event
 lone_step v = Step (lone_items v)
 
 -- the log after the step of a node; unchanged if there is no node
-abbrev pub log_by : RuleTable → Log → Option ℕ → Log
+abbrev pub log_by : RuleTable → RetainedLog → Option ℕ → RetainedLog
 log_by t log None = log
-log_by t log (Some v) = recorded t log (lone_step v)
+log_by t log (Some v) = kept_with t log (lone_step v)
 
 -- the receipt of that step; no receipt if there is no node
-abbrev pub receipts_by : RuleTable → Log → Option ℕ → List Receipt
+abbrev pub receipts_by : RuleTable → RetainedLog → Option ℕ → List Receipt
 receipts_by t log None = []
-receipts_by t log (Some v) = receipt_of t log (lone_step v) ∷ []
+receipts_by t log (Some v) = next_receipt t log (lone_step v) ∷ []
 
 -- why that step is not recorded; no fault if there is no node
-abbrev pub fault_by : ℕ → Log → Option ℕ → Option CallFault
+abbrev pub fault_by : ℕ → RetainedLog → Option ℕ → Option CallFault
 fault_by seen log None = None
 fault_by seen log (Some v) = call_fault seen log
 
 -- there is a node, and the fault is that of its step; `Memory` only if the step has no other fault
-abbrev pub FaultBy : ℕ → Log → Option ℕ → CallFault → Type 0
+abbrev pub FaultBy : ℕ → RetainedLog → Option ℕ → CallFault → Type 0
 FaultBy seen log None fault = ⊥
 FaultBy seen log (Some v) fault = ExplainsCallFault (call_fault seen log) fault
 
 -- log, receipts and faults as above, for the node whose turn it is
-abbrev pub log_after_turn : RuleTable → Log → ℕ → Log
+abbrev pub log_after_turn : RuleTable → RetainedLog → ℕ → RetainedLog
 log_after_turn t log turn = log_by t log (mover t log.state turn)
 
-abbrev pub receipts_of_turn : RuleTable → Log → ℕ → List Receipt
+abbrev pub receipts_of_turn : RuleTable → RetainedLog → ℕ → List Receipt
 receipts_of_turn t log turn = receipts_by t log (mover t log.state turn)
 
-abbrev pub fault_of_turn : RuleTable → ℕ → Log → ℕ → Option CallFault
+abbrev pub fault_of_turn : RuleTable → ℕ → RetainedLog → ℕ → Option CallFault
 fault_of_turn t seen log turn = fault_by seen log (mover t log.state turn)
 
-abbrev pub FaultInTurn : RuleTable → ℕ → Log → ℕ → CallFault → Type 0
+abbrev pub FaultInTurn : RuleTable → ℕ → RetainedLog → ℕ → CallFault → Type 0
 FaultInTurn t seen log turn fault = FaultBy seen log (mover t log.state turn) fault

@@ -1,7 +1,8 @@
 //! Wait-free readers of a network.
 
-ghost use Rattle.std.specs.Prelude.{◌≡◌, false, length, IsTrue, IfOk, IfSome, OnOk, OnErr, IsErrOf};
+ghost use Rattle.std.specs.Prelude.{◌≡◌, ◌+◌, false, length, IsTrue, IfOk, IfSome, OnOk, OnErr, IsErrOf};
 ghost use mathlib.Core.List.{IsPrefix};
+ghost use Rattle.rule_machine.specs.Base.{dropped};
 ghost use Rattle.rule_machine.specs.Network.{present};
 ghost use Rattle.rule_machine.specs.State.{pointer};
 ghost use Rattle.snapshots.specs.History.{IsOneLog, AreOneLog, AreComparable};
@@ -18,7 +19,7 @@ use std::marker::Model;
 /// A node's pointer at one moment.
 #[derive(Clone, Copy, Debug, PartialEq, Eq)]
 pub struct SeenPointer {
-    /// How many entries were published then.
+    /// The number of the last entry published then; 0 if there was none.
     pub front: u32,
     /// The node's target, if any.
     pub pointer: Option<Node>,
@@ -27,7 +28,7 @@ pub struct SeenPointer {
 /// A node's partner at one moment.
 #[derive(Clone, Copy, Debug, PartialEq, Eq)]
 pub struct SeenPartner {
-    /// How many entries were published then.
+    /// The number of the last entry published then; 0 if there was none.
     pub front: u32,
     /// The node's target, if the target pointed back.
     pub partner: Option<Node>,
@@ -35,8 +36,8 @@ pub struct SeenPartner {
 
 /// A wait-free reader of a network. Takes no memory.
 /// Contracts see the reader's view, which is the entries that the reader saw last; the entries that each
-/// later view includes; and the network's name. A view is a prefix of the network's whole log, and grows. A
-/// reader does not see a checkpoint.
+/// later view includes; and the network's name. A view is a prefix of the network's whole log, and grows. It
+/// begins at the network's base, if the network began at one. A reader does not see a checkpoint.
 #[derive(Drop)]
 pub struct BoardReader<R: Rules> {
     reader: Reader<Runs<R>>,
@@ -61,18 +62,18 @@ impl<R: Rules> BoardReader<R> {
         BoardReader { reader }
     }
 
-    /// How many entries are published, and the pointer and the partner of `v` then.
+    /// The number of the last published entry, and the pointer and the partner of `v` then.
     fn look(&mut self, v: Node) -> Result<(u32, (Option<Node>, Option<Node>)), ReadFault>
         ensures view { IsPrefix self.old.list self.new.list }
         ensures kept { (self.new.learnt ≡ self.old.learnt) × (self.new.name ≡ self.old.name) }
         ensures learnt { OnView result (IsPrefix self.old.learnt self.new.list) }
         ensures run { OnView result (Shows R.table self.old.name.extent self.new.list (λ _. Unit {0})) }
         ensures present { OnOk result (Shows R.table self.old.name.extent self.new.list (λ s. IsTrue (present s.network v))) }
-        ensures front { IfOk result (λ seen. seen.0 ≡ length self.new.list) }
+        ensures front { IfOk result (λ seen. seen.0 ≡ dropped self.old.name.extent.base + length self.new.list) }
         ensures pointer { IfOk result (λ seen. Shows R.table self.old.name.extent self.new.list (λ s. seen.1.0 ≡ pointer s v)) }
         ensures partner { IfOk result (λ seen. Shows R.table self.old.name.extent self.new.list (λ s. seen.1.1 ≡ partner_in s.registers.pointers v)) }
         ensures unknown { IfUnknown result (λ front. Shows R.table self.old.name.extent self.new.list (λ s. present s.network v ≡ false)) }
-        ensures unknown_front { IfUnknown result (λ front. front ≡ length self.new.list) }
+        ensures unknown_front { IfUnknown result (λ front. front ≡ dropped self.old.name.extent.base + length self.new.list) }
         ensures no_view { IsErrOf result NoLook → self.new.list ≡ self.old.list }
     {
         let Some(Snapshot { front, found }) = self.reader.look(v.place()) else {
@@ -84,30 +85,30 @@ impl<R: Rules> BoardReader<R> {
         Ok((front, seen))
     }
 
-    /// A node's pointer after the first `front` entries of the log. Costs a few steps.
+    /// A node's pointer after the log's entries up to the number `front`. Costs a few steps.
     /// These entries are the reader's view: a run of the rules that includes all this reader has seen or
     /// learnt.
     /// `NoView` if the network has ended, or if the published entries lack some that the reader learnt,
     /// which never happens. The view does not change then.
-    /// Otherwise `UnknownNode` exactly if no node has this name in the view; the fault has the view's number
-    /// of entries.
+    /// Otherwise `UnknownNode` exactly if no node has this name in the view; the fault has the number
+    /// of the view's last entry.
     pub fn pointer(&mut self, v: Node) -> Result<SeenPointer, ReadFault>
         ensures view { IsPrefix self.old.list self.new.list }
         ensures kept { (self.new.learnt ≡ self.old.learnt) × (self.new.name ≡ self.old.name) }
         ensures learnt { OnView result (IsPrefix self.old.learnt self.new.list) }
         ensures run { OnView result (Shows R.table self.old.name.extent self.new.list (λ _. Unit {0})) }
         ensures present { OnOk result (Shows R.table self.old.name.extent self.new.list (λ s. IsTrue (present s.network v))) }
-        ensures front { IfOk result (λ seen. seen.front ≡ length self.new.list) }
+        ensures front { IfOk result (λ seen. seen.front ≡ dropped self.old.name.extent.base + length self.new.list) }
         ensures found { IfOk result (λ seen. Shows R.table self.old.name.extent self.new.list (λ s. seen.pointer ≡ pointer s v)) }
         ensures unknown { IfUnknown result (λ front. Shows R.table self.old.name.extent self.new.list (λ s. present s.network v ≡ false)) }
-        ensures unknown_front { IfUnknown result (λ front. front ≡ length self.new.list) }
+        ensures unknown_front { IfUnknown result (λ front. front ≡ dropped self.old.name.extent.base + length self.new.list) }
         ensures no_view { IsErrOf result NoLook → self.new.list ≡ self.old.list }
     {
         let (front, (pointer, _)) = self.look(v)?;
         Ok(SeenPointer { front, pointer })
     }
 
-    /// A node's partner after the first `front` entries of the log: its target, if the target points back.
+    /// A node's partner after the log's entries up to the number `front`: its target, if the target points back.
     /// Views, faults and cost are those of `pointer`.
     pub fn partner(&mut self, v: Node) -> Result<SeenPartner, ReadFault>
         ensures view { IsPrefix self.old.list self.new.list }
@@ -115,23 +116,23 @@ impl<R: Rules> BoardReader<R> {
         ensures learnt { OnView result (IsPrefix self.old.learnt self.new.list) }
         ensures run { OnView result (Shows R.table self.old.name.extent self.new.list (λ _. Unit {0})) }
         ensures present { OnOk result (Shows R.table self.old.name.extent self.new.list (λ s. IsTrue (present s.network v))) }
-        ensures front { IfOk result (λ seen. seen.front ≡ length self.new.list) }
+        ensures front { IfOk result (λ seen. seen.front ≡ dropped self.old.name.extent.base + length self.new.list) }
         ensures found { IfOk result (λ seen. Shows R.table self.old.name.extent self.new.list (λ s. seen.partner ≡ partner_in s.registers.pointers v)) }
         ensures unknown { IfUnknown result (λ front. Shows R.table self.old.name.extent self.new.list (λ s. present s.network v ≡ false)) }
-        ensures unknown_front { IfUnknown result (λ front. front ≡ length self.new.list) }
+        ensures unknown_front { IfUnknown result (λ front. front ≡ dropped self.old.name.extent.base + length self.new.list) }
         ensures no_view { IsErrOf result NoLook → self.new.list ≡ self.old.list }
     {
         let (front, (_, partner)) = self.look(v)?;
         Ok(SeenPartner { front, partner })
     }
 
-    /// How many entries are published. Views and cost are those of `pointer`.
+    /// The number of the last published entry; 0 if there is none. Views and cost are those of `pointer`.
     /// `NoView` as in `pointer`.
     pub fn front(&mut self) -> Result<u32, NoView>
         ensures view { IsPrefix self.old.list self.new.list }
         ensures kept { (self.new.learnt ≡ self.old.learnt) × (self.new.name ≡ self.old.name) }
         ensures learnt { OnOk result (IsPrefix self.old.learnt self.new.list) }
-        ensures front { IfOk result (λ front. front ≡ length self.new.list) }
+        ensures front { IfOk result (λ front. front ≡ dropped self.old.name.extent.base + length self.new.list) }
         ensures found { OnOk result (Shows R.table self.old.name.extent self.new.list (λ _. Unit {0})) }
         ensures no_view { OnErr result (self.new.list ≡ self.old.list) }
     {
@@ -163,7 +164,7 @@ impl<R: Rules> BoardReader<R> {
         ensures learnt { IsPrefix self.old.learnt self.new.learnt }
         ensures note { IfSome clerk.old.note (λ told. IsPrefix told.log self.new.learnt) }
         ensures one_log { IfSome clerk.old.note (λ told. IsOneLog told.log self.old.list) }
-        ensures last { StandsLast self.new.learnt clerk.old.receipts }
+        ensures last { StandsLast clerk.old.start self.new.learnt clerk.old.receipts }
     {
         if let Some(note) = clerk.note() {
             self.reader.learn(note);

@@ -17,16 +17,18 @@ mod seeing;
 
 pub(crate) use checkpoint::greater;
 
-/// A caller of a network. Contracts see three things:
+/// A caller of a network. Contracts see four things:
 ///
 /// - the clerk's receipts, oldest first: one for each answered call, with strictly rising numbers;
 /// - the clerk's note of what was published at the last receipt, or of more that the clerk `sees`;
-/// - the greatest number that the clerk's `checkpoint` returned.
+/// - the greatest number that the clerk's `checkpoint` returned;
+/// - the number after which the network of the last receipt numbers its entries: 0, or that of its base.
 #[derive(Drop)]
 pub struct Clerk {
     receipts: Vec<Receipt>,
     note: Option<Note>,
     base: Option<u32>,
+    start: u32,
 }
 
 impl Model for Clerk {
@@ -38,9 +40,9 @@ impl Model for Clerk {
 
     ghost coded = { Prim.hlevel (codes, book_coded) };
 
-    ghost view = { λ c. record { receipts = c.receipts.items; note = c.note; base = c.base } };
+    ghost view = { λ c. record { receipts = c.receipts.items; note = c.note; base = c.base; start = c.start } };
 
-    ghost invariant = { λ c. IsClerk (record { receipts = c.receipts.items; note = c.note; base = c.base }) };
+    ghost invariant = { λ c. IsClerk (record { receipts = c.receipts.items; note = c.note; base = c.base; start = c.start }) };
 }
 
 impl Clerk {
@@ -51,6 +53,7 @@ impl Clerk {
             receipts: Vec::new(alloc),
             note: None,
             base: None,
+            start: 0,
         }
     }
 

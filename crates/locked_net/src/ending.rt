@@ -7,7 +7,7 @@ ghost use Rattle.step_log.specs.JournalViews.{kept_of};
 ghost use Rattle.step_log.specs.RetainedLogs.{IsRetainedRun};
 ghost use Rattle.locked_net.specs.RetainedParts.{IsBack, IsPartOfLog, IsPartNoted};
 ghost use Rattle.locked_net.specs.Headline.{Headline};
-ghost use Rattle.locked_net.specs.Nets.{book_of, name_count_of, first_nodes_of, log_limit_of, setting_of};
+ghost use Rattle.locked_net.specs.Nets.{book_of, name_count_of, first_nodes_of, start_number_of, log_limit_of, setting_of};
 ghost use Rattle.locked_net.specs.Receipts.{HasNoteOf, IsOfBook, noted};
 ghost use Rattle.locked_net.specs.Settlements.{Settlement, Unsettles};
 ghost use Rattle.locked_net.specs.declared.settle_fault.SettleFault.TheVariants.{Memory};
@@ -23,9 +23,10 @@ use step_log::Journal;
 /// Takes the journal out of a network that no thread shares, and settles clerks against the journal.
 ///
 /// Each receipt must be the log's entry with the receipt's number, and each entry must belong to one clerk.
-/// After a checkpoint the base's number must be the greatest that `checkpoint` returned to one of these
-/// clerks. So no clerk with a greater number is missing. Receipts with numbers up to the base are compared
-/// by number only, and each of these numbers must occur once.
+/// In a network from a base the entries are those after the base. After a checkpoint the base's number must be
+/// the greatest that `checkpoint` returned to one of these clerks. So no clerk with a greater number is
+/// missing. Receipts with numbers up to the base are compared by number only, and each of these numbers must
+/// occur once.
 ///
 /// `CountDiffers` if there are not as many receipts as entries, kept or dropped; then `BaseDiffers` if the
 /// base's number is not that greatest number; then `Stranger` for the first receipt that does not agree.
@@ -35,16 +36,16 @@ pub fn settle<R: Rules, W: Wait>(
     net: LockedNet<R>,
     clerks: Vec<Clerk>,
 ) -> Result<Journal<R>, Unsettled<R>>
-    ensures headline { IfOk result (λ journal. Headline R.table R.NODE_WEIGHT (kept_of journal) clerks.items) }
-    ensures settled { IfOk result (λ journal. Settlement (kept_of journal) clerks.items) }
+    ensures headline { IfOk result (λ journal. Headline (start_number_of net) R.table R.NODE_WEIGHT (kept_of journal) clerks.items) }
+    ensures settled { IfOk result (λ journal. Settlement (start_number_of net) (kept_of journal) clerks.items) }
     ensures run { IfOk result (λ journal. IsRetainedRun R.table R.NODE_WEIGHT (kept_of journal)) }
     ensures whole { IfOk result (λ journal. IsPartOfLog (setting_of R.table net) (kept_of journal)) }
     ensures size { IfOk result (λ journal. (journal.state.network.size ≡ name_count_of net) × (journal.present ≡ first_nodes_of net) × (journal.limit ≡ log_limit_of net)) }
-    ensures fault { IfErr result (λ unsettled. Unsettles (kept_of unsettled.journal) clerks.items unsettled.why) }
+    ensures fault { IfErr result (λ unsettled. Unsettles (start_number_of net) (kept_of unsettled.journal) clerks.items unsettled.why) }
     ensures back { IfErr result (λ unsettled. IsBack (setting_of R.table net) R.NODE_WEIGHT unsettled.journal) }
 {
-    let alloc = net.alloc();
-    settle_journal(alloc, net.into_journal(rt), &clerks)
+    let (alloc, start) = (net.alloc(), net.start());
+    settle_journal(alloc, start, net.into_journal(rt), &clerks)
 }
 
 /// Like `settle`, for clerks that have called only this network or none.
@@ -57,23 +58,23 @@ pub fn settle_own<R: Rules, W: Wait>(
     clerks: Vec<Clerk>,
 ) -> Result<Journal<R>, Unsettled<R>>
     requires { All (IsOfBook (book_of net)) clerks.items }
-    ensures headline { IfOk result (λ journal. Headline R.table R.NODE_WEIGHT (kept_of journal) clerks.items) }
-    ensures settled { IfOk result (λ journal. Settlement (kept_of journal) clerks.items) }
+    ensures headline { IfOk result (λ journal. Headline (start_number_of net) R.table R.NODE_WEIGHT (kept_of journal) clerks.items) }
+    ensures settled { IfOk result (λ journal. Settlement (start_number_of net) (kept_of journal) clerks.items) }
     ensures noted { IfOk result (λ journal. IsPartNoted (setting_of R.table net) (kept_of journal) clerks.items) }
     ensures run { IfOk result (λ journal. IsRetainedRun R.table R.NODE_WEIGHT (kept_of journal)) }
     ensures whole { IfOk result (λ journal. IsPartOfLog (setting_of R.table net) (kept_of journal)) }
     ensures size { IfOk result (λ journal. (journal.state.network.size ≡ name_count_of net) × (journal.present ≡ first_nodes_of net) × (journal.limit ≡ log_limit_of net)) }
-    ensures fault { IfErr result (λ unsettled. Unsettles (kept_of unsettled.journal) clerks.items unsettled.why) }
+    ensures fault { IfErr result (λ unsettled. Unsettles (start_number_of net) (kept_of unsettled.journal) clerks.items unsettled.why) }
     ensures back { IfErr result (λ unsettled. IsBack (setting_of R.table net) R.NODE_WEIGHT unsettled.journal) }
     ensures back_noted { IfErr result (λ unsettled. (unsettled.why ≢ Memory) → IsPartNoted (setting_of R.table net) (kept_of unsettled.journal) clerks.items) }
 {
-    let alloc = net.alloc();
+    let (alloc, start) = (net.alloc(), net.start());
     let (journal, last) = net.into_noted(rt);
     if !all_begin(&clerks, &last) {
         let why = SettleFault::Memory;
         return Err(Unsettled { why, journal });
     }
-    settle_journal(alloc, journal, &clerks)
+    settle_journal(alloc, start, journal, &clerks)
 }
 
 fn all_begin(clerks: &[Clerk], last: &Note) -> bool
@@ -102,16 +103,17 @@ pub(crate) fn begins(clerk: &Clerk, last: &Note) -> bool
 
 fn settle_journal<R: Rules>(
     alloc: Global,
+    start: Option<u32>,
     journal: Journal<R>,
     clerks: &[Clerk],
 ) -> Result<Journal<R>, Unsettled<R>>
     requires run { IsRetainedRun R.table R.NODE_WEIGHT (kept_of journal) }
     ensures same { IfOk result (λ settled. settled ≡ journal) }
-    ensures headline { OnOk result (Headline R.table R.NODE_WEIGHT (kept_of journal) clerks.now) }
-    ensures fault { IfErr result (λ unsettled. Unsettles (kept_of journal) clerks.now unsettled.why) }
+    ensures headline { OnOk result (Headline start R.table R.NODE_WEIGHT (kept_of journal) clerks.now) }
+    ensures fault { IfErr result (λ unsettled. Unsettles start (kept_of journal) clerks.now unsettled.why) }
     ensures back { IfErr result (λ unsettled. unsettled.journal ≡ journal) }
 {
-    match settled_with(alloc, &journal, clerks) {
+    match settled_with(alloc, start, &journal, clerks) {
         Ok(()) => Ok(journal),
         Err(why) => Err(Unsettled { why, journal }),
     }

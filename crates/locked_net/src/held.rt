@@ -21,8 +21,8 @@ mod looks;
 mod reach;
 
 /// A network whose lock the caller has until `free`. Cannot be dropped: `free` ends it.
-/// Contracts see the whole published log, dropped entries included; the base of the kept part; and the
-/// board's name.
+/// Contracts see the whole published log from its beginning, dropped entries included; the base of the kept
+/// part; and the board's name.
 pub struct HeldNet<'a, R: Rules> {
     net: &'a LockedNet<R>,
     desk: Box<PublishedJournal<R>>,

@@ -1,38 +1,47 @@
 //! A network that many callers share.
 
-ghost use Rattle.std.specs.Prelude.{◌≡◌, ◌≤◌, min, IfOk, IfErr, OnOk};
+ghost use Rattle.std.specs.Prelude.{◌≡◌, ◌<◌, ◌≤◌, ◌↔◌, ℕ, false, None, Some, length, max, min, IfOk, IfErr, IsErrOf, OnOk};
+ghost use Rattle.rule_machine.specs.Base.{base_of};
+ghost use Rattle.rule_machine.specs.Network.{node_count};
+ghost use Rattle.rule_machine.specs.State.{State, flag};
+ghost use Rattle.rule_engine.specs.PreparedEvents.{net_moment};
+ghost use Rattle.step_log.specs.BaseStarts.{BeginsIn, ExplainsStartFault};
+ghost use Rattle.step_log.specs.declared.start_fault.StartFault.TheVariants.{LogFull};
+ghost use Rattle.keyed_lock.specs.Locks.{key_of};
+ghost use Rattle.locked_net.specs.PublishedJournals.{IsOfKey};
+ghost use Rattle.locked_net.specs.Receipts.{base_number};
 ghost use Rattle.step_log.specs.Log.{max_entries};
 ghost use Rattle.graph_store.specs.Fault.{nodes_fault, ExplainsGraphFault};
-ghost use Rattle.graph_store.specs.declared.fault.GraphFault.TheVariants.{Memory};
 
 use crate::desk::PublishedJournal;
 use crate::key::{KeyInvariant, NetKey};
 use crate::{BoardReader, Clerk, ReaderFault};
 use keyed_lock::{Hold, KeyedLock};
-use rule_engine::{GraphFault, Rules};
-use rule_machine::Want;
+use rule_engine::{BaseFault, GraphFault, Net, Rules};
+use rule_machine::{Base, Want};
 use snapshots::Note;
-use std::alloc::{AllocFailed, Global};
+use std::alloc::{AllocError, AllocFailed, Global};
 use std::sync::Wait;
-use step_log::{Journal, MAX_ENTRIES};
+use step_log::{Journal, MAX_ENTRIES, StartFault};
 
 /// A network under the rules `R` with its log, behind one lock, for callers in any threads.
 ///
 /// A copy of the network's pointers and present nodes is published for wait-free readers. Whoever has the
 /// lock has the journal and the board. Whenever the lock is free, the log is a run of the rule machine and
-/// exactly this log is published. A checkpoint drops only the journal's entries, not published ones. A
-/// network cannot be dropped: `into_journal` ends it.
+/// exactly this log is published. The run begins at the opening state or at a base. A checkpoint drops only
+/// the journal's entries, not published ones. A network cannot be dropped: `into_journal` ends it.
 pub struct LockedNet<R: Rules> {
     alloc: Global,
     lock: KeyedLock<Box<PublishedJournal<R>>, NetKey, KeyInvariant>,
+    start: Option<u32>,
+    ghost start_is: { start ≡ base_number (key_of lock).beginning },
 }
 
 impl<R: Rules> LockedNet<R> {
     ghost use Rattle.keyed_lock.specs.Locks.{IsHoldOf};
-    ghost use Rattle.locked_net.specs.PublishedJournals.{IsOfKey};
     ghost use Rattle.locked_net.specs.RetainedParts.{IsPartOfLog};
     ghost use Rattle.locked_net.specs.Looks.{IsPublished};
-    ghost use Rattle.locked_net.specs.Nets.{net_key_of, name_count_of, first_nodes_of, log_limit_of, book_of, name_of, setting_of, HasSeenLog};
+    ghost use Rattle.locked_net.specs.Nets.{net_key_of, name_count_of, first_nodes_of, beginning_of, start_number_of, log_limit_of, book_of, name_of, setting_of, HasSeenLog};
     ghost use Rattle.locked_net.specs.Receipts.{fresh};
     ghost use Rattle.locked_net.specs.declared.read_fault.ReaderFault.TheVariants.{NoPlace};
     ghost use Rattle.step_log.specs.JournalViews.{kept_of};
@@ -43,6 +52,7 @@ impl<R: Rules> LockedNet<R> {
     pub fn new<W: Wait>(alloc: Global, rt: &W, nodes: u32) -> Result<LockedNet<R>, GraphFault>
         ensures nodes { IfOk result (λ net. name_count_of net ≡ nodes) }
         ensures present { IfOk result (λ net. first_nodes_of net ≡ nodes) }
+        ensures beginning { IfOk result (λ net. beginning_of net ≡ None) }
         ensures limit { IfOk result (λ net. log_limit_of net ≡ max_entries) }
         ensures small { OnOk result (nodes ≤ 65535) }
         ensures fault { IfErr result (λ fault. ExplainsGraphFault (nodes_fault nodes) fault) }
@@ -59,6 +69,7 @@ impl<R: Rules> LockedNet<R> {
     ) -> Result<LockedNet<R>, GraphFault>
         ensures nodes { IfOk result (λ net. name_count_of net ≡ nodes) }
         ensures present { IfOk result (λ net. first_nodes_of net ≡ nodes) }
+        ensures beginning { IfOk result (λ net. beginning_of net ≡ None) }
         ensures limit { IfOk result (λ net. log_limit_of net ≡ min limit max_entries) }
         ensures small { OnOk result (nodes ≤ 65535) }
         ensures fault { IfErr result (λ fault. ExplainsGraphFault (nodes_fault nodes) fault) }
@@ -78,28 +89,88 @@ impl<R: Rules> LockedNet<R> {
         requires within { present ≤ nodes }
         ensures nodes { IfOk result (λ net. name_count_of net ≡ nodes) }
         ensures present { IfOk result (λ net. first_nodes_of net ≡ present) }
+        ensures beginning { IfOk result (λ net. beginning_of net ≡ None) }
         ensures limit { IfOk result (λ net. log_limit_of net ≡ min limit max_entries) }
         ensures small { OnOk result (nodes ≤ 65535) }
         ensures fault { IfErr result (λ fault. ExplainsGraphFault (nodes_fault nodes) fault) }
     {
-        let desk = boxed(
-            alloc,
-            rt,
-            PublishedJournal::new(alloc, nodes, present, limit)?,
-        )?;
+        let desk = PublishedJournal::new(alloc, nodes, present, limit)?;
         let key = NetKey {
             nodes,
             present,
             limit: limit.min(MAX_ENTRIES),
+            beginning: None,
             opening: desk.note(),
         };
-        match KeyedLock::new(alloc, desk, &key) {
-            Ok(lock) => Ok(LockedNet { alloc, lock }),
-            Err(AllocFailed { value: desk }) => {
-                Box::into_inner(desk).close(rt);
-                Err(GraphFault::Memory)
-            }
+        match share(alloc, rt, desk, key) {
+            Ok(net) => Ok(net),
+            Err(_) => Err(GraphFault::Memory),
         }
+    }
+
+    /// The network at the moment of a base, with the names 1 to `size`. Entries are numbered after the base.
+    /// `limit` and the faults are those of `Journal::from_base`: `LogFull` exactly if the base's number is
+    /// above the limit; otherwise `NoStart` with the demand that the base breaks, or with `Memory` if memory
+    /// runs out.
+    /// Costs what `Journal::from_base` costs, a copy of the base that is freed, and a board.
+    pub fn from_base<W: Wait>(
+        alloc: Global,
+        rt: &W,
+        size: u32,
+        limit: u32,
+        base: Base,
+    ) -> Result<LockedNet<R>, StartFault>
+        ensures nodes { IfOk result (λ net. name_count_of net ≡ size) }
+        ensures present { IfOk result (λ net. first_nodes_of net ≡ length base.nodes) }
+        ensures limit { IfOk result (λ net. log_limit_of net ≡ min limit max_entries) }
+        ensures beginning { IfOk result (λ net. beginning_of net ≡ Some base) }
+        ensures begins { OnOk result ((s : State) × BeginsIn R.table R.NODE_WEIGHT size base s) }
+        ensures room { OnOk result (base.number ≤ min limit max_entries) }
+        ensures full { IsErrOf result LogFull ↔ (min limit max_entries < base.number) }
+        ensures fault { IfErr result (λ fault. ExplainsStartFault R.table R.NODE_WEIGHT size (min limit max_entries) base fault) }
+    {
+        let (desk, base) = PublishedJournal::from_base(alloc, size, limit, base)?;
+        let key = NetKey {
+            nodes: size,
+            present: base.nodes.as_slice().len() as u32,
+            limit: limit.min(MAX_ENTRIES),
+            beginning: Some(base),
+            opening: desk.note(),
+        };
+        match share(alloc, rt, desk, key) {
+            Ok(net) => Ok(net),
+            Err(_) => Err(StartFault::NoStart(BaseFault::Memory)),
+        }
+    }
+
+    /// A network that goes on after `number` entries: it begins at the base of its moment.
+    /// The limit counts all numbers. A limit above 16,777,216 counts as 16,777,216, and a limit below
+    /// `number` as `number`.
+    /// `AllocError` if memory runs out. Costs twice what a checkpoint costs, and a board.
+    pub fn of_net<W: Wait>(
+        alloc: Global,
+        rt: &W,
+        net: Net<R>,
+        number: u32,
+        limit: u32,
+    ) -> Result<LockedNet<R>, Want>
+        requires few { number ≤ max_entries }
+        requires unflagged { R.table.flags ≡ false → (v : ℕ) → flag net.state v ≡ false }
+        ensures nodes { IfOk result (λ made. name_count_of made ≡ net.state.network.size) }
+        ensures present { IfOk result (λ made. first_nodes_of made ≡ node_count net.state.network) }
+        ensures limit { IfOk result (λ made. log_limit_of made ≡ max number (min limit max_entries)) }
+        ensures beginning { IfOk result (λ made. beginning_of made ≡ Some (base_of number (net_moment net))) }
+    {
+        let (nodes, present) = (net.store().capacity(), net.store().nodes());
+        let (desk, base) = PublishedJournal::of_net(alloc, net, number, limit)?;
+        let key = NetKey {
+            nodes,
+            present,
+            limit: number.max(limit.min(MAX_ENTRIES)),
+            beginning: Some(base),
+            opening: desk.note(),
+        };
+        share(alloc, rt, desk, key)
     }
 
     /// A new clerk, without receipts.
@@ -129,6 +200,12 @@ impl<R: Rules> LockedNet<R> {
 
     pub(crate) fn alloc(&self) -> Global {
         self.alloc
+    }
+
+    pub(crate) fn start(&self) -> Option<u32>
+        ensures { result ≡ start_number_of self.now }
+    {
+        self.start
     }
 
     pub(crate) fn take<W: Wait>(
@@ -186,25 +263,57 @@ impl<R: Rules> LockedNet<R> {
     fn into_desk<W: Wait>(self, rt: &W) -> PublishedJournal<R>
         ensures { IsOfKey (net_key_of self) result }
     {
-        let LockedNet { alloc: _, lock } = self;
+        let LockedNet {
+            alloc: _,
+            lock,
+            start: _,
+        } = self;
         Box::into_inner(lock.into_inner(rt))
     }
 }
 
-/// Boxed, so that taking the lock moves an address.
+/// The network of this journal. The journal is boxed, so that taking the lock moves an address.
+fn share<R: Rules, W: Wait>(
+    alloc: Global,
+    rt: &W,
+    desk: PublishedJournal<R>,
+    key: NetKey,
+) -> Result<LockedNet<R>, AllocError>
+    requires { IsOfKey key desk }
+    ensures { IfOk result (λ net. key_of net.lock ≡ key) }
+{
+    let start = number_of(&key.beginning);
+    let desk = boxed(alloc, rt, desk)?;
+    match KeyedLock::new(alloc, desk, &key) {
+        Ok(lock) => Ok(LockedNet { alloc, lock, start }),
+        Err(AllocFailed { value: desk }) => {
+            Box::into_inner(desk).close(rt);
+            Err(AllocError)
+        }
+    }
+}
+
+fn number_of(base: &Option<Base>) -> Option<u32>
+    ensures { result ≡ base_number base.now }
+{
+    match base {
+        Some(base) => Some(base.number),
+        None => None,
+    }
+}
+
 fn boxed<R: Rules, W: Wait>(
     alloc: Global,
     rt: &W,
     desk: PublishedJournal<R>,
-) -> Result<Box<PublishedJournal<R>>, GraphFault>
-    ensures ok { IfOk result (λ boxed. boxed.value ≡ desk) }
-    ensures fault { IfErr result (λ fault. fault ≡ Memory) }
+) -> Result<Box<PublishedJournal<R>>, AllocError>
+    ensures { IfOk result (λ boxed. boxed.value ≡ desk) }
 {
     match Box::new(alloc, desk) {
         Ok(boxed) => Ok(boxed),
         Err(AllocFailed { value: desk }) => {
             desk.close(rt);
-            Err(GraphFault::Memory)
+            Err(AllocError)
         }
     }
 }

@@ -9,9 +9,11 @@ use thiserror::Error;
 #[derive(Clone, Copy, Debug, PartialEq, Eq, Error)]
 pub enum SettleFault {
     /// The number of the clerks' receipts differs from that of the log's entries, dropped ones included.
+    /// In a network from a base the entries are those after the base.
     #[error("count-differs")]
     CountDiffers,
-    /// The base's number is not the greatest that `checkpoint` returned to one of the clerks.
+    /// The base's number is not the greatest that `checkpoint` returned to one of the clerks; without a
+    /// checkpoint, not that of the network's beginning.
     #[error("base-differs")]
     BaseDiffers,
     /// The first receipt that does not agree, in the order of the clerks and then of their receipts.

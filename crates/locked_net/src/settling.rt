@@ -1,13 +1,13 @@
 //! Whether clerks account for a log.
 
-ghost use Rattle.std.specs.Prelude.{◌≡◌, ◌↔◌, ◌+◌, ◌^◌, ◌<◌, ◌≤◌, ◌⊎◌, ℕ, List, Some, length, slice_get, IsTrue, IfErr, OnOk, MatchOption};
+ghost use Rattle.std.specs.Prelude.{◌≡◌, ◌↔◌, ◌+◌, ◌^◌, ◌<◌, ◌≤◌, ◌⊎◌, ℕ, List, Option, Some, length, slice_get, IsTrue, IfErr, OnOk, MatchOption};
 ghost use Rattle.step_log.specs.declared.receipt.Receipt.{Receipt};
 ghost use Rattle.step_log.specs.JournalViews.{kept_of};
 ghost use Rattle.step_log.specs.RetainedLogs.{RetainedLog};
 ghost use Rattle.locked_net.specs.declared.settle_fault.SettleFault.{SettleFault};
 ghost use Rattle.locked_net.specs.declared.settle_fault.SettleFault.TheVariants.{Stranger, Memory};
-ghost use Rattle.locked_net.specs.Receipts.{ClerkView, RiseAbove};
-ghost use Rattle.locked_net.specs.Settlements.{receipt_count, greatest_base, base_number, StandsAt, HasReceiptNumber, IsEntryAbove, Agrees, Settlement, IsFirstStranger, Unsettles};
+ghost use Rattle.locked_net.specs.Receipts.{ClerkView, RiseAbove, base_from, base_number};
+ghost use Rattle.locked_net.specs.Settlements.{receipt_count, entry_count, greatest_base, StandsAt, HasReceiptNumber, IsEntryAbove, Agrees, Settlement, IsFirstStranger, Unsettles};
 ghost use Rattle.locked_net.specs.Marks.{AreReceiptMarks};
 
 use crate::clerk::greater;
@@ -18,26 +18,28 @@ use std::alloc::Global;
 use step_log::{Journal, NoEntry, Receipt};
 
 /// See `settle` for the faults and their order.
+/// `start` is the number after which the log's entries are numbered, if the log began at a base.
 /// Takes one byte for each entry, and looks at each entry, clerk and receipt.
 pub(crate) fn settled_with<R: Rules>(
     alloc: Global,
+    start: Option<u32>,
     journal: &Journal<R>,
     clerks: &[Clerk],
 ) -> Result<(), SettleFault>
-    ensures settled { OnOk result (Settlement (kept_of journal.now) clerks.now) }
-    ensures fault { IfErr result (λ why. Unsettles (kept_of journal.now) clerks.now why) }
+    ensures settled { OnOk result (Settlement start (kept_of journal.now) clerks.now) }
+    ensures fault { IfErr result (λ why. Unsettles start (kept_of journal.now) clerks.now why) }
 {
-    let len = journal.len() as usize;
+    let len = count_entries(journal, start);
     if !has_count(clerks, len) {
         return Err(SettleFault::CountDiffers);
     }
-    if last_base(journal) != greatest(clerks) {
+    if last_base(journal) != greatest(start, clerks) {
         return Err(SettleFault::BaseDiffers);
     }
     let mut marks = vec![in alloc; false; len]?;
     let taken = marks.as_mut_slice();
     for clerk in 0..clerks.len() {
-        if let Some(place) = first_stranger(journal, clerks, clerk, taken) {
+        if let Some(place) = first_stranger(journal, start, clerks, clerk, taken) {
             return Err(stranger(clerk, place));
         }
     }
@@ -55,6 +57,19 @@ fn stranger(clerk: usize, place: usize) -> SettleFault
         },
         Err(_) => SettleFault::Memory,
     }
+}
+
+fn count_entries<R: Rules>(journal: &Journal<R>, start: Option<u32>) -> usize
+    ensures count { result ≡ entry_count start (kept_of journal.now) }
+    ensures small { result < 2 ^ 32 }
+{
+    journal.len().saturating_sub(number_or_zero(start)) as usize
+}
+
+fn number_or_zero(start: Option<u32>) -> u32
+    ensures { result ≡ base_from start }
+{
+    start.unwrap_or(0)
 }
 
 fn has_count(clerks: &[Clerk], count: usize) -> bool
@@ -77,10 +92,10 @@ fn last_base<R: Rules>(journal: &Journal<R>) -> Option<u32>
     journal.base()
 }
 
-fn greatest(clerks: &[Clerk]) -> Option<u32>
-    ensures { result ≡ greatest_base clerks.now }
+fn greatest(start: Option<u32>, clerks: &[Clerk]) -> Option<u32>
+    ensures { result ≡ greatest_base start clerks.now }
 {
-    let mut found = None;
+    let mut found = start;
     for clerk in clerks {
         found = greater(found, clerk.base());
     }
@@ -91,21 +106,23 @@ fn greatest(clerks: &[Clerk]) -> Option<u32>
 /// All receipts of the clerks before this clerk agree and are marked already.
 fn first_stranger<R: Rules>(
     journal: &Journal<R>,
+    start: Option<u32>,
     clerks: &[Clerk],
     clerk: usize,
     taken: &mut [bool],
 ) -> Option<usize>
     requires inside { clerk < length clerks.now }
-    requires marked { AreReceiptMarks (kept_of journal.now) clerks.now clerk 0 taken.old }
+    requires marked { AreReceiptMarks start (kept_of journal.now) clerks.now clerk 0 taken.old }
     ensures { MatchOption result
-        (AreReceiptMarks (kept_of journal.now) clerks.now (clerk + 1) 0 taken.new)
-        (λ place. IsFirstStranger (kept_of journal.now) clerks.now clerk place) }
+        (AreReceiptMarks start (kept_of journal.now) clerks.now (clerk + 1) 0 taken.new)
+        (λ place. IsFirstStranger start (kept_of journal.now) clerks.now clerk place) }
 {
+    let first = number_or_zero(start);
     for (place, receipt) in clerks[clerk].receipts().iter().enumerate() {
-        if !is_entry(journal, receipt) {
+        if !is_entry(journal, start, receipt) {
             return Some(place);
         }
-        let number = receipt.seq as usize - 1;
+        let number = (receipt.seq - first) as usize - 1;
         if taken[number] {
             return Some(place);
         }
@@ -114,9 +131,12 @@ fn first_stranger<R: Rules>(
     None
 }
 
-fn is_entry<R: Rules>(journal: &Journal<R>, receipt: &Receipt) -> bool
-    ensures { IsTrue result ↔ IsEntryAbove (kept_of journal.now) receipt.now }
+fn is_entry<R: Rules>(journal: &Journal<R>, start: Option<u32>, receipt: &Receipt) -> bool
+    ensures { IsTrue result ↔ IsEntryAbove start (kept_of journal.now) receipt.now }
 {
+    if receipt.seq <= number_or_zero(start) {
+        return false;
+    }
     match journal.entry(receipt.seq) {
         Ok(entry) => {
             same_event(entry.event(), &receipt.event) && same_reply(entry.reply(), &receipt.reply)
@@ -128,16 +148,16 @@ fn is_entry<R: Rules>(journal: &Journal<R>, receipt: &Receipt) -> bool
 
 /// If a log and clerks are settled, settling them can fail only with `Memory`.
 pub fn settling_is_exact()
-    ensures { (kept : RetainedLog) (clerks : List ClerkView) (why : SettleFault)
-        → Settlement kept clerks → Unsettles kept clerks why → why ≡ Memory }
+    ensures { (begun : Option ℕ) (kept : RetainedLog) (clerks : List ClerkView) (why : SettleFault)
+        → Settlement begun kept clerks → Unsettles begun kept clerks why → why ≡ Memory }
 {}
 
 /// When a receipt agrees, given that each clerk's numbers rise.
 /// The receipt is the log's entry with the receipt's number, or the number is that of a dropped entry. Also,
 /// no earlier clerk has a receipt with that number.
 pub fn own_numbers_never_clash()
-    ensures { (kept : RetainedLog) (clerks : List ClerkView) (c p : ℕ) (receipt : Receipt)
+    ensures { (begun : Option ℕ) (kept : RetainedLog) (clerks : List ClerkView) (c p : ℕ) (receipt : Receipt)
         → ((d : ℕ) (clerk : ClerkView) → slice_get clerks d ≡ Some clerk → RiseAbove 0 clerk.receipts)
         → StandsAt clerks c p receipt
-        → Agrees kept clerks c p receipt ↔ (IsEntryAbove kept receipt × ((d : ℕ) → d < c → HasReceiptNumber clerks d receipt.seq → ⊥)) }
+        → Agrees begun kept clerks c p receipt ↔ (IsEntryAbove begun kept receipt × ((d : ℕ) → d < c → HasReceiptNumber clerks d receipt.seq → ⊥)) }
 {}

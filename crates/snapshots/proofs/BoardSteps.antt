@@ -1,5 +1,5 @@
 -- Each step of a board keeps the rule of its copies.
-use Rattle.snapshots.proofs.Prelude.{◌≡◌, ◌≢◌, ℕ, ◌+◌, List, [], ◌∷◌, ◌++◌, length, set, Option, Some, None, ⊎_elim, refl, ap, sym, ◌∙◌, subst, arith, length-append, fold-append, Admits, TurnsAt, Forks, Merges, at_set, at_snoc, Entry, Book, Mark, shown, BoardShape, pointers_after, row_effect, here_after, here_by, CopyView, after, extent_of, ExtendsView, IsSound, Publishes, Sees}
+use Rattle.snapshots.proofs.Prelude.{◌≡◌, ◌≢◌, ℕ, ◌+◌, List, [], ◌∷◌, ◌++◌, length, set, Option, Some, None, ⊎_elim, refl, ap, sym, ◌∙◌, subst, arith, length-append, fold-append, Admits, TurnsAt, Forks, Merges, at_set, at_snoc, Entry, Book, dropped, Mark, shown, BoardShape, pointers_after, row_effect, here_after, here_by, CopyView, after, extent_of, ExtendsView, IsSound, Publishes, Sees}
 use mathlib.Core.List.{IsPrefix}
 use mathlib.Core.Option.{some}
 use lib.ListN.{get_elem?}
@@ -15,7 +15,7 @@ follows_on (Some s) x y f g =
     (g.0 ∙ f.0, g.1 ∙ f.1, prefix_trans (shown s.marks) (shown x.marks) (shown y.marks) f.2 g.2)
 
 abbrev with_places : CopyView → ℕ → BoardShape
-with_places x places = record { places = places; present = x.present }
+with_places x places = record { places = places; present = x.present; base = x.base }
 
 module _ (law : BoardShape → List Entry → Type 0) where
   -- a copy that continues the one before may be shown
@@ -63,11 +63,11 @@ module _ (law : BoardShape → List Entry → Type 0) where
 
   -- a copy one entry later agrees with its entries
   pub later : (x : CopyView) (entry : Entry) (front : ℕ) (marks : List Mark) (book : Book) → shown marks ≡ shown x.marks ++ entry ∷ []
-      → front ≡ length (shown x.marks) + 1 → law (extent_of x) (shown x.marks ++ entry ∷ []) → IsSound law x → IsSound law (after x entry front marks book)
+      → front ≡ dropped x.base + length (shown x.marks) + 1 → law (extent_of x) (shown x.marks ++ entry ∷ []) → IsSound law x → IsSound law (after x entry front marks book)
   later x entry front marks book is number holds sound =
       let n : length (row_effect x.row entry) ≡ length x.row = effect_length x.row entry in
-      let more : row_effect x.row entry ≡ pointers_after (length x.row) (shown x.marks ++ entry ∷ []) =
-      ap (λ r. row_effect r entry) sound.row ∙ sym (fold-append row_effect (pointers_after (length x.row) []) (shown x.marks) (entry ∷ [])) in
+      let more : row_effect x.row entry ≡ pointers_after (extent_of x) (shown x.marks ++ entry ∷ []) =
+      ap (λ r. row_effect r entry) sound.row ∙ sym (fold-append row_effect (pointers_after (extent_of x) []) (shown x.marks) (entry ∷ [])) in
       let here : here_by x.here entry ≡ here_after (extent_of x) (shown x.marks ++ entry ∷ []) =
       ap (λ h. here_by h entry) sound.here ∙ sym (fold-append here_by (here_after (extent_of x) []) (shown x.marks) (entry ∷ [])) in
       record {

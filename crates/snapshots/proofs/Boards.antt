@@ -1,6 +1,7 @@
--- A board after posting and publishing.
-use Rattle.snapshots.proofs.Prelude.{◌≡◌, ◌+◌, ◌<◌, List, [], ◌∷◌, ◌++◌, length, map, fold, Option, Some, inr, ⊎_elim, refl, ap, sym, ◌∙◌, subst, arith, length-append, fold-append, Entry, Book, Posted, Mark, with_mark, published_and_posted, published, posted, shown, max_marks, BoardShape, LonePost, CopyView, after, extent_of, ExtendsView, entries_of, absorbed, IsPublishable, IsPostedLast, IsBoard, posted_at}
+-- A board at its start, and after posting and publishing.
+use Rattle.snapshots.proofs.Prelude.{◌≡◌, ℕ, ◌+◌, ◌<◌, List, [], ◌∷◌, ◌++◌, length, map, fold, Option, Some, inl, inr, ⊎_elim, refl, ap, sym, ◌∙◌, subst, arith, length-append, fold-append, Entry, Book, dropped, Posted, Mark, with_mark, published_and_posted, published, posted, shown, max_marks, BoardShape, row_at_start, here_at_start, LonePost, CopyView, copy_at_start, after, extent_of, ExtendsView, IsSound, entries_of, absorbed, IsPublishable, IsPostedLast, IsBoard, posted_at}
 use Rattle.snapshots.proofs.BoardSteps.{follows_self, later, goes_on}
+use Rattle.snapshots.proofs.Starts.{row_places}
 
 pub none_pending : (pending : List Posted) → entries_of pending ≡ [] → pending ≡ []
 none_pending [] is = refl
@@ -13,7 +14,7 @@ post_standing marks entry = fold-append with_mark ([], []) marks (Some entry ∷
 module _ (law : BoardShape → List Entry → Type 0) (x : CopyView) (known : Option CopyView) (marks : List Mark) (book : Book) (announced : List Mark) where
   -- the entry that was appended is the one that the history has posted last
   pub posts : (marks' : List Mark) (book' : Book) (p : Posted) → IsBoard law x known [] marks book announced → marks' ≡ marks ++ Some p.entry ∷ [] → book' ≡ book
-      → p.past.seen.log ≡ marks' → p.past.seen.book ≡ book' → p.front ≡ length (shown x.marks) + 1 → length marks + 1 < max_marks → IsBoard law x known (p ∷ []) marks' book' announced
+      → p.past.seen.log ≡ marks' → p.past.seen.book ≡ book' → p.front ≡ dropped x.base + length (shown x.marks) + 1 → length marks + 1 < max_marks → IsBoard law x known (p ∷ []) marks' book' announced
   posts marks' book' p b is same log at number room = record {
     sound = b.sound;
     knows = b.knows;
@@ -54,3 +55,25 @@ pub lone_shown : (x : CopyView) (at : LonePost) (entry : Entry) → entries_of (
 lone_shown x at entry is =
     let last : posted at.past.seen.log ≡ entry ∷ [] = sym (lone_entry at (posted at.past.seen.log)) ∙ is in
     ap (λ (l : List Entry). fold absorbed x (map (λ e. record { entry = e; front = at.front; past = at.past }) l)) last
+
+-- ---- a board without entries
+
+-- the extent of a copy before any entry
+pub extent_at_start : (extent : BoardShape) (marks : List Mark) (book : Book) → extent_of (copy_at_start extent marks book) ≡ extent
+extent_at_start extent marks book = ap (λ (n : ℕ). record extent { places = n }) (row_places extent)
+
+-- a copy before any entry makes a board, if the law holds without entries
+pub begins : (law : BoardShape → List Entry → Type 0) (extent : BoardShape) (x : CopyView) (marks : List Mark) (book : Book) → law extent []
+    → x ≡ copy_at_start extent marks book → marks ≡ [] → IsBoard law x (Some x) [] marks book marks
+begins law extent x marks book holds is none =
+    let at : CopyView = copy_at_start extent [] book in
+    let shape : extent_of at ≡ extent = extent_at_start extent [] book in
+    let here : x ≡ at = is ∙ ap (λ (l : List Mark). copy_at_start extent l book) none in
+    let sound : IsSound law at = record {
+      row = ap row_at_start (sym shape);
+      here = ap here_at_start (sym shape);
+      front = omega arith;
+      lawful = subst (λ (e : BoardShape). law e []) (sym shape) holds;
+    } in
+    let board : IsBoard law at (Some at) [] [] book [] = record { sound = sound; knows = refl; same = refl; list = refl; ready = inl refl; is_announced = refl } in
+    subst (λ (l : List Mark). IsBoard law x (Some x) [] l book l) (sym none) (subst (λ (z : CopyView). IsBoard law z (Some z) [] [] book []) (sym here) board)

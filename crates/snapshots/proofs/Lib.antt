@@ -5,5 +5,6 @@ pub mod Fronts
 pub mod Machine
 pub mod OneLog
 pub mod Rows
+pub mod Starts
 pub mod BoardSteps
 mod Passes

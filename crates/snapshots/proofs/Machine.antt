@@ -1,5 +1,5 @@
 -- The pointers and present nodes after a run.
-use Rattle.snapshots.proofs.Prelude.{◌≡◌, ℕ, Bool, true, false, List, [], ◌∷◌, ◌++◌, fold, Option, Some, None, refl, ap, sym, ◌∙◌, subst, slice_set, if◌then◌else◌, Act, Update, Marry, Seduce, Abandon, Event, Link, Unlink, Point, Flag, Step, Show, Enabled, Matching, Status, Join, Leave, Moved, Refusal, Reply, Accepted, Moves, Shown, EnabledAre, Pairs, Counts, State, Registers, with_pointer, points, RuleTable, refusal_of, written, after_move, without_pointer, Does, AnswersBy, Answers, spent_after, Entry, Moment, Run, beginning_with, Row, BoardShape, without_pointer_at, moved_by, moved, effect_of, row_effect, here_of, here_by, IsRun}
+use Rattle.snapshots.proofs.Prelude.{◌≡◌, ℕ, Bool, true, false, List, [], ◌∷◌, ◌++◌, fold, Option, Some, None, refl, ap, sym, ◌∙◌, subst, slice_set, if◌then◌else◌, Act, Update, Marry, Seduce, Abandon, Event, Link, Unlink, Point, Flag, Step, Show, Enabled, Matching, Status, Join, Leave, Moved, Refusal, Reply, Accepted, Moves, Shown, EnabledAre, Pairs, Counts, State, Registers, with_pointer, points, RuleTable, refusal_of, written, after_move, without_pointer, Does, AnswersBy, Answers, spent_after, Entry, Moment, Run, Row, BoardShape, without_pointer_at, moved_by, moved, effect_of, row_effect, here_of, here_by, IsRun}
 use mathlib.Core.List.{IsPrefix}
 
 abbrev pub pointers_of : State → Row
@@ -76,7 +76,6 @@ run_begins t start (entry ∷ some) rest end h =
     let m = run_begins t (record { state = h.0; spent = spent_after start.spent entry.1 }) some rest end h.2 in (m.0, (h.0, h.1, m.1))
 
 pub is_run_begins : (t : RuleTable) (extent : BoardShape) (some all : List Entry) → IsPrefix some all → IsRun t extent all → IsRun t extent some
-is_run_begins t extent some all p h =
-    let begun : Moment = beginning_with h.0 extent.present in
-    let whole : Run t begun (some ++ p.0) h.1 = subst (λ (l : List Entry). Run t begun l h.1) (sym p.1) h.3 in
-    let m = run_begins t begun some p.0 h.1 whole in (h.0, m.0, h.2, m.1)
+is_run_begins t extent some all p (size, start, end, places, begins, run) =
+    let whole : Run t start (some ++ p.0) end = subst (λ (l : List Entry). Run t start l end) (sym p.1) run in
+    let m = run_begins t start some p.0 end whole in (size, start, m.0, places, begins, m.1)

@@ -2,6 +2,7 @@
 use Rattle.std.specs.Prelude.{◌≡◌, ◌⊎◌, ◌+◌, ◌<◌, Bool, List, [], ◌∷◌, ◌++◌, length, map, fold, MatchBool, Option, Some}
 use mathlib.Core.List.{IsPrefix}
 use Rattle.rule_machine.specs.Run.{Entry}
+use Rattle.rule_machine.specs.Base.{dropped}
 use Rattle.logbook.specs.Pages.{Book}
 use Rattle.snapshots.specs.declared.history.HistoryPrefix.{HistoryPrefix}
 use Rattle.snapshots.specs.declared.image.Posted.{Posted}
@@ -29,7 +30,7 @@ IsPublishable law x pending = (IsSound law x → IsSound law (fold absorbed x pe
 pub record IsPostedLast (x : CopyView) (marks : List Mark) (book : Book) (p : Posted) : Type 0 where
   pub past : p.past.seen.log ≡ marks
   pub same : p.past.seen.book ≡ book
-  pub number : p.front ≡ length (shown x.marks) + 1
+  pub number : p.front ≡ dropped x.base + length (shown x.marks) + 1
   pub last : posted marks ≡ p.entry ∷ []
   pub room : length marks < max_marks
 

@@ -1,6 +1,8 @@
 pub mod Boards
 pub mod History
+pub mod Starts
 pub mod Row
+pub mod Origins
 pub mod Rule
 pub mod CopyViews
 pub mod Views

@@ -7,12 +7,15 @@ use Rattle.rule_machine.specs.declared.act.Act.TheVariants.{Update, Marry, Seduc
 use Rattle.rule_machine.specs.declared.event.Event.{Event}
 use Rattle.rule_machine.specs.declared.event.Event.TheVariants.{Link, Unlink, Point, Flag, Step, Show, Enabled, Matching, Status, Join, Leave}
 use Rattle.rule_machine.specs.declared.act.Moved.{Moved}
+use Rattle.rule_machine.specs.declared.base.NodeRecord.{NodeRecord}
+use Rattle.rule_machine.specs.declared.base.Base.{Base}
 use Rattle.rule_machine.specs.declared.reply.Reply.{Reply}
 use Rattle.rule_machine.specs.declared.reply.Reply.TheVariants.{Accepted, Refused, Moves, Shown, EnabledAre, Pairs, Counts}
 use Rattle.rule_machine.specs.State.{is_at}
 use Rattle.rule_machine.specs.Disturbance.{unless_at}
 use Rattle.rule_machine.specs.RuleTable.{RuleTable}
-use Rattle.rule_machine.specs.Run.{Entry, Moment, Run, beginning_with}
+use Rattle.rule_machine.specs.Run.{Entry, Moment, Run}
+use Rattle.snapshots.specs.Starts.{StartsAt}
 
 abbrev pub Row : Type 0
 Row = List (Option ℕ)
@@ -69,19 +72,41 @@ effect_of row event (Counts counts) = row
 abbrev pub row_effect : Row → Entry → Row
 row_effect row entry = effect_of row entry.0 entry.1
 
--- The pointers after a log, if all pointers are null before it. `pointers_are_those_of_the_run` proves that a
--- run ends with them.
-abbrev pub pointers_after : ℕ → List Entry → Row
-pointers_after places log = fold row_effect (replicate places None) log
-
--- how many places there are, and how many nodes, named from 1, before any entry
+-- How many places there are, and how many nodes before any entry: without a base they are named from 1, with
+-- one they are the base's nodes.
 pub record BoardShape : Type 0 where
   pub places : ℕ
   pub present : ℕ
+  pub base : Option Base
 
--- for each place, whether its node is present before any entry
+-- the pointers with that of one node of a base
+abbrev pub with_target : Row → NodeRecord → Row
+with_target row at = slice_set row at.node at.target
+
+-- the pointers before any entry: those of the base's nodes; without a base all are null
+abbrev pub row_from : ℕ → Option Base → Row
+row_from places None = replicate places None
+row_from places (Some base) = fold with_target (replicate places None) base.nodes
+
+abbrev pub row_at_start : BoardShape → Row
+row_at_start extent = row_from extent.places extent.base
+
+-- The pointers after a log. `pointers_are_those_of_the_run` proves that a run ends with them.
+abbrev pub pointers_after : BoardShape → List Entry → Row
+pointers_after extent log = fold row_effect (row_at_start extent) log
+
+-- the present nodes with one node of a base
+abbrev pub with_present : List Bool → NodeRecord → List Bool
+with_present here at = slice_set here at.node true
+
+-- for each place, whether its node is present before any entry: whether it is one of the base's nodes; without
+-- a base, whether it is one of the first `count` names
+abbrev pub here_from : ℕ → ℕ → Option Base → List Bool
+here_from places count None = map (λ v. nat_le 1 v && nat_le v count) (range_with_len 0 places)
+here_from places count (Some base) = fold with_present (replicate places false) base.nodes
+
 abbrev pub here_at_start : BoardShape → List Bool
-here_at_start extent = map (λ v. nat_le 1 v && nat_le v extent.present) (range_with_len 0 extent.places)
+here_at_start extent = here_from extent.places extent.present extent.base
 
 -- what an accepted edit or fault does to the present nodes
 abbrev pub presence_after : List Bool → Event → List Bool
@@ -115,7 +140,9 @@ here_by here entry = here_of here entry.0 entry.1
 abbrev pub here_after : BoardShape → List Entry → List Bool
 here_after extent log = fold here_by (here_at_start extent) log
 
--- The logs that are runs of a rule table from an opening state with one name fewer than places, since place 0
--- is unused, and with the extent's nodes present. `beginnings_are_runs` proves it of their prefixes too.
+-- The logs that are runs of a rule table with one name fewer than places, since place 0 is unused. The run
+-- begins at the extent's base; without one, at the opening state with the extent's nodes present.
+-- `beginnings_are_runs` proves it of their prefixes too.
 abbrev pub IsRun : RuleTable → BoardShape → List Entry → Type 0
-IsRun t extent log = (size : ℕ) × (end : Moment) × (extent.places ≡ size + 1) × Run t (beginning_with size extent.present) log end
+IsRun t extent log =
+    (size : ℕ) × (start : Moment) × (end : Moment) × (extent.places ≡ size + 1) × StartsAt t size extent.present extent.base start × Run t start log end

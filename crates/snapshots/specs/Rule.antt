@@ -1,9 +1,10 @@
 -- The rule of the copies: what each reader knows is a prefix of what is published.
-use Rattle.std.specs.Prelude.{◌≡◌, ℕ, List, length, Option, None, Some}
+use Rattle.std.specs.Prelude.{◌≡◌, ℕ, ◌+◌, List, length, Option, None, Some}
 use mathlib.Core.List.{IsPrefix}
 use mathlib.Core.Option.{some}
 use lib.ListN.{get_elem?}
 use Rattle.rule_machine.specs.Run.{Entry}
+use Rattle.rule_machine.specs.Base.{dropped}
 use Rattle.snapshots.specs.History.{shown}
 use Rattle.snapshots.specs.Row.{BoardShape, pointers_after, here_after}
 use Rattle.snapshots.specs.CopyViews.{CopyView, extent_of}
@@ -15,9 +16,9 @@ ExtendsView (Some s) x = (x.book ≡ s.book) × (extent_of x ≡ extent_of s) ×
 
 -- a copy that agrees with the entries that it shows, which keep the law
 pub record IsSound (law : BoardShape → List Entry → Type 0) (x : CopyView) : Type 0 where
-  pub row : x.row ≡ pointers_after (length x.row) (shown x.marks)
+  pub row : x.row ≡ pointers_after (extent_of x) (shown x.marks)
   pub here : x.here ≡ here_after (extent_of x) (shown x.marks)
-  pub front : x.front ≡ length (shown x.marks)
+  pub front : x.front ≡ dropped x.base + length (shown x.marks)
   pub lawful : law (extent_of x) (shown x.marks)
 
 module _ (law : BoardShape → List Entry → Type 0) where

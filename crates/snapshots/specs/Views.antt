@@ -5,7 +5,8 @@ use Rattle.logbook.specs.Pages.{Book}
 use Rattle.snapshots.specs.Row.{BoardShape}
 use Rattle.snapshots.specs.CopyViews.{CopyView, extent_of}
 
--- the history of a board's entries, the number of places, and the number of nodes before any entry
+-- the history of a board's entries; the number of places, the number of nodes before any entry, and the base
+-- at which the entries begin, if any
 pub record BoardName : Type 0 where
   pub book : Book
   pub extent : BoardShape
@@ -29,5 +30,5 @@ pub record PublishedLog : Type 0 where
 
 -- the extent of the copy that was seen last
 abbrev pub extent_seen : Option CopyView → BoardShape
-extent_seen None = record { places = 0; present = 0 }
+extent_seen None = record { places = 0; present = 0; base = None }
 extent_seen (Some x) = extent_of x

@@ -1,6 +1,7 @@
 //! The board, which publishes entries.
 
-ghost use Rattle.std.specs.Prelude.{◌≡◌, ◌^◌, ◌<◌, ◌∷◌, ◌++◌, [], length, IfOk, OnOk, OnErr};
+ghost use Rattle.std.specs.Prelude.{◌≡◌, ◌+◌, ◌^◌, ◌<◌, ◌∷◌, ◌++◌, [], Some, None, length, IfOk, OnOk, OnErr};
+ghost use Rattle.rule_machine.specs.Base.{dropped};
 
 use crate::history::{History, HistoryPrefix, Posts, Publishes};
 use crate::image::RegisterCopy;
@@ -9,6 +10,7 @@ use crate::reader::Reader;
 use crate::rule::Law;
 use crate::sharing::{Copies, LoneCopy};
 use log_entry::Entry;
+use rule_machine::Base;
 use std::alloc::{AllocError, Global};
 use std::marker::Model;
 use std::sync::Wait;
@@ -22,7 +24,8 @@ pub struct NoPlace;
 /// Publishes a network's pointers and present nodes, entry by entry, for wait-free readers.
 ///
 /// Contracts see the published entries; the entry that is posted but not published, if any; and the board's
-/// name. The name is the entries' history, the number of places, and the number of nodes before any entry.
+/// name. The name is the entries' history, the number of places, and, before any entry, the number of nodes and
+/// the base, if any.
 /// Every log that the board publishes keeps the law `L`. A board cannot be dropped: `end` ends it.
 pub struct Board<L: Law> {
     alloc: Global,
@@ -57,6 +60,27 @@ impl<L: Law> Model for Board<L> {
 }
 
 impl<L: Law> Board<L> {
+    ghost use Rattle.snapshots.specs.History.{shown};
+    ghost use Rattle.snapshots.specs.CopyViews.{extent_of};
+    ghost use Rattle.snapshots.specs.Boards.{IsBoard};
+
+    /// The board whose only copy is this one.
+    fn over(alloc: Global, readers: usize, copy: RegisterCopy, history: History) -> Board<L>
+        requires readers { (0 < readers) × (readers < 2 ^ 32) }
+        requires board { IsBoard L.holds copy (Some copy) [] history.front.seen.log history.front.seen.book history.front.seen.log }
+        ensures entries { (result.list ≡ shown copy.marks) × (result.posted ≡ []) }
+        ensures extent { result.name.extent ≡ extent_of copy }
+    {
+        let announced = history.front.again();
+        Board {
+            alloc,
+            readers,
+            copies: Copies::One(LoneCopy { copy, posted: None }),
+            history,
+            announced,
+        }
+    }
+
     /// A board without entries, for at most `readers` readers at once.
     /// All pointers are null, and the names 1 to `present` are nodes.
     /// `AllocError` if memory runs out. Takes 9 bytes for each place.
@@ -67,26 +91,37 @@ impl<L: Law> Board<L> {
         readers: usize,
     ) -> Result<Board<L>, AllocError>
         requires readers { (0 < readers) × (readers < 2 ^ 32) }
-        requires law { L.holds (record { places = places; present = present }) [] }
-        ensures { IfOk result (λ b. (b.list ≡ []) × (b.posted ≡ []) × (b.name.extent ≡ record { places = places; present = present })) }
+        requires law { L.holds (record { places = places; present = present; base = None }) [] }
+        ensures { IfOk result (λ b. (b.list ≡ []) × (b.posted ≡ []) × (b.name.extent ≡ record { places = places; present = present; base = None })) }
     {
         let history = History::new();
         let copy = RegisterCopy::blank(alloc, places, present, &history.front)?;
-        let announced = history.front.again();
-        Ok(Board {
-            alloc,
-            readers,
-            copies: Copies::One(LoneCopy { copy, posted: None }),
-            history,
-            announced,
-        })
+        Ok(Board::over(alloc, readers, copy, history))
+    }
+
+    /// A board without entries that begins at a base, for at most `readers` readers at once.
+    /// The nodes, with their pointers, are those of the base. The first entry has the number after the base's.
+    /// `AllocError` if memory runs out. Takes 9 bytes for each place, and a step for each place and node.
+    pub fn from_base(
+        alloc: Global,
+        places: usize,
+        base: &Base,
+        readers: usize,
+    ) -> Result<Board<L>, AllocError>
+        requires readers { (0 < readers) × (readers < 2 ^ 32) }
+        requires law { L.holds (record { places = places; present = length base.now.nodes; base = Some base.now }) [] }
+        ensures { IfOk result (λ b. (b.list ≡ []) × (b.posted ≡ []) × (b.name.extent ≡ record { places = places; present = length base.now.nodes; base = Some base.now })) }
+    {
+        let history = History::new();
+        let copy = RegisterCopy::from_base(alloc, places, base, &history.front)?;
+        Ok(Board::over(alloc, readers, copy, history))
     }
 
     /// Posts an entry: takes all memory that the entry needs. `publish` then publishes it and cannot fail.
     /// `AllocError` if memory runs out; no entry is posted then.
     pub fn post(&mut self, entry: &Entry) -> Result<(), AllocError>
         requires one { self.old.posted ≡ [] }
-        requires room { length self.old.list < 2 ^ 24 }
+        requires room { dropped self.old.name.extent.base + length self.old.list < 2 ^ 24 }
         ensures posted { OnOk result (self.new ≡ record self.old { posted = entry.now ∷ [] }) }
         ensures kept { OnErr result (self.new ≡ self.old) }
     {

@@ -3,10 +3,10 @@
 ghost use Rattle.std.specs.Prelude.{◌≡◌, None, fold, map, slice_set};
 ghost use Rattle.rule_machine.specs.State.{is_at};
 ghost use Rattle.rule_machine.specs.Disturbance.{unless_at};
-ghost use Rattle.snapshots.specs.Row.{pointer_in, without_pointer_at, moved, disturbed_row, row_effect, presence_after, here_by};
+ghost use Rattle.snapshots.specs.Row.{pointer_in, without_pointer_at, moved, disturbed_row, row_effect, presence_after, here_by, with_target, with_present};
 
 use log_entry::Entry;
-use rule_machine::{Act, Event, Moved, Node, Reply};
+use rule_machine::{Act, Event, Moved, Node, NodeRecord, Reply};
 
 fn write(row: &mut [Option<Node>], v: Node, target: Option<Node>)
     ensures { row.new ≡ slice_set row.old v target }
@@ -121,5 +121,23 @@ pub(crate) fn take_presence(here: &mut [bool], entry: &Entry)
 {
     if let Reply::Accepted = entry.reply() {
         turn(here, entry.event());
+    }
+}
+
+/// Writes the pointers of a base's nodes.
+pub(crate) fn write_targets(row: &mut [Option<Node>], nodes: &[NodeRecord])
+    ensures { row.new ≡ fold with_target row.old nodes.now }
+{
+    for at in nodes {
+        write(row, at.node, at.target);
+    }
+}
+
+/// Marks a base's nodes as present.
+pub(crate) fn mark_nodes(here: &mut [bool], nodes: &[NodeRecord])
+    ensures { here.new ≡ fold with_present here.old nodes.now }
+{
+    for at in nodes {
+        mark(here, at.node, true);
     }
 }

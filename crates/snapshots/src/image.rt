@@ -1,39 +1,49 @@
 //! One copy of the pointers and of the present nodes, and the operations on a copy.
 
-ghost use Rattle.std.specs.Prelude.{◌≡◌, ◌<◌, ◌&&◌, false, IfOk, nat_le, slice_index_or};
+ghost use Rattle.std.specs.Prelude.{◌≡◌, ◌<◌, ◌&&◌, false, Some, None, IfOk, length, nat_le, slice_index_or};
 ghost use Rattle.rule_machine.specs.State.{is_at};
 ghost use Rattle.snapshots.specs.Row.{pointer_in, here_at_start};
-ghost use Rattle.snapshots.specs.CopyViews.{blank_copy, after, held_in, found_in};
+ghost use Rattle.snapshots.specs.CopyViews.{copy_at_start, after, held_in, found_in};
 
-use crate::effect::{take_in, take_presence};
+use crate::effect::{mark_nodes, take_in, take_presence, write_targets};
 use crate::history::HistoryPrefix;
+use crate::origin::{KnownOrigin, at_base, at_names};
 use left_right::Absorb;
 use log_entry::Entry;
-use rule_machine::Node;
+use rule_machine::{Base, Node};
 use std::alloc::{AllocError, Global};
 use std::marker::Model;
 
-/// The pointers and present nodes after `front` entries, with a place for each name.
-/// Also has the prefix of the history that shows these entries, and the number of nodes before any entry.
+/// The pointers and present nodes after the entry number `front`, with a place for each name.
+/// Also has the prefix of the history that shows the entries. Contracts see the origin of the entries too.
 #[derive(Drop)]
 pub struct RegisterCopy {
     row: Vec<Option<Node>>,
     here: Vec<bool>,
-    present: u32,
     front: u32,
     past: HistoryPrefix,
+    origin: KnownOrigin,
 }
 
 impl Model for RegisterCopy {
     ghost use Rattle.std.specs.Coded.{codes};
     ghost use Rattle.logbook.specs.Pages.{book_coded};
     ghost use Rattle.snapshots.specs.CopyViews.{CopyView};
+    ghost use Rattle.snapshots.specs.Origins.{nodes_at_origin, base_at_origin};
 
     ghost Value = { CopyView };
 
     ghost coded = { Prim.hlevel (codes, book_coded) };
 
-    ghost view = { λ i. record { row = i.row.items; here = i.here.items; present = i.present; front = i.front; marks = i.past.seen.log; book = i.past.seen.book } };
+    ghost view = { λ i. record {
+      row = i.row.items;
+      here = i.here.items;
+      present = nodes_at_origin i.origin.log;
+      base = base_at_origin i.origin.log;
+      front = i.front;
+      marks = i.past.seen.log;
+      book = i.past.seen.book;
+    } };
 }
 
 /// One entry for a copy to take in: the entry, the entry's number, and the history up to its posting.
@@ -51,14 +61,35 @@ impl RegisterCopy {
         present: u32,
         past: &HistoryPrefix,
     ) -> Result<RegisterCopy, AllocError>
-        ensures { IfOk result (λ i. i ≡ blank_copy (record { places = places; present = present }) past.now.seen.log past.now.seen.book) }
+        ensures { IfOk result (λ i. i ≡ copy_at_start (record { places = places; present = present; base = None }) past.now.seen.log past.now.seen.book) }
     {
         Ok(RegisterCopy {
             row: vec![in alloc; None; places]?,
             here: here_at_start(alloc, places, present)?,
-            present,
             front: 0,
             past: past.again(),
+            origin: at_names(present),
+        })
+    }
+
+    pub(crate) fn from_base(
+        alloc: Global,
+        places: usize,
+        base: &Base,
+        past: &HistoryPrefix,
+    ) -> Result<RegisterCopy, AllocError>
+        ensures { IfOk result (λ i. i ≡ copy_at_start (record { places = places; present = length base.now.nodes; base = Some base.now }) past.now.seen.log past.now.seen.book) }
+    {
+        let mut row = vec![in alloc; None; places]?;
+        let mut here = vec![in alloc; false; places]?;
+        write_targets(&mut row, base.nodes.as_slice());
+        mark_nodes(&mut here, base.nodes.as_slice());
+        Ok(RegisterCopy {
+            row,
+            here,
+            front: base.number,
+            past: past.again(),
+            origin: at_base(base),
         })
     }
 
@@ -72,9 +103,9 @@ impl RegisterCopy {
         Ok(RegisterCopy {
             row,
             here,
-            present: self.present,
             front: self.front,
             past: self.past.again(),
+            origin: self.origin.again(),
         })
     }
 
@@ -130,7 +161,7 @@ fn is_present(place: usize, present: u32) -> bool
 }
 
 fn here_at_start(alloc: Global, places: usize, present: u32) -> Result<Vec<bool>, AllocError>
-    ensures { IfOk result (λ here. here.items ≡ here_at_start (record { places = places; present = present })) }
+    ensures { IfOk result (λ here. here.items ≡ here_at_start (record { places = places; present = present; base = None })) }
 {
     let mut here = Vec::with_capacity(alloc, places)?;
     for place in 0..places {

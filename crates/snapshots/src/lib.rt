@@ -5,7 +5,8 @@
 //! first posted, which takes all the memory, then published, whole and at once, which cannot fail. A `Reader`
 //! sees the state after a prefix of the entries, never half an entry. The prefix keeps the board's law
 //! (`Law`; for a network: the prefix is a run), and includes all that the reader saw before or learnt from a
-//! `Note`. The board's history exists in contracts only and has no bytes.
+//! `Note`. A board begins at an opening state (`Board::new`) or at a base (`Board::from_base`); its entries have
+//! the numbers after the base's. The board's history and its base exist in contracts only and have no bytes.
 //!
 //! A look costs a few steps, whatever the network's size. So does a publication before the first reader.
 //! Afterwards it visits the places of all readers and waits for those that look at the old copy. A board
@@ -25,6 +26,7 @@ mod history;
 mod image;
 pub mod laws;
 mod note;
+mod origin;
 mod reader;
 mod rule;
 mod sharing;

@@ -1,8 +1,9 @@
 //! Readers of a board.
 
-ghost use Rattle.std.specs.Prelude.{◌≡◌, ◌<◌, length, IfSome, IfNone};
+ghost use Rattle.std.specs.Prelude.{◌≡◌, ◌+◌, ◌<◌, length, IfSome, IfNone};
 ghost use mathlib.Core.List.{IsPrefix};
 ghost use Rattle.left_right.specs.Sides.{view as known};
+ghost use Rattle.rule_machine.specs.Base.{dropped};
 ghost use Rattle.snapshots.specs.History.{published, shown, IsOneLog, AreOneLog, AreComparable};
 ghost use Rattle.snapshots.specs.CopyViews.{CopyView, found_in, found_after};
 ghost use Rattle.snapshots.specs.Rule.{Sees};
@@ -24,7 +25,7 @@ pub(crate) type SeatAt<L> = Seat<RegisterCopy, Option<RegisterCopy>, Published<L
 /// What a reader saw at one moment.
 #[derive(Clone, Copy, Debug, PartialEq, Eq)]
 pub struct Snapshot {
-    /// How many entries were published.
+    /// The number of the last published entry; the base's number if there is none, and 0 without a base.
     pub front: u32,
     /// The place's pointer, and the target if the target points back; `None` if no node has the place.
     pub found: Option<(Option<Node>, Option<Node>)>,
@@ -94,7 +95,7 @@ impl<L: Law> Reader<L> {
         Reader { seat, seen, learnt }
     }
 
-    /// The pointer and the partner at a place at one moment, with the number of entries then.
+    /// The pointer and the partner at a place at one moment, with the number of the last entry then.
     /// The view, which is these entries, includes all that this reader saw or learnt before.
     /// `None` if the board has ended, or if the published entries lack some that the reader learnt, which
     /// never happens.
@@ -105,7 +106,7 @@ impl<L: Law> Reader<L> {
         ensures none { IfNone result (self.new.list ≡ self.old.list) }
         ensures learnt { IfSome result (λ look. IsPrefix self.old.learnt self.new.list) }
         ensures law { IfSome result (λ look. L.holds self.new.name.extent self.new.list) }
-        ensures front { IfSome result (λ look. look.front ≡ length self.new.list) }
+        ensures front { IfSome result (λ look. look.front ≡ dropped self.new.name.extent.base + length self.new.list) }
         ensures found { IfSome result (λ look. look.found ≡ found_after self.new.name.extent self.new.list place) }
     {
         let VersionedSnapshot { look, past } = replace_with(&mut self.seat, place, peek::<L>)?;
@@ -116,14 +117,14 @@ impl<L: Law> Reader<L> {
         Some(look)
     }
 
-    /// How many entries are published. The view and the result `None` are as in `look`.
+    /// The number of the last published entry, as in `Snapshot`. The view and the result `None` are as in `look`.
     pub fn front(&mut self) -> Option<u32>
         ensures view { IsPrefix self.old.list self.new.list }
         ensures kept { (self.new.learnt ≡ self.old.learnt) × (self.new.name ≡ self.old.name) }
         ensures none { IfNone result (self.new.list ≡ self.old.list) }
         ensures learnt { IfSome result (λ front. IsPrefix self.old.learnt self.new.list) }
         ensures law { IfSome result (λ front. L.holds self.new.name.extent self.new.list) }
-        ensures front { IfSome result (λ front. front ≡ length self.new.list) }
+        ensures front { IfSome result (λ front. front ≡ dropped self.new.name.extent.base + length self.new.list) }
     {
         let look = self.look(0)?;
         Some(look.front)

@@ -1,13 +1,15 @@
 -- A journal that begins at a base.
-use Rattle.step_log.proofs.Prelude.{◌≡◌, ◌∙◌, ◌+◌, ◌≤◌, ℕ, List, [], length, map, Some, refl, sym, ap, subst, arith, Base, Forgotten, Moment, IsJournal, RuleTable, State, max_entries}
+use Rattle.step_log.proofs.Prelude.{◌≡◌, ◌∙◌, ◌+◌, ◌≤◌, ℕ, false, List, [], length, map, Some, refl, sym, ap, subst, arith, Base, Forgotten, Moment, IsJournal, RuleTable, State, max_entries}
 use Rattle.rule_machine.specs.Network.{Network}
-use Rattle.rule_machine.specs.Base.{IsBaseMoment}
+use Rattle.rule_machine.specs.Base.{IsBaseMoment, base_of}
+use Rattle.rule_machine.specs.State.{flag}
+use Rattle.rule_engine.specs.EventReplies.{IsWithinBudget}
 use Rattle.charge_laws.specs.ChargeWords.{charge_bound}
 use Rattle.step_log.specs.declared.epoch.Epoch.{Epoch}
 use Rattle.step_log.specs.Epochs.{of_run}
 use Rattle.step_log.specs.BaseStarts.{BeginsIn, kept_from, recording_from}
 use Rattle.step_log.specs.Recording.{Recording}
-use Rattle.step_log.specs.RetainedLogs.{RetainedLog}
+use Rattle.step_log.specs.RetainedLogs.{RetainedLog, IsBaseOfGraph}
 use Rattle.rule_machine.specs.Run.{Entry}
 use Rattle.rule_machine.specs.declared.base.NodeRecord.{NodeRecord}
 
@@ -22,6 +24,22 @@ begun_is_journal t weight size limit base s begun small nodes edges room within 
     room = omega (arith, room);
     limit = within;
     short = (nodes, edges);
+  };
+  told = record { path = []; entries = refl; is_path = tt; ends = refl; ended = ap (map of_run) none; goes_on = refl };
+}
+
+-- a journal that goes on with a network has the network's moment as its base
+pub resumed_is_journal : (t : RuleTable) (weight number limit present : ℕ) (m : Moment) → IsWithinBudget t weight m → (t.flags ≡ false → (v : ℕ) → flag m.state v ≡ false) → m.state.network.size ≤ 65535 → IsBaseOfGraph (Some (base_of number m)) → number ≤ limit → limit ≤ max_entries → (over : List Epoch) → over ≡ []
+    → IsJournal t weight (record { state = m.state; spent = m.spent; base = Some (base_of number m); entries = []; limit = limit; present = present }) over Forgotten
+resumed_is_journal t weight number limit present m budget unflagged small short room within over none = record {
+  is_kept = record {
+    start = m;
+    begins = record { is_state = budget.is_state; size_is = refl; lines = refl; unflagged = unflagged; within = budget.within };
+    run = refl;
+    size = small;
+    room = omega (arith, room);
+    limit = within;
+    short = short;
   };
   told = record { path = []; entries = refl; is_path = tt; ends = refl; ended = ap (map of_run) none; goes_on = refl };
 }

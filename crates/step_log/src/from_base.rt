@@ -1,15 +1,17 @@
 //! Recorders and journals that begin at a base.
 
-ghost use Rattle.std.specs.Prelude.{◌≡◌, ◌<◌, ◌≤◌, ◌↔◌, min, IfErr, IfOk, IsErrOf, OnOk};
-ghost use Rattle.step_log.specs.BaseStarts.{BeginsIn, ExplainsStartFault, kept_from, recording_from};
+ghost use Rattle.std.specs.Prelude.{◌≡◌, ◌<◌, ◌≤◌, ◌↔◌, ℕ, false, min, IfErr, IfOk, IsErrOf, OnOk};
+ghost use Rattle.rule_engine.specs.PreparedEvents.{net_moment};
+ghost use Rattle.rule_machine.specs.State.{flag};
+ghost use Rattle.step_log.specs.BaseStarts.{BeginsIn, ExplainsStartFault, kept_from, recording_from, resumed_log};
 ghost use Rattle.step_log.specs.JournalViews.{kept_of};
 ghost use Rattle.step_log.specs.Log.{max_entries};
 ghost use Rattle.step_log.specs.declared.start_fault.StartFault.TheVariants.{LogFull};
 
 use crate::epoch::Epochs;
 use crate::{Journal, MAX_ENTRIES, Recorder, StartFault};
-use rule_engine::{Net, Rules};
-use rule_machine::{Base, EpochStart};
+use rule_engine::{Net, Rules, Want};
+use rule_machine::{Base, EpochStart, MAX_NAME};
 use std::alloc::Global;
 
 impl<R: Rules> Recorder<R> {
@@ -74,6 +76,28 @@ impl<R: Rules> Journal<R> {
             base: Some(base),
             entries: Vec::new(alloc),
             limit,
+            present,
+            epochs: Epochs::new(alloc, EpochStart::Forgotten),
+        })
+    }
+
+    /// The journal of a network that goes on after `number` entries: the base is the network's moment.
+    /// The limit is that of `Recorder::of_net`.
+    /// `AllocError` if memory runs out. Costs what a checkpoint costs.
+    pub fn of_net(alloc: Global, net: Net<R>, number: u32, limit: u32) -> Result<Journal<R>, Want>
+        requires few { number ≤ max_entries }
+        requires unflagged { R.table.flags ≡ false → (v : ℕ) → flag net.state v ≡ false }
+        ensures { IfOk result (λ journal. kept_of journal ≡ resumed_log (net_moment net) number limit) }
+    {
+        let base = net.base(number)?;
+        let present = net.store().nodes();
+        prove!(net.store().capacity() <= MAX_NAME);
+        Ok(Journal {
+            alloc,
+            net,
+            base: Some(base),
+            entries: Vec::new(alloc),
+            limit: number.max(limit.min(MAX_ENTRIES)),
             present,
             epochs: Epochs::new(alloc, EpochStart::Forgotten),
         })

@@ -1,7 +1,8 @@
 //! How a clerk that may call records an event and keeps the receipt.
 
 ghost use Rattle.std.specs.Prelude.{◌≡◌, ◌<◌, ◌≤◌, ◌++◌, ◌∷◌, [], length, None, Some, IfOk, IfErr, OnOk, vec_capacity};
-ghost use Rattle.step_log.specs.Log.{IsLog};
+ghost use Rattle.step_log.specs.RetainedLogs.{last_number};
+ghost use Rattle.locked_net.specs.WholeLogs.{IsWholeLog};
 ghost use Rattle.locked_net.specs.Receipts.{seen_by};
 ghost use Rattle.locked_net.specs.Calls.{call_fault, RecordsEvent};
 ghost use Rattle.locked_net.specs.ClerkCalls.{each, HeldCall};
@@ -16,12 +17,12 @@ use std::sync::Wait;
 use step_log::Receipt;
 
 impl Clerk {
-    /// How many entries the log has, if the clerk has seen at most these.
+    /// The number of the last entry, if the clerk has seen no greater number.
     pub(crate) fn keeps_up<R: Rules>(&self, desk: &PublishedJournal<R>) -> Result<u32, CallFault>
-        ensures run { IsLog R.table desk.now.log }
-        ensures front { IfOk result (λ front. front ≡ length desk.now.log.entries) }
-        ensures all { OnOk result (seen_by self.now ≤ length desk.now.log.entries) }
-        ensures fault { IfErr result (λ fault. (length desk.now.log.entries < seen_by self.now) × (fault ≡ Behind (length desk.now.log.entries) (seen_by self.now))) }
+        ensures run { IsWholeLog R.table desk.now.log }
+        ensures front { IfOk result (λ front. front ≡ last_number desk.now.log) }
+        ensures all { OnOk result (seen_by self.now ≤ last_number desk.now.log) }
+        ensures fault { IfErr result (λ fault. (last_number desk.now.log < seen_by self.now) × (fault ≡ Behind (last_number desk.now.log) (seen_by self.now))) }
     {
         let (front, seen) = (desk.len(), self.seen());
         if front < seen {
@@ -31,7 +32,7 @@ impl Clerk {
     }
 
     pub(crate) fn may_call<R: Rules>(&self, desk: &PublishedJournal<R>) -> Result<(), CallFault>
-        ensures run { IsLog R.table desk.now.log }
+        ensures run { IsWholeLog R.table desk.now.log }
         ensures free { OnOk result (call_fault (seen_by self.now) desk.now.log ≡ None) }
         ensures fault { IfErr result (λ fault. call_fault (seen_by self.now) desk.now.log ≡ Some fault) }
     {
@@ -55,6 +56,7 @@ impl Clerk {
     {
         self.receipts.reserve(1)?;
         let recorded = desk.record(rt, event)?;
+        self.start = desk.start();
         Ok(keep(&mut self.receipts, &mut self.note, recorded))
     }
 }

@@ -12,11 +12,11 @@ use std::sync::Wait;
 
 impl Clerk {
     /// Makes the present state the base of the network's log, and returns the base's number.
-    /// All entries are dropped. The base's number is that of the last entry, dropped now or earlier; 0 if
-    /// there was no entry. Later entries continue the numbers. A checkpoint is no event: it gives no
-    /// receipt, and published entries stay published.
+    /// All entries are dropped. The base's number is that of the last entry, dropped now or earlier; if there
+    /// was no entry, that of the network's beginning, or 0. Later entries continue the numbers. A checkpoint
+    /// is no event: it gives no receipt, and published entries stay published.
     ///
-    /// `Behind` if the log, dropped entries included, has fewer entries than this clerk has seen; otherwise
+    /// `Behind` if the number of the log's last entry is less than what this clerk has seen; otherwise
     /// `Memory` if memory runs out. A full log is no fault. After a fault nothing has changed.
     /// Waits for the network's lock. Takes the memory and time of `Journal::checkpoint`.
     pub fn checkpoint<R: Rules, W: Wait>(

@@ -1,7 +1,7 @@
 //! A turn of a clerk that roams, in a network whose lock is held.
 
 ghost use Rattle.std.specs.Prelude.{◌≡◌, ◌++◌, None, IfErr, OnOk};
-ghost use Rattle.step_log.specs.Log.{IsLog};
+ghost use Rattle.locked_net.specs.WholeLogs.{IsWholeLog};
 ghost use Rattle.locked_net.specs.Receipts.{seen_by};
 ghost use Rattle.locked_net.specs.ClerkCalls.{some_of, HeldCall};
 ghost use Rattle.locked_net.specs.RoamTurns.{mover, log_after_turn, receipts_of_turn, fault_of_turn, FaultInTurn};
@@ -37,7 +37,7 @@ impl<R: Rules> HeldNet<'_, R> {
 
 fn next_mover<R: Rules>(desk: &PublishedJournal<R>, turn: u32) -> Option<Node>
     ensures mover { result ≡ mover R.table desk.now.log.state turn }
-    ensures run { IsLog R.table desk.now.log }
+    ensures run { IsWholeLog R.table desk.now.log }
 {
     let enabled = desk.net().enabled();
     match enabled.count() {

@@ -1,6 +1,9 @@
 use Rattle.locked_net.proofs.Prelude.{◌++◌, [], ap, ◌∙◌, BoardView, Receipt}
-use Rattle.locked_net.proofs.JournalPublication.{is_run_posted, desk_after}
+use Rattle.locked_net.proofs.JournalPublication.{is_run_posted, post_room, log_after, desk_after}
 use Rattle.locked_net.proofs.desk.finish.Goals as goal
+
+pub post-requires-clause-room : goal.post-requires-clause-room
+post-requires-clause-room g c = post_room g.R.Rules.table _ c.args.board.now c.requires.desk c.requires.ready.below
 
 pub publish-note-requires-clause-law : goal.publish-note-requires-clause-law
 publish-note-requires-clause-law g c =
@@ -16,3 +19,9 @@ returns-clause-desk g c =
     let next = c.entry-entry.ensures ∙ ap (λ (r : Receipt). (c.args.prepared.event, r.reply)) c.requires.ready.next in
     let shown = c.publish-note.ensures.published ∙ ap (λ (b : BoardView). record b { list = b.list ++ b.posted; posted = [] }) c.in_ok-post.ensures.posted in
     desk_after t laws.table _ _ c.args.board.now c.publish-note.new.self c.args.prepared.event c.entry-entry.result.now c.requires.desk c.requires.ready.below next c.commit-receipt.ensures.log shown
+
+pub returns-clause-log : goal.returns-clause-log
+returns-clause-log g c =
+    let next = c.entry-entry.ensures ∙ ap (λ (r : Receipt). (c.args.prepared.event, r.reply)) c.requires.ready.next in
+    let shown = c.publish-note.ensures.published ∙ ap (λ (b : BoardView). record b { list = b.list ++ b.posted; posted = [] }) c.in_ok-post.ensures.posted in
+    log_after g.R.Rules.table _ _ c.args.board.now c.publish-note.new.self c.args.prepared.event c.entry-entry.result.now next c.commit-receipt.ensures.log shown

@@ -1,3 +1,4 @@
+use Rattle.locked_net.proofs.Prelude.{◌+◌, length, ap, ◌∙◌, dropped, BoardName, ReaderView}
 use Rattle.locked_net.proofs.BoardReads.{looked, shown_by, absent, shows}
 use Rattle.locked_net.proofs.board_reader.BoardReader.look.Goals as goal
 
@@ -33,3 +34,13 @@ pub returns-clause-partner : goal.returns-clause-partner
 returns-clause-partner g c =
     let some = c.in-Some.ensures in
     (shown_by g.R.Rules.table _ c.args.self.now c.look.new.self.name c.place.result c.args.v c.look.new.self.list c.in-Some.field-0.found c.in-Some-found.seen c.self.view_is some.kept.1 c.place.ensures.same c.place.ensures.named.0 some.law some.found c.in-Some-found.is).partner_is
+
+pub returns-clause-front : goal.returns-clause-front
+returns-clause-front g c =
+    let some = c.in-Some.ensures in
+    some.front ∙ ap (λ (n : BoardName). dropped n.extent.base + length c.look.new.self.list) (some.kept.1 ∙ ap (λ (r : ReaderView). r.name) c.self.view_is)
+
+pub returns-in_default-found-clause-unknown_front : goal.returns-in_default-found-clause-unknown_front
+returns-in_default-found-clause-unknown_front g c =
+    let some = c.in-Some.ensures in
+    some.front ∙ ap (λ (n : BoardName). dropped n.extent.base + length c.look.new.self.list) (some.kept.1 ∙ ap (λ (r : ReaderView). r.name) c.self.view_is)

@@ -8,4 +8,4 @@ invariant_of-self c =
     let inside = c.self.inside in
     let begins : IsPrefix (noted inside.note) c.args.other.log =
     subst (λ (clerk : ClerkView). IsPrefix (noted clerk.note) c.args.other.log) (sym c.self.view_is) (c.if-begins.ensures.yes refl) in
-    sees_more (record { receipts = inside.receipts.items; note = inside.note; base = inside.base }) c.args.other c.self.invariant begins
+    sees_more (record { receipts = inside.receipts.items; note = inside.note; base = inside.base; start = inside.start }) c.args.other c.self.invariant begins

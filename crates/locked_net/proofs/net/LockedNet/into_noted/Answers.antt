@@ -7,7 +7,7 @@ returns-clause-published g c =
     let key = c.into_desk-desk.ensures in
     let closed = c.close.ensures in
     record {
-      part = record { log = desk.log; own = record { run = closed.run; nodes = key.nodes; present = key.present; limit = key.limit }; above = closed.above };
+      part = record { log = desk.log; own = record { run = closed.run; nodes = key.nodes; present = key.present; base = key.begun; limit = key.limit }; above = closed.above };
       published = c.note-last.ensures.0;
       in_book = c.note-last.ensures.1 ∙ ap (λ (name : BoardName). name.book) key.name;
     }
