@@ -5,4 +5,5 @@ pub mod SeamRuns
 pub mod CutTranscripts
 pub mod MeetingTexts
 pub mod Damages
-mod PartLaws
+pub mod PartLaws
+mod ContinuedRuns

@@ -30,7 +30,7 @@ pub all_apart : (log more : List LogPart) → AllByRecursion IsLogPart (log ++ m
 all_apart [] more f = (tt, f)
 all_apart (part ∷ log) more f = let rest = all_apart log more f.1 in ((f.0, rest.0), rest.1)
 
-entries_both : (log more : List LogPart) → entries_in (log ++ more) ≡ entries_in log ++ entries_in more
+pub entries_both : (log more : List LogPart) → entries_in (log ++ more) ≡ entries_in log ++ entries_in more
 entries_both [] more = refl
 entries_both (EntryPart entry ∷ log) more = ap (λ (l : List Entry). entry ∷ l) (entries_both log more)
 entries_both (BasePart base ∷ log) more = entries_both log more
@@ -158,7 +158,7 @@ whole_accepted own seam behind lines seamed c d x y =
     }
 
 -- the counts of a log
-abbrev summary_of : List Entry → Summary
+abbrev pub summary_of : List Entry → Summary
 summary_of log = record { entries = length log; epochs = epoch_count log; moves = move_count log }
 
 pub record BothAccepted (own seam behind : List ℕ) : Type 0 where

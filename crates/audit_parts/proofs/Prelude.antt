@@ -9,18 +9,19 @@ pub use Rattle.std.specs.List.{AllByRecursion, range_with_len}
 pub use Rattle.std.specs.Ordering.{is_lt, nat_cmp, ordering_then}
 pub use Rattle.std.specs.declared.cmp.Ordering.{Ordering}
 pub use Rattle.std.specs.declared.cmp.Ordering.TheVariants.{Less, Equal, Greater}
-pub use Rattle.auditor.proofs.Chains.{entry_line_is, entry_other, other_no_base}
+pub use Rattle.auditor.proofs.Chains.{entry_line_is, entry_other, other_no_base, Chain, Stops, comes_once, nothing_stops}
 pub use Rattle.auditor.proofs.Feedless.{entry_free, header_free}
 pub use Rattle.auditor.proofs.LineCounts.{feed, feeds_first}
 pub use Rattle.auditor.proofs.Openings.{follows_text, opening_once, parts_behind}
 pub use Rattle.auditor.proofs.Spent.{begins_again, light}
 pub use Rattle.auditor.proofs.Steps.{passes_first, passes_onto, passes_rise, step_count}
-pub use Rattle.auditor.proofs.TextEnds.{Fails, FailsBehind, FailsFirst, Split, damage_fails, fails_some, first_good, split_of, followed, transcript_ends, whole}
+pub use Rattle.auditor.proofs.TextEnds.{Fails, FailsBehind, FailsFirst, Split, damage_fails, fails_some, first_good, split_of, followed, transcript_ends, whole, accepted_no_damage, begun, chain_behind, chain_same, comes_no_base, run_once, told_comes}
 pub use Rattle.auditor.proofs.Windows.{begins_less, begins_more, breaks_more, feeds_append, feeds_broken, first_line-more, free_feeds}
 pub use Rattle.auditor.specs.AcceptedRuns.{IsAccepted, Counts}
-pub use Rattle.auditor.specs.Damage.{TranscriptPrefix, HasImpossibleBase, HasBrokenBase, EntryComes, BeginsWithTranscript, HasBadHeader, HasBadStart, HasNoEntry, IsDamage, IsLineBehind, CommonPrefix, line_feeds}
+pub use Rattle.auditor.specs.Damage.{TranscriptPrefix, HasImpossibleBase, HasBrokenBase, EntryComes, BeginsWithTranscript, HasBadHeader, HasBadStart, HasNoEntry, IsDamage, IsLineBehind, CommonPrefix, line_feeds, BeginsBase}
 pub use Rattle.auditor.specs.Parts.{Opening, Named, Based, Opens, StepsTo, opening_text, part_text, parts_text, size_of, count_after, IsOpening, base_in, present_of}
 pub use Rattle.auditor.specs.Transcript.{IsLogPart, IsTranscript, disturbances_in, epoch_count, move_count, reply_moves}
+pub use Rattle.auditor.specs.TranscriptEnds.{end_moment}
 pub use Rattle.auditor.specs.Verdict.{IsJudged}
 pub use Rattle.auditor.specs.declared.fault.AuditFault.{AuditFault}
 pub use Rattle.auditor.specs.declared.fault.AuditFault.TheVariants.{BadHeader, NotALine, OutOfOrder, NotTheMachines, BadBase, Read, Memory}
@@ -65,6 +66,7 @@ pub use Rattle.rule_machine.specs.declared.reply.Reply.{Reply}
 pub use Rattle.rule_machine.specs.declared.reply.Reply.TheVariants.{Accepted, Moves, Shown, EnabledAre, Pairs}
 pub use Rattle.rule_machine.specs.declared.rules.RuleSet.{RuleSet}
 pub use Rattle.rule_machine.specs.declared.rules.RuleSet.TheVariants.{Hh, Manne}
+pub use Rattle.audit_parts.specs.Continuations.{ContinuesRun, base_at, end_base}
 pub use Rattle.audit_parts.specs.FieldRanges.{AreLinesBefore}
-pub use Rattle.audit_parts.specs.Laws.{AllPartsAreAccepted, AreParts, BasesAreSeams, FirstDamageStays, HasVerdict, IsAcceptedText, JoinedIsAccepted, PartsAreAccepted, PartsAreJudged, SecondDamageMoves}
+pub use Rattle.audit_parts.specs.Laws.{AcceptedIsContinued, AcceptedIsWhole, AllPartsAreAccepted, AreParts, BasesAreSeams, ContinuedIsDamaged, EndBasesAreAccepted, EndsAreContinued, FirstDamageStays, HasVerdict, IsAcceptedText, JoinedIsAccepted, PartsAreAccepted, PartsAreJudged, SecondDamageMoves}
 pub use Rattle.audit_parts.specs.Seams.{EndsLine, IsSeam, further, counted_both, Meets, Verdict, joined_verdict}

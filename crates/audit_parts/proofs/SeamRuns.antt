@@ -1,5 +1,5 @@
 -- A run may begin again at the base of its state; and a base in a text is a seam.
-use Rattle.audit_parts.proofs.Prelude.{◌≡◌, ℕ, ◌+◌, ◌*◌, ◌≤◌, List, [], ◌∷◌, ◌++◌, length, refl, sym, ap, subst, ◌∙◌, append_assoc, append-nil, arith, AllByRecursion, append_cancel_left, Base, RuleSet, Hh, Manne, edge_count, node_count, pair_cmp, LogPart, NumberedMoment, Passes, base_of, entries_in, Moment, table_of, weight_of, passes_run, edges_len, lines_with_ends, base_head, base_text, link_text, numbers_line, node_record_text, Head, Place, Link, AreCounts, IsFree, IsPlace, IsShaped, base_lines, IsOrderedPair, max_entries, cons_parts, mark_once, line_free, line_feeds, Opening, Named, Based, IsOpening, Opens, base_in, present_of, size_of, feed, feeds_first, feeds_append, free_feeds, EndsLine, IsSeam, begins_again, light}
+use Rattle.audit_parts.proofs.Prelude.{◌≡◌, ℕ, ◌+◌, ◌≤◌, List, [], ◌∷◌, ◌++◌, length, refl, sym, ap, subst, ◌∙◌, append_assoc, append-nil, arith, AllByRecursion, append_cancel_left, Base, RuleSet, edge_count, node_count, pair_cmp, LogPart, NumberedMoment, Passes, base_of, entries_in, Moment, table_of, passes_run, edges_len, lines_with_ends, base_head, base_text, link_text, numbers_line, node_record_text, Head, Place, Link, AreCounts, IsFree, IsPlace, IsShaped, base_lines, IsOrderedPair, max_entries, cons_parts, mark_once, line_free, line_feeds, Opening, Named, Based, IsOpening, Opens, size_of, feed, feeds_first, feeds_append, free_feeds, EndsLine, IsSeam, begins_again, light}
 use Rattle.std.specs.FinMap as finmap
 use Rattle.entry_grammar.specs.declared.base_line.BaseLine.TheVariants.{Base as Numbers}
 use Rattle.audit_parts.proofs.Lines.{base_behind, ends_both, ends_line, ends_tail}

@@ -8,9 +8,12 @@ use Rattle.entry_grammar.specs.BaseLines.{IsShaped}
 use Rattle.auditor.specs.declared.fault.AuditFault.{AuditFault}
 use Rattle.auditor.specs.declared.summary.Summary.{Summary}
 use Rattle.auditor.specs.AcceptedRuns.{IsAccepted}
-use Rattle.auditor.specs.Damage.{IsDamage, line_feeds}
+use Rattle.auditor.specs.declared.end.TranscriptEnd.{TranscriptEnd}
+use Rattle.auditor.specs.Damage.{BeginsBase, IsDamage, line_feeds}
+use Rattle.auditor.specs.TranscriptEnds.{IsTranscriptEnd}
 use Rattle.auditor.specs.Verdict.{IsJudged}
-use Rattle.audit_parts.specs.Seams.{IsSeam, Meets, Verdict, counted_both, further, joined_verdict}
+use Rattle.audit_parts.specs.Continuations.{ContinuesRun, end_base}
+use Rattle.audit_parts.specs.Seams.{EndsLine, IsSeam, Meets, Verdict, counted_both, further, joined_verdict}
 
 -- ---- two texts that meet: `accepted_in_two` and `damaged_in_two` prove these laws
 
@@ -66,3 +69,29 @@ PartsAreJudged =
 -- The text of each base is a seam.
 abbrev pub BasesAreSeams : Type 0
 BasesAreSeams = (rules : RuleSet) (size : ℕ) (base : Base) → size ≤ 65535 → IsShaped base → IsSeam (base_text rules size base)
+
+-- ---- a run that goes on where another ends: `continued_in_two` and `ends_are_continued` prove these laws
+
+-- The damage of the second text is that of both together; its line grows by the number of lines in the first.
+abbrev pub ContinuedIsDamaged : Type 0
+ContinuedIsDamaged =
+    (first second : List ℕ) → ContinuesRun first second → (d : AuditFault) → IsDamage second d → IsDamage (first ++ second) (further (line_feeds first) d)
+
+-- If a text that begins as a base is accepted after an accepted text, its run goes on where that of the first
+-- ends, and it is accepted alone.
+abbrev pub AcceptedIsContinued : Type 0
+AcceptedIsContinued =
+    (first second : List ℕ) → IsAcceptedText first → BeginsBase second → IsAcceptedText (first ++ second) → ContinuesRun first second × IsAcceptedText second
+
+-- A text that begins with the base of the end that an audit returns goes on from there.
+abbrev pub EndsAreContinued : Type 0
+EndsAreContinued = (first : List ℕ) (end : TranscriptEnd) (behind : List ℕ) → IsTranscriptEnd first end → ContinuesRun first (end_base end ++ behind)
+
+-- That base is an accepted text without entries.
+abbrev pub EndBasesAreAccepted : Type 0
+EndBasesAreAccepted =
+    (first : List ℕ) (end : TranscriptEnd) → IsTranscriptEnd first end → IsAccepted (end_base end) (record { entries = 0; epochs = 1; moves = 0 })
+
+-- An accepted text consists of whole lines.
+abbrev pub AcceptedIsWhole : Type 0
+AcceptedIsWhole = (text : List ℕ) → IsAcceptedText text → EndsLine text

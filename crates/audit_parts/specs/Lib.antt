@@ -1,3 +1,4 @@
 pub mod Seams
 pub mod FieldRanges
+pub mod Continuations
 pub mod Laws

@@ -1,6 +1,10 @@
 //! Laws of texts that meet at a base: each function does nothing, and its contract is the law.
 
-ghost use Rattle.audit_parts.specs.Laws.{AllPartsAreAccepted, BasesAreSeams, FirstDamageStays, JoinedIsAccepted, PartsAreAccepted, PartsAreJudged, SecondDamageMoves};
+ghost use Rattle.std.specs.Prelude.{ℕ, ◌+◌, ◌-◌, List, ◌++◌};
+ghost use Rattle.auditor.specs.declared.summary.Summary.{Summary};
+ghost use Rattle.auditor.specs.AcceptedRuns.{IsAccepted};
+ghost use Rattle.audit_parts.specs.Continuations.{ContinuesRun};
+ghost use Rattle.audit_parts.specs.Laws.{AcceptedIsContinued, AcceptedIsWhole, AllPartsAreAccepted, BasesAreSeams, ContinuedIsDamaged, EndBasesAreAccepted, EndsAreContinued, FirstDamageStays, JoinedIsAccepted, PartsAreAccepted, PartsAreJudged, SecondDamageMoves};
 
 /// Two texts that meet at a base are both accepted exactly if the joined text is.
 ///
@@ -31,4 +35,25 @@ pub fn judged_in_parts()
 /// Texts can meet at the text of any base.
 pub fn bases_are_seams()
     ensures { BasesAreSeams }
+{}
+
+/// If SECOND goes on where the accepted FIRST ends, `cat FIRST SECOND` is accepted exactly if SECOND is.
+///
+/// SECOND begins with the base of the moment in which the run of FIRST ends, as `run --from` writes it. FIRST
+/// does not have this base. Entries and moves add up, and so do epochs, less one. The line of a damage in
+/// SECOND grows by the number of lines in FIRST.
+pub fn continued_in_two()
+    ensures joined { (first second : List ℕ) (c d : Summary) → ContinuesRun first second → IsAccepted first c → IsAccepted second d
+        → IsAccepted (first ++ second) (record { entries = c.entries + d.entries; epochs = c.epochs + d.epochs - 1; moves = c.moves + d.moves }) }
+    ensures damaged { ContinuedIsDamaged }
+    ensures only { AcceptedIsContinued }
+{}
+
+/// A text that begins with the base of the end that `auditor::end_of` returns goes on from there.
+///
+/// The base alone is an accepted text. Each accepted text ends with a line feed, so `cat` joins no two lines.
+pub fn ends_are_continued()
+    ensures ends { EndsAreContinued }
+    ensures base { EndBasesAreAccepted }
+    ensures whole { AcceptedIsWhole }
 {}

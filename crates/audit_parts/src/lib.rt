@@ -3,7 +3,8 @@
 //! A transcript can be cut at any base: each part ends with the base that begins the next. The parts are
 //! accepted exactly if the whole is. Entries and moves add up; so do epochs, less one at each seam. `join`
 //! makes one verdict of two; applied in order, it makes one verdict of any number. `join` sees no text: the
-//! caller ensures that the texts meet (`specs/Seams`).
+//! caller ensures that the texts meet (`specs/Seams`), or that the run of the second goes on where that of the
+//! first ends (`specs/Continuations`): then the first text does not have the base.
 //!
 //! ```rust
 //! let first = audit_bytes(alloc, &text[..end]);      // up to the end of a base
@@ -15,5 +16,8 @@
 mod law;
 mod verdicts;
 
-pub use law::{accepted_in_two, bases_are_seams, damaged_in_two, judged_in_parts};
+pub use law::{
+    accepted_in_two, bases_are_seams, continued_in_two, damaged_in_two, ends_are_continued,
+    judged_in_parts,
+};
 pub use verdicts::join;

@@ -2,6 +2,7 @@
 
 ghost use Rattle.std.specs.Prelude.{◌≡◌, ◌++◌, ℕ, List, IfSome, IsNone, Ok, Err};
 ghost use Rattle.auditor.specs.Verdict.{IsJudged};
+ghost use Rattle.audit_parts.specs.Continuations.{ContinuesRun};
 ghost use Rattle.audit_parts.specs.Seams.{Meets, counted_both, further, joined_verdict};
 ghost use Rattle.audit_parts.specs.FieldRanges.{AreLinesBefore, FitsFields};
 
@@ -55,9 +56,10 @@ fn join_numbers(
     }
 }
 
-/// The verdict of two texts as one: the first ends with the base that begins the second.
+/// The verdict of two texts as one: the second begins with a base, which ends the first or its run.
 ///
-/// `lines` is the number of lines of the first text before that base.
+/// `lines` is the number of lines of the first text before that base: all of them if the first text does not
+/// have it, and the second is that of a run that goes on where the first ended.
 ///
 /// If the first verdict is an `Err`, the result is that `Err`. Else, if the second is an `Err`, the result is
 /// that one, with a damage's line increased by `lines`. Else the result is the sums, less one epoch. `None`
@@ -69,6 +71,8 @@ pub fn join(
 ) -> Option<Result<Summary, AuditFault>>
     ensures judged { (former latter : List ℕ) (m : Meets former latter) → AreLinesBefore lines m.own first second → IsJudged former first → IsJudged latter second
         → IfSome result (IsJudged (m.own ++ latter)) }
+    ensures continued { (former latter : List ℕ) → ContinuesRun former latter → AreLinesBefore lines former first second → IsJudged former first → IsJudged latter second
+        → IfSome result (IsJudged (former ++ latter)) }
     ensures joined { IfSome result (λ whole. whole ≡ joined_verdict first lines second) }
     ensures fits { IsNone result → FitsFields (joined_verdict first lines second) → ⊥ }
 {
