@@ -24,7 +24,7 @@ _rudekpi_flags() {
         *,audit) _rudekpi_words --help ;;
         *,picture) _rudekpi_words --entry --help ;;
         *,epochs) _rudekpi_words --help ;;
-        *,storm) _rudekpi_words --rules --nodes --present --workers --roam --turns --help ;;
+        *,storm) _rudekpi_words --rules --nodes --present --workers --from --roam --turns --help ;;
         *,sweep) _rudekpi_words --graph --undirected --rules --daemon --seeds --first-seed --faults --registers --joins --leaves --cut --add --rewire --move --every --csv --resume --plot --processes --dask --program --help ;;
         *,compare) _rudekpi_words --graph --undirected --rules --daemon --seeds --first-seed --faults --registers --joins --leaves --cut --add --rewire --move --every --csv --resume --plot --processes --dask --program --markdown --help ;;
         *,worst) _rudekpi_words --graph --undirected --rules --seconds --seed --transcript --output --program --help ;;

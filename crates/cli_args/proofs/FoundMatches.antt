@@ -1,5 +1,5 @@
 -- What the getters of matches read, by the rows that were found.
-use Rattle.cli_args.proofs.Prelude.{◌≡◌, ℕ, List, Option, None, Some, Result, Ok, Err, get_or, refl, sym, ap, subst, Bor, is_some, ◌∙◌, option_map, arith, ◌^◌, MatchOption, codes, ReadsOne, TriesOne, Row, Text, first_of, first_value, one_text, rows_of, Found, first_value-rows, one_text-rows, RuleSet, rules_word, Task, Run, Resume, Audit, Picture, Epochs, Show, GivesNumber, MatchesTask, HoldsNothing, HoldsPicture, HoldsNoRun, HoldsResume, HoldsRun, IsLeftOut, IsNumber, IsStormTask, MayGive}
+use Rattle.cli_args.proofs.Prelude.{◌≡◌, ℕ, List, Option, None, Some, Result, Ok, Err, get_or, refl, sym, ap, subst, Bor, is_some, ◌∙◌, option_map, arith, ◌^◌, MatchOption, codes, ReadsOne, TriesOne, Row, Text, first_of, first_value, one_text, rows_of, Found, first_value-rows, one_text-rows, RuleSet, rules_word, Task, Run, Resume, Audit, Picture, Epochs, ResumeStorm, Show, GivesNumber, MatchesTask, HoldsNothing, HoldsPicture, HoldsNoRun, HoldsResume, HoldsRun, IsLeftOut, IsNumber, IsResumeStormTask, IsStormTask, MayGive}
 use Rattle.cli_args.specs.declared.task.Task.TheVariants as variants
 
 -- there is no run if no rule set was given
@@ -88,6 +88,7 @@ no_fresh rows out none Audit h = run_audit h
 no_fresh rows out none (Picture entry) h = run_picture h.0
 no_fresh rows out none Epochs h = run_epochs h
 no_fresh rows out none (variants.Storm words) h = run_storm h.0
+no_fresh rows out none (ResumeStorm words) h = run_storm h.0
 no_fresh rows out none (Show text) h = h
 
 -- nor with a file, if its run has no number of workers or another argument beside it
@@ -102,6 +103,7 @@ no_resumed rows file given none Audit h = run_audit h
 no_resumed rows file given none (Picture entry) h = run_picture h.0
 no_resumed rows file given none Epochs h = run_epochs h
 no_resumed rows file given none (variants.Storm words) h = run_storm h.0
+no_resumed rows file given none (ResumeStorm words) h = run_storm h.0
 no_resumed rows file given none (Show text) h = h
 
 -- whether an argument was given
@@ -111,7 +113,11 @@ given_is f id (Some word) e = ap (λ (z : Option Text). is_some z) (e ∙ first_
 
 -- what was found for `run` is what was asked
 pub run_asked : (o : Option (Text × List Row)) (rows : List Row) (found : Option Task) → o ≡ Some (codes "run", rows) → MatchOption found (HoldsNoRun rows) (λ task. MatchesTask (Some (codes "run", rows)) task) → MatchOption found (HoldsNothing o) (λ task. MatchesTask o task)
-run_asked o rows None e none = (λ task h. none task (subst (λ (z : Option (Text × List Row)). MatchesTask z task) e h), λ storm h. run_storm (subst (λ (z : Option (Text × List Row)). IsStormTask z storm) e h).0)
+run_asked o rows None e none = (
+  λ task h. none task (subst (λ (z : Option (Text × List Row)). MatchesTask z task) e h),
+  λ storm h. run_storm (subst (λ (z : Option (Text × List Row)). IsStormTask z storm) e h).0,
+  λ storm h. run_storm (subst (λ (z : Option (Text × List Row)). IsResumeStormTask z storm) e h).0,
+)
 run_asked o rows (Some task) e held = subst (λ (z : Option (Text × List Row)). MatchesTask z task) (sym e) held
 
 -- ---- a picture
@@ -135,9 +141,14 @@ no_other rows none Audit h = picture_audit h
 no_other rows none (Picture entry) h = none entry h.1
 no_other rows none Epochs h = picture_epochs h
 no_other rows none (variants.Storm words) h = picture_storm h.0
+no_other rows none (ResumeStorm words) h = picture_storm h.0
 no_other rows none (Show text) h = h
 
 -- what was found for `picture` is what was asked
 pub picture_asked : (o : Option (Text × List Row)) (rows : List Row) (found : Option Task) → o ≡ Some (codes "picture", rows) → MatchOption found ((entry : Option ℕ) → HoldsPicture rows entry → ⊥) (λ task. MatchesTask (Some (codes "picture", rows)) task) → MatchOption found (HoldsNothing o) (λ task. MatchesTask o task)
-picture_asked o rows None e none = (λ task h. no_other rows none task (subst (λ (z : Option (Text × List Row)). MatchesTask z task) e h), λ storm h. picture_storm (subst (λ (z : Option (Text × List Row)). IsStormTask z storm) e h).0)
+picture_asked o rows None e none = (
+  λ task h. no_other rows none task (subst (λ (z : Option (Text × List Row)). MatchesTask z task) e h),
+  λ storm h. picture_storm (subst (λ (z : Option (Text × List Row)). IsStormTask z storm) e h).0,
+  λ storm h. picture_storm (subst (λ (z : Option (Text × List Row)). IsResumeStormTask z storm) e h).0,
+)
 picture_asked o rows (Some task) e held = subst (λ (z : Option (Text × List Row)). MatchesTask z task) (sym e) held

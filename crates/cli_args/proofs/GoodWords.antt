@@ -20,12 +20,12 @@ numbered limit (d ∷ ds) n h e k =
     rw (minus, plus) ((h, omega arith), sym e)
 
 -- a number in decimal is taken, and read as itself
-decimal_taken : (low high : ℕ) (n : ℕ) → low ≤ n → n ≤ high → high ≤ 16777216 → accepts false (vp.Signed (pos low) (pos high)) (decimal n) ≡ true
+pub decimal_taken : (low high : ℕ) (n : ℕ) → low ≤ n → n ≤ high → high ≤ 16777216 → accepts false (vp.Signed (pos low) (pos high)) (decimal n) ≡ true
 decimal_taken low high n l k m =
     let d = decimal_is_IsNumeral n (omega arith) in
     Accepts-accepts false (vp.Signed (pos low) (pos high)) (decimal n) (accepted low high (decimal n) n d.0 d.1 l k m)
 
-decimal_read : (limit n : ℕ) → n < limit → limit ≤ 4294967296 → IsNumber limit (without_minus (decimal n)) n
+pub decimal_read : (limit n : ℕ) → n < limit → limit ≤ 4294967296 → IsNumber limit (without_minus (decimal n)) n
 decimal_read limit n k m =
     let d = decimal_is_IsNumeral n (omega arith) in
     numbered limit (decimal n) n d.0 d.1 k

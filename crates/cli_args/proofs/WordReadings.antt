@@ -1,5 +1,5 @@
 -- What the words were read as.
-use Rattle.cli_args.proofs.Prelude.{◌≡◌, List, Option, None, Some, Result, Ok, Err, refl, sym, subst, true, IfErr, MatchOption, App, HasMatchesOf, Row, Text, subcommand_of, subcommand_rows_of, takes, ArgMatches, Error, Task, Run, Resume, Audit, Picture, Epochs, Show, Names, AreRules, console_app, MatchesTask, HoldsNothing, IsStormTask, ParsesTo, Storm, ParsesAsTask, WantsStorm}
+use Rattle.cli_args.proofs.Prelude.{◌≡◌, List, Option, None, Some, Result, Ok, Err, refl, sym, subst, true, IfErr, MatchOption, App, HasMatchesOf, Row, Text, subcommand_of, subcommand_rows_of, takes, ArgMatches, Error, Task, Run, Resume, Audit, Picture, Epochs, ResumeStorm, Show, Names, AreRules, console_app, MatchesTask, HoldsNothing, IsResumeStormTask, IsStormTask, ParsesTo, ResumedStorm, Storm, ParsesAsTask, WantsResumeStorm, WantsStorm}
 use Rattle.cli_args.specs.declared.task.Task.TheVariants as variants
 
 -- what a parse found is what the command reads in the words
@@ -21,6 +21,7 @@ answered names words o Audit a e h = (names, a, subst (λ (z : Option (Text × L
 answered names words o (Picture entry) a e h = (names, a, subst (λ (z : Option (Text × List Row)). MatchesTask z (Picture entry)) e h)
 answered names words o Epochs a e h = (names, a, subst (λ (z : Option (Text × List Row)). MatchesTask z Epochs) e h)
 answered names words o (variants.Storm storm) a e h = (names, a, subst (λ (z : Option (Text × List Row)). MatchesTask z (variants.Storm storm)) e h)
+answered names words o (ResumeStorm storm) a e h = (names, a, subst (λ (z : Option (Text × List Row)). MatchesTask z (ResumeStorm storm)) e h)
 answered names words o (Show text) a e h = absurd (no_text o text h)
 
 -- without a task that was read, none is asked for
@@ -30,12 +31,18 @@ unwanted names words o a e none task w = none.0 task (subst (λ (z : Option (Tex
 pub storm_unwanted : (names : Names) (words : List Text) (o : Option (Text × List Row)) → AreRules names → o ≡ subcommand_of (console_app names) words → HoldsNothing o → (storm : Storm) → WantsStorm words storm → ⊥
 storm_unwanted names words o a e none storm w = none.1 storm (subst (λ (z : Option (Text × List Row)). IsStormTask z storm) (sym e) (w names a).1)
 
+pub resume_unwanted : (names : Names) (words : List Text) (o : Option (Text × List Row)) → AreRules names → o ≡ subcommand_of (console_app names) words → HoldsNothing o → (storm : ResumedStorm) → WantsResumeStorm words storm → ⊥
+resume_unwanted names words o a e none storm w = none.2 storm (subst (λ (z : Option (Text × List Row)). IsResumeStormTask z storm) (sym e) (w names a).1)
+
 -- words that ask for a task are taken
 pub taken : (a : App) (names : Names) (words : List Text) (task : Task) → AreRules names → a ≡ console_app names → ParsesAsTask words task → takes a words ≡ true
 taken a names words task r e w = subst (λ (z : App). takes z words ≡ true) (sym e) (w names r).0
 
 pub storm_taken : (a : App) (names : Names) (words : List Text) (storm : Storm) → AreRules names → a ≡ console_app names → WantsStorm words storm → takes a words ≡ true
 storm_taken a names words storm r e w = subst (λ (z : App). takes z words ≡ true) (sym e) (w names r).0
+
+pub resume_taken : (a : App) (names : Names) (words : List Text) (storm : ResumedStorm) → AreRules names → a ≡ console_app names → WantsResumeStorm words storm → takes a words ≡ true
+resume_taken a names words storm r e w = subst (λ (z : App). takes z words ≡ true) (sym e) (w names r).0
 
 -- what holds if a task was read
 pub some_read : (A : Type 0) (P : Task → Type 0) (read : Option Task) (task : Task) → read ≡ Some task → MatchOption read A P → P task

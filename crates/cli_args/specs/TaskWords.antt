@@ -1,5 +1,5 @@
 -- The tasks of command line words, by clap's definition of how a command reads words.
-use Rattle.std.specs.Prelude.{◌≡◌, ◌⊎◌, ℕ, ◌<◌, ◌≤◌, ◌^◌, List, [], ◌∷◌, ◌++◌, map, Option, None, Some, pos, Bool, false, true, codes, if◌then◌else◌, nat_le}
+use Rattle.std.specs.Prelude.{◌≡◌, ◌⊎◌, ℕ, ◌<◌, ◌≤◌, ◌^◌, List, [], ◌∷◌, ◌++◌, map, Option, None, Some, pos, Bool, false, true, codes, if◌then◌else◌, nat_le, unwrap_or}
 use Rattle.std.specs.Borrow.{Bor}
 use Rattle.std.specs.Fmt.{decimal}
 use Rattle.std.specs.Str.Parse.{IsNumeral, digits_value, without_leading_plus}
@@ -9,10 +9,11 @@ use Rattle.clap.specs.declared.builder.value_parser.ValueParser.TheVariants as v
 use Rattle.clap.specs.declared.error.kind.ErrorKind.TheVariants.{DisplayHelp, DisplayVersion}
 use Rattle.rule_machine.specs.declared.rules.RuleSet.{RuleSet}
 use Rattle.rule_machine.specs.Tables.{rules_word}
+use Rattle.cli_args.specs.declared.storm.ResumeStormWords.{ResumeStormWords}
 use Rattle.cli_args.specs.declared.storm.StormWords.{StormWords}
 use Rattle.cli_args.specs.declared.task.Task.{Task}
 use Rattle.cli_args.specs.declared.task.Task.TheVariants as variants
-use Rattle.cli_args.specs.declared.task.Task.TheVariants.{Run, Resume, Audit, Picture, Epochs, Show}
+use Rattle.cli_args.specs.declared.task.Task.TheVariants.{Run, Resume, Audit, Picture, Epochs, ResumeStorm, Show}
 
 -- texts, as a value parser refers to them
 abbrev pub Names : Type 0
@@ -86,9 +87,13 @@ turns_rule = record (valued_rule (codes "turns")) { defaults = codes "1000" ∷ 
 abbrev pub script_rule : Rule
 script_rule = record (new_rule (codes "SCRIPT")) { range = Some (record { start_inclusive = 1; end_inclusive = usize_max }); required = true }
 
--- the subcommand `storm`
+-- a subcommand with `--roam`, `--turns` and scripts
+abbrev pub roaming_app : App → App
+roaming_app app = with_rule (with_rule (with_rule app roam_rule) turns_rule) script_rule
+
+-- the subcommand `storm`; its task says which of its arguments go together
 abbrev pub storm_app : Names → App
-storm_app names = with_rule (with_rule (with_rule (network_app (new_app (codes "storm")) true names) roam_rule) turns_rule) script_rule
+storm_app names = roaming_app (with_rule (network_app (new_app (codes "storm")) false names) from_rule)
 
 -- the command with `run`, `audit`, `picture` and `epochs`
 abbrev pub showing_app : Names → App
@@ -124,8 +129,7 @@ pub record HoldsRun (found : List Row) (rules : RuleSet) (nodes : ℕ) (present 
 abbrev pub IsLeftOut : Text → List Row → Type 0
 IsLeftOut id found = first_of id found ≡ None
 
--- the values of `run` are the file in which an earlier run ended, and this many workers; the file tells the
--- rest
+-- the values are the file in which an earlier run ended, and this many workers; the file tells the rest
 pub record HoldsResume (found : List Row) (from : Text) (workers : ℕ) : Type 0 where
   pub from_is : first_of (codes "from") found ≡ Some from
   pub rules_is : IsLeftOut (codes "rules") found
@@ -159,9 +163,35 @@ storm_of words = record {
   scripts = map (λ s. s.now) words.scripts.items;
 }
 
--- the values of `storm` are those of this storm
+-- the values of `storm` are those of this storm; no file is given in which an earlier run ended
 pub record HoldsStorm (found : List Row) (storm : Storm) : Type 0 where
+  pub from_is : IsLeftOut (codes "from") found
   pub run_is : HoldsRun found storm.rules storm.nodes storm.present storm.workers
+  pub roamers_is : GivesNumber (2 ^ 16) (codes "roam") found storm.roamers
+  pub turns_is : GivesNumber (2 ^ 32) (codes "turns") found storm.turns
+  pub scripts_is : all_of (codes "SCRIPT") found ≡ Some storm.scripts
+
+-- a storm that goes on: the file in which an earlier run ended, workers for a step, roaming workers, their
+-- turns, and script files
+pub record ResumedStorm : Type 0 where
+  pub from : Text
+  pub workers : ℕ
+  pub roamers : ℕ
+  pub turns : ℕ
+  pub scripts : List Text
+
+abbrev pub resumed_storm_of : ResumeStormWords → ResumedStorm
+resumed_storm_of words = record {
+  from = words.from.now;
+  workers = words.workers;
+  roamers = words.roamers;
+  turns = words.turns;
+  scripts = map (λ s. s.now) words.scripts.items;
+}
+
+-- the values of `storm` are those of this storm; the file tells the rest
+pub record HoldsResumeStorm (found : List Row) (storm : ResumedStorm) : Type 0 where
+  pub run_is : HoldsResume found storm.from storm.workers
   pub roamers_is : GivesNumber (2 ^ 16) (codes "roam") found storm.roamers
   pub turns_is : GivesNumber (2 ^ 32) (codes "turns") found storm.turns
   pub scripts_is : all_of (codes "SCRIPT") found ≡ Some storm.scripts
@@ -170,6 +200,11 @@ pub record HoldsStorm (found : List Row) (storm : Storm) : Type 0 where
 abbrev pub IsStormTask : Option (Text × List Row) → Storm → Type 0
 IsStormTask None storm = ⊥
 IsStormTask (Some p) storm = (p.0 ≡ codes "storm") × HoldsStorm p.1 storm
+
+-- the subcommand is `storm`, with these values of a storm that goes on
+abbrev pub IsResumeStormTask : Option (Text × List Row) → ResumedStorm → Type 0
+IsResumeStormTask None storm = ⊥
+IsResumeStormTask (Some p) storm = (p.0 ≡ codes "storm") × HoldsResumeStorm p.1 storm
 
 -- the subcommand and its values are those of the task
 abbrev pub MatchesTask : Option (Text × List Row) → Task → Type 0
@@ -180,15 +215,22 @@ MatchesTask (Some p) Audit = p.0 ≡ codes "audit"
 MatchesTask (Some p) (Picture entry) = (p.0 ≡ codes "picture") × HoldsPicture p.1 entry
 MatchesTask (Some p) Epochs = p.0 ≡ codes "epochs"
 MatchesTask (Some p) (variants.Storm words) = (p.0 ≡ codes "storm") × HoldsStorm p.1 (storm_of words)
+MatchesTask (Some p) (ResumeStorm words) = (p.0 ≡ codes "storm") × HoldsResumeStorm p.1 (resumed_storm_of words)
 MatchesTask found task = ⊥
 
 -- the subcommand and its values are those of no task
 abbrev pub HoldsNothing : Option (Text × List Row) → Type 0
-HoldsNothing found = ((task : Task) → MatchesTask found task → ⊥) × ((storm : Storm) → IsStormTask found storm → ⊥)
+HoldsNothing found =
+    ((task : Task) → MatchesTask found task → ⊥) × ((storm : Storm) → IsStormTask found storm → ⊥)
+    × ((storm : ResumedStorm) → IsResumeStormTask found storm → ⊥)
 
 -- the values of `run` are those of no task
 abbrev pub HoldsNoRun : List Row → Type 0
 HoldsNoRun found = (task : Task) → MatchesTask (Some (codes "run", found)) task → ⊥
+
+-- the values of `storm` are those of no storm
+abbrev pub HoldsNoStorm : List Row → Type 0
+HoldsNoStorm found = ((storm : Storm) → HoldsStorm found storm → ⊥) × ((storm : ResumedStorm) → HoldsResumeStorm found storm → ⊥)
 
 -- the words are read as the task
 abbrev pub Asks : List Text → Task → Type 0
@@ -208,6 +250,11 @@ ParsesAsTask words task =
 abbrev pub WantsStorm : List Text → Storm → Type 0
 WantsStorm words storm =
     (names : Names) → AreRules names → (takes (console_app names) words ≡ true) × IsStormTask (subcommand_of (console_app names) words) storm
+
+-- the words are good, and are read as this storm that goes on
+abbrev pub WantsResumeStorm : List Text → ResumedStorm → Type 0
+WantsResumeStorm words storm =
+    (names : Names) → AreRules names → (takes (console_app names) words ≡ true) × IsResumeStormTask (subcommand_of (console_app names) words) storm
 
 -- how many nodes are present at the start: as many as given, or all names if no number is given; none if the
 -- number given is greater than that of the names
@@ -238,6 +285,32 @@ run_words program rules nodes present workers =
 -- the words for a run that goes on where an earlier one ended
 abbrev pub resume_words : Text → Text → Option ℕ → List Text
 resume_words program from workers = program ∷ codes "run" ∷ (codes "--from=" ++ from) ∷ workers_words workers
+
+-- the words for `--roam` and `--turns`, if both numbers are given
+abbrev pub roam_words : Option (ℕ × ℕ) → List Text
+roam_words None = []
+roam_words (Some p) = (codes "--roam=" ++ decimal p.0) ∷ (codes "--turns=" ++ decimal p.1) ∷ []
+
+-- the numbers of roaming workers and of their turns are valid, if they are given
+abbrev pub AreRoamers : Option (ℕ × ℕ) → Type 0
+AreRoamers None = Unit {0}
+AreRoamers (Some p) = (p.0 ≤ 64) × (p.1 ≤ 1000000)
+
+-- the words for a storm of one script that goes on where an earlier run ended; the script may have any name
+abbrev pub resume_storm_words : Text → Text → Option ℕ → Option (ℕ × ℕ) → Text → List Text
+resume_storm_words program from workers roam script =
+    program ∷ codes "storm" ∷ (codes "--from=" ++ from) ∷ (workers_words workers ++ (roam_words roam ++ codes "--" ∷ script ∷ []))
+
+-- the storm of these words: by default one worker for a step and no roaming worker, which would have 1,000
+-- turns
+abbrev pub usual_resumed_storm : Text → Option ℕ → Option (ℕ × ℕ) → Text → ResumedStorm
+usual_resumed_storm from workers roam script = record {
+  from = from;
+  workers = unwrap_or workers 1;
+  roamers = (unwrap_or roam (0, 1000)).0;
+  turns = (unwrap_or roam (0, 1000)).1;
+  scripts = script ∷ [];
+}
 
 -- the words for an audit
 abbrev pub audit_words : Text → List Text

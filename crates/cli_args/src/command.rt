@@ -3,13 +3,13 @@
 ghost use Rattle.std.specs.Prelude.{◌≡◌, false, IfOk, codes};
 ghost use Rattle.clap.specs.Words.{app_of, new_app, rule_of};
 ghost use Rattle.clap.specs.declared.builder.command.Command.TheViews.{out-Command as fields_of};
-ghost use Rattle.cli_args.specs.TaskWords.{AreRules, Names, console_app, entry_rule, from_rule, judging_app, network_app, nodes_rule, picture_app, present_rule, roam_rule, rules_rule, run_app, script_rule, showing_app, storm_app, top_app, turns_rule, valued_rule, workers_rule};
+ghost use Rattle.cli_args.specs.TaskWords.{AreRules, Names, console_app, entry_rule, from_rule, judging_app, network_app, nodes_rule, picture_app, present_rule, roam_rule, roaming_app, rules_rule, run_app, script_rule, showing_app, storm_app, top_app, turns_rule, valued_rule, workers_rule};
 
 use crate::help::{
     ABOUT, AUDIT_ABOUT, AUDIT_NOTES, AUDIT_USAGE, ENTRY_HELP, EPOCHS_ABOUT, EPOCHS_NOTES,
     EPOCHS_USAGE, EXAMPLES, FROM_HELP, NODES_HELP, PICTURE_ABOUT, PICTURE_NOTES, PICTURE_USAGE,
     PRESENT_HELP, ROAM_HELP, RULES_HELP, RUN_ABOUT, RUN_NOTES, RUN_USAGE, STORM_ABOUT, STORM_NOTES,
-    TURNS_HELP, WORKERS_HELP,
+    STORM_USAGE, TURNS_HELP, WORKERS_HELP,
 };
 use clap::{Arg, Command, value_parser};
 use std::alloc::{AllocError, Global};
@@ -163,15 +163,24 @@ fn script_arg<'a>(alloc: Global) -> Arg<'a>
         .help("The file of a script; at most 64 of them")
 }
 
+fn roaming_command<'a>(alloc: Global, command: Command<'a>) -> Result<Command<'a>, AllocError>
+    requires { (fields_of command).has_globals ≡ false }
+    ensures app { IfOk result (λ more. app_of more ≡ roaming_app (app_of command.entry)) }
+    ensures local { IfOk result (λ more. (fields_of more).has_globals ≡ false) }
+{
+    command
+        .arg(roam_arg(alloc))?
+        .arg(turns_arg(alloc))?
+        .arg(script_arg(alloc))
+}
+
 fn storm_command<'a>(alloc: Global, names: &'a [&'a str]) -> Result<Command<'a>, AllocError>
     ensures app { IfOk result (λ storm. app_of storm ≡ storm_app names.entry) }
     ensures local { IfOk result (λ storm. (fields_of storm).has_globals ≡ false) }
 {
-    let storm = told_command(alloc, "storm", STORM_ABOUT, STORM_NOTES);
-    network_command(alloc, storm, true, names)?
-        .arg(roam_arg(alloc))?
-        .arg(turns_arg(alloc))?
-        .arg(script_arg(alloc))
+    let storm = reading_command(alloc, "storm", STORM_ABOUT, STORM_NOTES, STORM_USAGE);
+    let storm = network_command(alloc, storm, false, names)?.arg(from_arg(alloc))?;
+    roaming_command(alloc, storm)
 }
 
 fn top_command<'a>(alloc: Global) -> Command<'a>
@@ -208,9 +217,9 @@ fn showing_command<'a>(alloc: Global, names: &'a [&'a str]) -> Result<Command<'a
 /// | `run` | `--rules`, `--nodes`, `--present`, `--workers`, `--from` |
 /// | `audit`, `epochs` | none |
 /// | `picture` | `--entry` |
-/// | `storm` | the first four of `run`, `--roam`, `--turns`, and scripts |
+/// | `storm` | those of `run`, `--roam`, `--turns`, and scripts |
 ///
-/// All arguments of `run` are optional here; `strict_command` has the rules between them.
+/// All arguments of `run` are optional here, also in `storm`; `strict_command` has the rules between them.
 pub(crate) fn command<'a>(alloc: Global) -> Result<Command<'a>, AllocError>
     ensures { IfOk result (λ command. (names : Names) × AreRules names × (app_of command ≡ console_app names)) }
 {
@@ -218,16 +227,23 @@ pub(crate) fn command<'a>(alloc: Global) -> Result<Command<'a>, AllocError>
     showing_command(alloc, names)?.subcommand(storm_command(alloc, names)?)
 }
 
-/// The command with `run` alone, whose arguments have rules on each other.
+fn strict_from<'a>(alloc: Global) -> Result<Arg<'a>, AllocError> {
+    from_arg(alloc)
+        .conflicts_with("rules")?
+        .conflicts_with("nodes")?
+        .conflicts_with("present")
+}
+
+/// The command with `run` and `storm` alone, whose arguments have rules on each other.
 ///
 /// `--from` excludes `--rules`, `--nodes` and `--present`; of these the first two are optional or `required`. The
 /// contracts of clap say nothing of such rules, so this command only gives the text for words that break them.
 pub(crate) fn strict_command<'a>(alloc: Global, required: bool) -> Result<Command<'a>, AllocError> {
-    let from = from_arg(alloc)
-        .conflicts_with("rules")?
-        .conflicts_with("nodes")?
-        .conflicts_with("present")?;
+    let names = RULES.as_slice();
     let run = told_command(alloc, "run", RUN_ABOUT, RUN_NOTES);
-    let run = network_command(alloc, run, required, RULES.as_slice())?.arg(from)?;
-    top_command(alloc).subcommand(run)
+    let run = network_command(alloc, run, required, names)?.arg(strict_from(alloc)?)?;
+    let storm = told_command(alloc, "storm", STORM_ABOUT, STORM_NOTES);
+    let storm = network_command(alloc, storm, required, names)?;
+    let storm = roaming_command(alloc, storm)?.arg(strict_from(alloc)?)?;
+    top_command(alloc).subcommand(run)?.subcommand(storm)
 }

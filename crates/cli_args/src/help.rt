@@ -157,6 +157,10 @@ Exit status:
 pub(crate) const STORM_ABOUT: &str =
     "Runs scripts at once on one network; writes their common transcript.";
 
+pub(crate) const STORM_USAGE: &str = "\
+console storm [OPTIONS] --rules <RULES> --nodes <N> <SCRIPT>...
+       console storm [OPTIONS] --from <FILE> <SCRIPT>...";
+
 pub(crate) const STORM_NOTES: &str = "\
 Each script has its own thread and the commands of run. A script's commands are
 carried out in order, interleaved with those of the others. All scripts are read
@@ -168,15 +172,22 @@ Roaming workers need no script. In turn t, from 0, a worker lets one enabled
 node move: the one at index t modulo how many there are, ascending. If no node
 is enabled, the turn passes.
 
+With --from the rules, the nodes and their states come from the end of FILE, a
+transcript or a base alone, and the output begins with a base: that of the end,
+or of the storm's last checkpoint. FILE with the output behind it is one
+transcript if no script has a checkpoint. If audit refuses FILE, nothing is
+played.
+
 Examples:
   console storm --rules hh --nodes 4 script other > transcript
   console storm --rules manne --nodes 9 --workers 2 --roam 4 --turns 500 script
   console storm --rules manne --nodes 9 script other | console audit
+  console storm --from transcript --roam 4 script other > rest
 
 Exit status:
   0  every script was run, and the log agrees with all replies
-  1  a settle was refused
+  1  a settle was refused, or the transcript of --from is
   2  bad words, a P above N (! bad present), a line that is not a command, or
      more than 64 scripts
-  3  a read or a write failed, or a script cannot be opened
+  3  a read or a write failed, or a script or FILE cannot be opened
   4  memory ran out, the log is full, a clerk is behind, or no thread started";

@@ -21,6 +21,6 @@ mod storm;
 mod task;
 mod words;
 
-pub use storm::StormWords;
+pub use storm::{ResumeStormWords, StormWords};
 pub use task::{Task, present_at_start};
 pub use words::{read_words, usual_words};

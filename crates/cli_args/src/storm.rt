@@ -1,11 +1,11 @@
 //! The words of a storm.
 
-ghost use Rattle.std.specs.Prelude.{◌≡◌, ◌^◌, ℕ, IfErr, IfOk, MatchOption, codes};
-ghost use Rattle.clap.specs.Words.{found_of, kind_of, rows_of};
+ghost use Rattle.std.specs.Prelude.{◌≡◌, ◌^◌, ℕ, Some, IfErr, IfOk, MatchOption, codes};
+ghost use Rattle.clap.specs.Words.{first_of, found_of, kind_of, rows_of};
 ghost use Rattle.clap.specs.declared.error.kind.ErrorKind.TheVariants.{OutOfMemory};
-ghost use Rattle.cli_args.specs.TaskWords.{GivesNumber, MatchesTask, HoldsStorm, Storm};
+ghost use Rattle.cli_args.specs.TaskWords.{GivesNumber, HoldsNoStorm, HoldsResumeStorm, HoldsStorm, IsLeftOut, MatchesTask, ResumedStorm, Storm};
 
-use crate::task::{Task, network, number};
+use crate::task::{Task, is_given, network, number};
 use clap::{ArgMatches, Error};
 use rule_machine::RuleSet;
 use std::alloc::Global;
@@ -29,6 +29,21 @@ pub struct StormWords<'a> {
     pub scripts: Vec<&'a str>,
 }
 
+/// The arguments of a storm that goes on where the run of a file ended.
+#[derive(Debug, Drop)]
+pub struct ResumeStormWords<'a> {
+    /// The name of that file as given.
+    pub from: &'a str,
+    /// How many workers evaluate a step, 1 to 64.
+    pub workers: u16,
+    /// How many workers roam during the scripts, at most 64.
+    pub roamers: u16,
+    /// How many turns each roaming worker takes, at most 1,000,000.
+    pub turns: u32,
+    /// The names of the script files as given, at least one.
+    pub scripts: Vec<&'a str>,
+}
+
 fn turns(storm: &ArgMatches<'_>) -> Option<u32>
     ensures { MatchOption result
         ((n : ℕ) → GivesNumber (2 ^ 32) (codes "turns") (rows_of (found_of storm.now)) n → ⊥)
@@ -37,11 +52,8 @@ fn turns(storm: &ArgMatches<'_>) -> Option<u32>
     storm.get_one::<u32>("turns")
 }
 
-/// `None` if a value is missing or is not one that its argument allows.
-pub(crate) fn storm_task<'a>(
-    alloc: Global,
-    storm: &ArgMatches<'a>,
-) -> Result<Option<Task<'a>>, Error>
+fn fresh_storm<'a>(alloc: Global, storm: &ArgMatches<'a>) -> Result<Option<Task<'a>>, Error>
+    requires { IsLeftOut (codes "from") (rows_of (found_of storm.now)) }
     ensures read { IfOk result (λ read. MatchOption read
         ((asked : Storm) → HoldsStorm (rows_of (found_of storm.now)) asked → ⊥)
         (λ task. MatchesTask (Some (codes "storm", rows_of (found_of storm.now))) task)) }
@@ -70,4 +82,57 @@ pub(crate) fn storm_task<'a>(
         turns,
         scripts,
     })))
+}
+
+fn resumed_storm<'a>(
+    alloc: Global,
+    storm: &ArgMatches<'a>,
+    from: &'a str,
+) -> Result<Option<Task<'a>>, Error>
+    requires { first_of (codes "from") (rows_of (found_of storm.now)) ≡ Some from.now }
+    ensures read { IfOk result (λ read. MatchOption read
+        ((asked : ResumedStorm) → HoldsResumeStorm (rows_of (found_of storm.now)) asked → ⊥)
+        (λ task. MatchesTask (Some (codes "storm", rows_of (found_of storm.now))) task)) }
+    ensures memory { IfErr result (λ e. kind_of e ≡ OutOfMemory) }
+{
+    if is_given(storm, "rules") || is_given(storm, "nodes") || is_given(storm, "present") {
+        return Ok(None);
+    }
+    let Some(workers) = number(storm, "workers") else {
+        return Ok(None);
+    };
+    let Some(roamers) = number(storm, "roam") else {
+        return Ok(None);
+    };
+    let Some(turns) = turns(storm) else {
+        return Ok(None);
+    };
+    let Some(given) = storm.get_strs("SCRIPT") else {
+        return Ok(None);
+    };
+    let mut scripts = Vec::new(alloc);
+    scripts.extend_from_slice(given)?;
+    Ok(Some(Task::ResumeStorm(ResumeStormWords {
+        from,
+        workers,
+        roamers,
+        turns,
+        scripts,
+    })))
+}
+
+/// `None` if a value is missing or is not one that its argument allows, or if values do not go together.
+pub(crate) fn storm_task<'a>(
+    alloc: Global,
+    storm: &ArgMatches<'a>,
+) -> Result<Option<Task<'a>>, Error>
+    ensures read { IfOk result (λ read. MatchOption read
+        (HoldsNoStorm (rows_of (found_of storm.now)))
+        (λ task. MatchesTask (Some (codes "storm", rows_of (found_of storm.now))) task)) }
+    ensures memory { IfErr result (λ e. kind_of e ≡ OutOfMemory) }
+{
+    match storm.get_str("from") {
+        Some(from) => resumed_storm(alloc, storm, from),
+        None => fresh_storm(alloc, storm),
+    }
 }

@@ -7,7 +7,7 @@ ghost use Rattle.rule_machine.specs.declared.rules.RuleSet.{RuleSet};
 ghost use Rattle.rule_machine.specs.Tables.{rules_word};
 ghost use Rattle.cli_args.specs.TaskWords.{GivesNumber, HoldsPicture, HoldsNoRun, HoldsRun, IsLeftOut, MatchesTask, HoldsNothing, present_at_start};
 
-use crate::storm::{StormWords, storm_task};
+use crate::storm::{ResumeStormWords, StormWords, storm_task};
 use clap::{ArgMatches, Error};
 use rule_machine::RuleSet;
 use std::alloc::Global;
@@ -39,6 +39,8 @@ pub enum Task<'a> {
     Epochs,
     /// Play several scripts at once.
     Storm(StormWords<'a>),
+    /// Play several scripts at once, from where the run of a file ended.
+    ResumeStorm(ResumeStormWords<'a>),
     /// Show this text: the help or the version.
     Show(Error),
 }
@@ -90,7 +92,8 @@ pub(crate) fn network(found: &ArgMatches<'_>) -> Option<(RuleSet, u16, Option<u1
     Some((rules, nodes, present, workers))
 }
 
-fn is_given(found: &ArgMatches<'_>, id: &str) -> bool
+/// Whether the argument is given.
+pub(crate) fn is_given(found: &ArgMatches<'_>, id: &str) -> bool
     ensures { result ≡ is_some (first_of id.now (rows_of (found_of found.now))) }
 {
     found.get_str(id).is_some()

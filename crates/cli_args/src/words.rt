@@ -8,7 +8,7 @@ ghost use Rattle.rule_machine.specs.declared.rules.RuleSet.{RuleSet};
 ghost use Rattle.cli_args.specs.declared.task.Task.{Task};
 ghost use Rattle.cli_args.specs.declared.task.Task.TheVariants.{Run, Resume, Audit, Picture, Epochs};
 ghost use Rattle.cli_args.specs.Mistake.{IsMistake};
-ghost use Rattle.cli_args.specs.TaskWords.{ParsesTo, AreWorkers, Storm, ParsesAsTask, WantsStorm, audit_words, epochs_words, picture_words, resume_words, run_words};
+ghost use Rattle.cli_args.specs.TaskWords.{ParsesTo, AreRoamers, AreWorkers, ResumedStorm, Storm, ParsesAsTask, WantsResumeStorm, WantsStorm, audit_words, epochs_words, picture_words, resume_storm_words, resume_words, run_words, usual_resumed_storm};
 
 use crate::command::{command, strict_command};
 use crate::task::{Task, asked};
@@ -24,7 +24,8 @@ fn goes_on(found: &ArgMatches<'_>) -> bool {
     }
 }
 
-// Why words that clap took ask for no task: arguments of `run` that do not go together, or are missing.
+// Why words that clap took ask for no task: arguments of `run` or `storm` that do not go together, or are
+// missing.
 fn mistake<'a, S: AsStr>(
     alloc: Global,
     found: &ArgMatches<'a>,
@@ -50,6 +51,7 @@ pub fn read_words<'a, S: AsStr>(alloc: Global, words: &'a [S]) -> Result<Task<'a
     ensures mistake { IfErr result (λ e. IsMistake (kind_of e)) }
     ensures wanted { IfErr result (λ e. (task : Task) → ParsesAsTask (map S.text words.entry.now) task → kind_of e ≡ OutOfMemory) }
     ensures wanted_storm { IfErr result (λ e. (storm : Storm) → WantsStorm (map S.text words.entry.now) storm → kind_of e ≡ OutOfMemory) }
+    ensures wanted_resume { IfErr result (λ e. (storm : ResumedStorm) → WantsResumeStorm (map S.text words.entry.now) storm → kind_of e ≡ OutOfMemory) }
 {
     let mut command = command(alloc)?;
     match command.try_get_matches_from_mut(words) {
@@ -63,13 +65,17 @@ pub fn read_words<'a, S: AsStr>(alloc: Global, words: &'a [S]) -> Result<Task<'a
     }
 }
 
-/// The usual words are good and ask for their tasks. By default a run has one worker, also one that goes on.
+/// The usual words are good and ask for their tasks. By default a run has one worker, also one that goes on;
+/// and a storm that goes on has one worker for a step and no roaming worker.
 pub fn usual_words()
     ensures run { (program : Text) (rules : RuleSet) (nodes : ℕ) (present workers : Option ℕ)
         → nodes ≤ 65535 → IfSome present (λ p. p ≤ 65535) → AreWorkers workers
         → ParsesAsTask (run_words program rules nodes present workers) (Run rules nodes present (unwrap_or workers 1)) }
     ensures resume { (program : Text) (from : Bor Text) (workers : Option ℕ) → AreWorkers workers
         → ParsesAsTask (resume_words program from.now workers) (Resume from (unwrap_or workers 1)) }
+    ensures resume_storm { (program from : Text) (workers : Option ℕ) (roam : Option (ℕ × ℕ)) (script : Text)
+        → AreWorkers workers → AreRoamers roam
+        → WantsResumeStorm (resume_storm_words program from workers roam script) (usual_resumed_storm from workers roam script) }
     ensures audit { (program : Text) → ParsesAsTask (audit_words program) Audit }
     ensures picture { (program : Text) (entry : Option ℕ) → IfSome entry (λ k. k ≤ 16777216) → ParsesAsTask (picture_words program entry) (Picture entry) }
     ensures epochs { (program : Text) → ParsesAsTask (epochs_words program) Epochs }

@@ -1,6 +1,7 @@
--- The end of a run that was to go on where the run of a file ended.
-use Rattle.std.proofs.Common.{ℕ, List, Option, None, Some, ◌≡◌, Result, Ok, Err, OnErr, IfOk, refl, inl, inr, subst}
+-- The end of a run or a storm that was to go on where the run of a file ended.
+use Rattle.std.proofs.Common.{ℕ, List, Option, None, Some, ◌≡◌, Result, Ok, Err, OnErr, IfOk, false, length, refl, inl, inr, subst}
 use Rattle.std.specs.Prelude.{IfSome}
+use Rattle.std.specs.Io.KnownBytes.{Appends}
 use Rattle.std.proofs.KnownBytes.{Keeps-refl}
 use Rattle.rule_machine.specs.declared.rules.RuleSet.{RuleSet}
 use Rattle.rule_machine.specs.Tables.{table_of}
@@ -9,9 +10,16 @@ use Rattle.auditor.specs.declared.end.TranscriptEnd.{TranscriptEnd}
 use Rattle.auditor.specs.declared.fault.AuditFault.{AuditFault}
 use Rattle.auditor.specs.declared.fault.AuditFault.TheVariants.{BadHeader, NotALine, OutOfOrder, NotTheMachines, BadBase, Read, Memory}
 use Rattle.auditor.specs.TranscriptEnds.{MayGoOn}
+use Rattle.byte_streams.specs.PartialOutput.{AppendsBeginning}
+use Rattle.cli_args.specs.TaskWords.{ResumedStorm}
+use Rattle.script_run.specs.Restarts.{RestartView}
 use Rattle.script_run.specs.declared.fault.RunFault.TheVariants as run
+use Rattle.storm_runner.specs.FaultText.{end_line}
+use Rattle.storm_runner.specs.Status.{end_status}
+use Rattle.storm_runner.specs.declared.fault.StormFault.{StormFault}
 use Rattle.command_line.specs.FaultText.{run_fault_line}
-use Rattle.command_line.specs.ResumeEnds.{ResumesFile, TellsAuditFault, TellsDamage, TellsRunFrom, damaged_line, start_at}
+use Rattle.command_line.specs.ResumeEnds.{ResumesFile, ResumesStorm, TellsAuditFault, TellsDamage, TellsRunFrom, damaged_line, start_at, storm_from}
+use Rattle.command_line.specs.StormEnds.{EndsStormFrom}
 use Rattle.command_line.specs.WriterStates.{WriterState, WrittenBytes, WritesLine}
 
 -- a damage is reported, or that memory ran out for its line
@@ -44,3 +52,13 @@ went_on (Some script) end rules limit start file old new before after status may
     let under = subst (λ (z : RuleSet). TellsRunFrom (table_of z) limit start script old new before after status) same told in
     let within = subst (λ (z : ℕ). TellsRunFrom (table_of end.rules) z start script old new before after status) most under in
     (Ok end, (may, subst (λ (z : Progress). TellsRunFrom (table_of end.rules) 16777216 z script old new before after status) first within))
+
+-- the storm was played from the end of the file
+pub stormed_on : (end : TranscriptEnd) (storm : ResumedStorm) (restart : RestartView) (scripts : ℕ) (old new before : WrittenBytes) (after : WriterState) (ended : Result Unit StormFault) (status : ℕ)
+    → MayGoOn end → restart ≡ storm_from end storm → scripts ≡ length storm.scripts → EndsStormFrom restart scripts old new ended
+    → AppendsBeginning before after.got (end_line ended) → (after.failed ≡ false → Appends before after.got (end_line ended)) → status ≡ end_status ended
+    → ResumesStorm storm old new before after status
+stormed_on end storm restart scripts old new before after ended status may same count ends begun whole is =
+    let from = subst (λ (r : RestartView). EndsStormFrom r scripts old new ended) same ends in
+    let some = subst (λ (n : ℕ). EndsStormFrom (storm_from end storm) n old new ended) count from in
+    (Ok end, (may, (ended, some, (begun, whole), is)))

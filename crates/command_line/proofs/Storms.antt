@@ -2,11 +2,12 @@
 use Rattle.std.proofs.Common.{ℕ, List, length, replicate, None, Err, inr, ap, arith}
 use Rattle.std.proofs.KnownBytes.{Keeps-refl}
 use Rattle.std.proofs.lemmas.List.{length-replicate}
+use Rattle.script_run.specs.Restarts.{RestartView}
 use Rattle.script_run.specs.RunOptions.{OptionsView}
 use Rattle.storm_runner.specs.declared.fault.StormFault.{StormFault}
 use Rattle.storm_runner.specs.declared.fault.StormFault.TheVariants.{TooManyScripts, BadLine, LogFull, Read, Write, Memory, Behind, Thread, Unsettled}
 use Rattle.command_line.specs.ViewEnds.{WrittenBytes}
-use Rattle.command_line.specs.StormEnds.{EndsStorm, FailsToOpen}
+use Rattle.command_line.specs.StormEnds.{EndsStorm, EndsStormFrom, FailsToOpen}
 
 -- a file that could not be opened counts as one that could not be read
 pub unopened : (asked : OptionsView) (files : ℕ) (old : WrittenBytes) (fault : StormFault) → FailsToOpen files fault → EndsStorm asked files old old (Err fault)
@@ -24,3 +25,20 @@ unopened asked files old Write some = absurd some
 unopened asked files old Behind some = absurd some
 unopened asked files old Thread some = absurd some
 unopened asked files old (Unsettled why) some = absurd some
+
+-- so does one of a storm that goes on
+pub unopened_from : (restart : RestartView) (files : ℕ) (old : WrittenBytes) (fault : StormFault) → FailsToOpen files fault → EndsStormFrom restart files old old (Err fault)
+unopened_from restart files old Read some =
+    let none : WrittenBytes = None in
+    let count = length-replicate files none in
+    (replicate files none, count, (λ e. omega (arith, some, count, ap (λ (l : List WrittenBytes). length l) e), Keeps-refl old))
+unopened_from restart files old Memory some =
+    let none : WrittenBytes = None in
+    (replicate files none, length-replicate files none, inr (Keeps-refl old))
+unopened_from restart files old TooManyScripts some = absurd some
+unopened_from restart files old (BadLine script line) some = absurd some
+unopened_from restart files old LogFull some = absurd some
+unopened_from restart files old Write some = absurd some
+unopened_from restart files old Behind some = absurd some
+unopened_from restart files old Thread some = absurd some
+unopened_from restart files old (Unsettled why) some = absurd some

@@ -11,15 +11,15 @@ use Rattle.script_run.specs.declared.fault.RunFault.TheVariants.{Memory}
 use Rattle.script_run.specs.Outcome.{IsRunOutcome}
 use Rattle.cli_args.specs.declared.task.Task.{Task}
 use Rattle.cli_args.specs.declared.task.Task.TheVariants as variants
-use Rattle.cli_args.specs.declared.task.Task.TheVariants.{Run, Resume, Audit, Picture, Epochs, Show}
-use Rattle.cli_args.specs.TaskWords.{Storm, present_at_start, storm_of}
+use Rattle.cli_args.specs.declared.task.Task.TheVariants.{Run, Resume, Audit, Picture, Epochs, ResumeStorm, Show}
+use Rattle.cli_args.specs.TaskWords.{Storm, present_at_start, resumed_storm_of, storm_of}
 use Rattle.command_line.specs.declared.verdict.CheckEnd.{CheckEnd}
 use Rattle.command_line.specs.Status.{ended_status, run_status, words_status}
 use Rattle.command_line.specs.FaultText.{bad_present_line, run_fault_line}
 use Rattle.transcript_view.specs.Views.{IsPicture, IsEpochTable}
 use Rattle.command_line.specs.WriterStates.{WriterState, WritesLine}
 use Rattle.command_line.specs.ViewEnds.{WrittenBytes, ShowsSome, TellsFault, Views}
-use Rattle.command_line.specs.ResumeEnds.{ResumesFile}
+use Rattle.command_line.specs.ResumeEnds.{ResumesFile, ResumesStorm}
 use Rattle.command_line.specs.Network.{asked_storm}
 use Rattle.command_line.specs.StormEnds.{PlaysStorm}
 use Rattle.command_line.specs.CheckResults.{IsVerdict, TellsVerdict, verdict_status}
@@ -64,6 +64,7 @@ DoesTask (Picture entry) input old new before after status = Views (IsPicture in
 DoesTask Epochs input old new before after status = Views (IsEpochTable input) old new before after status
 DoesTask (variants.Storm words) input old new before after status =
     DoesStorm (storm_of words) (present_at_start words.nodes words.present) old new before after status
+DoesTask (ResumeStorm words) input old new before after status = ResumesStorm (resumed_storm_of words) old new before after status
 DoesTask (Show text) input old new before after status = ShowsSome old new before after status
 
 -- what is written about bad words: that memory ran out, or else an unspecified text or a beginning of that

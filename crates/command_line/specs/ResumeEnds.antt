@@ -1,5 +1,6 @@
--- How a run ends that goes on where the run of a file ended: what the writers have, and the exit status.
-use Rattle.std.specs.Prelude.{◌≡◌, ◌⊎◌, ℕ, List, [], ◌++◌, Result, Ok, Err, codes}
+-- How a run or a storm ends that goes on where the run of a file ended: what the writers have, and the exit
+-- status.
+use Rattle.std.specs.Prelude.{◌≡◌, ◌⊎◌, ℕ, List, [], ◌++◌, length, max, min, Result, Ok, Err, codes}
 use Rattle.std.specs.Io.KnownBytes.{Keeps}
 use Rattle.rule_machine.specs.RuleTable.{RuleTable}
 use Rattle.rule_machine.specs.Tables.{table_of}
@@ -11,9 +12,12 @@ use Rattle.auditor.specs.TranscriptEnds.{MayGoOn}
 use Rattle.script_run.specs.declared.fault.RunFault.{RunFault}
 use Rattle.script_run.specs.declared.fault.RunFault.TheVariants as run
 use Rattle.script_run.specs.Outcome.{EndsFrom}
+use Rattle.script_run.specs.Restarts.{RestartView}
+use Rattle.cli_args.specs.TaskWords.{ResumedStorm}
 use Rattle.command_line.specs.declared.verdict.CheckEnd.TheVariants as verdict
 use Rattle.command_line.specs.FaultText.{run_fault_line}
 use Rattle.command_line.specs.Status.{ended_status}
+use Rattle.command_line.specs.StormEnds.{PlaysStormFrom}
 use Rattle.command_line.specs.VerdictText.{verdict_line}
 use Rattle.command_line.specs.ViewEnds.{TellsEarly, TellsFault}
 use Rattle.command_line.specs.WriterStates.{WrittenBytes, WriterState, WritesLine}
@@ -58,3 +62,32 @@ ResumesAfter (Err fault) file script old new before after status = TellsAuditFau
 abbrev pub ResumesFile : List ℕ → List ℕ → WrittenBytes → WrittenBytes → WrittenBytes → WriterState → ℕ → Type 0
 ResumesFile file script old new before after status =
     (audited : Result TranscriptEnd AuditFault) × ResumesAfter audited file script old new before after status
+
+-- the end of a transcript as where a run or a storm goes on, with this many workers for a step
+abbrev pub restart_from : TranscriptEnd → ℕ → RestartView
+restart_from end workers = record {
+  rules = end.rules;
+  state = end.net.state;
+  spent = end.spent;
+  number = end.number;
+  limit = 16777216;
+  workers = min (max workers 1) 64;
+  roamers = 0;
+  turns = 1000;
+}
+
+-- the end of a transcript as where this storm goes on
+abbrev pub storm_from : TranscriptEnd → ResumedStorm → RestartView
+storm_from end storm =
+    record (restart_from end storm.workers) { roamers = min storm.roamers 64; turns = min storm.turns 1000000 }
+
+-- what is done with the audit of a file: the storm goes on from its end, or a fault is reported
+abbrev pub StormsAfter : Result TranscriptEnd AuditFault → ResumedStorm → WrittenBytes → WrittenBytes → WrittenBytes → WriterState → ℕ → Type 0
+StormsAfter (Ok end) storm old new before after status =
+    MayGoOn end × PlaysStormFrom (storm_from end storm) (length storm.scripts) old new before after status
+StormsAfter (Err fault) storm old new before after status = TellsAuditFault storm.from fault old new before after status
+
+-- some audit's result was reported so; nothing is said of what the file holds
+abbrev pub ResumesStorm : ResumedStorm → WrittenBytes → WrittenBytes → WrittenBytes → WriterState → ℕ → Type 0
+ResumesStorm storm old new before after status =
+    (audited : Result TranscriptEnd AuditFault) × StormsAfter audited storm old new before after status

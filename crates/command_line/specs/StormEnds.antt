@@ -1,10 +1,11 @@
 -- How a storm ends: what the writers have, and the exit status.
 use Rattle.std.specs.Prelude.{◌≡◌, ◌<◌, ℕ, List, length, Result}
+use Rattle.script_run.specs.Restarts.{RestartView}
 use Rattle.script_run.specs.RunOptions.{OptionsView}
 use Rattle.storm_runner.specs.declared.fault.StormFault.{StormFault}
 use Rattle.storm_runner.specs.declared.fault.StormFault.TheVariants.{Read, Memory}
 use Rattle.storm_runner.specs.FaultText.{end_line}
-use Rattle.storm_runner.specs.Outcome.{IsStormOutcome}
+use Rattle.storm_runner.specs.Outcome.{IsResumedStorm, IsStormOutcome}
 use Rattle.storm_runner.specs.Status.{end_status}
 use Rattle.command_line.specs.WriterStates.{WrittenBytes, WriterState, WritesLine}
 
@@ -23,3 +24,11 @@ EndsStorm asked scripts old new ended = (texts : List WrittenBytes) × (length t
 abbrev pub PlaysStorm : OptionsView → ℕ → WrittenBytes → WrittenBytes → WrittenBytes → WriterState → ℕ → Type 0
 PlaysStorm asked scripts old new before after status =
     (ended : Result Unit StormFault) × EndsStorm asked scripts old new ended × WritesLine before after (end_line ended) × (status ≡ end_status ended)
+
+-- the same of a storm that goes on
+abbrev pub EndsStormFrom : RestartView → ℕ → WrittenBytes → WrittenBytes → Result Unit StormFault → Type 0
+EndsStormFrom restart scripts old new ended = (texts : List WrittenBytes) × (length texts ≡ scripts) × IsResumedStorm restart texts old new ended
+
+abbrev pub PlaysStormFrom : RestartView → ℕ → WrittenBytes → WrittenBytes → WrittenBytes → WriterState → ℕ → Type 0
+PlaysStormFrom restart scripts old new before after status =
+    (ended : Result Unit StormFault) × EndsStormFrom restart scripts old new ended × WritesLine before after (end_line ended) × (status ≡ end_status ended)

@@ -5,7 +5,7 @@
 //! determine the transcript bytes of a `run`. Writing the line of a fault takes no memory.
 //!
 //! `console` passes the process's words and streams to `start`. `start` opens the script files of a storm, the
-//! file of a run that goes on, and nothing else.
+//! file of `--from`, and nothing else.
 //!
 //! ```rust
 //! let (mut input, mut output) = (CountingReader::new(stdin), FailStopWriter::new(stdout));
@@ -17,6 +17,7 @@ mod fault_line;
 mod law;
 mod options;
 mod playing;
+mod playing_on;
 mod program;
 mod resuming;
 mod verdict;

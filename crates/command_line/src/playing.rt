@@ -22,8 +22,12 @@ use std::thread::Threads;
 use steal_pool::NoGate;
 use storm_runner::{StormFault, storm, storm_end};
 
-// `Read` at the first file that cannot be opened.
-fn open_all<T: Files>(rt: &T, alloc: Global, names: &[&str]) -> Result<Vec<T::File>, StormFault>
+/// The files, opened in order; `Read` at the first file that cannot be opened.
+pub(crate) fn open_all<T: Files>(
+    rt: &T,
+    alloc: Global,
+    names: &[&str],
+) -> Result<Vec<T::File>, StormFault>
     ensures count { IfOk result (λ files. length files.items ≡ length names.now) }
     ensures fault { IfErr result (FailsToOpen (length names.now)) }
 {

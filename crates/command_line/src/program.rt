@@ -4,6 +4,7 @@ ghost use Rattle.std.specs.Prelude.{◌≡◌, ◌≢◌, ◌⊎◌, ℕ, List, 
 ghost use Rattle.std.specs.Io.KnownBytes.{Appends};
 ghost use Rattle.clap.specs.declared.error.kind.ErrorKind.TheVariants.{OutOfMemory};
 ghost use Rattle.cli_args.specs.declared.task.Task.{Task};
+ghost use Rattle.cli_args.specs.declared.storm.ResumeStormWords.{ResumeStormWords};
 ghost use Rattle.cli_args.specs.declared.storm.StormWords.{StormWords};
 ghost use Rattle.std.specs.Borrow.{Bor};
 ghost use Rattle.cli_args.specs.TaskWords.{ParsesTo, Asks, ParsesAsTask};
@@ -20,6 +21,7 @@ ghost use Rattle.command_line.specs.ViewEnds.{ShowsSome, ShowsText, TellsEarly};
 use crate::fault_line::write_fault;
 use crate::options::network_options;
 use crate::playing::play_storm;
+use crate::playing_on::resume_storm_file;
 use crate::resuming::resume_file;
 use crate::verdict::check;
 use crate::viewing::{draw, list_epochs, show_text};
@@ -204,7 +206,7 @@ fn check_transcript<In: Read, Out: Write, Faults: Write>(
 /// | Status | When |
 /// |---|---|
 /// | 0 | a whole run or storm, an accepted transcript, or a view, the help or the version shown |
-/// | 1 | a refused transcript or settle, also the transcript that a run is to go on from |
+/// | 1 | a refused transcript or settle, also the transcript of `--from` |
 /// | 2 | bad words, too many nodes at the start, a bad line, too many scripts, or a missing entry |
 /// | 3 | a failed read or write, or a file that could not be opened |
 /// | 4 | no memory, a full log, or a clerk that is behind |
@@ -227,7 +229,8 @@ pub fn start<S: AsStr, In: Read, Out: Write, Faults: Write, T: Threads + Wait + 
     ensures status { IsStatus result }
     ensures device { result ≡ 3 → ((storm : StormWords) × Asks (map S.text words.entry.now) (Task.Storm storm))
         ⊎ (((from : Bor (List ℕ)) × (workers : ℕ) × Asks (map S.text words.entry.now) (Task.Resume from workers))
-        ⊎ (IsEnded reader.new.failed reader.new.count ⊎ (writer.new.failed ≡ true))) }
+        ⊎ (((more : ResumeStormWords) × Asks (map S.text words.entry.now) (Task.ResumeStorm more))
+        ⊎ (IsEnded reader.new.failed reader.new.count ⊎ (writer.new.failed ≡ true)))) }
 {
     match read_words(alloc, words) {
         Ok(
@@ -248,6 +251,7 @@ pub fn start<S: AsStr, In: Read, Out: Write, Faults: Write, T: Threads + Wait + 
         Ok(Task::Picture { entry }) => draw(alloc, entry, reader, writer, faults),
         Ok(Task::Epochs) => list_epochs(alloc, reader, writer, faults),
         Ok(Task::Storm(asked)) => play_storm(rt, alloc, asked, writer, faults),
+        Ok(Task::ResumeStorm(asked)) => resume_storm_file(rt, alloc, asked, writer, faults),
         Ok(Task::Show(text)) => show(alloc, text, writer, faults),
         Err(error) => refuse(alloc, error, faults),
     }

@@ -3,9 +3,9 @@
 ghost use Rattle.std.specs.Prelude.{◌≡◌, ◌⊎◌, IfOk, IfSome, OnErr};
 ghost use Rattle.rule_machine.specs.Tables.{table_of};
 ghost use Rattle.auditor.specs.TranscriptEnds.{MayGoOn};
-ghost use Rattle.script_run.specs.Restarts.{restarted};
+ghost use Rattle.script_run.specs.Restarts.{restart_of, restarted};
 ghost use Rattle.command_line.specs.FaultText.{run_fault_line};
-ghost use Rattle.command_line.specs.ResumeEnds.{ResumesFile, TellsAuditFault, TellsRunFrom, damaged_line, start_at};
+ghost use Rattle.command_line.specs.ResumeEnds.{ResumesFile, TellsAuditFault, TellsRunFrom, damaged_line, restart_from, start_at};
 ghost use Rattle.command_line.specs.Status.{IsRunStatus, IsStatus};
 ghost use Rattle.command_line.specs.WriterStates.{heard, WrittenBytes, WritesLine};
 
@@ -22,8 +22,12 @@ use std::rt::Files;
 use std::sync::Wait;
 use std::thread::Threads;
 
-// `Read` if the file cannot be opened.
-fn end_of_file<T: Files>(rt: &T, alloc: Global, file: &str) -> Result<TranscriptEnd, AuditFault>
+/// Where the run of the file ended; `Read` if the file cannot be opened.
+pub(crate) fn end_of_file<T: Files>(
+    rt: &T,
+    alloc: Global,
+    file: &str,
+) -> Result<TranscriptEnd, AuditFault>
     ensures { IfOk result MayGoOn }
 {
     match File::open(rt, file) {
@@ -63,8 +67,10 @@ fn tell_damage<Faults: Write>(
     }
 }
 
-// Nothing is written to another writer, whatever that has received.
-fn refuse_file<Faults: Write>(
+/// Reports why the file is refused, and returns the exit status.
+///
+/// Nothing is written to another writer, whatever that has received.
+pub(crate) fn refuse_file<Faults: Write>(
     alloc: Global,
     file: &str,
     fault: AuditFault,
@@ -81,11 +87,13 @@ fn refuse_file<Faults: Write>(
     }
 }
 
-fn restart_at(end: TranscriptEnd, workers: u16) -> Restart
+/// The end of a file's run as the start of a run or a storm, with `workers` workers for each step.
+pub(crate) fn restart_at(end: TranscriptEnd, workers: u16) -> Restart
     requires { MayGoOn end }
     ensures start { restarted result ≡ start_at end }
     ensures rules { result.rules ≡ end.rules }
     ensures limit { result.limit ≡ 16777216 }
+    ensures view { restart_of result ≡ restart_from end workers }
 {
     let TranscriptEnd {
         rules,

@@ -8,18 +8,18 @@ use steal_pool::MAX_WORKERS;
 use step_log::MAX_ENTRIES;
 
 /// How many turns a roaming worker takes by default.
-const USUAL_TURNS: u32 = 1_000;
+pub(crate) const USUAL_TURNS: u32 = 1_000;
 
 /// The options of a run, and the roaming workers of a storm.
 #[derive(Clone, Copy, Debug, PartialEq, Eq)]
 pub struct Options {
-    rules: RuleSet,
-    nodes: u32,
-    present: u32,
-    limit: u32,
-    workers: u32,
-    roamers: u32,
-    turns: u32,
+    pub(crate) rules: RuleSet,
+    pub(crate) nodes: u32,
+    pub(crate) present: u32,
+    pub(crate) limit: u32,
+    pub(crate) workers: u32,
+    pub(crate) roamers: u32,
+    pub(crate) turns: u32,
     ghost few_nodes: { nodes ≤ 65535 },
     ghost within: { present ≤ nodes },
     ghost few_entries: { limit ≤ 16777216 },
@@ -56,65 +56,38 @@ impl Options {
     /// These options, with the names 1 to `present` present at the start and the others absent.
     ///
     /// A `present` above the number of names counts as that number.
-    pub fn with_present(self, present: u32) -> Options
+    pub fn with_present(mut self, present: u32) -> Options
         ensures { asked_of result ≡ record (asked_of self) { present = min present self.nodes } }
     {
-        Options {
-            rules: self.rules,
-            nodes: self.nodes,
-            present: present.min(self.nodes),
-            limit: self.limit,
-            workers: self.workers,
-            roamers: self.roamers,
-            turns: self.turns,
-        }
+        self.present = present.min(self.nodes);
+        self
     }
 
     /// These options, with at most `limit` entries; a `limit` above `MAX_ENTRIES` counts as `MAX_ENTRIES`.
-    pub fn with_limit(self, limit: u32) -> Options
+    pub fn with_limit(mut self, limit: u32) -> Options
         ensures { asked_of result ≡ record (asked_of self) { limit = min limit 16777216 } }
     {
-        Options {
-            rules: self.rules,
-            nodes: self.nodes,
-            present: self.present,
-            limit: limit.min(MAX_ENTRIES),
-            workers: self.workers,
-            roamers: self.roamers,
-            turns: self.turns,
-        }
+        self.limit = limit.min(MAX_ENTRIES);
+        self
     }
 
     /// These options, with `workers` workers for each step: 0 counts as 1, and more than 64 as 64.
-    pub fn with_workers(self, workers: u32) -> Options
+    pub fn with_workers(mut self, workers: u32) -> Options
         ensures { asked_of result ≡ record (asked_of self) { workers = min (max workers 1) 64 } }
     {
-        Options {
-            rules: self.rules,
-            nodes: self.nodes,
-            present: self.present,
-            limit: self.limit,
-            workers: workers.max(1).min(MAX_WORKERS),
-            roamers: self.roamers,
-            turns: self.turns,
-        }
+        self.workers = workers.max(1).min(MAX_WORKERS);
+        self
     }
 
     /// These options, with `workers` workers that roam a storm's network for `turns` turns each.
     ///
     /// More than 64 workers count as 64, and more than 1,000,000 turns as 1,000,000.
-    pub fn with_roam(self, workers: u32, turns: u32) -> Options
+    pub fn with_roam(mut self, workers: u32, turns: u32) -> Options
         ensures { asked_of result ≡ record (asked_of self) { roamers = min workers 64; turns = min turns 1000000 } }
     {
-        Options {
-            rules: self.rules,
-            nodes: self.nodes,
-            present: self.present,
-            limit: self.limit,
-            workers: self.workers,
-            roamers: workers.min(MAX_WORKERS),
-            turns: turns.min(MAX_TURNS),
-        }
+        self.roamers = workers.min(MAX_WORKERS);
+        self.turns = turns.min(MAX_TURNS);
+        self
     }
 
     /// The rule set.

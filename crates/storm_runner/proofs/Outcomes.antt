@@ -1,49 +1,66 @@
 -- How a storm ends, from how its parts do.
-use Rattle.storm_runner.proofs.Prelude.{arith, ◌≡◌, ℕ, inl, inr, List, Option, None, Some, Result, Err, IsErr, IsErrAnd, IsErrOf, sym, subst, Appends, RuleTable, RetainedLog, CallFault, Behind, LogFull, Memory, ScriptLine, OptionsView, AllHold, StormFault, of_call, Leaves, LeavesText, EndsAllScripts, text_of, FailsToWrite}
+use Rattle.storm_runner.proofs.Prelude.{arith, ◌≡◌, ℕ, inl, inr, List, Option, None, Some, Result, Err, refl, IsErr, IsErrAnd, IsErrOf, sym, subst, Appends, RuleTable, RetainedLog, CallFault, Behind, LogFull, Memory, ScriptLine, StormStart, AllHold, StormFault, of_call, Leaves, LeavesText, EndsAllScripts, text_of, FailsToPlay, FailsToWrite}
+use Rattle.std.specs.Io.KnownBytes.{Keeps}
 use Rattle.storm_runner.specs.declared.fault.StormFault.TheVariants as storm
 
 told : (result : Result Unit StormFault) (fault : StormFault) → IsErr result → IsErrAnd result (λ found. found ≡ fault) → Err fault ≡ result
 told result fault is gives = grind arith
 
+-- a writer to which nothing was written
+pub keeps_all : (known : Option (List ℕ)) → Keeps known known
+keeps_all None = tt
+keeps_all (Some bytes) = refl
+
 -- the fault of a call is no failed write
 pub not_of_call : (P : Type 0) (fault : CallFault) (found : StormFault) → found ≡ of_call fault → IsErrOf {T = Unit} (Err found) storm.Write → P
 not_of_call P fault found is same = grind arith
 
-module _ {t : RuleTable} {weight : ℕ} {asked : OptionsView} {scripts : List (List ScriptLine)} {kept : RetainedLog} where
-  -- the scripts that were read are those that were played
-  pub leaves_read : {read : List (List ScriptLine)} {met : Option CallFault} → read ≡ scripts → Leaves t weight asked read met kept → Leaves t weight asked scripts met kept
-  leaves_read {read} {met} same leaves = subst (λ (s : List (List ScriptLine)). Leaves t weight asked s met kept) same leaves
+-- no log was left
+not_left : (t : RuleTable) (weight : ℕ) (at : StormStart) (texts : List (Option (List ℕ))) (old new : Option (List ℕ)) (fault : StormFault) → FailsToPlay fault → Keeps old new → EndsAllScripts t weight at texts old new (Err fault)
+not_left t weight at texts old new storm.Memory fails nothing = inr nothing
+not_left t weight at texts old new (storm.Unsettled why) fails nothing = (fails, nothing)
+not_left t weight at texts old new fault fails nothing = absurd fails
 
-module _ {t : RuleTable} {weight : ℕ} {asked : OptionsView} {scripts : List (List ScriptLine)} {kept : RetainedLog} (texts : List (Option (List ℕ))) (old new : Option (List ℕ)) where
+pub told_not_left : (t : RuleTable) (weight : ℕ) (at : StormStart) (texts : List (Option (List ℕ))) (old new : Option (List ℕ)) (fault : StormFault) (result : Result Unit StormFault) → IsErr result → IsErrAnd result (λ found. found ≡ fault) → FailsToPlay fault → Keeps old new
+    → EndsAllScripts t weight at texts old new result
+told_not_left t weight at texts old new fault result is gives fails nothing =
+    subst (λ (r : Result Unit StormFault). EndsAllScripts t weight at texts old new r) (told result fault is gives) (not_left t weight at texts old new fault fails nothing)
+
+module _ {t : RuleTable} {weight : ℕ} {at : StormStart} {scripts : List (List ScriptLine)} {kept : RetainedLog} where
+  -- the scripts that were read are those that were played
+  pub leaves_read : {read : List (List ScriptLine)} {met : Option CallFault} → read ≡ scripts → Leaves t weight at read met kept → Leaves t weight at scripts met kept
+  leaves_read {read} {met} same leaves = subst (λ (s : List (List ScriptLine)). Leaves t weight at s met kept) same leaves
+
+module _ {t : RuleTable} {weight : ℕ} {at : StormStart} {scripts : List (List ScriptLine)} {kept : RetainedLog} (texts : List (Option (List ℕ))) (old new : Option (List ℕ)) where
   -- all was written, and the first fault that a script met is returned
-  told_fault : (fault : CallFault) → AllHold texts scripts → Leaves t weight asked scripts (Some fault) kept → Appends old new (text_of asked kept)
-      → EndsAllScripts t weight asked texts old new (Err (of_call fault))
+  told_fault : (fault : CallFault) → AllHold texts scripts → Leaves t weight at scripts (Some fault) kept → Appends old new (text_of at.asked kept)
+      → EndsAllScripts t weight at texts old new (Err (of_call fault))
   told_fault (Behind front seen) held leaves wrote = (front, seen, (scripts, kept, held, leaves, wrote))
   told_fault LogFull held leaves wrote = (scripts, kept, held, leaves, wrote)
   told_fault Memory held leaves wrote = inl (scripts, kept, held, leaves, wrote)
 
   -- or not all was written
-  failed : {met : Option CallFault} (fault : StormFault) → AllHold texts scripts → Leaves t weight asked scripts met kept → FailsToWrite old new (text_of asked kept) fault
-      → EndsAllScripts t weight asked texts old new (Err fault)
+  failed : {met : Option CallFault} (fault : StormFault) → AllHold texts scripts → Leaves t weight at scripts met kept → FailsToWrite old new (text_of at.asked kept) fault
+      → EndsAllScripts t weight at texts old new (Err fault)
   failed {met} storm.Write held leaves wrote = (met, (scripts, kept, held, leaves, wrote))
   failed storm.Memory held leaves nothing = inr nothing
   failed fault held leaves never = absurd never
 
   -- so that is returned
   pub told_failed : {met : Option CallFault} (fault : StormFault) (result : Result Unit StormFault) → IsErr result → IsErrAnd result (λ found. found ≡ fault) → AllHold texts scripts
-      → Leaves t weight asked scripts met kept → FailsToWrite old new (text_of asked kept) fault → EndsAllScripts t weight asked texts old new result
+      → Leaves t weight at scripts met kept → FailsToWrite old new (text_of at.asked kept) fault → EndsAllScripts t weight at texts old new result
   told_failed fault result is gives held leaves fails =
-      subst (λ (r : Result Unit StormFault). EndsAllScripts t weight asked texts old new r) (told result fault is gives) (failed fault held leaves fails)
+      subst (λ (r : Result Unit StormFault). EndsAllScripts t weight at texts old new r) (told result fault is gives) (failed fault held leaves fails)
 
   -- all scripts were played to their ends, and all was written
-  pub done_all : {met : Option CallFault} → met ≡ None → AllHold texts scripts → Leaves t weight asked scripts met kept → Appends old new (text_of asked kept)
-      → LeavesText t weight asked texts None (Appends old new)
+  pub done_all : {met : Option CallFault} → met ≡ None → AllHold texts scripts → Leaves t weight at scripts met kept → Appends old new (text_of at.asked kept)
+      → LeavesText t weight at texts None (Appends old new)
   done_all is held leaves wrote =
-      (scripts, kept, held, subst (λ (f : Option CallFault). Leaves t weight asked scripts f kept) is leaves, wrote)
+      (scripts, kept, held, subst (λ (f : Option CallFault). Leaves t weight at scripts f kept) is leaves, wrote)
 
   -- a script met a fault, and all was written
-  pub told_met : {met : Option CallFault} (fault : CallFault) (found : StormFault) → met ≡ Some fault → found ≡ of_call fault → AllHold texts scripts → Leaves t weight asked scripts met kept
-      → Appends old new (text_of asked kept) → EndsAllScripts t weight asked texts old new (Err found)
+  pub told_met : {met : Option CallFault} (fault : CallFault) (found : StormFault) → met ≡ Some fault → found ≡ of_call fault → AllHold texts scripts → Leaves t weight at scripts met kept
+      → Appends old new (text_of at.asked kept) → EndsAllScripts t weight at texts old new (Err found)
   told_met fault found is same held leaves wrote =
-      subst (λ (f : StormFault). EndsAllScripts t weight asked texts old new (Err f)) (sym same)
-      (told_fault fault held (subst (λ (f : Option CallFault). Leaves t weight asked scripts f kept) is leaves) wrote)
+      subst (λ (f : StormFault). EndsAllScripts t weight at texts old new (Err f)) (sym same)
+      (told_fault fault held (subst (λ (f : Option CallFault). Leaves t weight at scripts f kept) is leaves) wrote)

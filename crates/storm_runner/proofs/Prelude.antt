@@ -22,9 +22,9 @@ pub use Rattle.locked_net.proofs.ReceiptAddition.{seen_few, front_more, front_fr
 pub use Rattle.locked_net.specs.Calls.{Keeps, call_fault, Drives, Breaks}
 pub use Rattle.locked_net.specs.ChosenEvents.{ChoosesOn, ChoosesStep, IsChosenReply}
 pub use Rattle.locked_net.specs.ClerkCalls.{some_of}
-pub use Rattle.locked_net.specs.Nets.{setting_of, book_of, name_count_of, first_nodes_of, log_limit_of}
+pub use Rattle.locked_net.specs.Nets.{setting_of, book_of, beginning_of, name_count_of, first_nodes_of, log_limit_of}
 pub use Rattle.locked_net.specs.PublishedJournals.{PublishedJournalView}
-pub use Rattle.locked_net.specs.Receipts.{ClerkView, front_of, base_from, seen_by, noted, HasNoteOf, IsOfBook, fresh, front_from, greater_base}
+pub use Rattle.locked_net.specs.Receipts.{ClerkView, front_of, base_from, seen_by, noted, HasNoteFrom, HasNoteOf, IsOfBook, fresh, front_from, greater_base}
 pub use Rattle.locked_net.specs.RoamResults.{AllRoam, RoamResult, KeepsNote, AllKeepNotes, TakesTurns, AllTakeTurns, MayMeetRoamFault}
 pub use Rattle.locked_net.specs.Settings.{Setting, IsLogIn}
 pub use Rattle.locked_net.specs.declared.call_fault.CallFault.{CallFault}
@@ -33,7 +33,8 @@ pub use Rattle.locked_net.specs.declared.roam_fault.RoamFault.{RoamFault}
 pub use Rattle.locked_net.specs.declared.roam_fault.RoamFault.TheVariants.{ZeroWorkers, Thread}
 pub use Rattle.logbook.specs.Pages.{Book}
 pub use Rattle.rand_core.specs.Stream.{Stream}
-pub use Rattle.rule_machine.specs.Base.{dropped}
+pub use Rattle.rule_machine.specs.Base.{base_of, dropped}
+pub use Rattle.rule_machine.specs.declared.base.Base.{Base}
 pub use Rattle.rule_machine.specs.RuleTable.{RuleTable, enabled_names}
 pub use Rattle.rule_machine.specs.Run.{Entry}
 pub use Rattle.rule_machine.specs.State.{State}
@@ -49,15 +50,14 @@ pub use Rattle.script_text.specs.declared.command.Turns.{Turns}
 pub use Rattle.script_text.specs.declared.script.ScriptLine.{ScriptLine}
 pub use Rattle.seeded_turns.specs.DrawnEvents.{Draws, seeded_stream, drawn_step, drawn_fault, pcg32_stream}
 pub use Rattle.snapshots.proofs.Fronts.{prefix_trans}
-pub use Rattle.snapshots.specs.Views.{PublishedLog}
+pub use Rattle.snapshots.specs.Views.{BoardName, PublishedLog}
 pub use Rattle.step_log.specs.Headline.{Upholds}
 pub use Rattle.step_log.specs.JournalViews.{kept_of}
-pub use Rattle.step_log.specs.Log.{Log, receipt_of}
-pub use Rattle.step_log.specs.RetainedLogs.{RetainedLog, IsRetainedRun}
+pub use Rattle.step_log.specs.RetainedLogs.{RetainedLog, IsRetainedRun, last_number, next_receipt}
 pub use Rattle.step_log.specs.declared.receipt.Receipt.{Receipt}
 pub use Rattle.storm_runner.specs.Faults.{of_call}
-pub use Rattle.storm_runner.specs.Outcome.{Leaves, LeavesText, EndsAllScripts, text_of, asked_setting}
-pub use Rattle.storm_runner.specs.Parts.{FailsToWrite}
+pub use Rattle.storm_runner.specs.Outcome.{Leaves, LeavesText, EndsAllScripts, text_of, StormStart, start_setting}
+pub use Rattle.storm_runner.specs.Parts.{FailsToPlay, FailsToWrite}
 pub use Rattle.storm_runner.specs.PlayedCommands.{AddsReceipts, PlayedOn, ToldOn, IsBased, AllStop, scene_of, Plays, TakesTurnsUpTo}
 pub use Rattle.storm_runner.specs.Storm.{IsFor, AreAbove, IsRoaming, IsOfStep, IsOfFault, IsPartOf, AreScriptReceipts, IsLastCheckpoint, StandsInPart, MayEndScript, is_checkpoint, has_checkpoint, AllPlayed, IsStormResult}
 pub use Rattle.storm_runner.specs.StormRoamers.{RoamResultOfNew, roam_call_fault}

@@ -1,5 +1,5 @@
 -- Turns that are taken one by one.
-use Rattle.storm_runner.proofs.Prelude.{◌≡◌, ◌∙◌, ℕ, ◌+◌, ◌<◌, ◌≤◌, Bool, false, true, not, List, [], ◌∷◌, ◌++◌, length, Option, None, Some, IfSome, IsNone, MatchOption, refl, sym, ap, subst, append_assoc, length-append, arith, All, is_some, option_map, false≢true, append_cancel_left, All-push, All-weaker, IsPrefix, Stream, Item, Reply, Event, Step, RuleTable, enabled_names, State, choice_drawn, rests, Draws, drawn_step, Receipt, Log, receipt_of, prefix_trans, PublishedJournalView, ClerkView, front_from, front_of, base_from, seen_by, noted, Setting, IsLogIn, call_fault, Drives, Breaks, ChoosesOn, ChoosesStep, IsChosenReply, some_of, seen_few, front_more, IsOfStep, IsOfFault, AreAbove, Scene, TakesChosenEvent, Draw, Gains, IsTurn, AreTurns, DrawnFrom, IsLogBehind, IsIdleBehind, scene_of}
+use Rattle.storm_runner.proofs.Prelude.{◌≡◌, ◌∙◌, ℕ, ◌+◌, ◌<◌, ◌≤◌, Bool, false, true, not, List, [], ◌∷◌, ◌++◌, length, Option, None, Some, IfSome, IsNone, MatchOption, refl, sym, ap, subst, append_assoc, length-append, arith, All, is_some, option_map, false≢true, append_cancel_left, All-push, All-weaker, IsPrefix, Stream, Item, Reply, Event, Step, RuleTable, enabled_names, State, choice_drawn, rests, Draws, drawn_step, Receipt, RetainedLog, last_number, next_receipt, prefix_trans, PublishedJournalView, ClerkView, front_from, front_of, base_from, seen_by, noted, Setting, IsLogIn, call_fault, Drives, Breaks, ChoosesOn, ChoosesStep, IsChosenReply, some_of, seen_few, front_more, IsOfStep, IsOfFault, AreAbove, Scene, TakesChosenEvent, Draw, Gains, IsTurn, AreTurns, DrawnFrom, IsLogBehind, IsIdleBehind, scene_of}
 use Rattle.storm_runner.proofs.LogExtension.{turns_last}
 
 -- ---- one turn
@@ -9,7 +9,7 @@ pub stepped : (t : RuleTable) (before after : PublishedJournalView) (old new : C
     → MatchOption told (new ≡ old) (λ _. Gains IsOfStep old.receipts new.receipts)
 stepped t before after old new None kept = kept.0
 stepped t before after old new (Some reply) drove = record {
-  receipt = receipt_of t before.log (Step drove.items);
+  receipt = next_receipt t before.log (Step drove.items);
   added = drove.told.receipt;
   is = record { items = drove.items; moves = drove.moves; stepped = refl; moved = sym drove.told.reply_is ∙ drove.moved };
 }
@@ -19,7 +19,7 @@ pub struck : (t : RuleTable) (before after : PublishedJournalView) (old new : Cl
     → MatchOption told (new ≡ old) (λ _. Gains IsOfFault old.receipts new.receipts)
 struck t before after old new None kept = kept.0
 struck t before after old new (Some reply) broke = record {
-  receipt = receipt_of t before.log broke.event;
+  receipt = next_receipt t before.log broke.event;
   added = broke.told.receipt;
   is = record { register = broke.register; accepted = sym broke.told.reply_is ∙ broke.accepted };
 }
@@ -76,7 +76,7 @@ chose setting Chooses before after old mid new told own free taken same begin se
     }
 
 -- a daemon's choice by its words is its event
-pub drew_step : (t : RuleTable) (log : Log) (words left : Stream) (old new : List Receipt) (told : Option Reply) → ChoosesOn t log (ChoosesStep t (λ names choice. (choice, left) ≡ choice_drawn t.central names words)) old new told
+pub drew_step : (t : RuleTable) (log : RetainedLog) (words left : Stream) (old new : List Receipt) (told : Option Reply) → ChoosesOn t log (ChoosesStep t (λ names choice. (choice, left) ≡ choice_drawn t.central names words)) old new told
     → ChoosesOn t log (λ s event. (event, left) ≡ drawn_step t s words) old new told
 drew_step t log words left old new told taken = record {
   event = taken.event;
@@ -92,7 +92,7 @@ turn_at : (setting : Setting) (draws : Draws) (words left : Stream) (old : List 
 turn_at setting draws words left old new told receipt drew None is (none, same) some added = absurd (false≢true (sym (ap is_some none) ∙ some))
 turn_at setting draws words left old new told receipt drew (Some event) is (answer, more) some added =
     let log = drew.took.log in
-    let same : receipt_of setting.table log event ≡ receipt = grind (arith, append_cancel_left old _ _ (sym more ∙ added)) in
+    let same : next_receipt setting.table log event ≡ receipt = grind (arith, append_cancel_left old _ _ (sym more ∙ added)) in
     subst (λ r. IsTurn (scene_of setting new) draws words r left) same (record { log = log; own = drew.took.own; begins = drew.begins; drawn = is; told = refl })
 
 -- ---- some turns
@@ -142,18 +142,18 @@ front_behind low (receipt ∷ old) own = front_behind receipt.seq old own
 no_items : (choice : Option (List Item)) → option_map (λ items. Step items) choice ≡ None → choice ≡ None
 no_items choice none = grind arith
 
-none_drawn : (t : RuleTable) (log : Log) (old new : List Receipt) (told : Option Reply) (event : Option Event) → IsChosenReply t log event old new told → is_some told ≡ false → event ≡ None
+none_drawn : (t : RuleTable) (log : RetainedLog) (old new : List Receipt) (told : Option Reply) (event : Option Event) → IsChosenReply t log event old new told → is_some told ≡ false → event ≡ None
 none_drawn t log old new told event is none = grind arith
 
 -- a clerk with all of these receipts looked at a beginning of what its note then shows
 abbrev looked : (setting : Setting) (Chooses : State → Option Event → Type 0) (old mid own : List Receipt) (new : ClerkView) (told : Option Reply) → mid ≡ old ++ own → TakesChosenEvent setting Chooses mid new told → IsLogBehind (scene_of setting new) (front_of old) own
 looked setting Chooses old mid own new told added chose =
-    let few : front_of mid ≤ length chose.took.log.entries = seen_few (front_of mid) chose.took.log chose.took.free in
+    let few : front_of mid ≤ last_number chose.took.log = seen_few (front_of mid) chose.took.log chose.took.free in
     let front : front_of mid ≡ front_from (front_of old) own = ap front_of added ∙ front_behind 0 old own in
     record { log = chose.took.log; is_own = chose.took.own; begins = chose.begins; behind = omega (arith, few, front) }
 
 -- a daemon that finds nothing finds no node enabled
-pub daemon_rests : (t : RuleTable) (log : Log) (words left : Stream) (old new : List Receipt) (told : Option Reply) → ChoosesOn t log (λ s event. (event, left) ≡ drawn_step t s words) old new told → IsNone told → enabled_names t log.state ≡ []
+pub daemon_rests : (t : RuleTable) (log : RetainedLog) (words left : Stream) (old new : List Receipt) (told : Option Reply) → ChoosesOn t log (λ s event. (event, left) ≡ drawn_step t s words) old new told → IsNone told → enabled_names t log.state ≡ []
 daemon_rests t log words left old new told taken none =
     let names = enabled_names t log.state in
     let nobody : option_map (λ items. Step items) (choice_drawn t.central names words).0 ≡ None =

@@ -21,7 +21,7 @@ use Rattle.seeded_turns.specs.DrawnEvents.{seeded_stream, drawn_step, drawn_faul
 use Rattle.script_text.specs.declared.command.Command.{Command}
 use Rattle.script_text.specs.declared.command.Command.TheVariants.{Tell, Drive, Scramble, Checkpoint}
 use Rattle.locked_net.specs.RetainedParts.{IsPartOfLog}
-use Rattle.locked_net.specs.Receipts.{ClerkView, front_from, front_of, base_from}
+use Rattle.locked_net.specs.Receipts.{ClerkView, front_from, front_of, base_from, base_number}
 use Rattle.locked_net.specs.Settings.{Setting}
 use Rattle.locked_net.specs.Settlements.{Settlement}
 use Rattle.locked_net.specs.RoamResults.{IsLoneStep, TakesTurns}
@@ -84,8 +84,8 @@ abbrev pub AreAbove : Option ℕ → List Receipt → Type 0
 AreAbove base own = All (λ receipt. base_from base < receipt.seq) own
 
 -- The last checkpoint among the lines returned this number, after the receipts of the lines before it and
--- before the receipts of the lines after it. The log then had this many entries: at least those that the
--- clerk had seen, and fewer than the number of each later receipt.
+-- before the receipts of the lines after it. The log's last entry then had this number: at least the greatest
+-- that the clerk had seen, and below the number of each later receipt.
 pub record IsLastCheckpoint (scene : Scene) (lines : List ScriptLine) (receipts : List Receipt) (number : ℕ) : Type 0 where
   pub before : List ScriptLine
   pub line : ScriptLine
@@ -158,6 +158,6 @@ pub record AllTold (scene : Scene) (scripts : List (List ScriptLine)) (roamers t
 -- of the whole log.
 pub record IsStormResult (setting : Setting) (kept : RetainedLog) (scripts : List (List ScriptLine)) (roamers turns : ℕ) (fault : Option CallFault) : Type 0 where
   pub clerks : List ClerkView
-  pub settled : Settlement kept clerks
+  pub settled : Settlement (base_number setting.base) kept clerks
   pub part : IsPartOfLog setting kept
   pub told : AllTold (record { setting = setting; log = part.log.entries }) scripts roamers turns clerks fault

@@ -4,7 +4,7 @@
 -- state of the locked log, and the event is recorded. Between two turns other threads may record anything;
 -- the words go on where the turn before left off. All turns are of one log: each was taken on a beginning of
 -- it, even if there was nothing to do.
-use Rattle.std.specs.Prelude.{◌≡◌, ◌≤◌, ℕ, List, [], ◌∷◌, ◌++◌, length, Option, Some}
+use Rattle.std.specs.Prelude.{◌≡◌, ◌≤◌, ℕ, List, [], ◌∷◌, ◌++◌, Option, Some}
 use Rattle.std.specs.List.{All}
 use mathlib.Core.List.{IsPrefix}
 use Rattle.rand_core.specs.Stream.{Stream}
@@ -16,7 +16,7 @@ use Rattle.rule_machine.specs.RuleTable.{RuleTable, enabled_names}
 use Rattle.rule_machine.specs.Run.{Entry}
 use Rattle.seeded_turns.specs.DrawnEvents.{Draws}
 use Rattle.step_log.specs.declared.receipt.Receipt.{Receipt}
-use Rattle.step_log.specs.Log.{Log, receipt_of}
+use Rattle.step_log.specs.RetainedLogs.{RetainedLog, last_number, next_receipt}
 use Rattle.locked_net.specs.ChosenEvents.{TakesChoice}
 use Rattle.locked_net.specs.Receipts.{ClerkView, front_from, noted}
 use Rattle.locked_net.specs.Settings.{Setting, IsLogIn}
@@ -29,11 +29,11 @@ pub record Scene : Type 0 where
 -- A turn was taken on a beginning of the log. The words draw the turn's event in the state there, the receipt
 -- is that of the next entry, and `left` are the words after those drawn.
 pub record IsTurn (scene : Scene) (draws : Draws) (words : Stream) (receipt : Receipt) (left : Stream) : Type 0 where
-  pub log : Log
+  pub log : RetainedLog
   pub own : IsLogIn scene.setting log
   pub begins : IsPrefix log.entries scene.log
   pub drawn : (Some receipt.event, left) ≡ draws scene.setting.table log.state words
-  pub told : receipt ≡ receipt_of scene.setting.table log receipt.event
+  pub told : receipt ≡ next_receipt scene.setting.table log receipt.event
 
 -- An event, or none, was chosen on a beginning of the log that the clerk's new note shows. A chosen event was
 -- recorded there. This beginning includes all that the clerk had seen.
@@ -64,10 +64,10 @@ DrawnFrom scene draws words P own = All P own × ((left : Stream) × AreTurns sc
 -- A beginning of the log with all that its clerk has seen: the entry with this number, and the entries of the
 -- receipts after that entry.
 pub record IsLogBehind (scene : Scene) (front : ℕ) (own : List Receipt) : Type 0 where
-  pub log : Log
+  pub log : RetainedLog
   pub is_own : IsLogIn scene.setting log
   pub begins : IsPrefix log.entries scene.log
-  pub behind : front_from front own ≤ length log.entries
+  pub behind : front_from front own ≤ last_number log
 
 -- no node is enabled
 abbrev pub IsQuiet : RuleTable → State → Type 0

@@ -4,7 +4,7 @@
 //! the order of the scripts' lines. Then `storm` settles all clerks and writes the one log. The text is that
 //! of a run of the machine: each script's entries are the events of its lines in order, and all other entries
 //! are steps of one node by the workers. Two storms of the same scripts may write different logs; `audit`
-//! accepts each.
+//! accepts each. `resume_storm` plays them on a network that goes on after a run.
 //!
 //! In memory are the scripts, the receipts, and the log since its last base. Threads are started by forks in
 //! two.
@@ -22,6 +22,7 @@ mod fault_line;
 mod forks;
 mod log;
 mod play;
+mod resuming;
 mod run;
 mod stage;
 mod storming;
@@ -31,6 +32,7 @@ mod turns;
 pub use ending::{status, storm_end};
 pub use fault::StormFault;
 pub use log::put_log;
+pub use resuming::resume_storm;
 pub use run::play_scripts;
 pub use stage::WorkerConfig;
 pub use storming::storm;

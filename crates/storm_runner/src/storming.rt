@@ -1,9 +1,11 @@
 //! A storm: scripts read, played at once on one network, settled and written.
 
-ghost use Rattle.std.specs.Prelude.{◌≡◌, ◌≤◌, true, length, map, IfOk, IfErr, IsErrOf};
+ghost use Rattle.std.specs.Prelude.{◌≡◌, ◌≤◌, true, ℕ, List, Option, length, map, IfErr, IfOk, IsErrOf};
+ghost use Rattle.locked_net.specs.Nets.{beginning_of, first_nodes_of, log_limit_of, name_count_of};
 ghost use Rattle.script_run.specs.RunOptions.{asked_of};
+ghost use Rattle.script_text.specs.Readers.{AllHold};
 ghost use Rattle.step_log.specs.JournalViews.{kept_of};
-ghost use Rattle.storm_runner.specs.Outcome.{Leaves, EndsUnder, IsStormOutcome};
+ghost use Rattle.storm_runner.specs.Outcome.{EndsAllScripts, EndsUnder, IsStormOutcome, Leaves, opening_start};
 ghost use Rattle.storm_runner.specs.Parts.{FailsToPlay};
 ghost use Rattle.storm_runner.specs.declared.fault.StormFault.TheVariants.{Write as Unwritten};
 
@@ -28,28 +30,55 @@ fn play<R: Rules + Send + Sync, G: Gate + Sync, T: Threads + Wait + Sync>(
     rt: &T,
     alloc: Global,
     options: &Options,
+    net: LockedNet<R>,
     scripts: &[Script],
     gate: &G,
 ) -> Result<(Journal<R>, Option<CallFault>), StormFault>
-    requires { length scripts.now ≤ 64 }
-    ensures log { IfOk result (λ left. Leaves R.table R.NODE_WEIGHT (asked_of options.now) scripts.now left.1 (kept_of left.0)) }
+    requires few { length scripts.now ≤ 64 }
+    requires nodes { name_count_of net ≡ options.now.nodes }
+    requires present { first_nodes_of net ≡ options.now.present }
+    requires limit { log_limit_of net ≡ options.now.limit }
+    ensures log { IfOk result (λ left. Leaves R.table R.NODE_WEIGHT (record { asked = asked_of options.now; base = beginning_of net }) scripts.now left.1 (kept_of left.0)) }
     ensures fault { IfErr result FailsToPlay }
 {
-    let Ok(net) = LockedNet::<R>::with_present(
-        alloc,
-        rt,
-        options.nodes(),
-        options.present(),
-        options.limit(),
-    ) else {
-        return Err(StormFault::Memory);
-    };
     let crew = WorkerConfig {
         workers: options.workers(),
         roamers: options.roamers(),
         turns: options.turns(),
     };
     Ok(play_scripts(rt, alloc, net, scripts, crew, gate)?)
+}
+
+/// Plays scripts on a network that is as the options say, and writes the settled log.
+pub(crate) fn storm_in<
+    R: Rules + Send + Sync,
+    Out: Write,
+    G: Gate + Sync,
+    T: Threads + Wait + Sync,
+>(
+    rt: &T,
+    alloc: Global,
+    options: &Options,
+    net: LockedNet<R>,
+    scripts: &[Script],
+    writer: &mut FailStopWriter<Out>,
+    gate: &G,
+) -> Result<(), StormFault>
+    requires few { length scripts.now ≤ 64 }
+    requires nodes { name_count_of net ≡ options.now.nodes }
+    requires present { first_nodes_of net ≡ options.now.present }
+    requires limit { log_limit_of net ≡ options.now.limit }
+    ensures outcome { (texts : List (Option (List ℕ))) → AllHold texts scripts.now
+        → EndsAllScripts R.table R.NODE_WEIGHT (record { asked = asked_of options.now; base = beginning_of net }) texts
+        (Out.contents writer.old.writer) (Out.contents writer.new.writer) result }
+    ensures unwritten { IsErrOf result Unwritten → writer.new.failed ≡ true }
+{
+    let (journal, fault) = play(rt, alloc, options, net, scripts, gate)?;
+    write_log(alloc, options, &journal, writer)?;
+    match fault {
+        Some(fault) => Err(StormFault::from(fault)),
+        None => Ok(()),
+    }
 }
 
 fn storm_on<
@@ -66,17 +95,21 @@ fn storm_on<
     writer: &mut FailStopWriter<Out>,
     gate: &G,
 ) -> Result<(), StormFault>
-    ensures outcome { EndsUnder R.table R.NODE_WEIGHT (asked_of options.now) In.remaining readers.items
+    ensures outcome { EndsUnder R.table R.NODE_WEIGHT (opening_start (asked_of options.now)) In.remaining readers.items
         Out.contents writer.old.writer writer.new.writer result }
     ensures unwritten { IsErrOf result Unwritten → writer.new.failed ≡ true }
 {
     let scripts = read_scripts(alloc, readers)?;
-    let (journal, fault) = play::<R, G, T>(rt, alloc, options, &scripts, gate)?;
-    write_log(alloc, options, &journal, writer)?;
-    match fault {
-        Some(fault) => Err(StormFault::from(fault)),
-        None => Ok(()),
-    }
+    let Ok(net) = LockedNet::<R>::with_present(
+        alloc,
+        rt,
+        options.nodes(),
+        options.present(),
+        options.limit(),
+    ) else {
+        return Err(StormFault::Memory);
+    };
+    storm_in(rt, alloc, options, net, &scripts, writer, gate)
 }
 
 /// Plays a script from each reader at once on one new network, and writes the settled log.

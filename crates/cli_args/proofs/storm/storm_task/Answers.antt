@@ -1,26 +1,15 @@
-use Rattle.cli_args.proofs.Prelude.{rules, refl, found_of}
-use Rattle.cli_args.proofs.StormReadings.{no_scripts, scripts_are}
+use Rattle.cli_args.proofs.Prelude.{◌∙◌, sym, codes, found_of, first_value-rows, rows_of}
+use Rattle.cli_args.proofs.StormReadings.{none_fresh, none_resumed}
 use Rattle.cli_args.proofs.storm.storm_task.Goals as goal
 
-pub returns-in_default-clause-read : goal.returns-in_default-clause-read
-returns-in_default-clause-read c s h = c.in_default.ensures s.rules s.nodes s.present s.workers h.run_is
+pub resumed_storm-requires : goal.resumed_storm-requires
+resumed_storm-requires c = sym (first_value-rows (found_of c.args.storm.now) (codes "from")) ∙ sym c.in-Some.ensures
 
-pub returns-in_default-number-clause-read : goal.returns-in_default-number-clause-read
-returns-in_default-number-clause-read c s h = c.in_default-number.ensures s.roamers h.roamers_is
+pub fresh_storm-requires : goal.fresh_storm-requires
+fresh_storm-requires c = sym (first_value-rows (found_of c.args.storm.now) (codes "from")) ∙ sym c.in-None.ensures
 
-pub returns-in_default-turns-clause-read : goal.returns-in_default-turns-clause-read
-returns-in_default-turns-clause-read c s h = c.in_default-turns.ensures s.turns h.turns_is
+pub returns-in-Some-clause-read : goal.returns-in-Some-clause-read
+returns-in-Some-clause-read c = none_resumed (rows_of (found_of c.args.storm.now)) c.in-Some.from.now c.resumed_storm.result (sym (first_value-rows (found_of c.args.storm.now) (codes "from")) ∙ sym c.in-Some.ensures) c.resumed_storm.ensures.read
 
-pub returns-in_default-get_strs-clause-read : goal.returns-in_default-get_strs-clause-read
-returns-in_default-get_strs-clause-read c s h = no_scripts (found_of c.args.storm.now) s c.in_default-get_strs.ensures h
-
-pub returns-clause-read : goal.returns-clause-read
-returns-clause-read c = (
-  refl,
-  record {
-    run_is = c.in-Some.ensures;
-    roamers_is = c.in-Some-number.ensures;
-    turns_is = c.in-Some-turns.ensures;
-    scripts_is = scripts_are (found_of c.args.storm.now) c.in-Some-get_strs.given.now c.extend_from_slice.new.self.items c.in-Some-get_strs.ensures (search rules);
-  },
-)
+pub returns-in-None-clause-read : goal.returns-in-None-clause-read
+returns-in-None-clause-read c = none_fresh (rows_of (found_of c.args.storm.now)) c.fresh_storm.result (sym (first_value-rows (found_of c.args.storm.now) (codes "from")) ∙ sym c.in-None.ensures) c.fresh_storm.ensures.read

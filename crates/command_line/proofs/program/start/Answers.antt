@@ -16,6 +16,11 @@ returns-in-Ok-Resume-clause-device g c three =
     let words = map g.S.AsStr.text c.args.words.now in
     inr (inl (c.in-Ok-Resume.from, c.in-Ok-Resume.workers, subst (λ (t : Task). ParsesTo words t) c.in-Ok-Resume.field-0-is c.in-Ok-Resume.ensures.answers))
 
+pub returns-in-Ok-ResumeStorm-clause-device : goal.returns-in-Ok-ResumeStorm-clause-device
+returns-in-Ok-ResumeStorm-clause-device g c three =
+    let words = map g.S.AsStr.text c.args.words.now in
+    inr (inr (inl (c.in-Ok-ResumeStorm.asked, subst (λ (t : Task). ParsesTo words t) c.in-Ok-ResumeStorm.field-0-is c.in-Ok-ResumeStorm.ensures.answers)))
+
 pub returns-in-Ok-Show-clause-does : goal.returns-in-Ok-Show-clause-does
 returns-in-Ok-Show-clause-does g c =
     let words = map g.S.AsStr.text c.args.words.now in

@@ -1,0 +1,8 @@
+use Rattle.script_run.specs.Restarts.{restart_of}
+use Rattle.std.proofs.Common.{length}
+use Rattle.command_line.proofs.Storms.{unopened_from}
+use Rattle.command_line.proofs.playing_on.play_files_from.Goals as goal
+
+pub returns-in-Err : goal.returns-in-Err
+returns-in-Err g c =
+    unopened_from (restart_of c.args.restart) (length c.args.names.now) (g.Out.Write.contents c.args.writer.now.writer) c.in-Err.fault c.in-Err.ensures.fault

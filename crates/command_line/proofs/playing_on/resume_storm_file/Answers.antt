@@ -1,0 +1,18 @@
+use Rattle.std.proofs.Common.{◌≡◌, Bor, List, length, map, ℕ}
+use Rattle.std.proofs.lemmas.List.{length-map}
+use Rattle.cli_args.specs.TaskWords.{resumed_storm_of}
+use Rattle.script_run.specs.Restarts.{restart_of}
+use Rattle.command_line.specs.WriterStates.{heard}
+use Rattle.command_line.proofs.ResumedRuns.{stormed_on}
+use Rattle.command_line.proofs.playing_on.resume_storm_file.Goals as goal
+
+pub returns-in-Ok-clause-resumed : goal.returns-in-Ok-clause-resumed
+returns-in-Ok-clause-resumed g c =
+    let out = g.Out.Write.contents in
+    let faults = g.Faults.Write.contents in
+    let names = length-map c.args.asked.scripts.items (λ (s : Bor (List ℕ)). s.now) in
+    let same = c.deref.ensures.value in
+    let count : length c.deref.result.now ≡ length (map (λ (s : Bor (List ℕ)). s.now) c.args.asked.scripts.items) = cc in
+    stormed_on c.in-Ok.end (resumed_storm_of c.args.asked) (restart_of c.storm_restart-restart.result) (length c.deref.result.now)
+    (out c.args.writer.now.writer) (out c.play_files_from-ended.new.writer.writer) (faults c.args.faults.now.writer) (heard faults c.storm_end.new.faults) c.play_files_from-ended.result c.storm_end.result
+    c.in-Ok.ensures c.storm_restart-restart.ensures count c.play_files_from-ended.ensures c.storm_end.ensures.told c.storm_end.ensures.whole c.storm_end.ensures.status

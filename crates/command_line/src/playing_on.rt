@@ -1,0 +1,78 @@
+//! Playing the scripts of several files at once, from where the run of a file ended.
+
+ghost use Rattle.std.specs.Prelude.{◌≡◌, length};
+ghost use Rattle.auditor.specs.TranscriptEnds.{MayGoOn};
+ghost use Rattle.cli_args.specs.TaskWords.{resumed_storm_of};
+ghost use Rattle.command_line.specs.ResumeEnds.{ResumesStorm, storm_from};
+ghost use Rattle.command_line.specs.Status.{IsStatus};
+ghost use Rattle.command_line.specs.StormEnds.{EndsStormFrom};
+ghost use Rattle.command_line.specs.WriterStates.{heard};
+ghost use Rattle.script_run.specs.Restarts.{restart_of};
+
+use crate::playing::open_all;
+use crate::resuming::{end_of_file, refuse_file, restart_at};
+use auditor::TranscriptEnd;
+use byte_streams::FailStopWriter;
+use cli_args::ResumeStormWords;
+use script_run::Restart;
+use std::alloc::Global;
+use std::io::Write;
+use std::rt::Files;
+use std::sync::Wait;
+use std::thread::Threads;
+use steal_pool::NoGate;
+use storm_runner::{StormFault, resume_storm, storm_end};
+
+fn play_files_from<Out: Write, T: Threads + Wait + Sync + Files>(
+    rt: &T,
+    alloc: Global,
+    restart: Restart,
+    names: &[&str],
+    writer: &mut FailStopWriter<Out>,
+) -> Result<(), StormFault>
+    ensures { EndsStormFrom (restart_of restart) (length names.now) (Out.contents writer.old.writer) (Out.contents writer.new.writer) result }
+{
+    match open_all(rt, alloc, names) {
+        Ok(files) => resume_storm(rt, alloc, restart, files, writer, &NoGate),
+        Err(fault) => Err(fault),
+    }
+}
+
+fn storm_restart(end: TranscriptEnd, asked: &ResumeStormWords<'_>) -> Restart
+    requires { MayGoOn end }
+    ensures { restart_of result ≡ storm_from end (resumed_storm_of asked.now) }
+{
+    restart_at(end, asked.workers).with_roam(u32::from(asked.roamers), asked.turns)
+}
+
+/// Plays a storm from where the run of a file ended, and returns the exit status.
+///
+/// The file is a transcript or a base alone. It is audited before the scripts are opened.
+///
+/// | Status | When |
+/// |---|---|
+/// | 0 | every script was run |
+/// | 1 | the file is refused; `faults` has its name and the audit's verdict. Or a settle is refused |
+/// | 2 | a line is not a command, or there are too many scripts |
+/// | 3 | the file or a script could not be opened, or a read or a write failed |
+/// | 4 | memory ran out, the log is full, or a clerk is behind |
+pub fn resume_storm_file<Out: Write, Faults: Write, T: Threads + Wait + Sync + Files>(
+    rt: &T,
+    alloc: Global,
+    asked: ResumeStormWords<'_>,
+    writer: &mut FailStopWriter<Out>,
+    faults: &mut FailStopWriter<Faults>,
+) -> u8
+    ensures resumed { ResumesStorm (resumed_storm_of asked.entry) (Out.contents writer.old.writer) (Out.contents writer.new.writer)
+        (Faults.contents faults.old.writer) (heard Faults.contents faults.new) result }
+    ensures status { IsStatus result }
+{
+    match end_of_file(rt, alloc, asked.from) {
+        Ok(end) => {
+            let restart = storm_restart(end, &asked);
+            let ended = play_files_from(rt, alloc, restart, &asked.scripts, writer);
+            storm_end(ended, faults)
+        }
+        Err(fault) => refuse_file(alloc, asked.from, fault, faults),
+    }
+}
