@@ -27,6 +27,7 @@ BUTTONS = [
         "do-leave",
         "do-cut",
         "refusal-close",
+        "refusal-rest",
     ),
 ]
 FIELDS: dict[str, list[str]] = {
@@ -52,6 +53,9 @@ TEXTS = [
     "<graphml>",
     "matching hh 3\n1 link 1 2 = ok\n2 step 1 = 1:seduce>2\n3 step 2 = 2:marry>1\n4 unlink 1 2 = ok\n",
     "matching hh 3\n1 link 1 2 = no\n",
+    "matching hh 3\n1 link 1 2 = ok\n2 link 2 3 =",
+    "matching2 manne 4\nbase 9 spent=1 nodes=3 edges=1\nnode 1 2 0\nnode 2 1 0\nnode 4 - 0\nedge 1 2\n",
+    "matching2 hh 2\nbase 16777214 spent=0 nodes=2 edges=0\nnode 1 - 0\nnode 2 - 0\n",
     "",
 ]
 ADDRESSES = [
@@ -100,10 +104,11 @@ class Acts:
             time.sleep(0.05)
 
     def one(self) -> None:
-        """From a played transcript it sometimes goes back."""
+        """From a played transcript it sometimes goes back, or goes on where that ends."""
         if self.browser.ask("count", "body.lab") == 0 and self.draw.random() < 0.3:
-            self.browser.ask("press", "#to-lab")
-            self.done.append("back to the playground")
+            button = self.draw.choice(["#to-lab", "#go-on"])
+            self.browser.ask("press", button)
+            self.done.append(f"from a transcript by {button}")
             return
         way = self.draw.choices(self.ways, self.weights)[0]
         self.done.append(way())

@@ -13,6 +13,7 @@ from typing import Callable, Iterator, Optional, Union
 
 from browser import Browser, BrowserFault, PageFault, browser_path
 from firefox import Firefox, firefox_path
+import page_resume
 from page_hands import waited
 from page_lab import PLAYGROUND
 from page_runs import Pages
@@ -104,6 +105,9 @@ def plays(pages: Pages, browser: AnyBrowser, name: str, width: Optional[int]) ->
     pages.expect(f"{name}: what the page fetches", browser.ask("fetched"), [])
     if not isinstance(browser, Firefox):
         pages.expect(f"{name}: all requests", browser.fetched, [f"file://{PLAYGROUND}"])
+    page_resume.in_engine(pages, browser, name, width)
+    pages.expect(f"{name}: what going on complains of", browser.complaints, [])
+    pages.expect(f"{name}: what going on fetches", browser.ask("fetched"), [])
 
 
 def imports(pages: Pages, browser: AnyBrowser, name: str, address: str) -> None:

@@ -35,6 +35,7 @@ const probes = (() => {
   return {
     // single things
     text: (selector) => one(selector)?.textContent ?? null,
+    textStart: (selector, length) => one(selector).textContent.slice(0, length),
     texts: (...selectors) => selectors.map((selector) => one(selector).textContent),
     value: (selector) => one(selector).value,
     setValue: (selector, value) => void (one(selector).value = value),
@@ -44,6 +45,7 @@ const probes = (() => {
       isShown(one(selector)) && one(selector).getClientRects().length > 0 && !one(selector).disabled,
     focus: (selector) => one(selector).focus(),
     blur: () => document.activeElement.blur(),
+    active: () => document.activeElement.id,
     isHidden: (selector) => one(selector).hidden,
     isDisabled: (selector) => one(selector).disabled,
     style: (selector, name) => getComputedStyle(one(selector)).getPropertyValue(name),
@@ -220,6 +222,7 @@ const probes = (() => {
       return text;
     },
 
+    lastEntry: () => probes.transcript().trimEnd().split("\n").at(-1),
     isStable: () => all(".state").every((state) => state.textContent.includes("stable")),
     isRunning: () => one("#run").getAttribute("aria-pressed") === "true",
     /**
@@ -331,6 +334,14 @@ const probes = (() => {
       data.setData("text/plain", text);
       document.activeElement.dispatchEvent(
         new ClipboardEvent("paste", { clipboardData: data, bubbles: true, cancelable: true }));
+    },
+
+    /** Chooses a file with this text. */
+    openFile: (name, text) => {
+      const data = new DataTransfer();
+      data.items.add(new File([text], name));
+      one("#open").files = data.files;
+      one("#open").dispatchEvent(new Event("change", { bubbles: true }));
     },
 
     /** Whether the page asks before it is left, as if this many milliseconds had passed. */

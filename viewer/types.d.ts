@@ -62,12 +62,24 @@ interface Network {
   places?: Link[];
 }
 
+/** The end of a transcript, where a network goes on. */
+interface Start {
+  /** The base there. */
+  base: string;
+  /** How many entries come before. */
+  entries: number;
+  /** The transcript's file, or an empty name. */
+  file: string;
+}
+
 /** A network with the scripts that one or two labs play in it. */
 interface Plan extends Network {
   names: number;
   present: number;
+  /** Where it goes on; null if it begins at the opening state. */
+  start?: Start | null;
   labs: { rules: RuleName; lines: string[] }[];
-  /** The places of nodes, if hands have moved them. */
+  /** The places of nodes, if they are known. */
   layout?: Layout;
 }
 
@@ -96,6 +108,8 @@ interface Size {
 interface Wrong {
   said: string;
   line: string;
+  /** The transcript that remains without a cut end, if there is one. */
+  rest?: string | null;
 }
 
 /** A node or an edge in words. */

@@ -1,5 +1,7 @@
 // Plays the transcript in the page; without one, offers the playground. The engine judges a transcript, plays
 // a script or links a graph that is opened, dropped or pasted.
+import {beforeCut} from "./cut.mjs";
+import {counted} from "./numbers.mjs";
 import {useNames} from "./own_names.mjs";
 import {Playing} from "./playing.mjs";
 import {forget, keep, kept} from "./playground/keeping.mjs";
@@ -36,21 +38,37 @@ async function load(text) {
 }
 
 /**
- * The audit's verdict on a transcript: a line as the program writes it, whether it accepts, and the first
- * wrong line, else 0.
+ * The audit's verdict on a transcript, a line as the program writes it; and the damage, or null if it
+ * accepts.
  * @param {Engine} engine
  * @param {Uint8Array} bytes
  */
 function verdictOf(engine, bytes) {
   try {
     const { entries, epochs, moves } = summaryOf(engine, bytes);
-    return { said: `accepted: ${entries} entries, ${epochs} epochs, ${moves} moves`, accepted: true, line: 0 };
+    return { said: `accepted: ${entries} entries, ${epochs} epochs, ${moves} moves`, wrong: null };
   } catch (wrong) {
     if (!(wrong instanceof Damaged)) {
       throw wrong;
     }
-    return { said: wrong.message, accepted: false, line: wrong.line };
+    return { said: wrong.message, wrong };
   }
+}
+
+/**
+ * Why a transcript is refused, in the audit's words, and what remains of it if its end is cut.
+ * @param {Engine} engine
+ * @param {string} text
+ * @param {Damaged} damage
+ * @returns {Wrong}
+ */
+function refusalOf(engine, text, { message, line }) {
+  const rest = beforeCut(text, line, (part) => verdictOf(engine, new TextEncoder().encode(part)).wrong === null);
+  return {
+    said: `The transcript is refused: ${message}${rest === null ? "" : ". Its end is cut."}`,
+    line: text.split("\n")[line - 1] || "(there is no such line, or it is empty)",
+    rest
+  };
 }
 
 class Page {
@@ -63,16 +81,22 @@ class Page {
      * @type {string | null}
      */
     this.opened = null;
+    /** Its file, or an empty name. */
+    this.file = "";
+    /** What remains of the refused transcript, or nothing. */
+    this.rest = "";
     /** @type {Promise<Engine | null> | undefined} */
     this.loaded = undefined;
     this.runs = dataOf("engine") !== null && canRun();
-    byId("to-lab").hidden = !this.runs;
+    this.showWays();
     byId("to-lab").addEventListener("click", () => this.openLab(null));
+    byId("go-on").addEventListener("click", () => this.goOn());
     /** @type {string | null} */
     this.embedded = dataOf("transcript");
     byId("to-transcript").hidden = this.embedded === null;
     byId("to-transcript").addEventListener("click", () => this.play(this.embedded, dataOf("judge")));
     byId("refusal-close").addEventListener("click", () => this.refuse(null));
+    byId("refusal-rest").addEventListener("click", () => this.judge(new TextEncoder().encode(this.rest), ""));
     listenToFiles((data, name) => this.open(data, name), (wrong) => this.refuse(wrong));
     addEventListener("pagehide", () => this.keep());
   }
@@ -81,7 +105,7 @@ class Page {
     const before = kept();
     if (before?.view === "player" && before.transcript !== null) {
       this.keptLab = before.lab;
-      await this.judge(new TextEncoder().encode(before.transcript));
+      await this.judge(new TextEncoder().encode(before.transcript), before.file ?? "");
     } else if (this.embedded !== null && before?.view !== "lab") {
       this.play(this.embedded, dataOf("judge"));
     } else {
@@ -94,8 +118,14 @@ class Page {
     this.loaded ??= this.runs ? load(dataOf("engine")) : Promise.resolve(null);
     const engine = await this.loaded;
     this.runs = engine !== null;
-    byId("to-lab").hidden = !this.runs;
+    this.showWays();
     return engine;
+  }
+
+  /** Both need the engine, and a network to go on from needs a transcript. */
+  showWays() {
+    byId("to-lab").hidden = !this.runs;
+    byId("go-on").hidden = !this.runs || this.playing.shown === null;
   }
 
   playRecorded() {
@@ -121,6 +151,7 @@ class Page {
     // the names in the page are those of the transcript in it
     useNames(text === this.embedded ? dataOf("names") : null);
     this.playing.begin(text, judge);
+    this.showWays();
   }
 
   /** @param {import("./playground/keeping.mjs").KeptLab | null} state kept before a reload, or null */
@@ -141,7 +172,6 @@ class Page {
     }
     this.playing.end();
     this.opened = null;
-    useNames(null);
     document.body.classList.remove("hh", "manne", "broken", "undrawn");
     document.body.classList.add("lab");
     nameWindow("Break a network by hand");
@@ -152,7 +182,8 @@ class Page {
   /** @param {Engine} engine */
   labPage(engine) {
     const lab =
-      new LabPage(engine, (text) => this.judge(new TextEncoder().encode(text)), (wrong) => this.refuse(wrong));
+      new LabPage(engine, (text) => this.judge(new TextEncoder().encode(text), ""), (wrong) => this.refuse(wrong));
+    lab.names = dataOf("names");
     lab.play.hasChanged = () => this.keepSoon();
     return lab;
   }
@@ -170,7 +201,7 @@ class Page {
     const isLab = document.body.classList.contains("lab");
     const state = this.lab?.play.labs.length > 0 ? this.lab.state : this.keptLab ?? null;
     if (isLab || this.opened !== null) {
-      keep(isLab ? "lab" : "player", state, this.opened);
+      keep(isLab ? "lab" : "player", state, this.opened, this.file);
     } else {
       forget();
     }
@@ -184,7 +215,7 @@ class Page {
     const text = new TextDecoder().decode(bytes);
     const kind = kindOf(text, name);
     if (kind === "transcript") {
-      await this.judge(bytes);
+      await this.judge(bytes, name);
     } else if (kind === "nothing" || kind === "GraphML") {
       const said = kind === "nothing" ?
         "There is nothing in it." :
@@ -211,24 +242,49 @@ class Page {
   }
 
   /**
+   * Makes the network at the end of the played transcript the one that hands change. What is wrong with a
+   * transcript that no engine has judged is shown as the audit's verdict.
+   */
+  async goOn() {
+    const engine = await this.engine();
+    if (engine === null) {
+      this.refuse({ said: WITHOUT, line: "" });
+      return;
+    }
+    if (this.playing.shown === null) {
+      return;
+    }
+    const { text, layout } = this.playing.shown;
+    const named = text === this.embedded && dataOf("names") !== null;
+    const file = this.opened === null ? "" : this.file;
+    this.lab ??= this.labPage(engine);
+    try {
+      this.lab.goOn({ text, file, layout, named }, () => this.showLab(null));
+    } catch (wrong) {
+      if (!(wrong instanceof Damaged)) {
+        throw wrong;
+      }
+      this.refuse(refusalOf(engine, text, wrong));
+    }
+  }
+
+  /**
    * Judges a transcript by the engine, and plays it if it is accepted.
    * @param {Uint8Array} bytes
+   * @param {string} file its name, or empty
    */
-  async judge(bytes) {
+  async judge(bytes, file) {
     const text = new TextDecoder().decode(bytes);
     const engine = await this.engine();
     if (engine === null) {
-      this.opened = text;
+      [this.opened, this.file] = [text, file];
       this.play(text, { verdict: null });
       return;
     }
-    const { said, accepted, line } = verdictOf(engine, bytes);
-    this.refuse(accepted ? null : {
-      said: `The transcript is refused: ${said}`,
-      line: text.split("\n")[line - 1] || "(there is no such line, or it is empty)"
-    });
-    if (accepted) {
-      this.opened = text;
+    const { said, wrong } = verdictOf(engine, bytes);
+    this.refuse(wrong && refusalOf(engine, text, wrong));
+    if (wrong === null) {
+      [this.opened, this.file] = [text, file];
       this.play(text, { here: true, verdict: said });
     } else if (!this.playing.isOn && !document.body.classList.contains("lab")) {
       await this.openLab(null);
@@ -240,6 +296,9 @@ class Page {
     byId("refusal").hidden = wrong === null;
     byId("refusal-said").textContent = wrong?.said ?? "";
     byId("refusal-line").textContent = (wrong?.line ?? "").slice(0, LONGEST_SHOWN);
+    this.rest = wrong?.rest ?? "";
+    byId("refusal-rest").hidden = this.rest === "";
+    byId("refusal-rest").textContent = `open the ${counted(this.rest.split("\n").length - 1, "line")} before it`;
     if (wrong) {
       byId("refusal").scrollIntoView({ block: "nearest" });
     }

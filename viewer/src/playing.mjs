@@ -110,7 +110,7 @@ function pictureOf({ transcript }, number) {
 }
 
 /**
- * Plays a replay until `signal` ends it. Returns the player.
+ * Plays a replay until `signal` ends it. Returns the places of the drawn nodes.
  * @param {import("./replay.mjs").Replay} replay
  * @param {AbortSignal} signal
  */
@@ -142,6 +142,7 @@ function play(replay, signal) {
   player.goTo(address.entry ?? replay.opening);
   player.moved = (/** @type {number} */ number) => address.show(number);
   signal.addEventListener("abort", () => player.pause());
+  return stage?.layout ?? null;
 }
 
 
@@ -163,13 +164,18 @@ function show(text, judge, signal) {
   document.body.classList.add(rules);
   showTitle(replay.transcript);
   showJudge(judge, replay.verdict);
-  play(replay, signal);
+  return { text, layout: play(replay, signal) };
 }
 
 export class Playing {
   constructor() {
     this.fresh = PARTS.map((id) => /** @type {Element} */ (byId(id).cloneNode(true)));
     this.ended = null;
+    /**
+     * The transcript that is played, or null; with the places of its nodes, or null if they are not drawn.
+     * @type {{ text: string, layout: Layout | null } | null}
+     */
+    this.shown = null;
   }
 
   /**
@@ -181,8 +187,9 @@ export class Playing {
     this.ended = new AbortController();
     document.body.classList.remove("hh", "manne", "broken", "undrawn");
     this.fresh.forEach((part) => byId(part.id).replaceWith(part.cloneNode(true)));
+    this.shown = null;
     try {
-      show(text, judge, this.ended.signal);
+      this.shown = show(text, judge, this.ended.signal);
     } catch (wrong) {
       if (!(wrong instanceof TranscriptFault)) {
         byId("title").textContent = `This page fails: ${wrong.message}`;
@@ -199,5 +206,6 @@ export class Playing {
 
   end() {
     this.ended?.abort();
+    this.shown = null;
   }
 }

@@ -9,7 +9,7 @@ const VERSION = 1;
  */
 /**
  * @typedef {{ version: number, hash: string, view: string, lab: KeptLab | null,
- * transcript: string | null }} Kept
+ * transcript: string | null, file?: string }} Kept
  */
 
 function key() {
@@ -26,10 +26,12 @@ function holdsScript(hash) {
  * @param {string} view "lab" or "player"
  * @param {KeptLab | null} lab
  * @param {string | null} transcript
+ * @param {string} file that of the transcript
  */
-export function keep(view, lab, transcript) {
+export function keep(view, lab, transcript, file) {
   try {
-    sessionStorage.setItem(key(), JSON.stringify({ version: VERSION, hash: location.hash, view, lab, transcript }));
+    sessionStorage.setItem(
+      key(), JSON.stringify({ version: VERSION, hash: location.hash, view, lab, transcript, file }));
     return true;
   } catch {
     // an older state would be worse than none

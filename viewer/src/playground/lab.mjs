@@ -1,7 +1,8 @@
 // A network of the playground: its script, the engine's transcript of it, and the state that follows from it.
 import {grouped} from "../numbers.mjs";
-import {BAD_LINE, Session} from "../rudekpi/engine.mjs";
+import {BAD_LINE, LOG_FULL, Session} from "../rudekpi/engine.mjs";
 import {EngineFault} from "../rudekpi/errors.mjs";
+import {resumed} from "../rudekpi/resumption.mjs";
 import {reachOf} from "./halo.mjs";
 import {Seen} from "./seen.mjs";
 
@@ -11,7 +12,17 @@ import {Seen} from "./seen.mjs";
 // meanwhile.
 export const MOST_FAULTS = 100_000;
 export const MOST_TEXT = 1 << 24;
+/** The most entries of a run, those before a base included. */
+export const MOST_ENTRIES = 1 << 24;
 const LONGEST_SHOWN = 60;
+
+/**
+ * A word of a command line for a shell.
+ * @param {string} name
+ */
+function quoted(name) {
+  return /^[\w.][\w.-]*$/.test(name) ? name : `'${name.replace(/^-/, "./-").replaceAll("'", "'\\''")}'`;
+}
 
 /** A line that was not carried out. `line` is its number from 1, `text` the line. */
 export class BadLine extends Error {
@@ -31,13 +42,14 @@ export class BadLine extends Error {
 export class Lab {
   /**
    * @param {Engine} engine
-   * @param {{ rules: RuleName, names: number, present: number }} network
+   * @param {{ rules: RuleName, names: number, present: number, start?: Start | null }} network
    */
-  constructor(engine, { rules, names, present }) {
+  constructor(engine, { rules, names, present, start = null }) {
     this.engine = engine;
     this.rules = rules;
     this.names = names;
     this.present = present;
+    this.start = start;
     /** Whether a line was fed since the state was last read. */
     this.fed = false;
     /**
@@ -49,9 +61,13 @@ export class Lab {
   }
 
   begin() {
-    const { engine, rules, names, present } = this;
-    this.session = new Session(engine, rules, names, present);
+    const { engine, rules, names, present, start } = this;
+    this.session =
+      start ? resumed(engine, new TextEncoder().encode(start.base)) : new Session(engine, rules, names, present);
     this.seen = new Seen(rules, names, present);
+    if (start) {
+      this.seen.begin(start.base);
+    }
     /** @type {string[]} */
     this.lines = [];
     this.parts = [this.session.read()];
@@ -71,7 +87,7 @@ export class Lab {
     try {
       this.session.feed(line);
     } catch (wrong) {
-      throw wrong instanceof EngineFault && wrong.status === BAD_LINE ? this.bad(line, "is no command") : wrong;
+      throw this.faultOf(line, wrong);
     }
     this.lines.push(line);
     const text = this.session.read();
@@ -79,6 +95,26 @@ export class Lab {
     this.size += text.length;
     this.parts.push(text);
     return text;
+  }
+
+  /**
+   * @param {string} line
+   * @param {Error} wrong
+   */
+  faultOf(line, wrong) {
+    const status = wrong instanceof EngineFault ? wrong.status : 0;
+    if (status === BAD_LINE) {
+      return this.bad(line, "is no command");
+    }
+    if (status !== LOG_FULL) {
+      return wrong;
+    }
+    const fault = this.bad(line, `needs more than the ${grouped(MOST_ENTRIES)} entries that a run has at most`);
+    if (this.session.read() !== "") {
+      // first turns of a drive or a scramble were carried out
+      this.replay(this.lines);
+    }
+    return fault;
   }
 
   /** @param {string} line */
@@ -117,7 +153,7 @@ export class Lab {
   }
 
   /**
-   * Plays other lines from the start. If one is bad, those before it stay.
+   * Plays other lines from where the network began. If one is bad, those before it stay.
    * @param {string[]} lines
    */
   replay(lines) {
@@ -148,14 +184,33 @@ export class Lab {
 
   /** The command-line words that make the same transcript from the script. */
   get words() {
-    const { rules, names, present } = this;
-    return `run --rules ${rules} --nodes ${names}${present === names ? "" : ` --present ${present}`}`;
+    const { rules, names, present, before } = this;
+    return before ? `run --from ${before}` :
+                    `run --rules ${rules} --nodes ${names}${present === names ? "" : ` --present ${present}`}`;
   }
 
-  /** Of a saved script or transcript; a script's includes its network. */
+  /** In a command line, the file of the transcript that the network goes on from; else nothing. */
+  get before() {
+    return this.start && (this.start.file === "" ? "TRANSCRIPT" : quoted(this.start.file));
+  }
+
+  /**
+   * The command that makes the script's transcript, or judges the transcript and what comes before it.
+   * @param {"script" | "transcript"} kind
+   */
+  commandOf(kind) {
+    const [file, { before }] = [`${this.fileName}.${kind}`, this];
+    if (kind === "script") {
+      return `./console ${this.words} < ${file}`;
+    }
+    return before ? `cat ${before} ${file} | ./console audit` : `./console audit < ${file}`;
+  }
+
+  /** Of a saved script or transcript; a script's includes its network, or after which entry it goes on. */
   get fileName() {
-    const { rules, names, present } = this;
-    return `matching-${rules}-${names}${present === names ? "" : `-${present}`}`;
+    const { rules, names, present, start } = this;
+    const size = present === names ? "" : `-${present}`;
+    return `matching-${rules}-${names}${start ? `-after-${start.entries}` : size}`;
   }
 
   free() {

@@ -2,12 +2,14 @@
 // one.
 import {LAB_KEYS, listen} from "../keys.mjs";
 import {counted} from "../numbers.mjs";
+import {useNames} from "../own_names.mjs";
 import {listenToSaving} from "../picture.mjs";
+import {Damaged} from "../rudekpi/errors.mjs";
 import {byId, field} from "../svg.mjs";
 import {Playground} from "./playground.mjs";
 import {MOST_NODES, PRESETS, presetOf} from "./presets.mjs";
 import {readAddress} from "./sharing.mjs";
-import {isTold, SPARE, sourceOf, tryOut} from "./sources.mjs";
+import {isTold, SPARE, sourceOf, sourceOfEnd, tryOut} from "./sources.mjs";
 import {TOOLS} from "./tools.mjs";
 
 const NEARER = 1.4;
@@ -34,6 +36,11 @@ export class LabPage {
     this.play = new Playground(engine, judge);
     this.engine = engine;
     this.refuse = refuse;
+    /**
+     * The own names of the page's transcript, or null.
+     * @type {string[][] | null}
+     */
+    this.names = null;
     /**
      * The source opened in place of a preset, or null.
      * @type {Source | null}
@@ -136,6 +143,7 @@ export class LabPage {
    */
   enter(kept) {
     this.ended = new AbortController();
+    this.nameNodes();
     listen(this.actions, LAB_KEYS, this.ended.signal);
     addEventListener("hashchange", () => this.openAddress(), { signal: this.ended.signal });
     if (this.play.labs.length === 0) {
@@ -175,11 +183,17 @@ export class LabPage {
     const network = presetOf(field("preset").value, nodes, Number(field("seed").value));
     const lines = network.links.map(([v, w]) => `link ${v} ${w}`);
     this.source = null;
+    this.nameNodes();
     this.play.open(
       {...network, names: nodes + SPARE, present: nodes, labs: this.rules.map((rules) => ({ rules, lines })) });
     this.showChoice(nodes);
     this.sayChoice(wanted === nodes ? "" : `A network to begin with has 2 to ${MOST_NODES} nodes: here are ${nodes}.`);
     this.play.daemon.run(!isCalm());
+  }
+
+  /** The own names are those of the transcript that the network goes on from. */
+  nameNodes(source = this.source) {
+    useNames(source?.named ? this.names : null);
   }
 
   /** @param {number} nodes */
@@ -192,6 +206,8 @@ export class LabPage {
     }
     field("size").value = String(nodes);
     field("size").disabled = field("seed").disabled = source !== null;
+    field("rules").disabled = Boolean(source?.start);
+    byId("choice-rules").textContent = source?.start ? "It goes on by the rules of its transcript." : "";
     field("rules").value = this.play.labs.length > 1 ? "both" : this.play.lab.rules;
   }
 
@@ -205,10 +221,16 @@ export class LabPage {
    * Opens a script or a graph under some rules. Throws `BadLine` and changes nothing if a line is bad.
    * @param {Source} source
    * @param {RuleName[]} rules
+   * @param {Layout} [layout] the places of its nodes, if they are known
    */
-  openSource(source, rules) {
-    this.play.open({...source, labs: rules.map((name) => ({ rules: name, lines: source.lines })) });
-    this.source = source;
+  openSource(source, rules, layout) {
+    this.nameNodes(source);
+    try {
+      this.play.open({...source, layout, labs: rules.map((name) => ({ rules: name, lines: source.lines })) });
+      this.source = source;
+    } finally {
+      this.nameNodes();
+    }
     this.showChoice(source.present);
     this.sayChoice("");
     this.play.daemon.run(false);
@@ -236,6 +258,30 @@ export class LabPage {
       }
       this.refuse(
         { said: `The ${kind} ${name === "" ? "" : `${name} `}is refused: ${wrong.message}.`, line: wrong.text ?? "" });
+    }
+  }
+
+  /**
+   * Goes on where a transcript ends. If the page can't, shows why and changes nothing. Throws `Damaged` if it
+   * is no transcript.
+   * @param {import("./sources.mjs").Played} played
+   * @param {() => void} enter shows the playground, once the network is known
+   */
+  goOn(played, enter) {
+    try {
+      const opened = sourceOfEnd(this.engine, played);
+      enter();
+      const { layout } = played;
+      const own = layout && {...layout, x: layout.x.slice(), y: layout.y.slice() };
+      this.openSource(opened.source, opened.rules, own ?? undefined);
+      this.refuse(null);
+      this.play.story.say(opened.said);
+      this.play.panes[0].svg.focus({ preventScroll: true });
+    } catch (wrong) {
+      if (!isTold(wrong) || wrong instanceof Damaged) {
+        throw wrong;
+      }
+      this.refuse({ said: `The page can't go on from this transcript: ${wrong.message}.`, line: wrong.text ?? "" });
     }
   }
 
@@ -283,6 +329,7 @@ export class LabPage {
       const { plan, places } = kept;
       const layout = {...places, x: Float64Array.from(places.x), y: Float64Array.from(places.y) };
       this.source = kept.source;
+      this.nameNodes();
       this.play.open({...plan, layout });
       this.play.placeless = new Set(kept.placeless);
       this.play.daemon.seed = kept.daemonSeed;
@@ -297,6 +344,7 @@ export class LabPage {
     } catch {
       // no message for a state that another version of the page kept
       this.source = null;
+      this.nameNodes();
       return false;
     }
   }

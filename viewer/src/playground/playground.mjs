@@ -107,12 +107,12 @@ export class Playground {
    * @param {Plan} plan
    */
   open(plan) {
-    const { names, present } = plan;
+    const { names, present, start } = plan;
     /** @type {Lab[]} */
     const labs = [];
     try {
       for (const { rules, lines } of plan.labs) {
-        labs.push(new Lab(this.engine, { rules, names, present }));
+        labs.push(new Lab(this.engine, { rules, names, present, start }));
         lastOf(labs).replay(lines);
       }
     } catch (wrong) {
@@ -128,7 +128,7 @@ export class Playground {
     this.changed = null;
     this.intended = () => [];
     this.layout = plan.layout ?? placesOf({...plan, links: plan.links ?? labs[0].linksEver }, names);
-    // names without a given place
+    // names without a given place; each has one in a layout
     this.placeless =
       new Set(plan.layout ? [] : Array.from({ length: names - plan.nodes }, (_, at) => plan.nodes + 1 + at));
     byId("panes").classList.toggle("two", labs.length > 1);
@@ -148,10 +148,11 @@ export class Playground {
    * @returns {Plan}
    */
   get plan() {
-    const { names, present } = this.lab;
+    const { names, present, start } = this.lab;
     return {
       names,
       present,
+      start,
       nodes: names,
       labs: this.labs.map(({ rules, lines }) => ({ rules, lines: lines.slice() })),
       layout: this.layout

@@ -6,6 +6,7 @@ import {movesOf, readBase, readEntry} from "../transcript.mjs";
 
 // after a longer text, a base is read instead of each entry
 const LONG = 1 << 13;
+const DISTURBANCE = /^\d+ (?:link|unlink|point|flag|join|leave) .* = ok$/m;
 
 export class Seen extends Machine {
   /**
@@ -16,9 +17,22 @@ export class Seen extends Machine {
   constructor(rules, names, present) {
     super(rules, names, present);
     this.spent = 0;
+    /** Whether the epoch began before the base that the network goes on from. */
+    this.isCut = false;
     /** Which nodes are not at rest. */
     this.restless = new Uint8Array(names + 1);
     this.left = 0;
+  }
+
+  /**
+   * Goes on from a base.
+   * @param {string} base
+   */
+  begin(base) {
+    const { state, spent } = readBase(base, 0);
+    this.load(state);
+    this.spent = spent;
+    this.isCut = true;
   }
 
   /**
@@ -30,6 +44,7 @@ export class Seen extends Machine {
       const { state, spent } = readBase(session.base(), 0);
       this.load(state);
       this.spent = spent;
+      this.isCut &&= !DISTURBANCE.test(text);
     } else {
       this.follow(text);
     }
@@ -47,6 +62,7 @@ export class Seen extends Machine {
       if (entry && changes(entry)) {
         carryOut(this, entry);
         this.spent = entry.disturbs ? 0 : this.spent + movesOf(entry).length;
+        this.isCut &&= !entry.disturbs;
       }
     }
   }
@@ -57,5 +73,10 @@ export class Seen extends Machine {
 
   get movesLeft() {
     return this.left;
+  }
+
+  /** In a cut epoch the bound by the edges: the moves that a base records may exceed the smaller one. */
+  get epochBound() {
+    return this.isCut ? this.bound : super.epochBound;
   }
 }

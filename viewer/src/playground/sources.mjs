@@ -1,10 +1,13 @@
 // Turns an opened script or graph into a network, with the lines that each rule set plays in it.
+import {MOST_DRAWN} from "../drawing.mjs";
 import {counted, grouped} from "../numbers.mjs";
 import {RudekpiError} from "../rudekpi/errors.mjs";
+import {resumed} from "../rudekpi/resumption.mjs";
+import {readBase} from "../transcript.mjs";
 import {GraphFault, readGraph} from "./graph_files.mjs";
-import {BadLine, Lab} from "./lab.mjs";
+import {BadLine, Lab, MOST_ENTRIES} from "./lab.mjs";
 import {AddressFault, MOST_NAMES, namesIn} from "./sharing.mjs";
-import {networkOfName} from "./text_kinds.mjs";
+import {entriesOfName, networkOfName} from "./text_kinds.mjs";
 import {linesOf, renumbered} from "./texts.mjs";
 
 /** How many further names may join a network that came without a script. */
@@ -13,8 +16,16 @@ export const SPARE = 12;
 /** @typedef {import("./graph_files.mjs").GraphFormat} GraphFormat */
 
 /**
- * A network with its opened lines, and its name in the selectors.
- * @typedef {Network & { names: number, present: number, lines: string[], title: string }} Source
+ * A network with its opened lines, and its name in the selectors. `start` is where it goes on, if it does;
+ * `named` whether its nodes have the page's own names.
+ * @typedef {Network & { names: number, present: number, lines: string[], title: string, start?: Start,
+ * named?: boolean }} Source
+ */
+
+/**
+ * A transcript that the page plays: its text, its file or an empty name, the places of its nodes if they are
+ * drawn, and whether they have the page's own names.
+ * @typedef {{ text: string, file: string, layout: Layout | null, named: boolean }} Played
  */
 
 /**
@@ -30,6 +41,11 @@ export const SPARE = 12;
  */
 function readScript(text, name, rules) {
   const { lines, numbers } = linesOf(text);
+  const before = entriesOfName(name);
+  if (before !== null) {
+    throw new GraphFault(
+      `it goes on after entry ${grouped(before)} of a transcript: open the transcript that was saved with it`);
+  }
   const told = networkOfName(name);
   const names = told?.names ?? namesIn(lines);
   if (names > MOST_NAMES) {
@@ -84,6 +100,53 @@ function readNetwork(text, name, format, rules) {
 export function sourceOf(text, name, kind, rules) {
   return kind === "script" ? readScript(text, name, rules) :
                              readNetwork(text, name, /** @type {GraphFormat} */ (kind), rules);
+}
+
+/**
+ * @param {import("../rudekpi/engine.mjs").Engine} engine
+ * @param {string} text
+ */
+function baseAtEnd(engine, text) {
+  const session = resumed(engine, new TextEncoder().encode(text));
+  try {
+    return session.read();
+  } finally {
+    session.free();
+  }
+}
+
+/**
+ * The network at the end of a transcript. Throws `Damaged` if it is none, and `GraphFault` if the network is
+ * too large to draw.
+ * @param {import("../rudekpi/engine.mjs").Engine} engine
+ * @param {Played} played
+ * @returns {Opened}
+ */
+export function sourceOfEnd(engine, {text, file, named}) {
+  const base = baseAtEnd(engine, text);
+  const { rules, names, nodes, number } = readBase(base, 0);
+  /** @type {string[]} */
+  const lines = [];
+  if (names > MOST_DRAWN) {
+    throw new GraphFault(`it has ${grouped(names)} names, and the page draws ${
+      grouped(MOST_DRAWN)} at most (console run --from takes it)`);
+  }
+  const source = {
+    names,
+    present: nodes,
+    nodes: names,
+    lines,
+    title: `the end of ${file === "" ? "a transcript" : file}`,
+    start: { base, entries: number, file },
+    named
+  };
+  const next = number < MOST_ENTRIES ? `The next entry is ${grouped(number + 1)}.` : "A run takes no more entries.";
+  return {
+    source,
+    numbers: [],
+    rules: [/** @type {RuleName} */ (rules)],
+    said: `Here is the network after entry ${grouped(number)}. ${next}`
+  };
 }
 
 /**

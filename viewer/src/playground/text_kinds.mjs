@@ -15,6 +15,7 @@ const ENDS = {
   script: "script"
 };
 const NAMED = /matching-(hh|manne)-(\d{1,5})(?:-(\d{1,5}))?(?!\d)/;
+const GOES_ON = /matching-(?:hh|manne)-\d{1,5}-after-(\d+)/;
 
 /**
  * @typedef {"transcript" | "script" | "GraphML" | "nothing"
@@ -59,6 +60,15 @@ export function kindOf(text, name) {
     return told;
   }
   return /** @type {Kind} */ (ENDS[end]) ?? told;
+}
+
+/**
+ * In the file name of a script that goes on from a transcript: after how many entries. Null for other names.
+ * @param {string} name
+ */
+export function entriesOfName(name) {
+  const [, entries] = GOES_ON.exec(name) ?? [];
+  return entries ? Number(entries) : null;
 }
 
 /**

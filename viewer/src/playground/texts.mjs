@@ -118,7 +118,7 @@ export class Texts {
     this.timer = null;
     this.written = performance.now();
     const lab = this.lab();
-    byId("words").textContent = `./console ${this.kind === "script" ? lab.words : "audit"} < ${this.fileName}`;
+    byId("words").textContent = lab.commandOf(this.kind);
     if (!this.edited) {
       this.field.value = lab[this.kind];
       this.field.scrollTop = BOTTOM;
@@ -184,6 +184,10 @@ export class Texts {
   }
 
   async link() {
+    if (this.lab().start) {
+      this.acts.say("An address holds no network to go on from: save the transcript as a file.", true);
+      return;
+    }
     const end = writeAddress(this.lab());
     if (end === null) {
       this.acts.say("The script is too long for an address: save it as a file.", true);

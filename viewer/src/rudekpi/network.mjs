@@ -1,11 +1,12 @@
 // A network run by the engine in this page or program, one command a call. rudekpi.d.ts documents the calls.
 import {readBase} from "../transcript.mjs";
-import {bytesOf, readVerdict, summaryOf, VERDICT_BYTES} from "./audits.mjs";
+import {bytesOf, summaryOf} from "./audits.mjs";
 import {numbersOfEdit, whyRefused} from "./costs.mjs";
-import {DAMAGED, DONE, Engine, inUse, LOG_FULL, NO_MEMORY, NO_SESSION, NOT_SILENT, REFUSED, RULE_SET_NAMES, Session} from "./engine.mjs";
+import {DONE, Engine, inUse, LOG_FULL, NO_MEMORY, NO_SESSION, NOT_SILENT, REFUSED, RULE_SET_NAMES, Session} from "./engine.mjs";
 import {Ended, EngineFault, MemoryError, NoReply, Refused} from "./errors.mjs";
 import {MOST_NODES, MOST_TURNS, Names, numberWithin, seedOf, shown} from "./names.mjs";
 import {baseOf, enabledOfRows, faultOfLine, listWith, matchingOfRows, movesOfLine, movesOfRows, REFUSALS, Wish} from "./replies.mjs";
+import {resumed} from "./resumption.mjs";
 
 /** @typedef {import("./names.mjs").Name} Name */
 /** @typedef {import("./engine.mjs").Calls} Calls */
@@ -27,37 +28,6 @@ function begin(rules, names, present) {
     return new Session(inUse.engine, rules, names, present);
   } catch (wrong) {
     throw wrong instanceof EngineFault ? new MemoryError("no memory for a network") : wrong;
-  }
-}
-
-/**
- * The slot of a session that goes on where the run of a transcript ended. Throws `Damaged` if the bytes are no
- * transcript, and `MemoryError` if memory runs out.
- * @param {Engine} engine
- * @param {Uint8Array} bytes
- */
-function resumed(engine, bytes) {
-  const verdict = engine.taken.of(VERDICT_BYTES);
-  const at = engine.roomFor(bytes.length + 1);
-  let slot = 0n;
-  try {
-    slot = engine.slot();
-    engine.bytesAt(at, bytes.length).set(bytes);
-    const status = engine.calls.rudekpi_session_resume(slot, at, BigInt(bytes.length), verdict);
-    if (status === DAMAGED) {
-      readVerdict(engine, verdict);
-    }
-    if (status !== DONE) {
-      throw new MemoryError("no memory for a network");
-    }
-    return slot;
-  } catch (wrong) {
-    if (slot !== 0n) {
-      engine.calls.rudekpi_give_back(slot);
-    }
-    throw wrong;
-  } finally {
-    engine.calls.rudekpi_give_back(at);
   }
 }
 
@@ -144,9 +114,7 @@ export class Network {
    * @param {{ nodes?: Iterable<Name>, keep?: boolean }} options
    */
   static resume(transcript, { nodes, keep = true } = {}) {
-    const engine = inUse.engine;
-    const slot = resumed(engine, bytesOf(transcript));
-    const session = new Session(engine, "hh", 0, 0, slot);
+    const session = resumed(inUse.engine, bytesOf(transcript));
     try {
       // the base that the session has written
       const base = session.read();
