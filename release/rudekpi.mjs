@@ -1222,15 +1222,56 @@ function baseOf(names, text) {
 return { RULES, REFUSALS, Wish, Matching, listWith, movesOfRows, enabledOfRows, matchingOfRows, movesOfLine, faultOfLine, baseOf };
 })();
 
+modules["rudekpi/resumption"] = (() => {
+// A session that goes on where the run of a transcript ended. rudekpi.d.ts documents the call.
+const {readVerdict, VERDICT_BYTES} = modules["rudekpi/audits"];
+const {DAMAGED, DONE, Engine, Session} = modules["rudekpi/engine"];
+const {MemoryError} = modules["rudekpi/errors"];
+
+/**
+ * The session, whose text begins with the base there. Throws `Damaged` if the bytes are no transcript, and
+ * `MemoryError` if memory runs out.
+ * @param {Engine} engine
+ * @param {Uint8Array} bytes
+ */
+function resumed(engine, bytes) {
+  const verdict = engine.taken.of(VERDICT_BYTES);
+  const at = engine.roomFor(bytes.length + 1);
+  let slot = 0n;
+  try {
+    slot = engine.slot();
+    engine.bytesAt(at, bytes.length).set(bytes);
+    const status = engine.calls.rudekpi_session_resume(slot, at, BigInt(bytes.length), verdict);
+    if (status === DAMAGED) {
+      readVerdict(engine, verdict);
+    }
+    if (status !== DONE) {
+      throw new MemoryError("no memory for a network");
+    }
+    return new Session(engine, "hh", 0, 0, slot);
+  } catch (wrong) {
+    if (slot !== 0n) {
+      engine.calls.rudekpi_give_back(slot);
+    }
+    throw wrong;
+  } finally {
+    engine.calls.rudekpi_give_back(at);
+  }
+}
+
+return { resumed };
+})();
+
 modules["rudekpi/network"] = (() => {
 // A network run by the engine in this page or program, one command a call. rudekpi.d.ts documents the calls.
 const {readBase} = modules["transcript"];
-const {bytesOf, readVerdict, summaryOf, VERDICT_BYTES} = modules["rudekpi/audits"];
+const {bytesOf, summaryOf} = modules["rudekpi/audits"];
 const {numbersOfEdit, whyRefused} = modules["rudekpi/costs"];
-const {DAMAGED, DONE, Engine, inUse, LOG_FULL, NO_MEMORY, NO_SESSION, NOT_SILENT, REFUSED, RULE_SET_NAMES, Session} = modules["rudekpi/engine"];
+const {DONE, Engine, inUse, LOG_FULL, NO_MEMORY, NO_SESSION, NOT_SILENT, REFUSED, RULE_SET_NAMES, Session} = modules["rudekpi/engine"];
 const {Ended, EngineFault, MemoryError, NoReply, Refused} = modules["rudekpi/errors"];
 const {MOST_NODES, MOST_TURNS, Names, numberWithin, seedOf, shown} = modules["rudekpi/names"];
 const {baseOf, enabledOfRows, faultOfLine, listWith, matchingOfRows, movesOfLine, movesOfRows, REFUSALS, Wish} = modules["rudekpi/replies"];
+const {resumed} = modules["rudekpi/resumption"];
 
 /** @typedef {import("./names.mjs").Name} Name */
 /** @typedef {import("./engine.mjs").Calls} Calls */
@@ -1252,37 +1293,6 @@ function begin(rules, names, present) {
     return new Session(inUse.engine, rules, names, present);
   } catch (wrong) {
     throw wrong instanceof EngineFault ? new MemoryError("no memory for a network") : wrong;
-  }
-}
-
-/**
- * The slot of a session that goes on where the run of a transcript ended. Throws `Damaged` if the bytes are no
- * transcript, and `MemoryError` if memory runs out.
- * @param {Engine} engine
- * @param {Uint8Array} bytes
- */
-function resumed(engine, bytes) {
-  const verdict = engine.taken.of(VERDICT_BYTES);
-  const at = engine.roomFor(bytes.length + 1);
-  let slot = 0n;
-  try {
-    slot = engine.slot();
-    engine.bytesAt(at, bytes.length).set(bytes);
-    const status = engine.calls.rudekpi_session_resume(slot, at, BigInt(bytes.length), verdict);
-    if (status === DAMAGED) {
-      readVerdict(engine, verdict);
-    }
-    if (status !== DONE) {
-      throw new MemoryError("no memory for a network");
-    }
-    return slot;
-  } catch (wrong) {
-    if (slot !== 0n) {
-      engine.calls.rudekpi_give_back(slot);
-    }
-    throw wrong;
-  } finally {
-    engine.calls.rudekpi_give_back(at);
   }
 }
 
@@ -1369,9 +1379,7 @@ class Network {
    * @param {{ nodes?: Iterable<Name>, keep?: boolean }} options
    */
   static resume(transcript, { nodes, keep = true } = {}) {
-    const engine = inUse.engine;
-    const slot = resumed(engine, bytesOf(transcript));
-    const session = new Session(engine, "hh", 0, 0, slot);
+    const session = resumed(inUse.engine, bytesOf(transcript));
     try {
       // the base that the session has written
       const base = session.read();
