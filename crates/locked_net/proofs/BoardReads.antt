@@ -1,5 +1,5 @@
 -- A look at a board, and the log that the board shows.
-use Rattle.locked_net.proofs.Prelude.{◌≡◌, ℕ, ◌+◌, ◌<◌, ◌≤◌, ◌⊎◌, ⊎_elim, inl, inr, Bool, true, false, IsTrue, nat_le, slice_index_or, le-leb, List, [], ◌∷◌, ◌++◌, length, fold, Option, None, Some, IfSome, if◌then◌else◌, nat_lt, refl, sym, ap, ◌∙◌, subst, arith, length-append, slice_get, and_from, and_left, and_right, lt-leb, ltb-true, ltb-false, get_or_append_left, same_Some, none-some, slice_get-get_or, slice_get_within, get_or_from_slice_get, Network, present, State, pointer, RuleTable, Entry, Moment, Row, BoardShape, pointer_in, partner_in, row_effect, here_by, row_at_start, pointers_after, here_after, IsRun, held_in, found_after, BoardName, ReaderView, PublishedLog, run_names, run_pointers, start_row, start_here, start_size, row_places, effect_length, Receipt, ClerkView, noted, IsClerk, IsReceiptOf, NotesLast, StandsLastFrom, StandsLast, Shows}
+use Rattle.locked_net.proofs.Prelude.{◌≡◌, ℕ, ◌+◌, ◌<◌, ◌≤◌, ◌⊎◌, ⊎_elim, inl, inr, Bool, true, false, IsTrue, nat_le, slice_index_or, le-leb, List, [], ◌∷◌, ◌++◌, length, fold, Option, None, Some, IfSome, if◌then◌else◌, nat_lt, refl, sym, ap, ◌∙◌, subst, arith, length-append, slice_get, and_from, and_left, and_right, lt-leb, ltb-true, ltb-false, get_or_append_left, same_Some, none-some, slice_get-get_or, slice_get_within, get_or_from_slice_get, Network, present, State, pointer, RuleTable, Base, dropped, Entry, Row, BoardShape, pointer_in, partner_in, row_effect, here_by, row_at_start, pointers_after, here_after, IsRun, held_in, found_after, BoardName, ReaderView, PublishedLog, run_names, run_pointers, start_row, start_here, start_size, row_places, effect_length, Receipt, ClerkView, noted, IsClerk, IsReceiptOf, NotesLast, StandsLastFrom, StandsLast, Shows}
 use mathlib.Core.List.{IsPrefix}
 
 -- ---- the places
@@ -146,18 +146,21 @@ pub stays_last : (start : ℕ) (some all : List Entry) (receipts : List Receipt)
 stays_last start some all [] p is = tt
 stays_last start some all (first ∷ receipts) p is = stays_from start some all first receipts p is
 
-last_of : (start : ℕ) (receipts : List Receipt) (note : Option PublishedLog) (all : List Entry) → NotesLast start receipts note → IfSome note (λ told. IsPrefix told.log all) → StandsLast start all receipts
-last_of start receipts None all none p = subst (StandsLast start all) (sym none) tt
-last_of start receipts (Some told) all stands p = stays_last start told.log all receipts p stands
+last_of : (receipts : List Receipt) (note : Option PublishedLog) (all : List Entry) (base : Option Base) → NotesLast receipts note → IfSome note (λ told. IsPrefix told.log all) → IfSome note (λ told. told.base ≡ base)
+    → StandsLast (dropped base) all receipts
+last_of receipts None all base none p same = subst (StandsLast (dropped base) all) (sym none) tt
+last_of receipts (Some told) all base stands p same =
+    subst (λ (b : Option Base). StandsLast (dropped b) all receipts) same (stays_last (dropped told.base) told.log all receipts p stands)
 
 -- and in each that continues a clerk's note
-pub noted_last : (clerk : ClerkView) (all : List Entry) → IsClerk clerk → IfSome clerk.note (λ told. IsPrefix told.log all) → StandsLast clerk.start all clerk.receipts
-noted_last clerk all is p = last_of clerk.start clerk.receipts clerk.note all is.last p
+pub noted_last : (clerk : ClerkView) (all : List Entry) (base : Option Base) → IsClerk clerk → IfSome clerk.note (λ told. IsPrefix told.log all) → IfSome clerk.note (λ told. told.base ≡ base)
+    → StandsLast (dropped base) all clerk.receipts
+noted_last clerk all base is = last_of clerk.receipts clerk.note all base is.last
 
-last_in : (start : ℕ) (receipts : List Receipt) (note : Option PublishedLog) (all : List Entry) → NotesLast start receipts note → IsPrefix (noted note) all → StandsLast start all receipts
-last_in start receipts None all none p = subst (StandsLast start all) (sym none) tt
-last_in start receipts (Some told) all stands p = stays_last start told.log all receipts p stands
+noted_in : (note : Option PublishedLog) (all : List Entry) → IsPrefix (noted note) all → IfSome note (λ told. IsPrefix told.log all)
+noted_in None all p = tt
+noted_in (Some told) all p = p
 
 -- a clerk stays a clerk with a note of more entries
-pub sees_more : (clerk : ClerkView) (told : PublishedLog) → IsClerk clerk → IsPrefix (noted clerk.note) told.log → IsClerk (record { receipts = clerk.receipts; note = Some told; base = clerk.base; start = clerk.start })
-sees_more clerk told is p = record { rise = is.rise; last = last_in clerk.start clerk.receipts clerk.note told.log is.last p }
+pub sees_more : (clerk : ClerkView) (told : PublishedLog) → IsClerk clerk → IsPrefix (noted clerk.note) told.log → IfSome clerk.note (λ note. note.base ≡ told.base) → IsClerk (record { receipts = clerk.receipts; note = Some told; base = clerk.base })
+sees_more clerk told is p same = record { rise = is.rise; last = noted_last clerk told.log told.base is (noted_in clerk.note told.log p) same }

@@ -1,5 +1,5 @@
 -- What a clerk can expect of a fault that a log explains.
-use Rattle.locked_net.proofs.Prelude.{◌≡◌, ℕ, zero, suc, Bool, true, false, Option, None, Some, Result, Ok, Err, OnOk, if◌then◌else◌, nat_eq, nat_lt, refl, sym, subst, arith, ltb-true, RetainedLog, last_number, CallFault, Behind, LogFull, StepFault, call_fault, checkpoint_fault, ExplainsCallFault, ExplainsStep, MayAnswer, MayAnswerStep, MayRefuseCheckpoint}
+use Rattle.locked_net.proofs.Prelude.{◌≡◌, ℕ, zero, suc, Bool, true, false, None, Some, if◌then◌else◌, nat_eq, nat_lt, refl, sym, subst, arith, ltb-true, RetainedLog, last_number, CallFault, Behind, LogFull, StepFault, call_fault, checkpoint_fault, ExplainsCallFault, ExplainsStep, MayAnswer, MayAnswerStep, MayRefuseCheckpoint}
 
 may : (seen : ℕ) (log : RetainedLog) (fault : CallFault) (behind full : Bool) → nat_lt (last_number log) seen ≡ behind
     → ExplainsCallFault (if behind then Some (Behind (last_number log) seen) else (if full then Some LogFull else None)) fault → MayAnswer seen fault

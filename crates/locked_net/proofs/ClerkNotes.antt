@@ -1,5 +1,5 @@
 -- A clerk's note, a later note, and the log.
-use Rattle.locked_net.proofs.Prelude.{◌≡◌, ℕ, ◌≤◌, List, [], ◌∷◌, ◌++◌, length, Option, None, Some, Result, Ok, Err, IfOk, IfErr, MatchOption, inl, inr, ⊎_elim, refl, sym, ap, subst, arith, All, Entry, AreComparable, PublishedLog, prefix_self, prefix_whole, Receipt, ClerkView, front_from, front_of, noted, RiseAbove, IsClerk, IsPartNoted, IsPublished, Setting, Book, RetainedLog}
+use Rattle.locked_net.proofs.Prelude.{◌≡◌, List, Option, None, Some, Result, Ok, Err, IfOk, IfErr, MatchOption, inl, inr, refl, sym, subst, All, Entry, AreComparable, PublishedLog, ClerkView, noted, IsPartNoted, IsPublished, Setting, Book, RetainedLog}
 use mathlib.Core.List.{IsPrefix}
 
 -- without a note, the empty log is a prefix of each log

@@ -1,5 +1,5 @@
 -- Rows of clerks that roamed in two parts.
-use Rattle.locked_net.proofs.Prelude.{◌≡◌, ◌∙◌, ℕ, List, [], ◌∷◌, ◌++◌, Option, None, Some, refl, sym, ap, subst, option_or, BoardName, Setting, CallFault, ClerkView, AllEnd, AllKeepNotes}
+use Rattle.locked_net.proofs.Prelude.{◌≡◌, ◌∙◌, ℕ, List, [], ◌∷◌, ◌++◌, Option, None, Some, refl, sym, ap, subst, option_or, Book, Setting, CallFault, ClerkView, AllEnd, AllKeepNotes}
 use Rattle.locked_net.proofs.Turns.{stays}
 
 or_assoc : {A : Type 0} (a b c : Option A) → option_or (option_or a b) c ≡ option_or a (option_or b c)
@@ -23,17 +23,17 @@ parts_ended setting turns olds left right ours theirs fault other first whole is
 
 -- ---- their notes
 
-notes_joined : (name : BoardName) (olds mores news others : List ClerkView) → AllKeepNotes name olds news → AllKeepNotes name mores others → AllKeepNotes name (olds ++ mores) (news ++ others)
-notes_joined name [] mores [] others kept rest = rest
-notes_joined name [] mores (new ∷ news) others kept rest = absurd kept
-notes_joined name (old ∷ olds) mores [] others kept rest = absurd kept
-notes_joined name (old ∷ olds) mores (new ∷ news) others (own, kept) rest = (own, notes_joined name olds mores news others kept rest)
+notes_joined : (book : Book) (olds mores news others : List ClerkView) → AllKeepNotes book olds news → AllKeepNotes book mores others → AllKeepNotes book (olds ++ mores) (news ++ others)
+notes_joined book [] mores [] others kept rest = rest
+notes_joined book [] mores (new ∷ news) others kept rest = absurd kept
+notes_joined book (old ∷ olds) mores [] others kept rest = absurd kept
+notes_joined book (old ∷ olds) mores (new ∷ news) others (own, kept) rest = (own, notes_joined book olds mores news others kept rest)
 
-pub parts_kept : (name : BoardName) (olds left right ours theirs : List ClerkView) → olds ≡ left ++ right → AllKeepNotes name left ours → AllKeepNotes name right theirs → AllKeepNotes name olds (ours ++ theirs)
-parts_kept name olds left right ours theirs whole kept rest =
-    subst (λ rs. AllKeepNotes name rs (ours ++ theirs)) (sym whole) (notes_joined name left right ours theirs kept rest)
+pub parts_kept : (book : Book) (olds left right ours theirs : List ClerkView) → olds ≡ left ++ right → AllKeepNotes book left ours → AllKeepNotes book right theirs → AllKeepNotes book olds (ours ++ theirs)
+parts_kept book olds left right ours theirs whole kept rest =
+    subst (λ rs. AllKeepNotes book rs (ours ++ theirs)) (sym whole) (notes_joined book left right ours theirs kept rest)
 
 -- no note and no base changes if no clerk roams
-pub notes_stay : (name : BoardName) (clerks : List ClerkView) → AllKeepNotes name clerks clerks
-notes_stay name [] = tt
-notes_stay name (clerk ∷ clerks) = (stays name clerk clerk refl, notes_stay name clerks)
+pub notes_stay : (book : Book) (clerks : List ClerkView) → AllKeepNotes book clerks clerks
+notes_stay book [] = tt
+notes_stay book (clerk ∷ clerks) = (stays book clerk clerk refl, notes_stay book clerks)

@@ -1,6 +1,6 @@
 -- A desk publishes a run of the rules, and stays a desk after the next entry and after a checkpoint. It is one
 -- before any entry.
-use Rattle.locked_net.proofs.Prelude.{◌≡◌, ◌+◌, ◌<◌, ◌≤◌, ℕ, List, [], ◌∷◌, ◌++◌, length, Option, Some, None, Result, Ok, Err, OnOk, OnErr, inl, refl, sym, ap, ap₂, ◌∙◌, subst, arith, Event, State, RuleTable, Entry, Run, Base, Moment, beginning_with, dropped, IsTable, BoardShape, IsRun, BoardView, StartsAt, IsStart, BeginsIn, JournalView, kept_of, RetainedLog, checkpointed, kept_with, last_number, moment_in, next_entry, whole, empty_log_with, kept_from, max_entries, IsWholeLog, log_over, IsPublishedJournal, IsPublishedFrom}
+use Rattle.locked_net.proofs.Prelude.{◌≡◌, ◌+◌, ◌<◌, ◌≤◌, ℕ, [], ◌∷◌, ◌++◌, length, Some, None, Result, Ok, Err, OnOk, OnErr, inl, refl, sym, ap, ap₂, ◌∙◌, subst, arith, Event, State, RuleTable, Entry, Run, Base, Moment, beginning_with, dropped, IsTable, BoardShape, IsRun, BoardView, StartsAt, IsStart, BeginsIn, JournalView, kept_of, RetainedLog, checkpointed, kept_with, last_number, moment_in, next_entry, whole, empty_log_with, kept_from, max_entries, log_over, IsPublishedJournal}
 use Rattle.locked_net.proofs.RetainedParts.{above_len, recorded_is_log, recorded_size, recorded_above, checkpoint_above}
 use Rattle.std.proofs.Common.{false}
 use Rattle.std.proofs.lemmas.List.{length-map}
@@ -65,9 +65,9 @@ desk_checkpointed t kept after board desk told =
     subst (λ (k : RetainedLog). IsPublishedJournal t k board) (sym told)
     record { is_log = desk.is_log; above = checkpoint_above t (log_over kept board) kept desk.is_log desk.above; posted = desk.posted; extent = desk.extent }
 
-pub desk_kept : {A B : Type 0} (t : RuleTable) (start : ℕ) (held after : JournalView) (board : BoardView) (result : Result A B) → IsPublishedFrom t start (kept_of held) board → OnOk result (kept_of after ≡ checkpointed (kept_of held)) → OnErr result (after ≡ held) → IsPublishedFrom t start (kept_of after) board
-desk_kept t start held after board (Ok number) desk told same = (desk.0, desk_checkpointed t (kept_of held) (kept_of after) board desk.1 told)
-desk_kept t start held after board (Err fault) desk told same = subst (λ (h : JournalView). IsPublishedFrom t start (kept_of h) board) (sym same) desk
+pub desk_kept : {A B : Type 0} (t : RuleTable) (held after : JournalView) (board : BoardView) (result : Result A B) → IsPublishedJournal t (kept_of held) board → OnOk result (kept_of after ≡ checkpointed (kept_of held)) → OnErr result (after ≡ held) → IsPublishedJournal t (kept_of after) board
+desk_kept t held after board (Ok number) desk told same = desk_checkpointed t (kept_of held) (kept_of after) board desk told
+desk_kept t held after board (Err fault) desk told same = subst (λ (h : JournalView). IsPublishedJournal t (kept_of h) board) (sym same) desk
 
 -- ---- before any entry
 
@@ -107,43 +107,37 @@ begun_desk t kept board start none blank begins same small room limit =
 
 -- from the opening state
 pub opening_desk : (t : RuleTable) (nodes present limit : ℕ) (kept : RetainedLog) (board : BoardView) → kept ≡ whole (empty_log_with nodes present limit) → nodes ≤ 65535 → limit ≤ max_entries
-    → (board.list ≡ []) × (board.posted ≡ []) × (board.name.extent ≡ record { places = nodes + 1; present = present; base = None }) → IsPublishedFrom t 0 kept board
+    → (board.list ≡ []) × (board.posted ≡ []) × (board.name.extent ≡ record { places = nodes + 1; present = present; base = None }) → IsPublishedJournal t kept board
 opening_desk t nodes present limit kept board is small within (list, posted, extent) =
     let first : RetainedLog = whole (empty_log_with nodes present limit) in
-    let none : dropped first.base ≤ limit = omega arith in (
-      sym (ap (λ (e : BoardShape). dropped e.base) extent),
-      subst (λ (k : RetainedLog). IsPublishedJournal t k board) (sym is)
-          (begun_desk t first board (beginning_with nodes present) refl (record { list = list; posted = posted; extent = extent }) refl refl small none within),
-    )
+    let none : dropped first.base ≤ limit = omega arith in
+    subst (λ (k : RetainedLog). IsPublishedJournal t k board) (sym is)
+    (begun_desk t first board (beginning_with nodes present) refl (record { list = list; posted = posted; extent = extent }) refl refl small none within)
 
 -- from a base
 pub based_desk : (t : RuleTable) (weight size limit : ℕ) (s : State) (base : Base) (kept : RetainedLog) (board : BoardView) → kept ≡ kept_from s base limit → BeginsIn t weight size base s → size ≤ 65535 → base.number ≤ limit → limit ≤ max_entries
-    → (board.list ≡ []) × (board.posted ≡ []) × (board.name.extent ≡ record { places = size + 1; present = length base.nodes; base = Some base }) → IsPublishedFrom t base.number kept board
+    → (board.list ≡ []) × (board.posted ≡ []) × (board.name.extent ≡ record { places = size + 1; present = length base.nodes; base = Some base }) → IsPublishedJournal t kept board
 based_desk t weight size limit s base kept board is begins small room within (list, posted, extent) =
     let first : RetainedLog = kept_from s base limit in
     let start : Moment = record { state = s; spent = base.spent } in
     let same : s.network.size ≡ size = begins.size_is in
     let starts : IsStart t s.network.size base start = record { is_state = begins.is_state; size_is = refl; lines = begins.lines; unflagged = begins.unflagged } in
-    let shape = extent ∙ ap (λ (n : ℕ). record { places = n + 1; present = length base.nodes; base = Some base }) (sym same) in (
-      sym (ap (λ (e : BoardShape). dropped e.base) extent),
-      subst (λ (k : RetainedLog). IsPublishedJournal t k board) (sym is)
-          (begun_desk t first board start refl (record { list = list; posted = posted; extent = shape }) starts refl (omega (arith, small, same)) room within),
-    )
+    let shape = extent ∙ ap (λ (n : ℕ). record { places = n + 1; present = length base.nodes; base = Some base }) (sym same) in
+    subst (λ (k : RetainedLog). IsPublishedJournal t k board) (sym is)
+    (begun_desk t first board start refl (record { list = list; posted = posted; extent = shape }) starts refl (omega (arith, small, same)) room within)
 
 -- where a network goes on
 pub net_desk : (t : RuleTable) (number limit : ℕ) (m : Moment) (kept : RetainedLog) (board : BoardView) → kept ≡ resumed_log m number limit → IsState m.state → (t.flags ≡ false → (v : ℕ) → flag m.state v ≡ false) → m.state.network.size ≤ 65535 → number ≤ max_entries
-    → (board.list ≡ []) × (board.posted ≡ []) × (board.name.extent ≡ record { places = m.state.network.size + 1; present = length (node_records m.state); base = Some (base_of number m) }) → IsPublishedFrom t number kept board
+    → (board.list ≡ []) × (board.posted ≡ []) × (board.name.extent ≡ record { places = m.state.network.size + 1; present = length (node_records m.state); base = Some (base_of number m) }) → IsPublishedJournal t kept board
 net_desk t number limit m kept board is good unflagged small few (list, posted, extent) =
     let first : RetainedLog = resumed_log m number limit in
     let starts : IsStart t m.state.network.size (base_of number m) m = record { is_state = good; size_is = refl; lines = refl; unflagged = unflagged } in
     let count : length (node_records m.state) ≡ node_count m.state.network = length-map (names m.state.network) (node_record_at m.state) in
     let shape = extent ∙ ap (λ (n : ℕ). record { places = m.state.network.size + 1; present = n; base = Some (base_of number m) }) count in
     let room : number ≤ first.limit = grind arith in
-    let within : first.limit ≤ max_entries = grind (arith, few) in (
-      sym (ap (λ (e : BoardShape). dropped e.base) extent),
-      subst (λ (k : RetainedLog). IsPublishedJournal t k board) (sym is)
-          (begun_desk t first board m refl (record { list = list; posted = posted; extent = shape }) starts refl small room within),
-    )
+    let within : first.limit ≤ max_entries = grind (arith, few) in
+    subst (λ (k : RetainedLog). IsPublishedJournal t k board) (sym is)
+    (begun_desk t first board m refl (record { list = list; posted = posted; extent = shape }) starts refl small room within)
 
 -- no entry of a board that begins where a network goes on is a run
 pub net_is_run : (t : RuleTable) (number : ℕ) (m : Moment) → IsState m.state → (t.flags ≡ false → (v : ℕ) → flag m.state v ≡ false) → IsRun t (record { places = m.state.network.size + 1; present = length (node_records m.state); base = Some (base_of number m) }) []

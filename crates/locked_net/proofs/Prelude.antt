@@ -61,9 +61,9 @@ pub use Rattle.locked_net.specs.ClerkCalls.{some_of, HeldCall, Admits, AdmitsSte
 pub use Rattle.locked_net.specs.Looks.{IsPublished}
 pub use Rattle.locked_net.specs.Marks.{mark_of, AreReceiptMarks}
 pub use Rattle.locked_net.specs.Nets.{book_of, name_of, setting_of, start_number_of}
-pub use Rattle.locked_net.specs.PublishedJournals.{PublishedJournalView, KeepsKey, IsPublishedJournal, IsPublishedFrom}
+pub use Rattle.locked_net.specs.PublishedJournals.{PublishedJournalView, KeepsKey, IsPublishedJournal}
 pub use Rattle.locked_net.specs.ReaderAnswers.{Shows}
-pub use Rattle.locked_net.specs.Receipts.{ClerkView, noted, IsClerk, IsReceiptOf, NotesLast, StandsLastFrom, StandsLast, front_of, seen_by, front_from, RiseAbove, HasNoteFrom, base_from, base_number}
+pub use Rattle.locked_net.specs.Receipts.{ClerkView, noted, IsClerk, IsReceiptOf, NotesLast, StandsLastFrom, StandsLast, front_of, seen_by, front_from, RiseAbove, HasNoteOf, base_from, base_number}
 pub use Rattle.locked_net.specs.RetainedParts.{IsPartNoted, log_over, IsLogAboveBase, TellsEnd}
 pub use Rattle.locked_net.specs.RoamResults.{AllEnd, AllKeepNotes, IsLoneStep, Roams, AllRoam, RoamResult, MayMeetRoamFault, TakesTurns, AllTakeTurns, MayEnd, roam_fault, KeepsNote, TakesTurn, MeetsFault}
 pub use Rattle.locked_net.specs.RoamTurns.{mover, lone_items, lone_step, receipts_by, receipts_of_turn, FaultBy, fault_by, fault_of_turn, FaultInTurn}

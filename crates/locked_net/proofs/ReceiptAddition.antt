@@ -1,6 +1,6 @@
 -- A clerk that adds the receipt of an entry after all that it has seen, and a note of the log then, is a
 -- clerk.
-use Rattle.locked_net.proofs.Prelude.{◌≡◌, ℕ, ◌+◌, ◌-◌, ◌<◌, ◌≤◌, Bool, true, false, List, [], ◌∷◌, ◌++◌, length, Option, None, Some, if◌then◌else◌, nat_eq, nat_lt, refl, sym, ap, ◌∙◌, subst, arith, length-append, slice_get, ltb-false, le-ltb, none-some, slice_get-get_or, get_or-append_seam, Event, RuleTable, Entry, PublishedLog, Receipt, dropped, RetainedLog, last_number, next_entry, kept_with, next_receipt, ClerkView, front_from, front_of, seen_by, noted, RiseAbove, IsReceiptOf, StandsLastFrom, StandsLast, NotesLast, IsClerk, CallFault, Behind, LogFull, call_fault, checkpoint_fault}
+use Rattle.locked_net.proofs.Prelude.{◌≡◌, ℕ, ◌+◌, ◌-◌, ◌<◌, ◌≤◌, Bool, true, false, List, [], ◌∷◌, ◌++◌, length, Option, None, Some, if◌then◌else◌, nat_eq, nat_lt, refl, sym, ap, ◌∙◌, subst, arith, length-append, slice_get, ltb-false, le-ltb, none-some, slice_get-get_or, get_or-append_seam, Event, RuleTable, Entry, PublishedLog, Receipt, dropped, RetainedLog, last_number, next_entry, kept_with, next_receipt, ClerkView, front_from, front_of, seen_by, RiseAbove, IsReceiptOf, StandsLastFrom, StandsLast, NotesLast, IsClerk, CallFault, Behind, LogFull, call_fault, checkpoint_fault}
 
 not_first : (b : Bool) (fault : CallFault) (other : Option CallFault) → (if b then Some fault else other) ≡ None → b ≡ false
 not_first true fault other e = absurd (none-some fault (sym e))
@@ -69,16 +69,16 @@ stands_last start log [] receipt is = is
 stands_last start log (first ∷ receipts) receipt is = stands_from start log first receipts receipt is
 
 -- a clerk that adds the receipt of an entry, and a note of the log with that entry, is one
-pub is_clerk_after : (t : RuleTable) (log after : RetainedLog) (event : Event) (told : PublishedLog) (old new : List Receipt) (note : Option PublishedLog) (base : Option ℕ) (start : ℕ) → RiseAbove 0 old → call_fault (front_of old) log ≡ None
-    → after ≡ kept_with t log event → told.log ≡ after.entries → new ≡ old ++ next_receipt t log event ∷ [] → note ≡ Some told → start ≡ dropped log.base → IsClerk (record { receipts = new; note = note; base = base; start = start })
-is_clerk_after t log after event told old new note base start rise free is tells added kept from =
+pub is_clerk_after : (t : RuleTable) (log after : RetainedLog) (event : Event) (told : PublishedLog) (old new : List Receipt) (note : Option PublishedLog) (base : Option ℕ) → RiseAbove 0 old → call_fault (front_of old) log ≡ None
+    → after ≡ kept_with t log event → told.log ≡ after.entries → new ≡ old ++ next_receipt t log event ∷ [] → note ≡ Some told → told.base ≡ log.base → IsClerk (record { receipts = new; note = note; base = base })
+is_clerk_after t log after event told old new note base rise free is tells added kept from =
     let receipt : Receipt = next_receipt t log event in
     let few = seen_few (front_of old) log free in
     let shown : told.log ≡ (kept_with t log event).entries = tells ∙ ap (λ (l : RetainedLog). l.entries) is in
     let stands : StandsLast (dropped log.base) told.log (old ++ receipt ∷ []) =
     subst (λ l. StandsLast (dropped log.base) l (old ++ receipt ∷ [])) (sym shown) (stands_last (dropped log.base) (kept_with t log event).entries old receipt (added_is_entry t log event)) in
-    let here : StandsLast start told.log (old ++ receipt ∷ []) = subst (λ n. StandsLast n told.log (old ++ receipt ∷ [])) (sym from) stands in
+    let here : StandsLast (dropped told.base) told.log (old ++ receipt ∷ []) = subst (λ b. StandsLast (dropped b) told.log (old ++ receipt ∷ [])) (sym from) stands in
     record {
       rise = subst (RiseAbove 0) (sym added) (rise_more 0 old receipt rise (omega (arith, few)));
-      last = subst (λ o. NotesLast start new o) (sym kept) (subst (λ rs. NotesLast start rs (Some told)) (sym added) here);
+      last = subst (λ o. NotesLast new o) (sym kept) (subst (λ rs. NotesLast rs (Some told)) (sym added) here);
     }

@@ -9,7 +9,7 @@
 -- At the end as many marks are set as there are receipts. That is as many as entries, so all marks are set:
 -- each entry has a receipt, and so a clerk. It has no second clerk, since of two receipts with one number the
 -- later would not agree.
-use Rattle.locked_net.proofs.Prelude.{◌≡◌, ℕ, zero, suc, ◌+◌, ◌-◌, ◌<◌, ◌≤◌, ◌⊎◌, Bool, true, false, cond, List, [], ◌∷◌, length, Option, take, set, get_or, slice_index_or, Some, refl, sym, ap, subst, ◌∙◌, inl, inr, ⊎_elim, arith, slice_get, sum_by, count_by, cases_lt, cases_eq, cases_order, false≢true, get_or-set_same, get_or-set_other, length-set, take_all, sum_by-cons, sum_by-set, sum_by_more, get_or-le-sum_by, count_by-le-length, slice_get_read, slice_get_within, get_or_from_slice_get, same_Some, dropped, Entry, RetainedLog, last_number, Receipt, ClerkView, RiseAbove, base_from, receipt_count, entry_count, greatest_base, base_number, IsEntryAbove, StandsAt, Settlement, IsEarlierReceipt, Agrees, IsFirstStranger, mark_of, AreReceiptMarks}
+use Rattle.locked_net.proofs.Prelude.{◌≡◌, ℕ, zero, suc, ◌+◌, ◌-◌, ◌<◌, ◌≤◌, ◌⊎◌, Bool, true, false, cond, List, [], ◌∷◌, length, Option, take, set, get_or, slice_index_or, Some, refl, sym, ap, subst, ◌∙◌, inl, inr, ⊎_elim, arith, slice_get, sum_by, count_by, cases_lt, cases_eq, cases_order, false≢true, get_or-set_same, get_or-set_other, length-set, take_all, sum_by-cons, sum_by-set, sum_by_more, get_or-le-sum_by, count_by-le-length, slice_get_read, slice_get_within, get_or_from_slice_get, same_Some, dropped, Entry, RetainedLog, Receipt, ClerkView, RiseAbove, base_from, receipt_count, entry_count, greatest_base, base_number, IsEntryAbove, StandsAt, Settlement, IsEarlierReceipt, Agrees, IsFirstStranger, mark_of, AreReceiptMarks}
 
 -- ---- places
 

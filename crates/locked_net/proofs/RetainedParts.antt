@@ -1,6 +1,6 @@
 -- What is kept of a whole log: the number of its last entry, the next receipt, and that it stays a part of the
 -- log after the next entry and after a checkpoint.
-use Rattle.locked_net.proofs.Prelude.{◌≡◌, ℕ, ◌+◌, ◌<◌, ◌⊎◌, ⊎_elim, inl, inr, List, [], ◌∷◌, ◌++◌, length, Option, Some, None, refl, sym, ap, ap₂, ◌∙◌, subst, append_assoc, length-append, arith, append-nil, Event, State, IsState, RuleTable, reply_of, state_after, spent_by, Entry, Moment, Run, Base, dropped, base_of, IsTable, least_answers, opening_is_state, runs_end_in_states, run_add, runs_keep_size, StartsAt, RetainedLog, checkpointed, kept_with, last_number, moment_in, next_entry, IsWholeLog, IsLogAboveBase, TellsEnd}
+use Rattle.locked_net.proofs.Prelude.{◌≡◌, ℕ, ◌+◌, ◌<◌, ⊎_elim, inl, inr, List, [], ◌∷◌, ◌++◌, length, Option, Some, None, refl, sym, ap, ap₂, ◌∙◌, subst, append_assoc, length-append, arith, append-nil, Event, State, IsState, RuleTable, reply_of, state_after, spent_by, Entry, Moment, Run, Base, dropped, base_of, IsTable, least_answers, opening_is_state, runs_end_in_states, run_add, runs_keep_size, StartsAt, RetainedLog, checkpointed, kept_with, last_number, moment_in, next_entry, IsWholeLog, IsLogAboveBase, TellsEnd}
 
 -- the number of the last entry of the log is that of what is kept
 pub above_len : (t : RuleTable) (log kept : RetainedLog) → IsLogAboveBase t log kept → last_number log ≡ last_number kept

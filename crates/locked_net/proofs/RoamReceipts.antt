@@ -1,5 +1,5 @@
 -- The receipts of clerks that roamed turn by turn, and their fault.
-use Rattle.locked_net.proofs.Prelude.{◌≡◌, ◌∙◌, ℕ, zero, suc, ◌+◌, ◌<◌, ◌≤◌, Bool, true, false, List, [], ◌∷◌, ◌++◌, length, take, drop, min, Option, None, Some, if◌then◌else◌, nat_eq, nat_lt, refl, sym, ap, subst, ⊎_elim, append_assoc, length-append, arith, All, slice_get, cases_lt, ltb-true, append-nil, drop_all, drop_at, nil_from_length, take_all, take_at, same_Some, none-some, All-nil, All-cons, All-append, RuleTable, Receipt, RetainedLog, next_receipt, ClerkView, seen_by, Setting, CallFault, Behind, LogFull, Memory, RoamFault, ExplainsCallFault, MayAnswer, mover, lone_step, receipts_by, receipts_of_turn, FaultBy, IsLoneStep, Roams, AllRoam, RoamResult, MayMeetRoamFault, TakesTurns, AllTakeTurns, MayEnd, AllEnd, roam_fault}
+use Rattle.locked_net.proofs.Prelude.{◌≡◌, ◌∙◌, ℕ, zero, suc, ◌+◌, ◌<◌, ◌≤◌, List, [], ◌∷◌, ◌++◌, length, take, drop, min, Option, None, Some, refl, sym, ap, subst, ⊎_elim, append_assoc, length-append, arith, All, slice_get, cases_lt, append-nil, drop_all, drop_at, nil_from_length, take_all, take_at, same_Some, none-some, All-nil, All-cons, All-append, RuleTable, Receipt, RetainedLog, next_receipt, ClerkView, seen_by, Setting, CallFault, Behind, LogFull, Memory, RoamFault, MayAnswer, mover, lone_step, receipts_by, receipts_of_turn, FaultBy, IsLoneStep, Roams, AllRoam, RoamResult, MayMeetRoamFault, TakesTurns, AllTakeTurns, MayEnd, AllEnd, roam_fault}
 use Rattle.locked_net.proofs.CallFaults.{may_answer}
 use Rattle.locked_net.proofs.Movers.{mover_answers}
 

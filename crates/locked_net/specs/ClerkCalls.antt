@@ -4,10 +4,10 @@
 -- record of a call is given one of the two words below for its answers.
 use Rattle.std.specs.Prelude.{◌≡◌, ◌<◌, ℕ, Option, None, Result, Ok, Err, IfOk, MatchOption, OnErr}
 use mathlib.Core.List.{IsPrefix}
-use Rattle.snapshots.specs.Views.{BoardName}
+use Rattle.logbook.specs.Pages.{Book}
 use Rattle.locked_net.specs.declared.call_fault.CallFault.{CallFault}
 use Rattle.locked_net.specs.declared.step_fault.StepFault.{StepFault}
-use Rattle.locked_net.specs.Receipts.{ClerkView, HasNoteFrom, front_of, seen_by, noted}
+use Rattle.locked_net.specs.Receipts.{ClerkView, HasNoteOf, front_of, seen_by, noted}
 use Rattle.locked_net.specs.PublishedJournals.{PublishedJournalView, KeepsKey}
 use Rattle.locked_net.specs.Calls.{ExplainsCallFault, ExplainsStep}
 
@@ -19,24 +19,23 @@ each answer Idle Recorded = Recorded
 abbrev pub some_of : {A : Type 0} → Option A → Type 0 → Type 0 → Type 0
 some_of answer Idle Recorded = MatchOption answer Idle (λ _. Recorded)
 
--- The clerk has a note of this board's history, and counts from the board's base. Its last receipt has a number
--- above all that the clerk had seen.
-pub record AddsReceipt (name : BoardName) (old new : ClerkView) : Type 0 where
-  pub note : HasNoteFrom name new
+-- The clerk has a note of this history. Its last receipt has a number above all that the clerk had seen.
+pub record AddsReceipt (book : Book) (old new : ClerkView) : Type 0 where
+  pub note : HasNoteOf book new
   pub above : seen_by old < front_of new.receipts
 
 module _ {A E : Type 0} (Answers : A → Type 0 → Type 0 → Type 0) where
-  -- A clerk's call of a network with this board. The clerk's base stays. An entry adds a receipt; without
+  -- A clerk's call of a network with this history. The clerk's base stays. An entry adds a receipt; without
   -- an entry, or after a fault, the clerk is unchanged.
-  pub record ClerkCall (name : BoardName) (old new : ClerkView) (result : Result A E) : Type 0 where
+  pub record ClerkCall (book : Book) (old new : ClerkView) (result : Result A E) : Type 0 where
     pub base : new.base ≡ old.base
-    pub added : IfOk result (λ answer. Answers answer (new ≡ old) (AddsReceipt name old new))
+    pub added : IfOk result (λ answer. Answers answer (new ≡ old) (AddsReceipt book old new))
     pub kept : OnErr result (new ≡ old)
 
   -- A clerk's call of a network whose lock is held. After an entry, the log before is a prefix of the log of
   -- the clerk's note. Without an entry, or after a fault, the network is unchanged.
   pub record HeldCall (before after : PublishedJournalView) (old new : ClerkView) (result : Result A E) : Type 0 where
-    pub clerk : ClerkCall before.name old new result
+    pub clerk : ClerkCall before.name.book old new result
     pub key : KeepsKey before after
     pub begins : IfOk result (λ answer. Answers answer (after ≡ before) (IsPrefix before.log.entries (noted new.note)))
     pub kept : OnErr result (after ≡ before)

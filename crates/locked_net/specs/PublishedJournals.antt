@@ -1,8 +1,8 @@
 -- What a network's lock guards, as contracts see it: a whole log, the base of what is kept, what is
 -- published, and what no event changes.
-use Rattle.std.specs.Prelude.{◌≡◌, ℕ, ◌+◌, [], Option, Some}
+use Rattle.std.specs.Prelude.{◌≡◌, ◌+◌, [], Option, Some}
 use Rattle.rule_machine.specs.declared.base.Base.{Base}
-use Rattle.rule_machine.specs.Base.{base_of, dropped}
+use Rattle.rule_machine.specs.Base.{base_of}
 use Rattle.rule_machine.specs.RuleTable.{RuleTable}
 use Rattle.snapshots.specs.Views.{BoardName, BoardView}
 use Rattle.step_log.specs.RetainedLogs.{RetainedLog, last_number, moment_in}
@@ -28,10 +28,6 @@ pub record IsPublishedJournal (t : RuleTable) (kept : RetainedLog) (board : Boar
   pub above : IsLogAboveBase t (log_over kept board) kept
   pub posted : board.posted ≡ []
   pub extent : board.name.extent ≡ record { places = kept.state.network.size + 1; present = kept.present; base = board.name.extent.base }
-
--- the same, with the number after which the board's entries begin
-abbrev pub IsPublishedFrom : RuleTable → ℕ → RetainedLog → BoardView → Type 0
-IsPublishedFrom t start kept board = (start ≡ dropped board.name.extent.base) × IsPublishedJournal t kept board
 
 -- ---- what no event changes: the number of names, the nodes at the start, the beginning, the log's limit, and
 -- its board; and, besides the lock's key, the base of what is kept

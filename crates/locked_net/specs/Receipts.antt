@@ -7,7 +7,7 @@ use Rattle.rule_machine.specs.Base.{dropped}
 use Rattle.rule_machine.specs.Run.{Entry}
 use Rattle.step_log.specs.declared.receipt.Receipt.{Receipt}
 use Rattle.logbook.specs.Pages.{Book}
-use Rattle.snapshots.specs.Views.{BoardName, PublishedLog}
+use Rattle.snapshots.specs.Views.{PublishedLog}
 
 -- the number of the last receipt; `front` if there is none
 abbrev pub front_from : ℕ → List Receipt → ℕ
@@ -29,13 +29,11 @@ pub record IsReceiptOf (start : ℕ) (log : List Entry) (receipt : Receipt) : Ty
   pub numbered : start < receipt.seq
   pub same : slice_get log (receipt.seq - start - 1) ≡ Some (receipt.event, receipt.reply)
 
--- A clerk as contracts see it. The network of its last receipt numbers its entries after `start`; 0 if there
--- is no receipt.
+-- a clerk as contracts see it
 pub record ClerkView : Type 0 where
   pub receipts : List Receipt
   pub note : Option PublishedLog
   pub base : Option ℕ
-  pub start : ℕ
 
 -- the number of the last entry before a base; none if there is no base
 abbrev pub base_number : Option Base → Option ℕ
@@ -55,7 +53,7 @@ seen_by clerk = seen_from clerk.base clerk.receipts
 
 -- a clerk that has made no call
 abbrev pub fresh : ClerkView
-fresh = record { receipts = []; note = None; base = None; start = 0 }
+fresh = record { receipts = []; note = None; base = None }
 
 -- the last receipt is the log's entry with the number of this receipt
 abbrev pub StandsLastFrom : ℕ → List Entry → Receipt → List Receipt → Type 0
@@ -68,9 +66,9 @@ StandsLast start log [] = Unit {0}
 StandsLast start log (receipt ∷ receipts) = StandsLastFrom start log receipt receipts
 
 -- a clerk with a receipt has a note, and the note's log has the entry of the last receipt
-abbrev pub NotesLast : ℕ → List Receipt → Option PublishedLog → Type 0
-NotesLast start receipts None = receipts ≡ []
-NotesLast start receipts (Some told) = StandsLast start told.log receipts
+abbrev pub NotesLast : List Receipt → Option PublishedLog → Type 0
+NotesLast receipts None = receipts ≡ []
+NotesLast receipts (Some told) = StandsLast (dropped told.base) told.log receipts
 
 -- the entries of a note; none if there is no note
 abbrev pub noted : Option PublishedLog → List Entry
@@ -80,7 +78,7 @@ noted (Some told) = told.log
 -- the numbers of the receipts rise, and the note's log has the entry of the last receipt
 pub record IsClerk (clerk : ClerkView) : Type 0 where
   pub rise : RiseAbove 0 clerk.receipts
-  pub last : NotesLast clerk.start clerk.receipts clerk.note
+  pub last : NotesLast clerk.receipts clerk.note
 
 -- the greater of two numbers; if only one is there, that number
 abbrev pub greater_base : Option ℕ → Option ℕ → Option ℕ
@@ -95,8 +93,3 @@ HasNoteOf book clerk = IsSomeAnd clerk.note (λ told. told.book ≡ book)
 -- if there is a note, the note is of this history
 abbrev pub IsOfBook : Book → ClerkView → Type 0
 IsOfBook book clerk = IfSome clerk.note (λ told. told.book ≡ book)
-
--- The clerk has a note of the board's history, and its last receipt's entry is numbered after the board's base.
-pub record HasNoteFrom (name : BoardName) (clerk : ClerkView) : Type 0 where
-  pub note : HasNoteOf name.book clerk
-  pub start : clerk.start ≡ dropped name.extent.base

@@ -9,10 +9,10 @@ use Rattle.std.specs.Option.{option_or}
 use Rattle.rule_machine.specs.declared.act.Moved.{Moved}
 use Rattle.rule_machine.specs.declared.reply.Reply.TheVariants.{Moves}
 use Rattle.step_log.specs.declared.receipt.Receipt.{Receipt}
-use Rattle.snapshots.specs.Views.{BoardName}
+use Rattle.logbook.specs.Pages.{Book}
 use Rattle.step_log.specs.RetainedLogs.{RetainedLog}
 use Rattle.locked_net.specs.Settings.{Setting, IsLogIn}
-use Rattle.locked_net.specs.Receipts.{ClerkView, HasNoteFrom, base_from, front_of, seen_by}
+use Rattle.locked_net.specs.Receipts.{ClerkView, HasNoteOf, base_from, front_of, seen_by}
 use Rattle.locked_net.specs.RoamTurns.{lone_step, receipts_of_turn, fault_of_turn, FaultInTurn}
 use Rattle.locked_net.specs.declared.call_fault.CallFault.{CallFault}
 use Rattle.locked_net.specs.declared.call_fault.CallFault.TheVariants as call_fault
@@ -56,18 +56,18 @@ pub record IsBehind (clerks : List ClerkView) (front seen : ℕ) : Type 0 where
   pub own : seen ≡ seen_by view
   pub fewer : front < seen
 
--- A clerk's note is unchanged, or a note of this board's history, and the clerk counts from the board's base.
--- The clerk's own base is unchanged, and each new receipt has a number above it.
-pub record KeepsNote (name : BoardName) (old new : ClerkView) : Type 0 where
-  pub note : ((new.note ≡ old.note) × (new.start ≡ old.start)) ⊎ HasNoteFrom name new
+-- A clerk's note is unchanged or a note of this history. The clerk's base is unchanged, and each new receipt has
+-- a number above it.
+pub record KeepsNote (book : Book) (old new : ClerkView) : Type 0 where
+  pub note : (new.note ≡ old.note) ⊎ HasNoteOf book new
   pub base : new.base ≡ old.base
   pub above : (own : List Receipt) × (new.receipts ≡ old.receipts ++ own) × All (λ receipt. base_from old.base < receipt.seq) own
 
 -- the same for each of these clerks
-abbrev pub AllKeepNotes : BoardName → List ClerkView → List ClerkView → Type 0
-AllKeepNotes name [] [] = Unit {0}
-AllKeepNotes name (old ∷ olds) (new ∷ news) = KeepsNote name old new × AllKeepNotes name olds news
-AllKeepNotes name olds news = ⊥
+abbrev pub AllKeepNotes : Book → List ClerkView → List ClerkView → Type 0
+AllKeepNotes book [] [] = Unit {0}
+AllKeepNotes book (old ∷ olds) (new ∷ news) = KeepsNote book old new × AllKeepNotes book olds news
+AllKeepNotes book olds news = ⊥
 
 -- what a fault says without a look at the log
 abbrev pub MayMeetRoamFault : List ClerkView → RoamFault → Type 0

@@ -164,7 +164,7 @@ impl<R: Rules> BoardReader<R> {
         ensures learnt { IsPrefix self.old.learnt self.new.learnt }
         ensures note { IfSome clerk.old.note (λ told. IsPrefix told.log self.new.learnt) }
         ensures one_log { IfSome clerk.old.note (λ told. IsOneLog told.log self.old.list) }
-        ensures last { StandsLast clerk.old.start self.new.learnt clerk.old.receipts }
+        ensures last { StandsLast (dropped self.old.name.extent.base) self.new.learnt clerk.old.receipts }
     {
         if let Some(note) = clerk.note() {
             self.reader.learn(note);

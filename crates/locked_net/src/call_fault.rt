@@ -8,10 +8,10 @@ use thiserror::Error;
 /// Log and clerk are unchanged.
 #[derive(Clone, Copy, Debug, PartialEq, Eq, Error)]
 pub enum CallFault {
-    /// The log has fewer entries than the clerk has seen: the clerk has called another network.
+    /// The clerk has seen a number above that of the log's last entry: it has called another network.
     #[error("behind")]
     Behind {
-        /// How many entries the log has.
+        /// The number of the log's last entry; without one, that of the log's base, or 0.
         front: u32,
         /// The greatest entry number that the clerk has seen.
         seen: u32,

@@ -17,18 +17,16 @@ mod seeing;
 
 pub(crate) use checkpoint::greater;
 
-/// A caller of a network. Contracts see four things:
+/// A caller of a network. Contracts see three things:
 ///
 /// - the clerk's receipts, oldest first: one for each answered call, with strictly rising numbers;
 /// - the clerk's note of what was published at the last receipt, or of more that the clerk `sees`;
-/// - the greatest number that the clerk's `checkpoint` returned;
-/// - the number after which the network of the last receipt numbers its entries: 0, or that of its base.
+/// - the greatest number that the clerk's `checkpoint` returned.
 #[derive(Drop)]
 pub struct Clerk {
     receipts: Vec<Receipt>,
     note: Option<Note>,
     base: Option<u32>,
-    start: u32,
 }
 
 impl Model for Clerk {
@@ -40,9 +38,9 @@ impl Model for Clerk {
 
     ghost coded = { Prim.hlevel (codes, book_coded) };
 
-    ghost view = { λ c. record { receipts = c.receipts.items; note = c.note; base = c.base; start = c.start } };
+    ghost view = { λ c. record { receipts = c.receipts.items; note = c.note; base = c.base } };
 
-    ghost invariant = { λ c. IsClerk (record { receipts = c.receipts.items; note = c.note; base = c.base; start = c.start }) };
+    ghost invariant = { λ c. IsClerk (record { receipts = c.receipts.items; note = c.note; base = c.base }) };
 }
 
 impl Clerk {
@@ -53,7 +51,6 @@ impl Clerk {
             receipts: Vec::new(alloc),
             note: None,
             base: None,
-            start: 0,
         }
     }
 

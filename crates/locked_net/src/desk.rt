@@ -16,8 +16,8 @@ ghost use Rattle.step_log.specs.declared.start_fault.StartFault.TheVariants as s
 ghost use Rattle.step_log.specs.Log.{max_entries};
 ghost use Rattle.locked_net.specs.WholeLogs.{IsWholeLog};
 ghost use Rattle.locked_net.specs.RetainedParts.{IsLogAboveBase, log_over};
-ghost use Rattle.locked_net.specs.PublishedJournals.{IsPublishedJournal, IsPublishedFrom, based, KeepsKey};
-ghost use Rattle.rule_machine.specs.Base.{base_of, dropped};
+ghost use Rattle.locked_net.specs.PublishedJournals.{IsPublishedJournal, based, KeepsKey};
+ghost use Rattle.rule_machine.specs.Base.{base_of};
 ghost use Rattle.rule_machine.specs.State.{State, flag};
 
 use crate::SeenCost;
@@ -34,11 +34,10 @@ const READERS: usize = 64;
 
 /// A journal and the board that publishes all its entries. Cannot be dropped: `close` ends it.
 /// Contracts see the whole published log from its beginning, dropped entries included; the journal's base; and
-/// the board's name. Entries are numbered after `start`.
+/// the board's name.
 pub(crate) struct PublishedJournal<R: Rules> {
     journal: Journal<R>,
     board: Board<Runs<R>>,
-    start: u32,
 }
 
 impl<R: Rules> Model for PublishedJournal<R> {
@@ -47,7 +46,7 @@ impl<R: Rules> Model for PublishedJournal<R> {
     ghost use Rattle.logbook.specs.Pages.{book_coded};
     ghost use Rattle.step_log.specs.JournalViews.{kept_of};
     ghost use Rattle.locked_net.specs.RetainedParts.{log_over};
-    ghost use Rattle.locked_net.specs.PublishedJournals.{PublishedJournalView, IsPublishedFrom};
+    ghost use Rattle.locked_net.specs.PublishedJournals.{PublishedJournalView, IsPublishedJournal};
 
     ghost Value = { PublishedJournalView };
 
@@ -55,7 +54,7 @@ impl<R: Rules> Model for PublishedJournal<R> {
 
     ghost view = { λ d. record { log = log_over (kept_of d.journal) d.board; base = d.journal.base; name = d.board.name } };
 
-    ghost invariant = { λ d. IsPublishedFrom R.table d.start (kept_of d.journal) d.board };
+    ghost invariant = { λ d. IsPublishedJournal R.table (kept_of d.journal) d.board };
 }
 
 #[derive(Drop)]
@@ -84,7 +83,7 @@ impl<R: Rules> PublishedJournal<R> {
     {
         let journal = Journal::with_present(alloc, nodes, present, limit)?;
         match Board::new(alloc, nodes as usize + 1, present, READERS) {
-            Ok(board) => Ok(over(journal, board, 0)),
+            Ok(board) => Ok(PublishedJournal { journal, board }),
             Err(_) => Err(GraphFault::Memory),
         }
     }
@@ -107,14 +106,13 @@ impl<R: Rules> PublishedJournal<R> {
         ensures full { IsErrOf result start_fault.LogFull ↔ (min limit max_entries < base.number) }
         ensures fault { IfErr result (λ fault. ExplainsStartFault R.table R.NODE_WEIGHT size (min limit max_entries) base fault) }
     {
-        let start = base.number;
         let copy = copy_of(&base);
         let journal = Journal::from_base(alloc, size, limit, base)?;
         let Ok(base) = copy else {
             return Err(no_memory(&journal));
         };
         match Board::from_base(alloc, size as usize + 1, &base, READERS) {
-            Ok(board) => Ok((over(journal, board, start), base)),
+            Ok(board) => Ok((PublishedJournal { journal, board }, base)),
             Err(_) => Err(no_memory(&journal)),
         }
     }
@@ -135,14 +133,7 @@ impl<R: Rules> PublishedJournal<R> {
         let size = net.store().capacity();
         let journal = Journal::of_net(alloc, net, number, limit)?;
         let board = Board::from_base(alloc, size as usize + 1, &base, READERS)?;
-        Ok((over(journal, board, number), base))
-    }
-
-    pub(crate) fn start(&self) -> u32
-        ensures log { result ≡ dropped self.now.log.base }
-        ensures name { result ≡ dropped self.now.name.extent.base }
-    {
-        self.start
+        Ok((PublishedJournal { journal, board }, base))
     }
 
     pub(crate) fn len(&self) -> u32
@@ -173,7 +164,7 @@ impl<R: Rules> PublishedJournal<R> {
     }
 
     pub(crate) fn note(&self) -> Note
-        ensures { (result.log ≡ self.now.log.entries) × (result.book ≡ self.now.name.book) }
+        ensures { (result.log ≡ self.now.log.entries) × (result.book ≡ self.now.name.book) × (result.base ≡ self.now.name.extent.base) }
     {
         self.board.note()
     }
@@ -181,7 +172,7 @@ impl<R: Rules> PublishedJournal<R> {
     pub(crate) fn cost_of(&self, event: &Event) -> SeenCost
         ensures cost { result.cost ≡ disturbance_cost R.table R.cost self.now.log.state event.now }
         ensures grows { BoundsGrowth R.table self.now.log.state self.now.log.spent event.now result.cost }
-        ensures note { (result.note.log ≡ self.now.log.entries) × (result.note.book ≡ self.now.name.book) }
+        ensures note { (result.note.log ≡ self.now.log.entries) × (result.note.book ≡ self.now.name.book) × (result.note.base ≡ self.now.name.extent.base) }
         ensures run { IsWholeLog R.table self.now.log }
     {
         SeenCost {
@@ -206,7 +197,7 @@ impl<R: Rules> PublishedJournal<R> {
         ensures log { OnOk result (self.new.log ≡ kept_with R.table self.old.log event) }
         ensures receipt { IfOk result (λ told. told.receipt ≡ next_receipt R.table self.old.log event) }
         ensures reply { IfOk result (λ told. told.reply ≡ (next_receipt R.table self.old.log event).reply) }
-        ensures note { IfOk result (λ told. (told.note.log ≡ self.new.log.entries) × (told.note.book ≡ self.old.name.book)) }
+        ensures note { IfOk result (λ told. (told.note.log ≡ self.new.log.entries) × (told.note.book ≡ self.old.name.book) × (told.note.base ≡ self.old.log.base)) }
         ensures full { IsErrOf result LogFull → last_number self.old.log ≡ self.old.log.limit }
         ensures kept { OnErr result (self.new ≡ self.old) }
         ensures key { KeepsKey self.old self.new }
@@ -225,7 +216,7 @@ impl<R: Rules> PublishedJournal<R> {
         ensures log { OnOk result (self.new.log ≡ kept_with R.table self.old.log (Step choice)) }
         ensures receipt { IfOk result (λ told. told.receipt ≡ next_receipt R.table self.old.log (Step choice)) }
         ensures reply { IfOk result (λ told. told.reply ≡ (next_receipt R.table self.old.log (Step choice)).reply) }
-        ensures note { IfOk result (λ told. (told.note.log ≡ self.new.log.entries) × (told.note.book ≡ self.old.name.book)) }
+        ensures note { IfOk result (λ told. (told.note.log ≡ self.new.log.entries) × (told.note.book ≡ self.old.name.book) × (told.note.base ≡ self.old.log.base)) }
         ensures full { IsErrOf result LogFull → last_number self.old.log ≡ self.old.log.limit }
         ensures kept { OnErr result (self.new ≡ self.old) }
         ensures key { KeepsKey self.old self.new }
@@ -257,26 +248,10 @@ impl<R: Rules> PublishedJournal<R> {
         ensures above { IsLogAboveBase R.table self.log (kept_of result) }
         ensures run { IsWholeLog R.table self.log }
     {
-        let PublishedJournal {
-            journal,
-            board,
-            start: _,
-        } = self;
+        let PublishedJournal { journal, board } = self;
         board.end(rt);
         prove!(journal.len() <= step_log::MAX_ENTRIES);
         journal
-    }
-}
-
-fn over<R: Rules>(journal: Journal<R>, board: Board<Runs<R>>, start: u32) -> PublishedJournal<R>
-    requires { IsPublishedFrom R.table start (kept_of journal) board }
-    ensures log { result.log ≡ log_over (kept_of journal) board }
-    ensures name { result.name ≡ board.name }
-{
-    PublishedJournal {
-        journal,
-        board,
-        start,
     }
 }
 
@@ -315,7 +290,7 @@ fn finish<R: Rules, W: Wait>(
     ensures desk { IsPublishedJournal R.table (kept_of journal.new) board.new }
     ensures receipt { IfOk result (λ told. told.receipt ≡ next_receipt R.table (log_over (kept_of journal.old) board.old) prepared.event) }
     ensures reply { IfOk result (λ told. told.reply ≡ prepared.reply) }
-    ensures note { IfOk result (λ told. (told.note.log ≡ board.new.list) × (told.note.book ≡ board.old.name.book)) }
+    ensures note { IfOk result (λ told. (told.note.log ≡ board.new.list) × (told.note.book ≡ board.old.name.book) × (told.note.base ≡ board.old.name.extent.base)) }
     ensures name { board.new.name ≡ board.old.name }
     ensures kept { OnErr result ((kept_of journal.new ≡ kept_of journal.old) × (board.new.list ≡ board.old.list)) }
 {

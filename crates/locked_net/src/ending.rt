@@ -1,6 +1,6 @@
 //! How a locked network ends.
 
-ghost use Rattle.std.specs.Prelude.{◌≡◌, ◌≢◌, false, IfOk, IfErr, OnOk, IsTrue};
+ghost use Rattle.std.specs.Prelude.{◌≡◌, ◌≢◌, false, IfOk, IfErr, IfSome, OnOk, IsTrue};
 ghost use Rattle.std.specs.List.{All};
 ghost use mathlib.Core.List.{IsPrefix};
 ghost use Rattle.step_log.specs.JournalViews.{kept_of};
@@ -94,6 +94,7 @@ pub(crate) fn begins(clerk: &Clerk, last: &Note) -> bool
     ensures yes { IsTrue result → IsPrefix (noted clerk.now.note) last.now.log }
     ensures no { result ≡ false → IsPrefix last.now.log (noted clerk.now.note) }
     ensures none { result ≡ false → HasNoteOf last.now.book clerk.now }
+    ensures base { IfSome clerk.now.note (λ note. note.base ≡ last.now.base) }
 {
     match clerk.note() {
         Some(note) => note.begins(last),
@@ -110,7 +111,7 @@ fn settle_journal<R: Rules>(
     requires run { IsRetainedRun R.table R.NODE_WEIGHT (kept_of journal) }
     ensures same { IfOk result (λ settled. settled ≡ journal) }
     ensures headline { OnOk result (Headline start R.table R.NODE_WEIGHT (kept_of journal) clerks.now) }
-    ensures fault { IfErr result (λ unsettled. Unsettles start (kept_of journal) clerks.now unsettled.why) }
+    ensures fault { IfErr result (λ unsettled. Unsettles start (kept_of unsettled.journal) clerks.now unsettled.why) }
     ensures back { IfErr result (λ unsettled. unsettled.journal ≡ journal) }
 {
     match settled_with(alloc, start, &journal, clerks) {

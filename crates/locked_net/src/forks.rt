@@ -2,7 +2,7 @@
 
 ghost use Rattle.std.specs.Prelude.{◌+◌, ◌<◌, ◌^◌, length};
 ghost use Rattle.std.specs.Thread.{IsSync, IsSend};
-ghost use Rattle.locked_net.specs.Nets.{name_of, setting_of};
+ghost use Rattle.locked_net.specs.Nets.{book_of, setting_of};
 ghost use Rattle.locked_net.specs.RoamResults.{AllEnd, AllKeepNotes};
 
 use crate::round::{RoamConfig, take_turns};
@@ -20,7 +20,7 @@ fn roam_first<R: Rules, G: Gate, W: Wait>(
 ) -> Option<CallFault>
     requires { length clerks.old < 2 }
     ensures ends { AllEnd (setting_of R.table round.now.net.now) round.now.turns clerks.old clerks.new result }
-    ensures notes { AllKeepNotes (name_of round.now.net.now) clerks.old clerks.new }
+    ensures notes { AllKeepNotes (book_of round.now.net.now) clerks.old clerks.new }
 {
     if clerks.is_empty() {
         return None;
@@ -38,7 +38,7 @@ pub(crate) fn roam_all<R: Rules + Send, G: Gate + Sync, T: Threads + Wait + Sync
 ) -> Option<CallFault>
     requires { first + length clerks.old < 2 ^ 32 }
     ensures ends { AllEnd (setting_of R.table round.now.net.now) round.now.turns clerks.old clerks.new result }
-    ensures notes { AllKeepNotes (name_of round.now.net.now) clerks.old clerks.new }
+    ensures notes { AllKeepNotes (book_of round.now.net.now) clerks.old clerks.new }
 {
     if clerks.len() < 2 {
         return roam_first(rt, round, first, clerks);
@@ -60,8 +60,8 @@ fn roam_halves<R: Rules + Send, G: Gate + Sync, T: Threads + Wait + Sync>(
     requires { first + length ours.old + length theirs.old < 2 ^ 32 }
     ensures ours { AllEnd (setting_of R.table round.now.net.now) round.now.turns ours.old ours.new result.0 }
     ensures theirs { AllEnd (setting_of R.table round.now.net.now) round.now.turns theirs.old theirs.new result.1 }
-    ensures our_notes { AllKeepNotes (name_of round.now.net.now) ours.old ours.new }
-    ensures their_notes { AllKeepNotes (name_of round.now.net.now) theirs.old theirs.new }
+    ensures our_notes { AllKeepNotes (book_of round.now.net.now) ours.old ours.new }
+    ensures their_notes { AllKeepNotes (book_of round.now.net.now) theirs.old theirs.new }
 {
     let second = first + ours.len() as u32;
     join_mut(
@@ -69,12 +69,12 @@ fn roam_halves<R: Rules + Send, G: Gate + Sync, T: Threads + Wait + Sync>(
         &mut || -> Option<CallFault>
             requires { IsSync T.row × IsSync G.row × IsSend R.row × (first + length ours.now < 2 ^ 32) }
             ensures ends { AllEnd (setting_of R.table round.entry.now.net.now) round.entry.now.turns ours.entry.now ours.exit.now result }
-            ensures notes { AllKeepNotes (name_of round.entry.now.net.now) ours.entry.now ours.exit.now }
+            ensures notes { AllKeepNotes (book_of round.entry.now.net.now) ours.entry.now ours.exit.now }
         { roam_all(rt, round, first, ours) },
         &mut || -> Option<CallFault>
             requires { IsSync T.row × IsSync G.row × IsSend R.row × (second + length theirs.now < 2 ^ 32) }
             ensures ends { AllEnd (setting_of R.table round.entry.now.net.now) round.entry.now.turns theirs.entry.now theirs.exit.now result }
-            ensures notes { AllKeepNotes (name_of round.entry.now.net.now) theirs.entry.now theirs.exit.now }
+            ensures notes { AllKeepNotes (book_of round.entry.now.net.now) theirs.entry.now theirs.exit.now }
         { roam_all(rt, round, second, theirs) },
     )
 }

@@ -12,10 +12,10 @@ pub enum RoamFault {
     /// A thread could not be started. `roam` never returns `Thread`: clerks roam one after another then.
     #[error("no thread")]
     Thread,
-    /// The log has fewer entries than a clerk has seen: the clerk has called another network.
+    /// A clerk has seen a number above that of the log's last entry: it has called another network.
     #[error("behind")]
     Behind {
-        /// How many entries the log has.
+        /// The number of the log's last entry; without one, that of the log's base, or 0.
         front: u32,
         /// The greatest entry number that the clerk has seen.
         seen: u32,

@@ -1,7 +1,7 @@
 //! Clerks that roam.
 
 ghost use Rattle.std.specs.Prelude.{◌≡◌, ◌↔◌, [], take, IfErr, OnOk, IsErrOf};
-ghost use Rattle.locked_net.specs.Nets.{name_of, setting_of};
+ghost use Rattle.locked_net.specs.Nets.{book_of, setting_of};
 ghost use Rattle.locked_net.specs.RoamResults.{RoamResult, AllTakeTurns, AllKeepNotes, MayMeetRoamFault};
 ghost use Rattle.locked_net.specs.declared.roam_fault.RoamFault.TheVariants.{ZeroWorkers};
 
@@ -41,7 +41,7 @@ pub fn roam<R: Rules + Send, G: Gate + Sync, T: Threads + Wait + Sync>(
 ) -> Result<(), RoamFault>
     ensures roamed { RoamResult turns clerks.old clerks.new }
     ensures turns { OnOk result (AllTakeTurns (setting_of R.table net.now) turns (take 64 clerks.old) (take 64 clerks.new)) }
-    ensures notes { AllKeepNotes (name_of net.now) clerks.old clerks.new }
+    ensures notes { AllKeepNotes (book_of net.now) clerks.old clerks.new }
     ensures none { IsErrOf result ZeroWorkers ↔ (clerks.old ≡ []) }
     ensures fault { IfErr result (λ fault. MayMeetRoamFault clerks.new fault) }
 {

@@ -2,7 +2,7 @@
 
 ghost use Rattle.std.specs.Prelude.{◌≡◌, IfErr, OnOk, OnErr};
 ghost use Rattle.std.specs.Result.{result_err};
-ghost use Rattle.locked_net.specs.Nets.{name_of, setting_of};
+ghost use Rattle.locked_net.specs.Nets.{book_of, setting_of};
 ghost use Rattle.locked_net.specs.RoamResults.{KeepsNote, TakesTurn, MeetsFault, MayEnd};
 
 use crate::{CallFault, Clerk, LockedNet};
@@ -25,7 +25,7 @@ fn take_turn<R: Rules, W: Wait>(
 ) -> Result<Option<Reply>, CallFault>
     ensures turn { OnOk result (TakesTurn (setting_of R.table net.now) turn clerk.old.receipts clerk.new.receipts) }
     ensures fault { IfErr result (λ fault. MeetsFault (setting_of R.table net.now) turn clerk.old fault) }
-    ensures note { KeepsNote (name_of net.now) clerk.old clerk.new }
+    ensures note { KeepsNote (book_of net.now) clerk.old clerk.new }
     ensures kept { OnErr result (clerk.new ≡ clerk.old) }
 {
     let mut held = net.hold(rt);
@@ -42,7 +42,7 @@ pub(crate) fn take_turns<R: Rules, G: Gate, W: Wait>(
     clerk: &mut Clerk,
 ) -> Result<(), CallFault>
     ensures turns { MayEnd (setting_of R.table round.now.net.now) round.now.turns clerk.old clerk.new (result_err result) }
-    ensures note { KeepsNote (name_of round.now.net.now) clerk.old clerk.new }
+    ensures note { KeepsNote (book_of round.now.net.now) clerk.old clerk.new }
 {
     for turn in 0..round.turns {
         round.gate.pass(rt, worker, turn);

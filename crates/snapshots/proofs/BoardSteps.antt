@@ -1,5 +1,5 @@
 -- Each step of a board keeps the rule of its copies.
-use Rattle.snapshots.proofs.Prelude.{◌≡◌, ◌≢◌, ℕ, ◌+◌, List, [], ◌∷◌, ◌++◌, length, set, Option, Some, None, ⊎_elim, refl, ap, sym, ◌∙◌, subst, arith, length-append, fold-append, Admits, TurnsAt, Forks, Merges, at_set, at_snoc, Entry, Book, dropped, Mark, shown, BoardShape, pointers_after, row_effect, here_after, here_by, CopyView, after, extent_of, ExtendsView, IsSound, Publishes, Sees}
+use Rattle.snapshots.proofs.Prelude.{◌≡◌, ◌≢◌, ℕ, ◌+◌, List, [], ◌∷◌, ◌++◌, length, set, Option, Some, None, ⊎_elim, refl, ap, sym, ◌∙◌, subst, arith, length-append, fold-append, Admits, TurnsAt, Forks, Merges, at_set, at_snoc, Entry, Book, dropped, Mark, origin_of, nodes_in, base_in, shown, BoardShape, pointers_after, row_effect, here_after, here_by, CopyView, after, extent_of, ExtendsView, IsSound, IsReader, Publishes, Sees}
 use mathlib.Core.List.{IsPrefix}
 use mathlib.Core.Option.{some}
 use lib.ListN.{get_elem?}
@@ -15,7 +15,7 @@ follows_on (Some s) x y f g =
     (g.0 ∙ f.0, g.1 ∙ f.1, prefix_trans (shown s.marks) (shown x.marks) (shown y.marks) f.2 g.2)
 
 abbrev with_places : CopyView → ℕ → BoardShape
-with_places x places = record { places = places; present = x.present; base = x.base }
+with_places x places = record { places = places; present = nodes_in x.marks; base = base_in x.marks }
 
 module _ (law : BoardShape → List Entry → Type 0) where
   -- a copy that continues the one before may be shown
@@ -62,26 +62,39 @@ module _ (law : BoardShape → List Entry → Type 0) where
       )
 
   -- a copy one entry later agrees with its entries
-  pub later : (x : CopyView) (entry : Entry) (front : ℕ) (marks : List Mark) (book : Book) → shown marks ≡ shown x.marks ++ entry ∷ []
-      → front ≡ dropped x.base + length (shown x.marks) + 1 → law (extent_of x) (shown x.marks ++ entry ∷ []) → IsSound law x → IsSound law (after x entry front marks book)
-  later x entry front marks book is number holds sound =
+  pub later : (x : CopyView) (entry : Entry) (front : ℕ) (marks : List Mark) (book : Book) → origin_of marks ≡ origin_of x.marks → shown marks ≡ shown x.marks ++ entry ∷ []
+      → front ≡ dropped (base_in x.marks) + length (shown x.marks) + 1 → law (extent_of x) (shown x.marks ++ entry ∷ []) → IsSound law x → IsSound law (after x entry front marks book)
+  later x entry front marks book from is number holds sound =
       let n : length (row_effect x.row entry) ≡ length x.row = effect_length x.row entry in
       let more : row_effect x.row entry ≡ pointers_after (extent_of x) (shown x.marks ++ entry ∷ []) =
       ap (λ r. row_effect r entry) sound.row ∙ sym (fold-append row_effect (pointers_after (extent_of x) []) (shown x.marks) (entry ∷ [])) in
       let here : here_by x.here entry ≡ here_after (extent_of x) (shown x.marks ++ entry ∷ []) =
       ap (λ h. here_by h entry) sound.here ∙ sym (fold-append here_by (here_after (extent_of x) []) (shown x.marks) (entry ∷ [])) in
       record {
-        row = rw (n, is) more;
-        here = rw (n, is) here;
-        front = number ∙ rw is (omega (arith, length-append (shown x.marks) (entry ∷ [])));
-        lawful = rw (n, is) holds;
+        row = rw (n, from, is) more;
+        here = rw (n, from, is) here;
+        front = number ∙ rw (from, is) (omega (arith, length-append (shown x.marks) (entry ∷ [])));
+        lawful = rw (n, from, is) holds;
       }
 
-  pub goes_on : (x : CopyView) (entry : Entry) (front : ℕ) (marks : List Mark) → shown marks ≡ shown x.marks ++ entry ∷ [] → ExtendsView (Some x) (after x entry front marks x.book)
-  goes_on x entry front marks is = (refl, ap (λ (n : ℕ). with_places x n) (effect_length x.row entry), rw is (prefix_more (shown x.marks) (entry ∷ [])))
+  pub goes_on : (x : CopyView) (entry : Entry) (front : ℕ) (marks : List Mark) → origin_of marks ≡ origin_of x.marks → shown marks ≡ shown x.marks ++ entry ∷ [] → ExtendsView (Some x) (after x entry front marks x.book)
+  goes_on x entry front marks from is = (refl, rw from (ap (λ (n : ℕ). with_places x n) (effect_length x.row entry)), rw is (prefix_more (shown x.marks) (entry ∷ [])))
 
   -- a look shows a copy that continues the known one
   pub goes_on_from : (list : List Entry) (v : Option CopyView) (x : CopyView) (w : Option CopyView) (s : CopyView) → v ≡ Some s → Sees law v x x w → IsPrefix list (shown s.marks)
       → IsPrefix list (shown x.marks)
   goes_on_from list v x w s is sees begins =
       let f : ExtendsView (Some s) x = subst (λ (z : Option CopyView). ExtendsView z x) is sees.1 in prefix_trans list (shown s.marks) (shown x.marks) begins f.2
+
+  -- who looked knows a copy that continues what was seen
+  pub reader_looked : (v w : Option CopyView) (x : CopyView) (seen : List Mark) (seen_in learnt_in : Book) → IsReader v seen seen_in learnt_in → Sees law v x x w → IsReader w seen seen_in learnt_in
+  reader_looked v w x seen seen_in learnt_in is sees =
+      let f : ExtendsView (Some is.copy) x = subst (λ (z : Option CopyView). ExtendsView z x) is.knows sees.1 in
+      record {
+        copy = x;
+        knows = sees.0;
+        sees = is.sees ∙ sym f.0;
+        learns = is.learns ∙ sym f.0;
+        begins = prefix_trans (shown seen) (shown is.copy.marks) (shown x.marks) is.begins f.2;
+        base = is.base ∙ sym (ap (λ (e : BoardShape). e.base) f.1);
+      }

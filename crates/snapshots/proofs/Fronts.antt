@@ -1,5 +1,5 @@
 -- Prefixes of one list, and what a longer history shows.
-use Rattle.snapshots.proofs.Prelude.{◌≡◌, ◌+◌, ◌≤◌, List, [], ◌∷◌, ◌++◌, length, take, drop, fold, Some, None, refl, ap, sym, ◌∙◌, subst, arith, append_assoc, length-append, append-nil, nil_from_length, take_at, take-append-drop, take-append-le, fold-append, Entry, Mark, with_mark, published_and_posted, published, posted, shown}
+use Rattle.snapshots.proofs.Prelude.{◌≡◌, ◌+◌, ◌<◌, ◌≤◌, List, [], ◌∷◌, ◌++◌, length, take, drop, fold, refl, ap, sym, ◌∙◌, subst, arith, append_assoc, length-append, append-nil, nil_from_length, take_at, take-append-drop, take-append-le, fold-append, Entry, Mark, Beginning, Posting, Publication, origin_of, with_mark, published_and_posted, published, posted, shown}
 use mathlib.Core.List.{IsPrefix}
 use mathlib.Core.Logic.{dite}
 use native.Mathlib.Decide.{dec_le}
@@ -28,8 +28,9 @@ module _ {A : Type 0} where
 -- marks take nothing away from what is published
 grows : (marks : List Mark) (s : List Entry × List Entry) → IsPrefix s.0 (fold with_mark s marks).0
 grows [] s = prefix_self s.0
-grows (Some entry ∷ marks) s = grows marks (s.0, entry ∷ [])
-grows (None ∷ marks) s =
+grows (Beginning origin ∷ marks) s = grows marks s
+grows (Posting entry ∷ marks) s = grows marks (s.0, entry ∷ [])
+grows (Publication ∷ marks) s =
     prefix_trans s.0 (s.0 ++ s.1) (fold with_mark (s.0 ++ s.1, []) marks).0 (prefix_more s.0 s.1) (grows marks (s.0 ++ s.1, []))
 
 -- what a prefix of a history published is a prefix of what the history published
@@ -41,12 +42,15 @@ published_grows xs ys p =
 -- with one mark more, at most the posted entry is published
 one_more : (xs ys rest : List Mark) → xs ++ rest ≡ ys → length rest ≤ 1 → IsPrefix (published ys) (shown xs)
 one_more xs ys [] is le = subst (λ (l : List Mark). IsPrefix (published l) (shown xs)) (sym (append-nil xs) ∙ is) (prefix_more (published xs) (posted xs))
-one_more xs ys (Some entry ∷ []) is le =
+one_more xs ys (Beginning origin ∷ []) is le =
     subst (λ (l : List Mark). IsPrefix (published l) (shown xs)) is
-    (subst (λ (s : List Entry × List Entry). IsPrefix s.0 (shown xs)) (sym (fold-append with_mark ([], []) xs (Some entry ∷ []))) (prefix_more (published xs) (posted xs)))
-one_more xs ys (None ∷ []) is le =
+    (subst (λ (s : List Entry × List Entry). IsPrefix s.0 (shown xs)) (sym (fold-append with_mark ([], []) xs (Beginning origin ∷ []))) (prefix_more (published xs) (posted xs)))
+one_more xs ys (Posting entry ∷ []) is le =
     subst (λ (l : List Mark). IsPrefix (published l) (shown xs)) is
-    (subst (λ (s : List Entry × List Entry). IsPrefix s.0 (shown xs)) (sym (fold-append with_mark ([], []) xs (None ∷ []))) (prefix_self (shown xs)))
+    (subst (λ (s : List Entry × List Entry). IsPrefix s.0 (shown xs)) (sym (fold-append with_mark ([], []) xs (Posting entry ∷ []))) (prefix_more (published xs) (posted xs)))
+one_more xs ys (Publication ∷ []) is le =
+    subst (λ (l : List Mark). IsPrefix (published l) (shown xs)) is
+    (subst (λ (s : List Entry × List Entry). IsPrefix s.0 (shown xs)) (sym (fold-append with_mark ([], []) xs (Publication ∷ []))) (prefix_self (shown xs)))
 one_more xs ys (a ∷ b ∷ rest) is le = absurd (omega arith)
 
 -- Of two prefixes of one history, what the one published is a prefix of what the other shows, if the other
@@ -59,3 +63,26 @@ is_shown xs ys all p q le =
     let r = prefix_shorter ys xs all q p (omega arith) in
     let n : length r.0 ≤ 1 = omega (arith, length-append ys r.0, ap length r.1) in
     one_more ys xs r.0 r.1 n)
+
+-- ---- the origin
+
+-- a history keeps its origin
+pub origin_stays : (marks more : List Mark) → 0 < length marks → origin_of (marks ++ more) ≡ origin_of marks
+origin_stays [] more some = absurd (omega (arith, some))
+origin_stays (Beginning origin ∷ marks) more some = refl
+origin_stays (Posting entry ∷ marks) more some = refl
+origin_stays (Publication ∷ marks) more some = refl
+
+-- a mark of another kind gives no origin
+pub origin_posted : (marks : List Mark) (entry : Entry) → origin_of (marks ++ Posting entry ∷ []) ≡ origin_of marks
+origin_posted [] entry = refl
+origin_posted (mark ∷ marks) entry = origin_stays (mark ∷ marks) (Posting entry ∷ []) (omega arith)
+
+pub origin_published : (marks : List Mark) → origin_of (marks ++ Publication ∷ []) ≡ origin_of marks
+origin_published [] = refl
+origin_published (mark ∷ marks) = origin_stays (mark ∷ marks) (Publication ∷ []) (omega arith)
+
+-- two prefixes of one history have one origin
+pub one_origin : (xs ys all : List Mark) → IsPrefix xs all → IsPrefix ys all → 0 < length xs → 0 < length ys → origin_of xs ≡ origin_of ys
+one_origin xs ys all p q some others =
+    sym (origin_stays xs p.0 some) ∙ (ap origin_of (p.1 ∙ sym q.1) ∙ origin_stays ys q.0 others)

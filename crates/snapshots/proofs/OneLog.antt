@@ -1,5 +1,5 @@
 -- Of two prefixes of one history, what the one published and what the other shows are of one log.
-use Rattle.snapshots.proofs.Prelude.{ℕ, ◌-◌, ◌≤◌, ◌⊎◌, ⊎_elim, List, [], ◌∷◌, ◌++◌, length, take, fold, Some, None, inl, inr, arith, length-append, length-take, take-append-drop, Entry, Mark, with_mark, published, posted, shown, but_last, IsOneLog, AreOneLog, AreComparable}
+use Rattle.snapshots.proofs.Prelude.{ℕ, ◌-◌, ◌≤◌, ◌⊎◌, ⊎_elim, List, [], ◌∷◌, ◌++◌, length, take, fold, inl, inr, arith, length-append, length-take, take-append-drop, Entry, Mark, Beginning, Posting, Publication, with_mark, published, posted, shown, but_last, IsOneLog, AreOneLog, AreComparable}
 use Rattle.std.specs.Prelude.{drop}
 use mathlib.Core.List.{IsPrefix}
 use mathlib.Core.Logic.{dite}
@@ -9,8 +9,9 @@ use Rattle.snapshots.proofs.Fronts.{prefix_more, prefix_trans, prefix_shorter, p
 -- at most one entry is posted
 one_posted : (marks : List Mark) (s : List Entry × List Entry) → length s.1 ≤ 1 → length (fold with_mark s marks).1 ≤ 1
 one_posted [] s le = le
-one_posted (Some entry ∷ marks) s le = one_posted marks (s.0, entry ∷ []) (omega arith)
-one_posted (None ∷ marks) s le = one_posted marks (s.0 ++ s.1, []) (omega arith)
+one_posted (Beginning origin ∷ marks) s le = one_posted marks s le
+one_posted (Posting entry ∷ marks) s le = one_posted marks (s.0, entry ∷ []) (omega arith)
+one_posted (Publication ∷ marks) s le = one_posted marks (s.0 ++ s.1, []) (omega arith)
 
 take_begins : (n : ℕ) (log : List Entry) → IsPrefix (take n log) log
 take_begins n log = (drop n log, take-append-drop n log)

@@ -28,9 +28,14 @@ pub use Rattle.rule_machine.specs.declared.event.Event.TheVariants.{Link, Unlink
 pub use Rattle.rule_machine.specs.declared.refusal.Refusal.{Refusal}
 pub use Rattle.rule_machine.specs.declared.reply.Reply.{Reply}
 pub use Rattle.rule_machine.specs.declared.reply.Reply.TheVariants.{Accepted, Moves, Shown, EnabledAre, Pairs, Counts, Refused}
-pub use Rattle.snapshots.specs.Boards.{entries_of, absorbed, IsPublishable, IsPostedLast, IsBoard}
+pub use Rattle.snapshots.specs.Boards.{IsReader, entries_of, absorbed, IsPublishable, IsPostedLast, IsBoard}
 pub use Rattle.snapshots.specs.CopyViews.{CopyView, copy_at_start, after, extent_of}
-pub use Rattle.snapshots.specs.History.{Mark, shown, with_mark, published_and_posted, published, posted, max_marks, AreHistoryCells, AddsMark, but_last, IsOneLog, AreOneLog, AreComparable}
+pub use Rattle.snapshots.specs.History.{shown, with_mark, published_and_posted, published, posted, max_marks, AreHistoryCells, AddsMark, but_last, IsOneLog, AreOneLog, AreComparable}
+pub use Rattle.snapshots.specs.Origins.{origin_of, nodes_at, base_at, nodes_in, base_in}
+pub use Rattle.snapshots.specs.declared.marks.Mark.{Mark}
+pub use Rattle.snapshots.specs.declared.marks.Mark.TheVariants.{Beginning, Posting, Publication}
+pub use Rattle.snapshots.specs.declared.marks.Origin.{Origin}
+pub use Rattle.snapshots.specs.declared.marks.Origin.TheVariants.{FirstNames, FromBase}
 pub use Rattle.snapshots.specs.Row.{BoardShape, pointers_after, row_effect, here_after, here_by, Row, without_pointer_at, moved_by, moved, effect_of, here_of, IsRun, pointer_in, disturbed_row, with_target, with_present, row_from, row_at_start, here_from, here_at_start}
 pub use Rattle.snapshots.specs.Starts.{IsStart, StartsAt}
 pub use Rattle.snapshots.specs.Rule.{ExtendsView, IsSound, Publishes, Sees}

@@ -6,7 +6,9 @@ use Rattle.rule_machine.specs.Base.{dropped}
 use Rattle.logbook.specs.Pages.{Book}
 use Rattle.snapshots.specs.declared.history.HistoryPrefix.{HistoryPrefix}
 use Rattle.snapshots.specs.declared.image.Posted.{Posted}
-use Rattle.snapshots.specs.History.{Mark, published, posted, shown, max_marks}
+use Rattle.snapshots.specs.declared.marks.Mark.{Mark}
+use Rattle.snapshots.specs.History.{published, posted, shown, max_marks}
+use Rattle.snapshots.specs.Origins.{base_in, origin_of}
 use Rattle.snapshots.specs.Row.{BoardShape}
 use Rattle.snapshots.specs.CopyViews.{CopyView, after}
 use Rattle.snapshots.specs.Rule.{ExtendsView, IsSound}
@@ -30,7 +32,7 @@ IsPublishable law x pending = (IsSound law x → IsSound law (fold absorbed x pe
 pub record IsPostedLast (x : CopyView) (marks : List Mark) (book : Book) (p : Posted) : Type 0 where
   pub past : p.past.seen.log ≡ marks
   pub same : p.past.seen.book ≡ book
-  pub number : p.front ≡ dropped x.base + length (shown x.marks) + 1
+  pub number : p.front ≡ dropped (base_in x.marks) + length (shown x.marks) + 1
   pub last : posted marks ≡ p.entry ∷ []
   pub room : length marks < max_marks
 
@@ -39,9 +41,11 @@ pub record IsBoard (law : BoardShape → List Entry → Type 0) (x : CopyView) (
   pub sound : IsSound law x
   pub knows : known ≡ Some x
   pub same : book ≡ x.book
+  pub origin : origin_of marks ≡ origin_of x.marks
   pub list : published marks ≡ shown x.marks
   pub ready : (pending ≡ []) ⊎ ((p : Posted) × (pending ≡ p ∷ []) × IsPostedLast x marks book p)
   pub is_announced : published announced ≡ shown x.marks
+  pub announced_from : origin_of announced ≡ origin_of x.marks
 
 -- the same for the history seen last and the announced prefix
 abbrev pub IsBoardOf : (BoardShape → List Entry → Type 0) → CopyView → Option CopyView → List Posted → HistoryPrefix → HistoryPrefix → Type 0
@@ -54,3 +58,4 @@ pub record IsReader (known : Option CopyView) (seen : List Mark) (seen_in : Book
   pub sees : seen_in ≡ copy.book
   pub learns : learnt_in ≡ copy.book
   pub begins : IsPrefix (shown seen) (shown copy.marks)
+  pub base : base_in seen ≡ base_in copy.marks

@@ -1,19 +1,17 @@
 -- One copy as contracts see it.
 use Rattle.std.specs.Prelude.{ℕ, Bool, false, List, Option, None, Some, length, if◌then◌else◌, nat_lt, slice_index_or}
-use Rattle.rule_machine.specs.declared.base.Base.{Base}
 use Rattle.rule_machine.specs.Base.{dropped}
 use Rattle.rule_machine.specs.Run.{Entry}
 use Rattle.logbook.specs.Pages.{Book}
-use Rattle.snapshots.specs.History.{Mark}
+use Rattle.snapshots.specs.declared.marks.Mark.{Mark}
+use Rattle.snapshots.specs.Origins.{nodes_in, base_in}
 use Rattle.snapshots.specs.Row.{Row, BoardShape, pointer_in, partner_in, row_effect, row_at_start, here_at_start, here_by, pointers_after, here_after}
 
--- the pointers and, for each place, whether its node is present; the number of nodes before any entry, and the
--- base, if any; the number of the last entry, and the prefix of the history that shows the entries
+-- the pointers and, for each place, whether its node is present; the number of the last entry, and the prefix of
+-- the history that shows the entries
 pub record CopyView : Type 0 where
   pub row : Row
   pub here : List Bool
-  pub present : ℕ
-  pub base : Option Base
   pub front : ℕ
   pub marks : List Mark
   pub book : Book
@@ -21,16 +19,16 @@ pub record CopyView : Type 0 where
 -- a copy before any entry
 abbrev pub copy_at_start : BoardShape → List Mark → Book → CopyView
 copy_at_start extent marks book =
-    record { row = row_at_start extent; here = here_at_start extent; present = extent.present; base = extent.base; front = dropped extent.base; marks = marks; book = book }
+    record { row = row_at_start extent; here = here_at_start extent; front = dropped extent.base; marks = marks; book = book }
 
 -- how many places a copy has, how many nodes there were before any entry, and the base, if any
 abbrev pub extent_of : CopyView → BoardShape
-extent_of x = record { places = length x.row; present = x.present; base = x.base }
+extent_of x = record { places = length x.row; present = nodes_in x.marks; base = base_in x.marks }
 
 -- a copy after one more entry
 abbrev pub after : CopyView → Entry → ℕ → List Mark → Book → CopyView
 after x entry front marks book =
-    record { row = row_effect x.row entry; here = here_by x.here entry; present = x.present; base = x.base; front = front; marks = marks; book = book }
+    record { row = row_effect x.row entry; here = here_by x.here entry; front = front; marks = marks; book = book }
 
 -- the pointer at a place, and the target if the target points back; none if there is no such place
 abbrev pub held_in : Row → ℕ → Option (Option ℕ × Option ℕ)

@@ -1,19 +1,17 @@
 -- The history of a board: its posted and published entries, how two of its prefixes compare, and adding a
 -- mark.
-use Rattle.std.specs.Prelude.{ℕ, ◌≡◌, ◌⊎◌, ◌-◌, ◌==◌, true, List, [], ◌∷◌, ◌++◌, length, take, Option, None, Some, MatchBool, fold}
+use Rattle.std.specs.Prelude.{ℕ, ◌≡◌, ◌⊎◌, ◌+◌, ◌-◌, ◌==◌, true, List, [], ◌∷◌, ◌++◌, length, take, MatchBool, fold}
 use mathlib.Core.List.{IsPrefix}
 use Rattle.logbook.specs.Pages.{Cell, Step, View, Book, Named}
 use Rattle.rule_machine.specs.Run.{Entry}
-
--- an entry that is posted, replacing any entry posted but not published; or none: the last posted entry is
--- published
-abbrev pub Mark : Type 0
-Mark = Option Entry
+use Rattle.snapshots.specs.declared.marks.Mark.{Mark}
+use Rattle.snapshots.specs.declared.marks.Mark.TheVariants.{Beginning, Posting, Publication}
 
 -- the published entries, and the posted one, if any
 abbrev pub with_mark : List Entry × List Entry → Mark → List Entry × List Entry
-with_mark s (Some entry) = (s.0, entry ∷ [])
-with_mark s None = (s.0 ++ s.1, [])
+with_mark s (Beginning origin) = s
+with_mark s (Posting entry) = (s.0, entry ∷ [])
+with_mark s Publication = (s.0 ++ s.1, [])
 
 abbrev pub published_and_posted : List Mark → List Entry × List Entry
 published_and_posted marks = fold with_mark ([], []) marks
@@ -49,13 +47,13 @@ AreComparable one other = IsPrefix one other ⊎ IsPrefix other one
 
 -- ---- the rule of the history
 
--- The first word is the number of marks. A book has two words; the second stays 0.
+-- The word of a book is the number of marks after the first.
 abbrev pub AreHistoryCells : List Cell → List Mark → Type 0
-AreHistoryCells cells marks = cells ≡ (length marks, true) ∷ (0, true) ∷ []
+AreHistoryCells cells marks = (count : ℕ) × (length marks ≡ count + 1) × (cells ≡ (count, true) ∷ [])
 
--- how many marks the word counts
+-- how many marks a history has at most
 abbrev pub max_marks : ℕ
-max_marks = 18446744073709551615
+max_marks = 18446744073709551616
 
 -- the word of a book that is the number of its marks
 abbrev pub head_of : Book → Named

@@ -1,5 +1,6 @@
 -- A board, a reader and a note, as contracts see them.
 use Rattle.std.specs.Prelude.{List, Option, None, Some}
+use Rattle.rule_machine.specs.declared.base.Base.{Base}
 use Rattle.rule_machine.specs.Run.{Entry}
 use Rattle.logbook.specs.Pages.{Book}
 use Rattle.snapshots.specs.Row.{BoardShape}
@@ -23,10 +24,11 @@ pub record ReaderView : Type 0 where
   pub learnt : List Entry
   pub name : BoardName
 
--- the entries that were published
+-- the entries that were published, their history, and the base at which they begin, if any
 pub record PublishedLog : Type 0 where
   pub log : List Entry
   pub book : Book
+  pub base : Option Base
 
 -- the extent of the copy that was seen last
 abbrev pub extent_seen : Option CopyView → BoardShape

@@ -3,8 +3,9 @@
 ghost use Rattle.std.specs.Prelude.{◌≡◌, ◌+◌, ◌^◌, ◌<◌, ◌∷◌, ◌++◌, [], Some, None, length, IfOk, OnOk, OnErr};
 ghost use Rattle.rule_machine.specs.Base.{dropped};
 
-use crate::history::{History, HistoryPrefix, Posts, Publishes};
+use crate::history::{History, HistoryPrefix};
 use crate::image::RegisterCopy;
+use crate::marks::{Posts, Publishes};
 use crate::note::Note;
 use crate::reader::Reader;
 use crate::rule::Law;
@@ -94,7 +95,7 @@ impl<L: Law> Board<L> {
         requires law { L.holds (record { places = places; present = present; base = None }) [] }
         ensures { IfOk result (λ b. (b.list ≡ []) × (b.posted ≡ []) × (b.name.extent ≡ record { places = places; present = present; base = None })) }
     {
-        let history = History::new();
+        let history = History::at_names(present);
         let copy = RegisterCopy::blank(alloc, places, present, &history.front)?;
         Ok(Board::over(alloc, readers, copy, history))
     }
@@ -112,7 +113,7 @@ impl<L: Law> Board<L> {
         requires law { L.holds (record { places = places; present = length base.now.nodes; base = Some base.now }) [] }
         ensures { IfOk result (λ b. (b.list ≡ []) × (b.posted ≡ []) × (b.name.extent ≡ record { places = places; present = length base.now.nodes; base = Some base.now })) }
     {
-        let history = History::new();
+        let history = History::at_base(base);
         let copy = RegisterCopy::from_base(alloc, places, base, &history.front)?;
         Ok(Board::over(alloc, readers, copy, history))
     }
@@ -145,7 +146,7 @@ impl<L: Law> Board<L> {
         requires posted { self.old.posted ≡ entry.now ∷ [] }
         requires law { L.holds self.old.name.extent (self.old.list ++ self.old.posted) }
         ensures published { self.new ≡ record self.old { list = self.old.list ++ self.old.posted; posted = [] } }
-        ensures note { (result.log ≡ self.new.list) × (result.book ≡ self.new.name.book) }
+        ensures note { result ≡ record { log = self.new.list; book = self.new.name.book; base = self.new.name.extent.base } }
     {
         self.copies.show(rt, entry);
         // `post` left room for the mark, so `add` fails only if someone else has added a mark. No one else
@@ -161,7 +162,7 @@ impl<L: Law> Board<L> {
 
     /// A note of what is published.
     pub fn note(&self) -> Note
-        ensures { (result.log ≡ self.now.list) × (result.book ≡ self.now.name.book) }
+        ensures { result ≡ record { log = self.now.list; book = self.now.name.book; base = self.now.name.extent.base } }
     {
         Note {
             front: self.announced.again(),

@@ -2,15 +2,19 @@
 
 ghost use Rattle.std.specs.Prelude.{◌≡◌, ◌+◌, ◌<◌, ◌∷◌, ◌++◌, [], false, None, length, IsTrue, MatchBool};
 ghost use mathlib.Core.List.{IsPrefix};
+ghost use Rattle.snapshots.specs.declared.marks.Origin.TheVariants.{FirstNames, FromBase};
+ghost use Rattle.snapshots.specs.declared.marks.Mark.TheVariants.{Beginning};
+ghost use Rattle.snapshots.specs.Origins.{origin_of};
 ghost use Rattle.snapshots.specs.History.{published, shown, head_of, max_marks, IsOneLog, AreOneLog, AreComparable};
 
-use log_entry::Entry;
-use logbook::{Gain, Offer, Plain, Play, Rule, Seen, Start, Word};
+use crate::marks::{AtBase, AtNames, Mark};
+use logbook::{Gain, Offer, Opening, Plain, Play, Rule, Seen, Start, Word};
+use rule_machine::Base;
 
-/// The rule of the history: one word counts its marks.
+/// The rule of the history: one word counts the marks after the first.
 pub struct Numbered;
 
-impl Rule<Option<Entry>, u64> for Numbered {
+impl Rule<Mark, u64> for Numbered {
     ghost use Rattle.std.specs.Prelude.{[]};
     ghost use base.Fml.{ftrue};
     ghost use Rattle.snapshots.specs.History.{AreHistoryCells};
@@ -30,7 +34,7 @@ impl Rule<Option<Entry>, u64> for Numbered {
 
 pub(crate) struct Nothing;
 
-impl Gain<Option<Entry>, u64> for Nothing {
+impl Gain<Mark, u64> for Nothing {
     ghost use base.Fml.{ftrue};
 
     ghost after = { λ names about answer. ftrue };
@@ -38,40 +42,18 @@ impl Gain<Option<Entry>, u64> for Nothing {
 
 pub(crate) struct Add;
 
-impl Play<Option<Entry>, u64> for Add {
+impl Play<Mark, u64> for Add {
     ghost use Rattle.snapshots.specs.History.{AddsMark};
 
     ghost then = { AddsMark };
 }
 
-/// The mark that an entry is posted.
-pub(crate) struct Posts;
-
-impl Plain<Entry, Option<Entry>, u64> for Posts {
-    ghost use Rattle.std.specs.Prelude.{None, Some};
-
-    ghost ask = { λ entry. Some entry };
-
-    ghost state = { λ entry. None };
-}
-
-/// The mark that the last posted entry is published.
-pub(crate) struct Publishes;
-
-impl Plain<(), Option<Entry>, u64> for Publishes {
-    ghost use Rattle.std.specs.Prelude.{None};
-
-    ghost ask = { λ nothing. None };
-
-    ghost state = { λ nothing. None };
-}
-
-/// A prefix of a history that someone has seen, with the number of marks in the prefix.
+/// A prefix of a history that someone has seen, with the number of marks after the first.
 #[derive(Drop)]
 pub struct HistoryPrefix {
     count: u64,
-    pub(crate) seen: Seen<Option<Entry>, u64, Numbered>,
-    ghost counted: { count ≡ length seen.log },
+    pub(crate) seen: Seen<Mark, u64, Numbered>,
+    ghost counted: { length seen.log ≡ count + 1 },
 }
 
 impl HistoryPrefix {
@@ -125,6 +107,7 @@ impl HistoryPrefix {
         ensures published { AreComparable (published self.now.seen.log) (published other.now.seen.log) }
         ensures shown { AreOneLog (shown self.now.seen.log) (shown other.now.seen.log) }
         ensures both { IsOneLog (published self.now.seen.log) (shown other.now.seen.log) }
+        ensures origin { origin_of self.now.seen.log ≡ origin_of other.now.seen.log }
     {
         let mut both = self.seen.again();
         both.learn(&other.seen);
@@ -134,18 +117,33 @@ impl HistoryPrefix {
 /// The one place where marks are added, with all marks so far.
 #[derive(Drop)]
 pub(crate) struct History {
-    head: Word<Option<Entry>, u64, Numbered>,
+    head: Word<Mark, u64, Numbered>,
     pub(crate) front: HistoryPrefix,
     ghost head_is: { head ≡ head_of front.seen.book },
 }
 
 impl History {
-    pub(crate) fn new() -> History
-        ensures { result.front.seen.log ≡ [] }
+    /// The history of a board whose first nodes are this many names from 1.
+    pub(crate) fn at_names(count: u32) -> History
+        ensures { result.front.seen.log ≡ Beginning (FirstNames count) ∷ [] }
     {
-        let (seen, mut first, _second) = Seen::open(Start::alone(), 0, 0);
+        History::open::<u32, AtNames>(&count)
+    }
+
+    pub(crate) fn at_base(base: &Base) -> History
+        ensures { result.front.seen.log ≡ Beginning (FromBase base.now) ∷ [] }
+    {
+        History::open::<Base, AtBase>(base)
+    }
+
+    fn open<X, M: Opening<X, Mark>>(about: &X) -> History
+        requires { length (M.log 1 about.now) ≡ 1 }
+        ensures { result.front.seen.log ≡ M.log 1 about.now }
+    {
+        let (seen, mut pens) = Seen::open_row::<X, M>(about, Start::alone(), 1);
+        let mut pen = pens.take();
         History {
-            head: Word::tracked(0, &mut first),
+            head: Word::tracked(0, &mut pen),
             front: HistoryPrefix { count: 0, seen },
         }
     }
@@ -157,7 +155,7 @@ impl History {
     }
 
     /// False if someone else has added a mark meanwhile, which never happens.
-    pub(crate) fn add<X, M: Plain<X, Option<Entry>, u64>>(&mut self, about: &X) -> bool
+    pub(crate) fn add<X, M: Plain<X, Mark, u64>>(&mut self, about: &X) -> bool
         requires state { M.state about.now ≡ None }
         requires room { length self.old.front.seen.log < max_marks }
         ensures book { self.new.front.seen.book ≡ self.old.front.seen.book }
@@ -165,9 +163,7 @@ impl History {
     {
         let count = self.front.count;
         let mut seen = self.front.seen.again();
-        let mut offer: Offer<Option<Entry>, u64, Numbered, Nothing> = seen.plain::<Nothing, X, M>(
-            about,
-        );
+        let mut offer: Offer<Mark, u64, Numbered, Nothing> = seen.plain::<Nothing, X, M>(about);
         let mut pen = seen.no_pen();
         let found = self
             .head

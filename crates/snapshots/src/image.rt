@@ -7,7 +7,6 @@ ghost use Rattle.snapshots.specs.CopyViews.{copy_at_start, after, held_in, found
 
 use crate::effect::{mark_nodes, take_in, take_presence, write_targets};
 use crate::history::HistoryPrefix;
-use crate::origin::{KnownOrigin, at_base, at_names};
 use left_right::Absorb;
 use log_entry::Entry;
 use rule_machine::{Base, Node};
@@ -15,21 +14,19 @@ use std::alloc::{AllocError, Global};
 use std::marker::Model;
 
 /// The pointers and present nodes after the entry number `front`, with a place for each name.
-/// Also has the prefix of the history that shows the entries. Contracts see the origin of the entries too.
+/// Also has the prefix of the history that shows the entries.
 #[derive(Drop)]
 pub struct RegisterCopy {
     row: Vec<Option<Node>>,
     here: Vec<bool>,
     front: u32,
     past: HistoryPrefix,
-    origin: KnownOrigin,
 }
 
 impl Model for RegisterCopy {
     ghost use Rattle.std.specs.Coded.{codes};
     ghost use Rattle.logbook.specs.Pages.{book_coded};
     ghost use Rattle.snapshots.specs.CopyViews.{CopyView};
-    ghost use Rattle.snapshots.specs.Origins.{nodes_at_origin, base_at_origin};
 
     ghost Value = { CopyView };
 
@@ -38,8 +35,6 @@ impl Model for RegisterCopy {
     ghost view = { λ i. record {
       row = i.row.items;
       here = i.here.items;
-      present = nodes_at_origin i.origin.log;
-      base = base_at_origin i.origin.log;
       front = i.front;
       marks = i.past.seen.log;
       book = i.past.seen.book;
@@ -68,7 +63,6 @@ impl RegisterCopy {
             here: here_at_start(alloc, places, present)?,
             front: 0,
             past: past.again(),
-            origin: at_names(present),
         })
     }
 
@@ -89,7 +83,6 @@ impl RegisterCopy {
             here,
             front: base.number,
             past: past.again(),
-            origin: at_base(base),
         })
     }
 
@@ -105,7 +98,6 @@ impl RegisterCopy {
             here,
             front: self.front,
             past: self.past.again(),
-            origin: self.origin.again(),
         })
     }
 

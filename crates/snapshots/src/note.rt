@@ -8,7 +8,8 @@ use crate::history::HistoryPrefix;
 use std::marker::Model;
 
 /// A note, for any thread, of the entries that a board had published when it gave the note.
-/// Contracts see the entries and their history; the note itself contains no entry.
+/// Contracts see the entries, their history, and the base at which they begin, if any; the note itself contains
+/// no entry.
 #[derive(Drop)]
 pub struct Note {
     pub(crate) front: HistoryPrefix,
@@ -18,13 +19,14 @@ impl Model for Note {
     ghost use Rattle.std.specs.Coded.{codes};
     ghost use Rattle.logbook.specs.Pages.{book_coded};
     ghost use Rattle.snapshots.specs.History.{published};
+    ghost use Rattle.snapshots.specs.Origins.{base_in};
     ghost use Rattle.snapshots.specs.Views.{PublishedLog};
 
     ghost Value = { PublishedLog };
 
     ghost coded = { Prim.hlevel (codes, book_coded) };
 
-    ghost view = { λ n. record { log = published n.front.seen.log; book = n.front.seen.book } };
+    ghost view = { λ n. record { log = published n.front.seen.log; book = n.front.seen.book; base = base_in n.front.seen.log } };
 }
 
 impl Note {
@@ -43,14 +45,18 @@ impl Note {
         requires { other.now.book ≡ self.now.book }
         ensures yes { IsTrue result → IsPrefix self.now.log other.now.log }
         ensures no { result ≡ false → IsPrefix other.now.log self.now.log }
+        ensures base { self.now.base ≡ other.now.base }
     {
+        self.meets(other);
         self.front.begins(&other.front)
     }
 
-    /// Of the entries of two notes of one board, one list is a prefix of the other. Runs no code.
+    /// Of the entries of two notes of one board, one list is a prefix of the other, and they begin at one base.
+    /// Runs no code.
     pub fn meets(&self, other: &Note)
         requires { other.now.book ≡ self.now.book }
-        ensures { AreComparable self.now.log other.now.log }
+        ensures logs { AreComparable self.now.log other.now.log }
+        ensures base { self.now.base ≡ other.now.base }
     {
         self.front.meets(&other.front);
     }

@@ -143,11 +143,12 @@ impl<L: Law> Reader<L> {
     }
 
     /// Takes in a note of the reader's own board: later looks show at least the note's entries.
-    /// What the reader saw last and the note's entries are of one log.
+    /// What the reader saw last and the note's entries are of one log, and begin at one base.
     pub fn learn(&mut self, note: &Note)
         requires { note.now.book ≡ self.old.name.book }
         ensures one_log { IsOneLog note.now.log self.old.list }
         ensures learnt { IsPrefix self.old.learnt self.new.learnt × IsPrefix note.now.log self.new.learnt }
+        ensures base { note.now.base ≡ self.old.name.extent.base }
         ensures kept { (self.new.list ≡ self.old.list) × (self.new.name ≡ self.old.name) }
     {
         note.front.meets(&self.seen);

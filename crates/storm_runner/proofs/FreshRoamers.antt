@@ -1,5 +1,5 @@
 -- Fresh clerks after they have roamed.
-use Rattle.storm_runner.proofs.Prelude.{nil_from_length, ◌≡◌, ◌≢◌, ◌↔◌, ◌∙◌, ℕ, suc, ◌≤◌, List, [], ◌∷◌, ◌++◌, length, take, Result, Ok, Err, Option, None, IfErr, OnOk, IsErrOf, ⊎_elim, refl, sym, ap, subst, arith, All, length-drop, take_all, All-nil, All-cons, All-head, All-tail, All-weaker, option_or, IsPrefix, BoardName, ClerkView, fresh, noted, HasNoteFrom, IsOfBook, Setting, AllRoam, RoamResult, KeepsNote, AllKeepNotes, TakesTurns, AllTakeTurns, MayMeetRoamFault, RoamFault, ZeroWorkers, Thread, CallFault, ScriptLine, IsRoaming, PlayedOn, ToldOn, RoamResultOfNew, roam_call_fault}
+use Rattle.storm_runner.proofs.Prelude.{nil_from_length, ◌≡◌, ◌≢◌, ◌↔◌, ◌∙◌, ℕ, suc, ◌≤◌, List, [], ◌∷◌, ◌++◌, length, take, Result, Ok, Err, Option, None, IfErr, OnOk, IsErrOf, ⊎_elim, refl, sym, ap, subst, arith, All, length-drop, take_all, All-nil, All-cons, All-head, All-tail, All-weaker, option_or, IsPrefix, Book, ClerkView, fresh, noted, HasNoteOf, IsOfBook, Setting, AllRoam, RoamResult, KeepsNote, AllKeepNotes, TakesTurns, AllTakeTurns, MayMeetRoamFault, RoamFault, ZeroWorkers, Thread, CallFault, ScriptLine, IsRoaming, PlayedOn, ToldOn, RoamResultOfNew, roam_call_fault}
 use Rattle.locked_net.specs.declared.roam_fault.RoamFault.TheVariants as roam
 use Rattle.storm_runner.proofs.ClerkNotes.{of_book}
 use Rattle.storm_runner.proofs.SplitScripts.{all_left}
@@ -46,31 +46,31 @@ no_receipts : (clerks : List ClerkView) → All (λ clerk. clerk ≡ fresh) cler
 no_receipts clerks all = All-weaker (λ clerk. clerk ≡ fresh) (λ clerk. clerk.receipts ≡ []) (λ clerk is. ap (λ (c : ClerkView). c.receipts) is) clerks all
 
 -- and no base, since they keep it
-all_unbased : (name : BoardName) (old new : List ClerkView) → All (λ clerk. clerk ≡ fresh) old → AllKeepNotes name old new → All (λ clerk. clerk.base ≡ None) new
-all_unbased name [] [] none keep = All-nil (λ clerk. clerk.base ≡ None)
-all_unbased name (old ∷ olds) (new ∷ news) none (own, keep) =
+all_unbased : (book : Book) (old new : List ClerkView) → All (λ clerk. clerk ≡ fresh) old → AllKeepNotes book old new → All (λ clerk. clerk.base ≡ None) new
+all_unbased book [] [] none keep = All-nil (λ clerk. clerk.base ≡ None)
+all_unbased book (old ∷ olds) (new ∷ news) none (own, keep) =
     let Fresh = λ (clerk : ClerkView). clerk ≡ fresh in
-    All-cons (λ clerk. clerk.base ≡ None) new news (own.base ∙ ap (λ (c : ClerkView). c.base) (All-head Fresh old olds none)) (all_unbased name olds news (All-tail Fresh old olds none) keep)
-all_unbased name old new none keep = absurd keep
+    All-cons (λ clerk. clerk.base ≡ None) new news (own.base ∙ ap (λ (c : ClerkView). c.base) (All-head Fresh old olds none)) (all_unbased book olds news (All-tail Fresh old olds none) keep)
+all_unbased book old new none keep = absurd keep
 
-pub roamed_afresh : (setting : Setting) (name : BoardName) (turns : ℕ) (old new : List ClerkView) (ended : Result Unit RoamFault) → length old ≤ 64 → All (λ clerk. clerk ≡ fresh) old
-    → RoamResult turns old new → OnOk ended (AllTakeTurns setting turns (take 64 old) (take 64 new)) → (IsErrOf ended ZeroWorkers ↔ (old ≡ [])) → IfErr ended (λ fault. MayMeetRoamFault new fault) → AllKeepNotes name old new
+pub roamed_afresh : (setting : Setting) (book : Book) (turns : ℕ) (old new : List ClerkView) (ended : Result Unit RoamFault) → length old ≤ 64 → All (λ clerk. clerk ≡ fresh) old
+    → RoamResult turns old new → OnOk ended (AllTakeTurns setting turns (take 64 old) (take 64 new)) → (IsErrOf ended ZeroWorkers ↔ (old ≡ [])) → IfErr ended (λ fault. MayMeetRoamFault new fault) → AllKeepNotes book old new
     → RoamResultOfNew setting turns old new ended
-roamed_afresh setting name turns old new ended few new_clerks roamed took none may_stop keep =
+roamed_afresh setting book turns old new ended few new_clerks roamed took none may_stop keep =
     let all = all_turns turns old new (all_workers turns old new few roamed) (no_receipts old new_clerks) in
-    record { as_many = all.0; steps = all.1; whole = all_took setting turns old new ended few all.0 (no_receipts old new_clerks) took; unbased = all_unbased name old new new_clerks keep; nobody = none; thread = no_thread new ended may_stop }
+    record { as_many = all.0; steps = all.1; whole = all_took setting turns old new ended few all.0 (no_receipts old new_clerks) took; unbased = all_unbased book old new new_clerks keep; nobody = none; thread = no_thread new ended may_stop }
 
 -- so their notes are of the network that they roamed
-one_noted : (name : BoardName) (old new : ClerkView) → old ≡ fresh → KeepsNote name old new → IsOfBook name.book new
-one_noted name old new is keeps =
-    ⊎_elim (λ (same : (new.note ≡ old.note) × (new.start ≡ old.start)). rw (same.0, is) tt) (λ (has : HasNoteFrom name new). of_book name.book new has.note) keeps.note
+one_noted : (book : Book) (old new : ClerkView) → old ≡ fresh → KeepsNote book old new → IsOfBook book new
+one_noted book old new is keeps =
+    ⊎_elim (λ (same : new.note ≡ old.note). rw (same, is) tt) (λ (has : HasNoteOf book new). of_book book new has) keeps.note
 
-pub all_noted : (name : BoardName) (old new : List ClerkView) → All (λ clerk. clerk ≡ fresh) old → AllKeepNotes name old new → All (IsOfBook name.book) new
-all_noted name [] [] none keep = All-nil (IsOfBook name.book)
-all_noted name (old ∷ olds) (new ∷ news) none (own, keep) =
+pub all_noted : (book : Book) (old new : List ClerkView) → All (λ clerk. clerk ≡ fresh) old → AllKeepNotes book old new → All (IsOfBook book) new
+all_noted book [] [] none keep = All-nil (IsOfBook book)
+all_noted book (old ∷ olds) (new ∷ news) none (own, keep) =
     let Fresh = λ (clerk : ClerkView). clerk ≡ fresh in
-    All-cons (IsOfBook name.book) new news (one_noted name old new (All-head Fresh old olds none) own) (all_noted name olds news (All-tail Fresh old olds none) keep)
-all_noted name old new none keep = absurd keep
+    All-cons (IsOfBook book) new news (one_noted book old new (All-head Fresh old olds none) own) (all_noted book olds news (All-tail Fresh old olds none) keep)
+all_noted book old new none keep = absurd keep
 
 -- ---- beside scripts
 

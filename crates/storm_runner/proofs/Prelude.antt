@@ -24,7 +24,7 @@ pub use Rattle.locked_net.specs.ChosenEvents.{ChoosesOn, ChoosesStep, IsChosenRe
 pub use Rattle.locked_net.specs.ClerkCalls.{some_of}
 pub use Rattle.locked_net.specs.Nets.{setting_of, book_of, beginning_of, name_count_of, first_nodes_of, log_limit_of}
 pub use Rattle.locked_net.specs.PublishedJournals.{PublishedJournalView}
-pub use Rattle.locked_net.specs.Receipts.{ClerkView, front_of, base_from, seen_by, noted, HasNoteFrom, HasNoteOf, IsOfBook, fresh, front_from, greater_base}
+pub use Rattle.locked_net.specs.Receipts.{ClerkView, front_of, base_from, seen_by, noted, HasNoteOf, IsOfBook, fresh, front_from, greater_base}
 pub use Rattle.locked_net.specs.RoamResults.{AllRoam, RoamResult, KeepsNote, AllKeepNotes, TakesTurns, AllTakeTurns, MayMeetRoamFault}
 pub use Rattle.locked_net.specs.Settings.{Setting, IsLogIn}
 pub use Rattle.locked_net.specs.declared.call_fault.CallFault.{CallFault}
@@ -50,7 +50,7 @@ pub use Rattle.script_text.specs.declared.command.Turns.{Turns}
 pub use Rattle.script_text.specs.declared.script.ScriptLine.{ScriptLine}
 pub use Rattle.seeded_turns.specs.DrawnEvents.{Draws, seeded_stream, drawn_step, drawn_fault, pcg32_stream}
 pub use Rattle.snapshots.proofs.Fronts.{prefix_trans}
-pub use Rattle.snapshots.specs.Views.{BoardName, PublishedLog}
+pub use Rattle.snapshots.specs.Views.{PublishedLog}
 pub use Rattle.step_log.specs.Headline.{Upholds}
 pub use Rattle.step_log.specs.JournalViews.{kept_of}
 pub use Rattle.step_log.specs.RetainedLogs.{RetainedLog, IsRetainedRun, last_number, next_receipt}

@@ -56,7 +56,6 @@ impl Clerk {
     {
         self.receipts.reserve(1)?;
         let recorded = desk.record(rt, event)?;
-        self.start = desk.start();
         Ok(keep(&mut self.receipts, &mut self.note, recorded))
     }
 }

@@ -31,7 +31,6 @@ impl Clerk {
     {
         self.receipts.reserve(1)?;
         let recorded = desk.record_step(rt, choice, verdicts)?;
-        self.start = desk.start();
         Ok(keep(&mut self.receipts, &mut self.note, recorded))
     }
 }

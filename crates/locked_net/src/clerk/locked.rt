@@ -2,7 +2,7 @@
 
 ghost use Rattle.std.specs.Prelude.{◌≡◌, ◌≢◌, ◌<◌, IfOk, IfErr, OnOk, MatchOption};
 ghost use Rattle.rule_machine.specs.declared.event.Event.TheVariants.{Step};
-ghost use Rattle.locked_net.specs.Nets.{name_of, setting_of};
+ghost use Rattle.locked_net.specs.Nets.{book_of, setting_of};
 ghost use Rattle.locked_net.specs.Receipts.{seen_by};
 ghost use Rattle.locked_net.specs.Calls.{Keeps, KeepsStep, KeepsFault};
 ghost use Rattle.locked_net.specs.ClerkCalls.{each, some_of, ClerkCall};
@@ -34,7 +34,7 @@ impl Clerk {
         event: Event,
     ) -> Result<Reply, CallFault>
         ensures receipt { IfOk result (λ reply. Keeps self.old.receipts self.new.receipts event reply) }
-        ensures call { ClerkCall each (name_of net.now) self.old self.new result }
+        ensures call { ClerkCall each (book_of net.now) self.old self.new result }
         ensures refused { IfErr result (Refuses (setting_of R.table net.now) (seen_by self.old)) }
     {
         let mut held = net.hold(rt);
@@ -58,7 +58,7 @@ impl Clerk {
         gate: &G,
     ) -> Result<Reply, StepFault>
         ensures receipt { IfOk result (λ reply. Keeps self.old.receipts self.new.receipts (Step choice) reply) }
-        ensures call { ClerkCall each (name_of net.now) self.old self.new result }
+        ensures call { ClerkCall each (book_of net.now) self.old self.new result }
         ensures some { OnOk result (0 < workers) }
         ensures refused { IfErr result (RefusesStep (setting_of R.table net.now) (seen_by self.old) workers) }
     {
@@ -82,7 +82,7 @@ impl Clerk {
     ) -> Result<Option<Reply>, CallFault>
         ensures step { IfOk result (λ told. MatchOption told (self.new ≡ self.old) (KeepsStep R.table.central self.old.receipts self.new.receipts)) }
         ensures chosen { IfOk result (ClerkTakes (setting_of R.table net.now) (ByDaemon D.chooses R.table daemon.old daemon.new) self.old self.new) }
-        ensures call { ClerkCall some_of (name_of net.now) self.old self.new result }
+        ensures call { ClerkCall some_of (book_of net.now) self.old self.new result }
         ensures refused { IfErr result (Refuses (setting_of R.table net.now) (seen_by self.old)) }
         ensures unasked { IfErr result (λ fault. (fault ≢ Memory) → daemon.new ≡ daemon.old) }
     {
@@ -106,7 +106,7 @@ impl Clerk {
         ensures none { IfOk result (λ told. ClerkTakes (setting_of R.table net.now) (NoneIfEmpty told) self.old self.new told) }
         ensures register { IfOk result (λ told. MatchOption told (self.new ≡ self.old) (KeepsFault self.old.receipts self.new.receipts)) }
         ensures drawn { IfOk result (ClerkTakes (setting_of R.table net.now) (ByInjector G.stream R.table injector.old injector.new) self.old self.new) }
-        ensures call { ClerkCall some_of (name_of net.now) self.old self.new result }
+        ensures call { ClerkCall some_of (book_of net.now) self.old self.new result }
         ensures refused { IfErr result (Refuses (setting_of R.table net.now) (seen_by self.old)) }
         ensures unasked { IfErr result (λ fault. (fault ≢ Memory) → injector.new ≡ injector.old) }
     {

@@ -10,7 +10,7 @@ use snapshots::Note;
 
 impl Clerk {
     /// Takes in another note of the clerk's network: the clerk's note then includes the logs of both.
-    /// Receipts, base and start stay. Takes no memory.
+    /// Receipts and base stay. Takes no memory.
     pub fn sees(&mut self, other: Note)
         requires { IsOfBook other.book self.old }
         ensures seen { IsPrefix other.log (noted self.new.note) }
@@ -18,7 +18,6 @@ impl Clerk {
         ensures note { HasNoteOf other.book self.new }
         ensures receipts { self.new.receipts ≡ self.old.receipts }
         ensures base { self.new.base ≡ self.old.base }
-        ensures start { self.new.start ≡ self.old.start }
     {
         if begins(self, &other) {
             self.note = Some(other);

@@ -1,4 +1,4 @@
-use Rattle.locked_net.proofs.Prelude.{ℕ, Option, List, refl, sym, subst, All, JournalView, kept_of, IsPartNoted, book_of, setting_of, ClerkView, noted, Unsettles}
+use Rattle.locked_net.proofs.Prelude.{ℕ, Option, List, IfErr, refl, sym, subst, All, JournalView, kept_of, IsPartNoted, book_of, setting_of, ClerkView, noted, Unsettles}
 use mathlib.Core.List.{IsPrefix}
 use Rattle.locked_net.proofs.ClerkNotes.{part_noted, holds_at_ok, holds_at_err}
 use Rattle.locked_net.proofs.ending.settle_own.Goals as goal
@@ -25,9 +25,7 @@ returns-clause-back_noted g c =
 
 pub returns-clause-fault : goal.returns-clause-fault
 returns-clause-fault g c =
-    let told = c.settle_journal.ensures in
-    holds_at_err c.settle_journal.result told.fault told.back
-    (λ unsettled unsettles same.
-    subst (λ (begun : Option ℕ). Unsettles begun (kept_of unsettled.journal) c.args.clerks.items unsettled.why) c.start-start.ensures
-    (subst (λ (clerks : List ClerkView). Unsettles c.start-start.result (kept_of unsettled.journal) clerks unsettled.why) c.deref-2.ensures.value
-    (subst (λ (h : JournalView). Unsettles c.start-start.result (kept_of h) c.deref-2.result.now unsettled.why) (sym same) unsettles)))
+    let result = c.settle_journal.result in
+    let begun = c.start-start.result in
+    subst (λ (b : Option ℕ). IfErr result (λ unsettled. Unsettles b (kept_of unsettled.journal) c.args.clerks.items unsettled.why)) c.start-start.ensures
+    (subst (λ (clerks : List ClerkView). IfErr result (λ unsettled. Unsettles begun (kept_of unsettled.journal) clerks unsettled.why)) c.deref-2.ensures.value c.settle_journal.ensures.fault)

@@ -1,4 +1,4 @@
-use Rattle.locked_net.specs.Nets.{name_of, setting_of}
+use Rattle.locked_net.specs.Nets.{book_of, setting_of}
 use Rattle.locked_net.proofs.Ends.{parts_ended, parts_kept}
 use Rattle.locked_net.proofs.forks.+forks.Goals as goal
 
@@ -12,4 +12,4 @@ pub roam_all-returns-clause-notes : goal.roam_all-returns-clause-notes
 roam_all-returns-clause-notes g t c =
     let rows = c.split_at_mut-ours in
     let told = c.roam_halves-fault in
-    parts_kept (name_of c.args.round.now.net.now) c.args.clerks.now rows.result.0.now rows.result.1.now told.new.ours told.new.theirs rows.ensures.value told.ensures.our_notes told.ensures.their_notes
+    parts_kept (book_of c.args.round.now.net.now) c.args.clerks.now rows.result.0.now rows.result.1.now told.new.ours told.new.theirs rows.ensures.value told.ensures.our_notes told.ensures.their_notes

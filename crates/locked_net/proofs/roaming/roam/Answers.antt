@@ -1,4 +1,4 @@
-use Rattle.locked_net.specs.Nets.{name_of, setting_of}
+use Rattle.locked_net.specs.Nets.{book_of, setting_of}
 use Rattle.locked_net.proofs.Ends.{parts_kept, notes_stay}
 use Rattle.locked_net.proofs.RoamReceipts.{first_roamed, first_taken, may_stop}
 use Rattle.locked_net.proofs.roaming.roam.Goals as goal
@@ -26,11 +26,11 @@ returns-in-Some-clause-fault g c =
 pub returns-in-None-clause-notes : goal.returns-in-None-clause-notes
 returns-in-None-clause-notes g c =
     let rows = c.split_at_mut-ours in
-    let name = name_of c.args.net.now in
-    parts_kept name c.args.clerks.now rows.result.0.now rows.result.1.now c.roam_all.new.clerks rows.result.1.now rows.ensures.value c.roam_all.ensures.notes (notes_stay name rows.result.1.now)
+    let book = book_of c.args.net.now in
+    parts_kept book c.args.clerks.now rows.result.0.now rows.result.1.now c.roam_all.new.clerks rows.result.1.now rows.ensures.value c.roam_all.ensures.notes (notes_stay book rows.result.1.now)
 
 pub returns-in-Some-clause-notes : goal.returns-in-Some-clause-notes
 returns-in-Some-clause-notes g c =
     let rows = c.split_at_mut-ours in
-    let name = name_of c.args.net.now in
-    parts_kept name c.args.clerks.now rows.result.0.now rows.result.1.now c.roam_all.new.clerks rows.result.1.now rows.ensures.value c.roam_all.ensures.notes (notes_stay name rows.result.1.now)
+    let book = book_of c.args.net.now in
+    parts_kept book c.args.clerks.now rows.result.0.now rows.result.1.now c.roam_all.new.clerks rows.result.1.now rows.ensures.value c.roam_all.ensures.notes (notes_stay book rows.result.1.now)

@@ -1,4 +1,4 @@
-use Rattle.locked_net.proofs.Prelude.{name_of, setting_of}
+use Rattle.locked_net.proofs.Prelude.{ap, BoardName, book_of, setting_of}
 use Rattle.locked_net.proofs.Turns.{turn_taken, turn_keeps, fault_met}
 use Rattle.locked_net.proofs.round.take_turn.Goals as goal
 
@@ -14,4 +14,4 @@ returns-clause-fault g c =
 pub returns-clause-note : goal.returns-clause-note
 returns-clause-note g c =
     let told = c.roam-answer in
-    turn_keeps g.R.Rules.table (name_of c.args.net.now) c.args.turn c.hold-held.result told.new.self c.args.clerk.now told.new.clerk told.result c.hold-held.ensures.name told.ensures.call told.ensures.free told.ensures.receipt
+    turn_keeps g.R.Rules.table (book_of c.args.net.now) c.args.turn c.hold-held.result told.new.self c.args.clerk.now told.new.clerk told.result (ap (λ (n : BoardName). n.book) c.hold-held.ensures.name) told.ensures.call told.ensures.free told.ensures.receipt

@@ -1,4 +1,4 @@
-use Rattle.locked_net.proofs.Prelude.{seen_by, name_of, setting_of, some_of}
+use Rattle.locked_net.proofs.Prelude.{ap, BoardName, seen_by, book_of, setting_of, some_of}
 use Rattle.locked_net.proofs.ClerkCalls.{called}
 use Rattle.locked_net.proofs.ChosenEvents.{finds_none, keeps_fault, refuses, takes}
 use Rattle.locked_net.proofs.clerk.Clerk.fault_with.Goals as goal
@@ -6,7 +6,7 @@ use Rattle.locked_net.proofs.clerk.Clerk.fault_with.Goals as goal
 pub returns-clause-call : goal.returns-clause-call
 returns-clause-call g c =
     let told = c.fault-answer in
-    called some_of (name_of c.args.net.now) c.hold-held.result told.new.self c.args.self.now told.new.clerk told.result c.hold-held.ensures.name told.ensures.call
+    called some_of (book_of c.args.net.now) c.hold-held.result told.new.self c.args.self.now told.new.clerk told.result (ap (λ (n : BoardName). n.book) c.hold-held.ensures.name) told.ensures.call
 
 pub returns-clause-register : goal.returns-clause-register
 returns-clause-register g c =

@@ -1,4 +1,4 @@
-use Rattle.locked_net.proofs.Prelude.{◌≡◌, ◌∷◌, ◌++◌, [], None, Ok, refl, sym, ap, ap₂, ◌∙◌, subst, Step, Receipt, dropped, BoardName, ClerkView, seen_by, call_fault, RecordsEvent, each, HeldCall}
+use Rattle.locked_net.proofs.Prelude.{◌≡◌, ◌∷◌, ◌++◌, [], None, Ok, refl, sym, ap₂, ◌∙◌, subst, Step, Receipt, ClerkView, seen_by, call_fault, RecordsEvent, each, HeldCall}
 use Rattle.locked_net.proofs.ReceiptAddition.{front_free, is_clerk_after}
 use Rattle.locked_net.proofs.ClerkCalls.{recorded_call}
 use Rattle.locked_net.proofs.clerk.Clerk.record_judged.Goals as goal
@@ -7,23 +7,23 @@ pub invariant_of-self-2 : goal.invariant_of-self-2
 invariant_of-self-2 g c =
     let log = c.args.desk.now.log in
     let inside = c.self.inside in
-    let old : ClerkView = record { receipts = inside.receipts.items; note = inside.note; base = inside.base; start = inside.start } in
+    let old : ClerkView = record { receipts = inside.receipts.items; note = inside.note; base = inside.base } in
     let told = c.in_ok-recorded.ensures in
     let free : call_fault (seen_by old) log ≡ None = subst (λ (v : ClerkView). call_fault (seen_by v) log ≡ None) (sym c.self.view_is) c.requires.free in
-    is_clerk_after g.R.Rules.table log c.record_step.new.self.log (Step c.args.choice) c.in_ok-recorded.recorded.note old.receipts c.keep.new.receipts.items c.keep.new.note inside.base c.start-self-inside.result c.self.invariant.rise (front_free old log free) told.log told.note.0
-    (c.keep.ensures.receipt ∙ ap₂ (λ rs (r : Receipt). rs ++ r ∷ []) c.in_ok-reserve.ensures.items told.receipt) c.keep.ensures.note (c.start-self-inside.ensures.log ∙ ap dropped told.key.begun)
+    is_clerk_after g.R.Rules.table log c.record_step.new.self.log (Step c.args.choice) c.in_ok-recorded.recorded.note old.receipts c.keep.new.receipts.items c.keep.new.note inside.base c.self.invariant.rise (front_free old log free) told.log told.note.0
+    (c.keep.ensures.receipt ∙ ap₂ (λ rs (r : Receipt). rs ++ r ∷ []) c.in_ok-reserve.ensures.items told.receipt) c.keep.ensures.note told.note.2
 
 pub returns-clause-call : goal.returns-clause-call
 returns-clause-call g c =
     let desk = c.args.desk.now in
     let inside = c.self.inside in
-    let old : ClerkView = record { receipts = inside.receipts.items; note = inside.note; base = inside.base; start = inside.start } in
-    let new : ClerkView = record { receipts = c.keep.new.receipts.items; note = c.keep.new.note; base = inside.base; start = c.start-self-inside.result } in
+    let old : ClerkView = record { receipts = inside.receipts.items; note = inside.note; base = inside.base } in
+    let new : ClerkView = record { receipts = c.keep.new.receipts.items; note = c.keep.new.note; base = inside.base } in
     let told = c.in_ok-recorded.ensures in
     let free : call_fault (seen_by old) desk.log ≡ None = subst (λ (v : ClerkView). call_fault (seen_by v) desk.log ≡ None) (sym c.self.view_is) c.requires.free in
     subst (λ (v : ClerkView). HeldCall each desk c.record_step.new.self v new (Ok c.keep.result)) c.self.view_is
     (recorded_call g.R.Rules.table desk c.record_step.new.self old new (Step c.args.choice) c.keep.result c.in_ok-recorded.recorded.note told.key free told.log told.note.0 told.note.1
-    (c.keep.ensures.receipt ∙ ap₂ (λ rs (r : Receipt). rs ++ r ∷ []) c.in_ok-reserve.ensures.items told.receipt) c.keep.ensures.note refl (c.start-self-inside.ensures.name ∙ ap (λ (n : BoardName). dropped n.extent.base) told.key.name))
+    (c.keep.ensures.receipt ∙ ap₂ (λ rs (r : Receipt). rs ++ r ∷ []) c.in_ok-reserve.ensures.items told.receipt) c.keep.ensures.note refl)
 
 pub returns-clause-recorded : goal.returns-clause-recorded
 returns-clause-recorded g c =

@@ -1,4 +1,4 @@
-use Rattle.locked_net.proofs.Prelude.{Step, seen_by, name_of, setting_of, each}
+use Rattle.locked_net.proofs.Prelude.{ap, BoardName, Step, seen_by, book_of, setting_of, each}
 use Rattle.locked_net.proofs.ClerkCalls.{called}
 use Rattle.locked_net.proofs.ChosenEvents.{keeps_judged, refuses_step, some_workers}
 use Rattle.locked_net.proofs.clerk.Clerk.step_with.Goals as goal
@@ -6,7 +6,7 @@ use Rattle.locked_net.proofs.clerk.Clerk.step_with.Goals as goal
 pub returns-clause-call : goal.returns-clause-call
 returns-clause-call g c =
     let told = c.step-answer in
-    called each (name_of c.args.net.now) c.hold-held.result told.new.self c.args.self.now told.new.clerk told.result c.hold-held.ensures.name told.ensures.call
+    called each (book_of c.args.net.now) c.hold-held.result told.new.self c.args.self.now told.new.clerk told.result (ap (λ (n : BoardName). n.book) c.hold-held.ensures.name) told.ensures.call
 
 pub returns-clause-receipt : goal.returns-clause-receipt
 returns-clause-receipt g c =

@@ -1,4 +1,4 @@
-use Rattle.locked_net.proofs.Prelude.{◌≡◌, ◌+◌, ◌≤◌, length, min, arith, [], Some, sym, subst, Base, BoardView, IsRun, JournalView, kept_of, IsRetainedRun, max_entries}
+use Rattle.locked_net.proofs.Prelude.{◌≡◌, ◌+◌, ◌≤◌, length, min, arith, [], Some, sym, subst, Base, IsRun, JournalView, kept_of, IsRetainedRun, max_entries}
 use Rattle.locked_net.proofs.JournalPublication.{base_is_run, based_desk}
 use Rattle.locked_net.proofs.desk.PublishedJournal.from_base.Goals as goal
 
@@ -8,8 +8,8 @@ from_base-requires-2-clause-law g c =
     subst (λ (b : Base). IsRun t (record { places = c.args.size + 1; present = length b.nodes; base = Some b }) []) (sym c.in-Ok.ensures)
     (base_is_run t g.R.Rules.NODE_WEIGHT c.args.size c.in_ok-journal.journal.state c.args.base c.in_ok-journal.ensures.begins)
 
-pub over-requires : goal.over-requires
-over-requires g c =
+pub invariant_of-result : goal.invariant_of-result
+invariant_of-result g c =
     let t = g.R.Rules.table in
     let weight = g.R.Rules.NODE_WEIGHT in
     let journal = c.in_ok-journal.journal in

@@ -1,4 +1,4 @@
-use Rattle.locked_net.proofs.Prelude.{◌≡◌, ◌∙◌, ◌+◌, ◌≤◌, ℕ, [], length, Some, ap, sym, subst, arith, Base, Moment}
+use Rattle.locked_net.proofs.Prelude.{◌∙◌, ◌+◌, ◌≤◌, ℕ, [], length, Some, ap, sym, subst, arith, Base, Moment}
 use Rattle.rule_engine.specs.PreparedEvents.{NetView}
 use Rattle.rule_machine.specs.Network.{Network}
 use Rattle.rule_machine.specs.State.{IsState}
@@ -17,8 +17,8 @@ from_base-requires-clause-law g c =
     (subst (λ (b : Base). IsRun t (record { places = there.state.network.size + 1; present = length b.nodes; base = Some b }) []) (sym c.in_ok-base.ensures.base)
     (net_is_run t c.args.number there good c.requires.unflagged))
 
-pub over-requires : goal.over-requires
-over-requires g c =
+pub invariant_of-result : goal.invariant_of-result
+invariant_of-result g c =
     let there : Moment = record { state = c.args.net.state; spent = c.args.net.spent } in
     let good = subst (λ (n : NetView). IsState n.state) c.net.view_is c.net.invariant.is_state in
     let base = c.in_ok-base.base in

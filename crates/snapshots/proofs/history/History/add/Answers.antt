@@ -1,4 +1,4 @@
-use Rattle.std.proofs.Common.{◌≡◌, sym, ◌∙◌, ap, length}
+use Rattle.std.proofs.Common.{◌≡◌, ◌+◌, sym, ◌∙◌, ap, length}
 use Rattle.snapshots.proofs.MarkAddition.{adds_moves}
 use Rattle.snapshots.proofs.history.History.add.Goals as goal
 
@@ -10,7 +10,7 @@ compare_exchange-found-requires g c =
     let offer = c.plain-offer.ensures in
     let pen = c.no_pen-pen.ensures in
     let count = c.args.self.now.front.count in
-    let len : length c.again-seen.result.log ≡ count = ap (λ s. length s.log) same ∙ sym c.args.self.now.front.counted in (
+    let len : length c.again-seen.result.log ≡ count + 1 = ap (λ s. length s.log) same ∙ c.args.self.now.front.counted in (
       ap (λ w. w.tracked) h,
       book,
       pen.0 ∙ book,
