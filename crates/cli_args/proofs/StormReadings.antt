@@ -1,19 +1,21 @@
 -- What the words of a storm were read as.
 use Rattle.cli_args.proofs.Prelude.{◌≡◌, List, Option, None, Some, Result, Ok, Err, Bor, map, get_or, sym, ap, subst, ◌∙◌, option_map, arith, IfOk, MatchOption, codes, raw_values, Row, Text, all_of, matched_of, rows_of, Found, raw_values-rows, Task, Run, Resume, Audit, Picture, Epochs, ResumeStorm, Show, IsLeftOut, MatchesTask, HoldsNothing, HoldsNoStorm, HoldsResumeStorm, HoldsStorm, IsResumeStormTask, IsStormTask, ResumedStorm, Storm, first_of, resumed_storm_of, storm_of}
+use Rattle.cli_args.specs.StormLoads.{HoldsLoad, Load}
 use Rattle.cli_args.specs.declared.task.Task.TheVariants as variants
 
--- there is no storm if no script was given
-pub no_scripts : (f : Found) (s : Storm) → None ≡ option_map raw_values (matched_of f (codes "SCRIPT")) → HoldsStorm (rows_of f) s → ⊥
-no_scripts f s e h =
+-- there is no load if no script was given
+pub no_scripts : (f : Found) (load : Load) → None ≡ option_map raw_values (matched_of f (codes "SCRIPT")) → HoldsLoad (rows_of f) load → ⊥
+no_scripts f load e h =
     let a = raw_values-rows f (codes "SCRIPT") in
     let b = h.scripts_is in
     cc
 
-pub no_more_scripts : (f : Found) (s : ResumedStorm) → None ≡ option_map raw_values (matched_of f (codes "SCRIPT")) → HoldsResumeStorm (rows_of f) s → ⊥
-no_more_scripts f s e h =
-    let a = raw_values-rows f (codes "SCRIPT") in
-    let b = h.scripts_is in
-    cc
+-- the load of a storm
+abbrev pub load_asked : Storm → Load
+load_asked s = record { roamers = s.roamers; turns = s.turns; scripts = s.scripts }
+
+abbrev pub load_resumed : ResumedStorm → Load
+load_resumed s = record { roamers = s.roamers; turns = s.turns; scripts = s.scripts }
 
 -- the scripts that were given
 pub scripts_are : (f : Found) (given scripts : List (Bor Text)) → Some (map (λ s. s.now) given) ≡ option_map raw_values (matched_of f (codes "SCRIPT")) → scripts ≡ given → all_of (codes "SCRIPT") (rows_of f) ≡ Some (map (λ s. s.now) scripts)

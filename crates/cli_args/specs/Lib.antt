@@ -1,2 +1,3 @@
 pub mod Mistake
 pub mod TaskWords
+pub mod StormLoads

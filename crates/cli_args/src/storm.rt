@@ -3,6 +3,7 @@
 ghost use Rattle.std.specs.Prelude.{◌≡◌, ◌^◌, ℕ, Some, IfErr, IfOk, MatchOption, codes};
 ghost use Rattle.clap.specs.Words.{first_of, found_of, kind_of, rows_of};
 ghost use Rattle.clap.specs.declared.error.kind.ErrorKind.TheVariants.{OutOfMemory};
+ghost use Rattle.cli_args.specs.StormLoads.{HoldsLoad, Load, load_of};
 ghost use Rattle.cli_args.specs.TaskWords.{GivesNumber, HoldsNoStorm, HoldsResumeStorm, HoldsStorm, IsLeftOut, MatchesTask, ResumedStorm, Storm};
 
 use crate::task::{Task, is_given, network, number};
@@ -44,12 +45,44 @@ pub struct ResumeStormWords<'a> {
     pub scripts: Vec<&'a str>,
 }
 
+/// What a storm plays, on whichever network.
+#[derive(Drop)]
+struct StormLoad<'a> {
+    roamers: u16,
+    turns: u32,
+    scripts: Vec<&'a str>,
+}
+
 fn turns(storm: &ArgMatches<'_>) -> Option<u32>
     ensures { MatchOption result
         ((n : ℕ) → GivesNumber (2 ^ 32) (codes "turns") (rows_of (found_of storm.now)) n → ⊥)
         (λ n. GivesNumber (2 ^ 32) (codes "turns") (rows_of (found_of storm.now)) n) }
 {
     storm.get_one::<u32>("turns")
+}
+
+fn load<'a>(alloc: Global, storm: &ArgMatches<'a>) -> Result<Option<StormLoad<'a>>, Error>
+    ensures read { IfOk result (λ read. MatchOption read
+        ((load : Load) → HoldsLoad (rows_of (found_of storm.now)) load → ⊥)
+        (λ load. HoldsLoad (rows_of (found_of storm.now)) (load_of load))) }
+    ensures memory { IfErr result (λ e. kind_of e ≡ OutOfMemory) }
+{
+    let Some(roamers) = number(storm, "roam") else {
+        return Ok(None);
+    };
+    let Some(turns) = turns(storm) else {
+        return Ok(None);
+    };
+    let Some(given) = storm.get_strs("SCRIPT") else {
+        return Ok(None);
+    };
+    let mut scripts = Vec::new(alloc);
+    scripts.extend_from_slice(given)?;
+    Ok(Some(StormLoad {
+        roamers,
+        turns,
+        scripts,
+    }))
 }
 
 fn fresh_storm<'a>(alloc: Global, storm: &ArgMatches<'a>) -> Result<Option<Task<'a>>, Error>
@@ -62,25 +95,17 @@ fn fresh_storm<'a>(alloc: Global, storm: &ArgMatches<'a>) -> Result<Option<Task<
     let Some((rules, nodes, present, workers)) = network(storm) else {
         return Ok(None);
     };
-    let Some(roamers) = number(storm, "roam") else {
+    let Some(load) = load(alloc, storm)? else {
         return Ok(None);
     };
-    let Some(turns) = turns(storm) else {
-        return Ok(None);
-    };
-    let Some(given) = storm.get_strs("SCRIPT") else {
-        return Ok(None);
-    };
-    let mut scripts = Vec::new(alloc);
-    scripts.extend_from_slice(given)?;
     Ok(Some(Task::Storm(StormWords {
         rules,
         nodes,
         present,
         workers,
-        roamers,
-        turns,
-        scripts,
+        roamers: load.roamers,
+        turns: load.turns,
+        scripts: load.scripts,
     })))
 }
 
@@ -98,26 +123,18 @@ fn resumed_storm<'a>(
     if is_given(storm, "rules") || is_given(storm, "nodes") || is_given(storm, "present") {
         return Ok(None);
     }
+    let Some(load) = load(alloc, storm)? else {
+        return Ok(None);
+    };
     let Some(workers) = number(storm, "workers") else {
         return Ok(None);
     };
-    let Some(roamers) = number(storm, "roam") else {
-        return Ok(None);
-    };
-    let Some(turns) = turns(storm) else {
-        return Ok(None);
-    };
-    let Some(given) = storm.get_strs("SCRIPT") else {
-        return Ok(None);
-    };
-    let mut scripts = Vec::new(alloc);
-    scripts.extend_from_slice(given)?;
     Ok(Some(Task::ResumeStorm(ResumeStormWords {
         from,
         workers,
-        roamers,
-        turns,
-        scripts,
+        roamers: load.roamers,
+        turns: load.turns,
+        scripts: load.scripts,
     })))
 }
 

@@ -1,5 +1,5 @@
 -- Whose notes a clerk has, and what they tell after a call.
-use Rattle.storm_runner.proofs.Prelude.{arith, ◌≡◌, ℕ, ◌<◌, ◌∷◌, [], Bool, false, not, Option, None, Some, IfSome, IsSomeAnd, MatchOption, refl, is_some, All-nil, All-cons, Receipt, IsPrefix, Book, Event, Reply, PublishedLog, ClerkView, front_of, base_from, seen_by, noted, HasNoteOf, IsOfBook, Keeps, Tell, Scene, IsFor, AreAbove, AddsReceipts}
+use Rattle.storm_runner.proofs.Prelude.{arith, ◌≡◌, ℕ, ◌<◌, ◌∷◌, [], Bool, false, not, Option, None, Some, IfSome, IsSomeAnd, refl, is_some, All-nil, All-cons, Receipt, IsPrefix, Book, Event, Reply, PublishedLog, ClerkView, front_of, base_from, seen_by, noted, HasNoteOf, IsOfBook, Keeps, Tell, Scene, IsFor, AreAbove, AddsReceipts}
 use Rattle.storm_runner.proofs.TurnAddition.{last_above}
 
 -- what holds at an answer

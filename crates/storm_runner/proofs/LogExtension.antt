@@ -1,5 +1,5 @@
 -- What receipts say of a log holds of each log that extends it.
-use Rattle.storm_runner.proofs.Prelude.{ℕ, List, [], ◌∷◌, Option, None, Some, IfSome, IsPrefix, Stream, Entry, prefix_trans, Draws, seeded_stream, drawn_step, drawn_fault, Receipt, ClerkView, front_from, front_of, Setting, CallFault, Command, Tell, Drive, Scramble, Checkpoint, ScriptLine, Scene, IsTurn, AreTurns, DrawnFrom, IsLogBehind, IsOfStep, IsOfFault, IsFor, IsPartOf, AreScriptReceipts, IsLastCheckpoint, StandsInPart, MayEndScript}
+use Rattle.storm_runner.proofs.Prelude.{ℕ, List, [], ◌∷◌, Option, None, Some, IfSome, IsPrefix, Stream, Entry, prefix_trans, Draws, seeded_stream, drawn_step, drawn_fault, Receipt, ClerkView, front_from, front_of, Setting, CallFault, Command, Drive, Scramble, ScriptLine, Scene, IsTurn, AreTurns, DrawnFrom, IsLogBehind, IsOfStep, IsOfFault, IsFor, IsPartOf, AreScriptReceipts, IsLastCheckpoint, StandsInPart, MayEndScript}
 
 module _ (setting : Setting) (some all : List Entry) (p : IsPrefix some all) where
   abbrev pub short : Scene

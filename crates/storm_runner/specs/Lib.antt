@@ -8,3 +8,4 @@ pub mod Status
 pub mod Outcome
 pub mod Parts
 pub mod RetainedText
+pub mod StormStarts

@@ -1,23 +1,24 @@
 //! A storm: scripts read, played at once on one network, settled and written.
 
-ghost use Rattle.std.specs.Prelude.{◌≡◌, ◌≤◌, true, ℕ, List, Option, length, map, IfErr, IfOk, IsErrOf};
-ghost use Rattle.locked_net.specs.Nets.{beginning_of, first_nodes_of, log_limit_of, name_count_of};
+ghost use Rattle.std.specs.Prelude.{◌≡◌, ◌≤◌, true, length, map, IfErr, IfOk, IfSome, IsErrOf};
+ghost use Rattle.script_run.specs.Restarts.{restart_of};
 ghost use Rattle.script_run.specs.RunOptions.{asked_of};
-ghost use Rattle.script_text.specs.Readers.{AllHold};
 ghost use Rattle.step_log.specs.JournalViews.{kept_of};
-ghost use Rattle.storm_runner.specs.Outcome.{EndsAllScripts, EndsUnder, IsStormOutcome, Leaves, opening_start};
+ghost use Rattle.storm_runner.specs.Outcome.{EndsUnder, IsResumedStorm, IsStormOutcome, Leaves};
 ghost use Rattle.storm_runner.specs.Parts.{FailsToPlay};
+ghost use Rattle.storm_runner.specs.StormStarts.{GoesOnAs, start_of};
 ghost use Rattle.storm_runner.specs.declared.fault.StormFault.TheVariants.{Write as Unwritten};
 
+use crate::opening::net_for;
 use crate::text::write_log;
 use crate::{StormFault, WorkerConfig, play_scripts};
 use byte_streams::FailStopWriter;
-use locked_net::{CallFault, LockedNet};
+use locked_net::CallFault;
 use rule_machine::RuleSet;
 use rules_api::Rules;
 use rules_hsu_huang::HsuHuang;
 use rules_manne::Manne;
-use script_run::Options;
+use script_run::{Options, Restart};
 use script_text::{Script, read_scripts};
 use std::alloc::Global;
 use std::io::{Read, Write};
@@ -30,55 +31,22 @@ fn play<R: Rules + Send + Sync, G: Gate + Sync, T: Threads + Wait + Sync>(
     rt: &T,
     alloc: Global,
     options: &Options,
-    net: LockedNet<R>,
+    restart: Option<Restart>,
     scripts: &[Script],
     gate: &G,
 ) -> Result<(Journal<R>, Option<CallFault>), StormFault>
     requires few { length scripts.now ≤ 64 }
-    requires nodes { name_count_of net ≡ options.now.nodes }
-    requires present { first_nodes_of net ≡ options.now.present }
-    requires limit { log_limit_of net ≡ options.now.limit }
-    ensures log { IfOk result (λ left. Leaves R.table R.NODE_WEIGHT (record { asked = asked_of options.now; base = beginning_of net }) scripts.now left.1 (kept_of left.0)) }
+    requires start { IfSome restart (GoesOnAs R.table R.NODE_WEIGHT (asked_of options.now)) }
+    ensures log { IfOk result (λ left. Leaves R.table R.NODE_WEIGHT (start_of (asked_of options.now) restart) scripts.now left.1 (kept_of left.0)) }
     ensures fault { IfErr result FailsToPlay }
 {
+    let net = net_for(rt, alloc, options, restart)?;
     let crew = WorkerConfig {
         workers: options.workers(),
         roamers: options.roamers(),
         turns: options.turns(),
     };
     Ok(play_scripts(rt, alloc, net, scripts, crew, gate)?)
-}
-
-/// Plays scripts on a network that is as the options say, and writes the settled log.
-pub(crate) fn storm_in<
-    R: Rules + Send + Sync,
-    Out: Write,
-    G: Gate + Sync,
-    T: Threads + Wait + Sync,
->(
-    rt: &T,
-    alloc: Global,
-    options: &Options,
-    net: LockedNet<R>,
-    scripts: &[Script],
-    writer: &mut FailStopWriter<Out>,
-    gate: &G,
-) -> Result<(), StormFault>
-    requires few { length scripts.now ≤ 64 }
-    requires nodes { name_count_of net ≡ options.now.nodes }
-    requires present { first_nodes_of net ≡ options.now.present }
-    requires limit { log_limit_of net ≡ options.now.limit }
-    ensures outcome { (texts : List (Option (List ℕ))) → AllHold texts scripts.now
-        → EndsAllScripts R.table R.NODE_WEIGHT (record { asked = asked_of options.now; base = beginning_of net }) texts
-        (Out.contents writer.old.writer) (Out.contents writer.new.writer) result }
-    ensures unwritten { IsErrOf result Unwritten → writer.new.failed ≡ true }
-{
-    let (journal, fault) = play(rt, alloc, options, net, scripts, gate)?;
-    write_log(alloc, options, &journal, writer)?;
-    match fault {
-        Some(fault) => Err(StormFault::from(fault)),
-        None => Ok(()),
-    }
 }
 
 fn storm_on<
@@ -91,25 +59,23 @@ fn storm_on<
     rt: &T,
     alloc: Global,
     options: &Options,
+    restart: Option<Restart>,
     readers: Vec<In>,
     writer: &mut FailStopWriter<Out>,
     gate: &G,
 ) -> Result<(), StormFault>
-    ensures outcome { EndsUnder R.table R.NODE_WEIGHT (opening_start (asked_of options.now)) In.remaining readers.items
+    requires start { IfSome restart (GoesOnAs R.table R.NODE_WEIGHT (asked_of options.now)) }
+    ensures outcome { EndsUnder R.table R.NODE_WEIGHT (start_of (asked_of options.now) restart) In.remaining readers.items
         Out.contents writer.old.writer writer.new.writer result }
     ensures unwritten { IsErrOf result Unwritten → writer.new.failed ≡ true }
 {
     let scripts = read_scripts(alloc, readers)?;
-    let Ok(net) = LockedNet::<R>::with_present(
-        alloc,
-        rt,
-        options.nodes(),
-        options.present(),
-        options.limit(),
-    ) else {
-        return Err(StormFault::Memory);
-    };
-    storm_in(rt, alloc, options, net, &scripts, writer, gate)
+    let (journal, fault) = play::<R, G, T>(rt, alloc, options, restart, &scripts, gate)?;
+    write_log(alloc, options, &journal, writer)?;
+    match fault {
+        Some(fault) => Err(StormFault::from(fault)),
+        None => Ok(()),
+    }
 }
 
 /// Plays a script from each reader at once on one new network, and writes the settled log.
@@ -149,10 +115,40 @@ pub fn storm<In: Read + Drop, Out: Write, G: Gate + Sync, T: Threads + Wait + Sy
 {
     match options.rules() {
         RuleSet::Hh => storm_on::<HsuHuang, In, Out, G, T>(
-            rt, alloc, options, readers, writer, gate,
+            rt, alloc, options, None, readers, writer, gate,
         ),
         RuleSet::Manne => storm_on::<Manne, In, Out, G, T>(
-            rt, alloc, options, readers, writer, gate,
+            rt, alloc, options, None, readers, writer, gate,
+        ),
+    }
+}
+
+/// Like `storm`, on a network that goes on after a run.
+///
+/// The rules, the names, the nodes at the start and the limit are the restart's; the limit counts all numbers.
+/// The text begins with the base of the restart's network, and its first entry has the number after the
+/// restart's last one. If scripts made checkpoints, the text begins with the last checkpoint's base.
+///
+/// Errors are those of `storm`. Takes what `storm` takes, and memory for three copies of the base.
+pub fn resume_storm<In: Read + Drop, Out: Write, G: Gate + Sync, T: Threads + Wait + Sync>(
+    rt: &T,
+    alloc: Global,
+    restart: Restart,
+    readers: Vec<In>,
+    writer: &mut FailStopWriter<Out>,
+    gate: &G,
+) -> Result<(), StormFault>
+    ensures outcome { IsResumedStorm (restart_of restart) (map In.remaining readers.items) (Out.contents writer.old.writer) (Out.contents writer.new.writer) result }
+    ensures unwritten { IsErrOf result Unwritten → writer.new.failed ≡ true }
+{
+    let options = restart.options();
+    let (rules, from) = (restart.rules, Some(restart));
+    match rules {
+        RuleSet::Hh => storm_on::<HsuHuang, In, Out, G, T>(
+            rt, alloc, &options, from, readers, writer, gate,
+        ),
+        RuleSet::Manne => storm_on::<Manne, In, Out, G, T>(
+            rt, alloc, &options, from, readers, writer, gate,
         ),
     }
 }

@@ -1,32 +1,28 @@
-use Rattle.cli_args.proofs.Prelude.{rules, refl, found_of}
-use Rattle.cli_args.proofs.StormReadings.{no_more_scripts, scripts_are}
+use Rattle.cli_args.proofs.Prelude.{rules, refl}
+use Rattle.cli_args.proofs.StormReadings.{load_resumed}
 use Rattle.cli_args.proofs.storm.resumed_storm.Goals as goal
 
 pub returns-in_default-clause-read : goal.returns-in_default-clause-read
-returns-in_default-clause-read c s h = c.in_default.ensures s.workers h.run_is.workers_is
+returns-in_default-clause-read c s h =
+    (rw c.in_default.is at c.in_ok-load.ensures.read) (load_resumed s) (record { roamers_is = h.roamers_is; turns_is = h.turns_is; scripts_is = h.scripts_is })
 
 pub returns-in_default-number-clause-read : goal.returns-in_default-number-clause-read
-returns-in_default-number-clause-read c s h = c.in_default-number.ensures s.roamers h.roamers_is
-
-pub returns-in_default-turns-clause-read : goal.returns-in_default-turns-clause-read
-returns-in_default-turns-clause-read c s h = c.in_default-turns.ensures s.turns h.turns_is
-
-pub returns-in_default-get_strs-clause-read : goal.returns-in_default-get_strs-clause-read
-returns-in_default-get_strs-clause-read c s h = no_more_scripts (found_of c.args.storm.now) s c.in_default-get_strs.ensures h
+returns-in_default-number-clause-read c s h = c.in_default-number.ensures s.workers h.run_is.workers_is
 
 pub returns-clause-read : goal.returns-clause-read
-returns-clause-read c = (
-  refl,
-  record {
-    run_is = record {
-      from_is = c.requires;
-      rules_is = search rules;
-      nodes_is = search rules;
-      present_is = search rules;
-      workers_is = c.in-Some.ensures;
-    };
-    roamers_is = c.in-Some-number.ensures;
-    turns_is = c.in-Some-turns.ensures;
-    scripts_is = scripts_are (found_of c.args.storm.now) c.in-Some-get_strs.given.now c.extend_from_slice.new.self.items c.in-Some-get_strs.ensures (search rules);
-  },
-)
+returns-clause-read c =
+    let load = rw c.in-Some.is at c.in_ok-load.ensures.read in (
+      refl,
+      record {
+        run_is = record {
+          from_is = c.requires;
+          rules_is = search rules;
+          nodes_is = search rules;
+          present_is = search rules;
+          workers_is = c.in-Some-number.ensures;
+        };
+        roamers_is = load.roamers_is;
+        turns_is = load.turns_is;
+        scripts_is = load.scripts_is;
+      },
+    )

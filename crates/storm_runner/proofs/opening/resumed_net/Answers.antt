@@ -3,7 +3,7 @@ use Rattle.std.specs.Prelude.{IfOk, max, min}
 use Rattle.rule_machine.specs.Network.{node_count}
 use Rattle.rule_machine.specs.Run.{Moment}
 use Rattle.rule_machine.specs.State.{State, flag}
-use Rattle.storm_runner.proofs.resuming.net_of.Goals as goal
+use Rattle.storm_runner.proofs.opening.resumed_net.Goals as goal
 
 limit_kept : (number limit : ℕ) → number ≤ limit → limit ≤ 16777216 → max number (min limit 16777216) ≡ limit
 limit_kept number limit within few = grind arith
