@@ -1,5 +1,5 @@
 -- Each step of a board keeps the rule of its copies.
-use Rattle.snapshots.proofs.Prelude.{◌≡◌, ◌≢◌, ℕ, ◌+◌, List, [], ◌∷◌, ◌++◌, length, set, Option, Some, None, ⊎_elim, refl, ap, sym, ◌∙◌, subst, arith, length-append, fold-append, Admits, TurnsAt, Forks, Merges, at_set, at_snoc, Entry, Book, dropped, Mark, origin_of, nodes_in, base_in, shown, BoardShape, pointers_after, row_effect, here_after, here_by, CopyView, after, extent_of, ExtendsView, IsSound, IsReader, Publishes, Sees}
+use Rattle.snapshots.proofs.Prelude.{◌≡◌, ◌≢◌, ℕ, ◌+◌, List, [], ◌∷◌, ◌++◌, length, set, Option, Some, None, ⊎_elim, refl, ap, sym, ◌∙◌, subst, arith, length-append, fold-append, Admits, TurnsAt, Forks, Merges, at_set, at_snoc, Entry, Book, dropped, Mark, origin_of, nodes_before, base_before, shown, BoardShape, pointers_after, row_effect, here_after, here_by, CopyView, after, extent_of, ExtendsView, IsSound, IsReader, Publishes, Sees}
 use mathlib.Core.List.{IsPrefix}
 use mathlib.Core.Option.{some}
 use lib.ListN.{get_elem?}
@@ -15,7 +15,7 @@ follows_on (Some s) x y f g =
     (g.0 ∙ f.0, g.1 ∙ f.1, prefix_trans (shown s.marks) (shown x.marks) (shown y.marks) f.2 g.2)
 
 abbrev with_places : CopyView → ℕ → BoardShape
-with_places x places = record { places = places; present = nodes_in x.marks; base = base_in x.marks }
+with_places x places = record { places = places; present = nodes_before x.marks; base = base_before x.marks }
 
 module _ (law : BoardShape → List Entry → Type 0) where
   -- a copy that continues the one before may be shown
@@ -63,7 +63,7 @@ module _ (law : BoardShape → List Entry → Type 0) where
 
   -- a copy one entry later agrees with its entries
   pub later : (x : CopyView) (entry : Entry) (front : ℕ) (marks : List Mark) (book : Book) → origin_of marks ≡ origin_of x.marks → shown marks ≡ shown x.marks ++ entry ∷ []
-      → front ≡ dropped (base_in x.marks) + length (shown x.marks) + 1 → law (extent_of x) (shown x.marks ++ entry ∷ []) → IsSound law x → IsSound law (after x entry front marks book)
+      → front ≡ dropped (base_before x.marks) + length (shown x.marks) + 1 → law (extent_of x) (shown x.marks ++ entry ∷ []) → IsSound law x → IsSound law (after x entry front marks book)
   later x entry front marks book from is number holds sound =
       let n : length (row_effect x.row entry) ≡ length x.row = effect_length x.row entry in
       let more : row_effect x.row entry ≡ pointers_after (extent_of x) (shown x.marks ++ entry ∷ []) =

@@ -1,5 +1,5 @@
 -- A board at its start, and after posting and publishing.
-use Rattle.snapshots.proofs.Prelude.{◌≡◌, ℕ, ◌+◌, ◌<◌, List, [], ◌∷◌, ◌++◌, length, map, fold, Option, Some, inl, inr, ⊎_elim, refl, ap, sym, ◌∙◌, subst, arith, length-append, fold-append, Entry, Book, dropped, Posted, Origin, Mark, Beginning, Posting, origin_of, nodes_at, base_at, base_in, with_mark, published_and_posted, published, posted, shown, max_marks, BoardShape, row_at_start, here_at_start, LonePost, CopyView, copy_at_start, after, extent_of, ExtendsView, IsSound, entries_of, absorbed, IsPublishable, IsPostedLast, IsBoard, posted_at}
+use Rattle.snapshots.proofs.Prelude.{◌≡◌, ℕ, ◌+◌, ◌<◌, List, [], ◌∷◌, ◌++◌, length, map, fold, Option, Some, inl, inr, ⊎_elim, refl, ap, sym, ◌∙◌, subst, arith, length-append, fold-append, Entry, Book, dropped, Posted, Origin, Mark, Beginning, Posting, origin_of, origin_nodes, origin_base, base_before, with_mark, published_and_posted, published, posted, shown, max_marks, BoardShape, row_at_start, here_at_start, LonePost, CopyView, copy_at_start, after, extent_of, ExtendsView, IsSound, entries_of, absorbed, IsPublishable, IsPostedLast, IsBoard, posted_at}
 use Rattle.snapshots.proofs.BoardSteps.{follows_self, later, goes_on}
 use Rattle.snapshots.proofs.Fronts.{origin_posted}
 use Rattle.snapshots.proofs.Starts.{row_places}
@@ -15,7 +15,7 @@ post_standing marks entry = fold-append with_mark ([], []) marks (Posting entry 
 module _ (law : BoardShape → List Entry → Type 0) (x : CopyView) (known : Option CopyView) (marks : List Mark) (book : Book) (announced : List Mark) where
   -- the entry that was appended is the one that the history has posted last
   pub posts : (marks' : List Mark) (book' : Book) (p : Posted) → IsBoard law x known [] marks book announced → marks' ≡ marks ++ Posting p.entry ∷ [] → book' ≡ book
-      → p.past.seen.log ≡ marks' → p.past.seen.book ≡ book' → p.front ≡ dropped (base_in x.marks) + length (shown x.marks) + 1 → length marks + 1 < max_marks → IsBoard law x known (p ∷ []) marks' book' announced
+      → p.past.seen.log ≡ marks' → p.past.seen.book ≡ book' → p.front ≡ dropped (base_before x.marks) + length (shown x.marks) + 1 → length marks + 1 < max_marks → IsBoard law x known (p ∷ []) marks' book' announced
   posts marks' book' p b is same log at number room = record {
     sound = b.sound;
     knows = b.knows;
@@ -64,7 +64,7 @@ lone_shown x at entry is =
 
 -- the extent of a board with these places and this origin
 abbrev pub extent_from : ℕ → Origin → BoardShape
-extent_from places origin = record { places = places; present = nodes_at (Some origin); base = base_at (Some origin) }
+extent_from places origin = record { places = places; present = origin_nodes (Some origin); base = origin_base (Some origin) }
 
 -- is that of a copy before any entry
 pub extent_at_start : (places : ℕ) (origin : Origin) (marks : List Mark) (book : Book) → marks ≡ Beginning origin ∷ [] → extent_of (copy_at_start (extent_from places origin) marks book) ≡ extent_from places origin

@@ -73,14 +73,10 @@ origin_stays (Beginning origin ∷ marks) more some = refl
 origin_stays (Posting entry ∷ marks) more some = refl
 origin_stays (Publication ∷ marks) more some = refl
 
--- a mark of another kind gives no origin
+-- also after the mark of an entry
 pub origin_posted : (marks : List Mark) (entry : Entry) → origin_of (marks ++ Posting entry ∷ []) ≡ origin_of marks
 origin_posted [] entry = refl
 origin_posted (mark ∷ marks) entry = origin_stays (mark ∷ marks) (Posting entry ∷ []) (omega arith)
-
-pub origin_published : (marks : List Mark) → origin_of (marks ++ Publication ∷ []) ≡ origin_of marks
-origin_published [] = refl
-origin_published (mark ∷ marks) = origin_stays (mark ∷ marks) (Publication ∷ []) (omega arith)
 
 -- two prefixes of one history have one origin
 pub one_origin : (xs ys all : List Mark) → IsPrefix xs all → IsPrefix ys all → 0 < length xs → 0 < length ys → origin_of xs ≡ origin_of ys

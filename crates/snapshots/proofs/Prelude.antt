@@ -31,7 +31,7 @@ pub use Rattle.rule_machine.specs.declared.reply.Reply.TheVariants.{Accepted, Mo
 pub use Rattle.snapshots.specs.Boards.{IsReader, entries_of, absorbed, IsPublishable, IsPostedLast, IsBoard}
 pub use Rattle.snapshots.specs.CopyViews.{CopyView, copy_at_start, after, extent_of}
 pub use Rattle.snapshots.specs.History.{shown, with_mark, published_and_posted, published, posted, max_marks, AreHistoryCells, AddsMark, but_last, IsOneLog, AreOneLog, AreComparable}
-pub use Rattle.snapshots.specs.Origins.{origin_of, nodes_at, base_at, nodes_in, base_in}
+pub use Rattle.snapshots.specs.Origins.{origin_of, origin_nodes, origin_base, nodes_before, base_before}
 pub use Rattle.snapshots.specs.declared.marks.Mark.{Mark}
 pub use Rattle.snapshots.specs.declared.marks.Mark.TheVariants.{Beginning, Posting, Publication}
 pub use Rattle.snapshots.specs.declared.marks.Origin.{Origin}

@@ -8,7 +8,7 @@ use Rattle.snapshots.specs.declared.history.HistoryPrefix.{HistoryPrefix}
 use Rattle.snapshots.specs.declared.image.Posted.{Posted}
 use Rattle.snapshots.specs.declared.marks.Mark.{Mark}
 use Rattle.snapshots.specs.History.{published, posted, shown, max_marks}
-use Rattle.snapshots.specs.Origins.{base_in, origin_of}
+use Rattle.snapshots.specs.Origins.{base_before, origin_of}
 use Rattle.snapshots.specs.Row.{BoardShape}
 use Rattle.snapshots.specs.CopyViews.{CopyView, after}
 use Rattle.snapshots.specs.Rule.{ExtendsView, IsSound}
@@ -32,7 +32,7 @@ IsPublishable law x pending = (IsSound law x → IsSound law (fold absorbed x pe
 pub record IsPostedLast (x : CopyView) (marks : List Mark) (book : Book) (p : Posted) : Type 0 where
   pub past : p.past.seen.log ≡ marks
   pub same : p.past.seen.book ≡ book
-  pub number : p.front ≡ dropped (base_in x.marks) + length (shown x.marks) + 1
+  pub number : p.front ≡ dropped (base_before x.marks) + length (shown x.marks) + 1
   pub last : posted marks ≡ p.entry ∷ []
   pub room : length marks < max_marks
 
@@ -58,4 +58,4 @@ pub record IsReader (known : Option CopyView) (seen : List Mark) (seen_in : Book
   pub sees : seen_in ≡ copy.book
   pub learns : learnt_in ≡ copy.book
   pub begins : IsPrefix (shown seen) (shown copy.marks)
-  pub base : base_in seen ≡ base_in copy.marks
+  pub base : base_before seen ≡ base_before copy.marks

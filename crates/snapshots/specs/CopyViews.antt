@@ -4,7 +4,7 @@ use Rattle.rule_machine.specs.Base.{dropped}
 use Rattle.rule_machine.specs.Run.{Entry}
 use Rattle.logbook.specs.Pages.{Book}
 use Rattle.snapshots.specs.declared.marks.Mark.{Mark}
-use Rattle.snapshots.specs.Origins.{nodes_in, base_in}
+use Rattle.snapshots.specs.Origins.{nodes_before, base_before}
 use Rattle.snapshots.specs.Row.{Row, BoardShape, pointer_in, partner_in, row_effect, row_at_start, here_at_start, here_by, pointers_after, here_after}
 
 -- the pointers and, for each place, whether its node is present; the number of the last entry, and the prefix of
@@ -23,7 +23,7 @@ copy_at_start extent marks book =
 
 -- how many places a copy has, how many nodes there were before any entry, and the base, if any
 abbrev pub extent_of : CopyView → BoardShape
-extent_of x = record { places = length x.row; present = nodes_in x.marks; base = base_in x.marks }
+extent_of x = record { places = length x.row; present = nodes_before x.marks; base = base_before x.marks }
 
 -- a copy after one more entry
 abbrev pub after : CopyView → Entry → ℕ → List Mark → Book → CopyView

@@ -14,21 +14,21 @@ origin_of (Posting entry ∷ marks) = None
 origin_of (Publication ∷ marks) = None
 
 -- how many nodes there are at an origin
-abbrev pub nodes_at : Option Origin → ℕ
-nodes_at None = 0
-nodes_at (Some (FirstNames count)) = count
-nodes_at (Some (FromBase base)) = length base.nodes
+abbrev pub origin_nodes : Option Origin → ℕ
+origin_nodes None = 0
+origin_nodes (Some (FirstNames count)) = count
+origin_nodes (Some (FromBase base)) = length base.nodes
 
 -- the base of an origin, if any
-abbrev pub base_at : Option Origin → Option Base
-base_at None = None
-base_at (Some (FirstNames count)) = None
-base_at (Some (FromBase base)) = Some base
+abbrev pub origin_base : Option Origin → Option Base
+origin_base None = None
+origin_base (Some (FirstNames count)) = None
+origin_base (Some (FromBase base)) = Some base
 
 -- how many nodes there are before any entry
-abbrev pub nodes_in : List Mark → ℕ
-nodes_in marks = nodes_at (origin_of marks)
+abbrev pub nodes_before : List Mark → ℕ
+nodes_before marks = origin_nodes (origin_of marks)
 
--- the base at which the entries begin, if any
-abbrev pub base_in : List Mark → Option Base
-base_in marks = base_at (origin_of marks)
+-- the base before any entry, if any
+abbrev pub base_before : List Mark → Option Base
+base_before marks = origin_base (origin_of marks)

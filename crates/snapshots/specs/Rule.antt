@@ -6,7 +6,7 @@ use lib.ListN.{get_elem?}
 use Rattle.rule_machine.specs.Run.{Entry}
 use Rattle.rule_machine.specs.Base.{dropped}
 use Rattle.snapshots.specs.History.{shown}
-use Rattle.snapshots.specs.Origins.{base_in}
+use Rattle.snapshots.specs.Origins.{base_before}
 use Rattle.snapshots.specs.Row.{BoardShape, pointers_after, here_after}
 use Rattle.snapshots.specs.CopyViews.{CopyView, extent_of}
 
@@ -19,7 +19,7 @@ ExtendsView (Some s) x = (x.book ≡ s.book) × (extent_of x ≡ extent_of s) ×
 pub record IsSound (law : BoardShape → List Entry → Type 0) (x : CopyView) : Type 0 where
   pub row : x.row ≡ pointers_after (extent_of x) (shown x.marks)
   pub here : x.here ≡ here_after (extent_of x) (shown x.marks)
-  pub front : x.front ≡ dropped (base_in x.marks) + length (shown x.marks)
+  pub front : x.front ≡ dropped (base_before x.marks) + length (shown x.marks)
   pub lawful : law (extent_of x) (shown x.marks)
 
 module _ (law : BoardShape → List Entry → Type 0) where

@@ -24,7 +24,7 @@ pub record ReaderView : Type 0 where
   pub learnt : List Entry
   pub name : BoardName
 
--- the entries that were published, their history, and the base at which they begin, if any
+-- the entries that were published, their history, and the base before them, if any
 pub record PublishedLog : Type 0 where
   pub log : List Entry
   pub book : Book

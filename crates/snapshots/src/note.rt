@@ -8,8 +8,7 @@ use crate::history::HistoryPrefix;
 use std::marker::Model;
 
 /// A note, for any thread, of the entries that a board had published when it gave the note.
-/// Contracts see the entries, their history, and the base at which they begin, if any; the note itself contains
-/// no entry.
+/// Contracts see the entries, their history, and the base before them, if any; the note itself contains no entry.
 #[derive(Drop)]
 pub struct Note {
     pub(crate) front: HistoryPrefix,
@@ -19,14 +18,14 @@ impl Model for Note {
     ghost use Rattle.std.specs.Coded.{codes};
     ghost use Rattle.logbook.specs.Pages.{book_coded};
     ghost use Rattle.snapshots.specs.History.{published};
-    ghost use Rattle.snapshots.specs.Origins.{base_in};
+    ghost use Rattle.snapshots.specs.Origins.{base_before};
     ghost use Rattle.snapshots.specs.Views.{PublishedLog};
 
     ghost Value = { PublishedLog };
 
     ghost coded = { Prim.hlevel (codes, book_coded) };
 
-    ghost view = { λ n. record { log = published n.front.seen.log; book = n.front.seen.book; base = base_in n.front.seen.log } };
+    ghost view = { λ n. record { log = published n.front.seen.log; book = n.front.seen.book; base = base_before n.front.seen.log } };
 }
 
 impl Note {

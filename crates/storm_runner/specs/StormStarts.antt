@@ -9,7 +9,7 @@ use Rattle.script_run.specs.Restarts.{options_at, restart_of}
 use Rattle.script_run.specs.declared.restart.Restart.{Restart}
 use Rattle.storm_runner.specs.Outcome.{StormStart}
 
--- the base at which a network begins; without a restart it begins at the opening state
+-- the base before any entry; none without a restart
 abbrev pub base_at_start : Option Restart → Option Base
 base_at_start None = None
 base_at_start (Some restart) = Some (base_of restart.number (record { state = restart.net.state; spent = restart.spent }))

@@ -1,4 +1,4 @@
-//! The network on which a storm begins.
+//! The network of a storm.
 
 ghost use Rattle.std.specs.Prelude.{◌≡◌, None, IfOk, IfSome};
 ghost use Rattle.locked_net.specs.Nets.{beginning_of, first_nodes_of, log_limit_of, name_count_of};
