@@ -234,16 +234,23 @@ fn strict_from<'a>(alloc: Global) -> Result<Arg<'a>, AllocError> {
         .conflicts_with("present")
 }
 
+fn strict_run<'a>(alloc: Global, required: bool) -> Result<Command<'a>, AllocError> {
+    let run = told_command(alloc, "run", RUN_ABOUT, RUN_NOTES);
+    network_command(alloc, run, required, RULES.as_slice())?.arg(strict_from(alloc)?)
+}
+
+fn strict_storm<'a>(alloc: Global, required: bool) -> Result<Command<'a>, AllocError> {
+    let storm = told_command(alloc, "storm", STORM_ABOUT, STORM_NOTES);
+    let storm = network_command(alloc, storm, required, RULES.as_slice())?;
+    roaming_command(alloc, storm)?.arg(strict_from(alloc)?)
+}
+
 /// The command with `run` and `storm` alone, whose arguments have rules on each other.
 ///
 /// `--from` excludes `--rules`, `--nodes` and `--present`; of these the first two are optional or `required`. The
 /// contracts of clap say nothing of such rules, so this command only gives the text for words that break them.
 pub(crate) fn strict_command<'a>(alloc: Global, required: bool) -> Result<Command<'a>, AllocError> {
-    let names = RULES.as_slice();
-    let run = told_command(alloc, "run", RUN_ABOUT, RUN_NOTES);
-    let run = network_command(alloc, run, required, names)?.arg(strict_from(alloc)?)?;
-    let storm = told_command(alloc, "storm", STORM_ABOUT, STORM_NOTES);
-    let storm = network_command(alloc, storm, required, names)?;
-    let storm = roaming_command(alloc, storm)?.arg(strict_from(alloc)?)?;
-    top_command(alloc).subcommand(run)?.subcommand(storm)
+    top_command(alloc)
+        .subcommand(strict_run(alloc, required)?)?
+        .subcommand(strict_storm(alloc, required)?)
 }

@@ -267,6 +267,20 @@ fn try_state<R: Rules>(rt: &impl Abort, alloc: Global, twins: &mut Twins<R>) -> 
     tried.wrapping_add(try_orders(rt, alloc, twins))
 }
 
+/// Tries every state, if the edges join present nodes; returns how many choices it tried.
+fn try_states<R: Rules>(rt: &impl Abort, alloc: Global, twins: &mut Twins<R>) -> u64 {
+    twins.join(rt, alloc);
+    if !twins.link(rt, alloc) {
+        return 0;
+    }
+    let mut tried = 0u64;
+    for state in 0..512 {
+        twins.state = state;
+        tried = tried.wrapping_add(try_state(rt, alloc, twins));
+    }
+    tried
+}
+
 /// Tries every state of a network, if its edges join present nodes; returns how many choices it tried.
 fn try_network<R: Rules>(
     rt: &impl Abort,
@@ -276,16 +290,7 @@ fn try_network<R: Rules>(
     edges: u32,
 ) -> u64 {
     let mut twins = Twins::<R>::new(rt, alloc, rules, names, edges);
-    twins.join(rt, alloc);
-    if !twins.link(rt, alloc) {
-        return 0;
-    }
-    let mut tried = 0u64;
-    for state in 0..512 {
-        twins.state = state;
-        tried = tried.wrapping_add(try_state(rt, alloc, &mut twins));
-    }
-    tried
+    try_states(rt, alloc, &mut twins)
 }
 
 /// Tries every network with these names and `count` edges, and checks how many choices were tried.

@@ -8,6 +8,7 @@ use Rattle.rule_machine.specs.Base.{base_of, node_record_at, node_records}
 use Rattle.rule_machine.specs.Network.{names, node_count}
 use Rattle.rule_machine.specs.State.{IsState, flag}
 use Rattle.step_log.specs.BaseStarts.{resumed_log}
+use Rattle.locked_net.specs.WholeLogs.{IsWholeLog}
 
 -- the next number is within the limit
 below_limit : (t : RuleTable) (kept : RetainedLog) (board : BoardView) → IsPublishedJournal t kept board → last_number kept < kept.limit → last_number (log_over kept board) < kept.limit
@@ -71,29 +72,49 @@ desk_kept t held after board (Err fault) desk told same = subst (λ (h : Journal
 
 -- ---- before any entry
 
--- what a board shows before any entry
-record IsBlank (shape : BoardShape) (board : BoardView) : Type 0 where
-  list : board.list ≡ []
-  posted : board.posted ≡ []
-  extent : board.name.extent ≡ shape
+-- a log from the opening state
+pub opening_is_whole : (t : RuleTable) (nodes present limit : ℕ) → nodes ≤ 65535 → limit ≤ max_entries → IsWholeLog t (whole (empty_log_with nodes present limit))
+opening_is_whole t nodes present limit small within =
+    let none : dropped (whole (empty_log_with nodes present limit)).base ≤ limit = omega arith in
+    record { start = beginning_with nodes present; begins = refl; run = refl; size = small; room = none; limit = within }
 
-begun_desk : (t : RuleTable) (kept : RetainedLog) (board : BoardView) (start : Moment) → kept.entries ≡ [] → IsBlank (record { places = kept.state.network.size + 1; present = kept.present; base = kept.base }) board
-    → StartsAt t kept.state.network.size kept.present kept.base start → moment_in kept ≡ start → kept.state.network.size ≤ 65535 → dropped kept.base ≤ kept.limit → kept.limit ≤ max_entries → IsPublishedJournal t kept board
-begun_desk t kept board start none blank begins same small room limit =
-    let base : board.name.extent.base ≡ kept.base = ap (λ (e : BoardShape). e.base) blank.extent in
-    let run : Run t start board.list (moment_in kept) = subst (λ es. Run t start es (moment_in kept)) (sym blank.list) same in
+-- from a base
+pub based_is_whole : (t : RuleTable) (weight size limit : ℕ) (s : State) (base : Base) → BeginsIn t weight size base s → size ≤ 65535 → base.number ≤ limit → limit ≤ max_entries → IsWholeLog t (kept_from s base limit)
+based_is_whole t weight size limit s base begins small room within =
+    let same : s.network.size ≡ size = begins.size_is in
+    let starts : IsStart t s.network.size base (record { state = s; spent = base.spent }) = record { is_state = begins.is_state; size_is = refl; lines = begins.lines; unflagged = begins.unflagged } in
+    let few : last_number (kept_from s base limit) ≤ limit = omega (arith, room) in
+    record { start = record { state = s; spent = base.spent }; begins = starts; run = refl; size = omega (arith, small, same); room = few; limit = within }
+
+-- where a network goes on
+pub resumed_is_whole : (t : RuleTable) (number limit : ℕ) (m : Moment) → IsState m.state → (t.flags ≡ false → (v : ℕ) → flag m.state v ≡ false) → m.state.network.size ≤ 65535 → number ≤ max_entries → IsWholeLog t (resumed_log m number limit)
+resumed_is_whole t number limit m good unflagged small few =
+    let log : RetainedLog = resumed_log m number limit in
+    let room : last_number log ≤ log.limit = grind arith in
+    let within : log.limit ≤ max_entries = grind (arith, few) in
+    record { start = m; begins = record { is_state = good; size_is = refl; lines = refl; unflagged = unflagged }; run = refl; size = small; room = room; limit = within }
+
+-- the nodes of a base that is made from a moment
+pub node_records_count : (number : ℕ) (base : Base) (m : Moment) → base ≡ base_of number m → length base.nodes ≡ node_count m.state.network
+node_records_count number base m is = ap (λ (b : Base). length b.nodes) is ∙ length-map (names m.state.network) (node_record_at m.state)
+
+-- no entry is a run from the beginning of such a log
+pub none_is_run : (t : RuleTable) (kept : RetainedLog) → IsWholeLog t kept → kept.entries ≡ [] → IsRun t (record { places = kept.state.network.size + 1; present = kept.present; base = kept.base }) []
+none_is_run t kept log none = (kept.state.network.size, log.start, moment_in kept, refl, log.begins, subst (λ es. Run t log.start es (moment_in kept)) none log.run)
+
+-- a board of that beginning shows the whole log
+pub blank_log : (kept : RetainedLog) (board : BoardView) → kept.entries ≡ [] → board.list ≡ [] → board.name.extent.base ≡ kept.base → log_over kept board ≡ kept
+blank_log kept board none list base = ap₂ (λ b es. record { state = kept.state; spent = kept.spent; base = b; entries = es; limit = kept.limit; present = kept.present }) base (list ∙ sym none)
+
+pub begun_desk : (t : RuleTable) (kept : RetainedLog) (board : BoardView) → IsWholeLog t kept → kept.entries ≡ []
+    → (board.list ≡ []) × (board.posted ≡ []) × (board.name.extent ≡ record { places = kept.state.network.size + 1; present = kept.present; base = kept.base }) → IsPublishedJournal t kept board
+begun_desk t kept board log none (list, posted, extent) =
+    let base : board.name.extent.base ≡ kept.base = ap (λ (e : BoardShape). e.base) extent in
     record {
-      is_log = record {
-        start = start;
-        begins = subst (λ b. StartsAt t kept.state.network.size kept.present b start) (sym base) begins;
-        run = run;
-        size = small;
-        room = omega (arith, room, ap dropped base, ap length blank.list);
-        limit = limit;
-      };
+      is_log = subst (IsWholeLog t) (sym (blank_log kept board none list base)) log;
       above = record {
         below = [];
-        splits = blank.list ∙ sym none;
+        splits = list ∙ sym none;
         count = omega (arith, ap dropped base);
         tells = inl (refl, sym base);
         state = refl;
@@ -101,50 +122,6 @@ begun_desk t kept board start none blank begins same small room limit =
         limit = refl;
         present = refl;
       };
-      posted = blank.posted;
-      extent = blank.extent ∙ ap (λ b. record { places = kept.state.network.size + 1; present = kept.present; base = b }) (sym base);
+      posted = posted;
+      extent = extent ∙ ap (λ b. record { places = kept.state.network.size + 1; present = kept.present; base = b }) (sym base);
     }
-
--- from the opening state
-pub opening_desk : (t : RuleTable) (nodes present limit : ℕ) (kept : RetainedLog) (board : BoardView) → kept ≡ whole (empty_log_with nodes present limit) → nodes ≤ 65535 → limit ≤ max_entries
-    → (board.list ≡ []) × (board.posted ≡ []) × (board.name.extent ≡ record { places = nodes + 1; present = present; base = None }) → IsPublishedJournal t kept board
-opening_desk t nodes present limit kept board is small within (list, posted, extent) =
-    let first : RetainedLog = whole (empty_log_with nodes present limit) in
-    let none : dropped first.base ≤ limit = omega arith in
-    subst (λ (k : RetainedLog). IsPublishedJournal t k board) (sym is)
-    (begun_desk t first board (beginning_with nodes present) refl (record { list = list; posted = posted; extent = extent }) refl refl small none within)
-
--- from a base
-pub based_desk : (t : RuleTable) (weight size limit : ℕ) (s : State) (base : Base) (kept : RetainedLog) (board : BoardView) → kept ≡ kept_from s base limit → BeginsIn t weight size base s → size ≤ 65535 → base.number ≤ limit → limit ≤ max_entries
-    → (board.list ≡ []) × (board.posted ≡ []) × (board.name.extent ≡ record { places = size + 1; present = length base.nodes; base = Some base }) → IsPublishedJournal t kept board
-based_desk t weight size limit s base kept board is begins small room within (list, posted, extent) =
-    let first : RetainedLog = kept_from s base limit in
-    let start : Moment = record { state = s; spent = base.spent } in
-    let same : s.network.size ≡ size = begins.size_is in
-    let starts : IsStart t s.network.size base start = record { is_state = begins.is_state; size_is = refl; lines = begins.lines; unflagged = begins.unflagged } in
-    let shape = extent ∙ ap (λ (n : ℕ). record { places = n + 1; present = length base.nodes; base = Some base }) (sym same) in
-    subst (λ (k : RetainedLog). IsPublishedJournal t k board) (sym is)
-    (begun_desk t first board start refl (record { list = list; posted = posted; extent = shape }) starts refl (omega (arith, small, same)) room within)
-
--- where a network goes on
-pub net_desk : (t : RuleTable) (number limit : ℕ) (m : Moment) (kept : RetainedLog) (board : BoardView) → kept ≡ resumed_log m number limit → IsState m.state → (t.flags ≡ false → (v : ℕ) → flag m.state v ≡ false) → m.state.network.size ≤ 65535 → number ≤ max_entries
-    → (board.list ≡ []) × (board.posted ≡ []) × (board.name.extent ≡ record { places = m.state.network.size + 1; present = length (node_records m.state); base = Some (base_of number m) }) → IsPublishedJournal t kept board
-net_desk t number limit m kept board is good unflagged small few (list, posted, extent) =
-    let first : RetainedLog = resumed_log m number limit in
-    let starts : IsStart t m.state.network.size (base_of number m) m = record { is_state = good; size_is = refl; lines = refl; unflagged = unflagged } in
-    let count : length (node_records m.state) ≡ node_count m.state.network = length-map (names m.state.network) (node_record_at m.state) in
-    let shape = extent ∙ ap (λ (n : ℕ). record { places = m.state.network.size + 1; present = n; base = Some (base_of number m) }) count in
-    let room : number ≤ first.limit = grind arith in
-    let within : first.limit ≤ max_entries = grind (arith, few) in
-    subst (λ (k : RetainedLog). IsPublishedJournal t k board) (sym is)
-    (begun_desk t first board m refl (record { list = list; posted = posted; extent = shape }) starts refl small room within)
-
--- no entry of a board that begins where a network goes on is a run
-pub net_is_run : (t : RuleTable) (number : ℕ) (m : Moment) → IsState m.state → (t.flags ≡ false → (v : ℕ) → flag m.state v ≡ false) → IsRun t (record { places = m.state.network.size + 1; present = length (node_records m.state); base = Some (base_of number m) }) []
-net_is_run t number m good unflagged = (m.state.network.size, m, m, refl, record { is_state = good; size_is = refl; lines = refl; unflagged = unflagged }, refl)
-
--- no entry of a board from a base is a run
-pub base_is_run : (t : RuleTable) (weight size : ℕ) (s : State) (base : Base) → BeginsIn t weight size base s → IsRun t (record { places = size + 1; present = length base.nodes; base = Some base }) []
-base_is_run t weight size s base begins =
-    let start : Moment = record { state = s; spent = base.spent } in
-    (size, start, start, refl, record { is_state = begins.is_state; size_is = begins.size_is; lines = begins.lines; unflagged = begins.unflagged }, refl)

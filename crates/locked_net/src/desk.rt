@@ -1,33 +1,26 @@
 //! What a network's lock guards.
 
-ghost use Rattle.std.specs.Prelude.{◌≡◌, ◌+◌, ◌<◌, ◌≤◌, ◌↔◌, ℕ, false, None, Some, length, min, IfOk, IfErr, OnOk, OnErr, IsErrOf, IsTrue};
-ghost use Rattle.graph_store.specs.Fault.{nodes_fault, ExplainsGraphFault};
+ghost use Rattle.std.specs.Prelude.{◌≡◌, ◌+◌, ◌↔◌, [], length, IfOk, IfSome, OnOk, OnErr, IsErrOf, IsTrue};
 ghost use Rattle.rule_machine.specs.declared.event.Event.TheVariants.{Step};
 ghost use Rattle.rule_engine.specs.ChoiceMoves.{verdicts_of};
 ghost use Rattle.rule_engine.specs.Costs.{disturbance_cost, BoundsGrowth};
 ghost use Rattle.rule_engine.specs.DisturbanceReach.{reach_of, Spares};
-ghost use Rattle.rule_engine.specs.declared.base_fault.BaseFault.TheVariants.{Memory};
 ghost use Rattle.step_log.specs.declared.fault.RecordFault.TheVariants.{LogFull};
 ghost use Rattle.step_log.specs.JournalViews.{IsNextReceipt, kept_of};
-ghost use Rattle.rule_engine.specs.PreparedEvents.{net_moment};
-ghost use Rattle.step_log.specs.BaseStarts.{BeginsIn, ExplainsStartFault, resumed_log};
-ghost use Rattle.step_log.specs.RetainedLogs.{IsRetainedRun, IsBaseOfGraph, last_number, kept_with, next_receipt};
-ghost use Rattle.step_log.specs.declared.start_fault.StartFault.TheVariants as start_fault;
-ghost use Rattle.step_log.specs.Log.{max_entries};
+ghost use Rattle.snapshots.specs.Row.{IsRun};
+ghost use Rattle.step_log.specs.RetainedLogs.{IsRetainedRun, last_number, kept_with, next_receipt};
 ghost use Rattle.locked_net.specs.WholeLogs.{IsWholeLog};
 ghost use Rattle.locked_net.specs.RetainedParts.{IsLogAboveBase, log_over};
 ghost use Rattle.locked_net.specs.PublishedJournals.{IsPublishedJournal, based, KeepsKey};
-ghost use Rattle.rule_machine.specs.Base.{base_of};
-ghost use Rattle.rule_machine.specs.State.{State, flag};
 
 use crate::SeenCost;
-use rule_engine::{BaseFault, Choice, Event, GraphFault, Net, Node, Reply, Rules, Verdict, Want};
+use rule_engine::{Choice, Event, Net, Node, Reply, Rules, Verdict, Want};
 use rule_machine::Base;
 use snapshots::{Board, NoPlace, Note, Reader, Runs};
 use std::alloc::{AllocError, Global};
 use std::marker::Model;
 use std::sync::Wait;
-use step_log::{Journal, Prepared, Receipt, RecordFault, StartFault};
+use step_log::{Journal, Prepared, Receipt, RecordFault};
 
 /// How many readers of a network there may be at once.
 const READERS: usize = 64;
@@ -66,74 +59,24 @@ pub(crate) struct RecordedEvent {
 }
 
 impl<R: Rules> PublishedJournal<R> {
-    pub(crate) fn new(
+    /// The journal has no entry, and begins at `base`, if any; `present` nodes are there at its start.
+    pub(crate) fn begin(
         alloc: Global,
-        nodes: u32,
+        journal: Journal<R>,
         present: u32,
-        limit: u32,
-    ) -> Result<PublishedJournal<R>, GraphFault>
-        requires within { present ≤ nodes }
-        ensures nodes { IfOk result (λ desk. desk.log.state.network.size ≡ nodes) }
-        ensures limit { IfOk result (λ desk. desk.log.limit ≡ min limit max_entries) }
-        ensures present { IfOk result (λ desk. desk.log.present ≡ present) }
-        ensures extent { IfOk result (λ desk. desk.name.extent ≡ record { places = nodes + 1; present = present; base = None }) }
-        ensures begun { IfOk result (λ desk. desk.log.base ≡ None) }
-        ensures small { OnOk result (nodes ≤ 65535) }
-        ensures fault { IfErr result (λ fault. ExplainsGraphFault (nodes_fault nodes) fault) }
+        base: &Option<Base>,
+    ) -> Result<PublishedJournal<R>, AllocError>
+        requires whole { IsWholeLog R.table (kept_of journal) }
+        requires none { journal.entries ≡ [] }
+        requires present { journal.present ≡ present }
+        requires base { journal.base ≡ base.now }
+        requires counted { IfSome base.now (λ b. present ≡ length b.nodes) }
+        ensures log { IfOk result (λ desk. desk.log ≡ kept_of journal) }
+        ensures extent { IfOk result (λ desk. desk.name.extent ≡ record { places = journal.state.network.size + 1; present = present; base = base.now }) }
     {
-        let journal = Journal::with_present(alloc, nodes, present, limit)?;
-        match Board::new(alloc, nodes as usize + 1, present, READERS) {
-            Ok(board) => Ok(PublishedJournal { journal, board }),
-            Err(_) => Err(GraphFault::Memory),
-        }
-    }
-
-    pub(crate) fn from_base(
-        alloc: Global,
-        size: u32,
-        limit: u32,
-        base: Base,
-    ) -> Result<(PublishedJournal<R>, Base), StartFault>
-        ensures nodes { IfOk result (λ made. made.0.log.state.network.size ≡ size) }
-        ensures limit { IfOk result (λ made. made.0.log.limit ≡ min limit max_entries) }
-        ensures present { IfOk result (λ made. made.0.log.present ≡ length base.nodes) }
-        ensures extent { IfOk result (λ made. made.0.name.extent ≡ record { places = size + 1; present = length base.nodes; base = Some base }) }
-        ensures begun { IfOk result (λ made. made.0.log.base ≡ Some base) }
-        ensures copy { IfOk result (λ made. made.1 ≡ base) }
-        ensures begins { OnOk result ((s : State) × BeginsIn R.table R.NODE_WEIGHT size base s) }
-        ensures room { OnOk result (base.number ≤ min limit max_entries) }
-        ensures small { OnOk result ((size ≤ 65535) × IsBaseOfGraph (Some base)) }
-        ensures full { IsErrOf result start_fault.LogFull ↔ (min limit max_entries < base.number) }
-        ensures fault { IfErr result (λ fault. ExplainsStartFault R.table R.NODE_WEIGHT size (min limit max_entries) base fault) }
-    {
-        let copy = copy_of(&base);
-        let journal = Journal::from_base(alloc, size, limit, base)?;
-        let Ok(base) = copy else {
-            return Err(no_memory(&journal));
-        };
-        match Board::from_base(alloc, size as usize + 1, &base, READERS) {
-            Ok(board) => Ok((PublishedJournal { journal, board }, base)),
-            Err(_) => Err(no_memory(&journal)),
-        }
-    }
-
-    pub(crate) fn of_net(
-        alloc: Global,
-        net: Net<R>,
-        number: u32,
-        limit: u32,
-    ) -> Result<(PublishedJournal<R>, Base), Want>
-        requires few { number ≤ max_entries }
-        requires unflagged { R.table.flags ≡ false → (v : ℕ) → flag net.state v ≡ false }
-        ensures log { IfOk result (λ made. made.0.log ≡ resumed_log (net_moment net) number limit) }
-        ensures extent { IfOk result (λ made. made.0.name.extent ≡ record { places = net.state.network.size + 1; present = length made.1.nodes; base = Some made.1 }) }
-        ensures base { IfOk result (λ made. made.1 ≡ base_of number (net_moment net)) }
-    {
-        let base = net.base(number)?;
-        let size = net.store().capacity();
-        let journal = Journal::of_net(alloc, net, number, limit)?;
-        let board = Board::from_base(alloc, size as usize + 1, &base, READERS)?;
-        Ok((PublishedJournal { journal, board }, base))
+        let places = journal.net().store().capacity() as usize + 1;
+        let board = board_at(alloc, places, present, base)?;
+        Ok(PublishedJournal { journal, board })
     }
 
     pub(crate) fn len(&self) -> u32
@@ -255,24 +198,20 @@ impl<R: Rules> PublishedJournal<R> {
     }
 }
 
-fn copy_of(base: &Base) -> Result<Base, AllocError>
-    ensures { IfOk result (λ copy. copy ≡ base.now) }
+fn board_at<R: Rules>(
+    alloc: Global,
+    places: usize,
+    present: u32,
+    base: &Option<Base>,
+) -> Result<Board<Runs<R>>, AllocError>
+    requires law { IsRun R.table (record { places = places; present = present; base = base.now }) [] }
+    requires counted { IfSome base.now (λ b. present ≡ length b.nodes) }
+    ensures { IfOk result (λ board. (board.list ≡ []) × (board.posted ≡ []) × (board.name.extent ≡ record { places = places; present = present; base = base.now })) }
 {
-    Ok(Base {
-        number: base.number,
-        spent: base.spent,
-        nodes: base.nodes.clone()?,
-        edges: base.edges.clone()?,
-    })
-}
-
-/// The fault of memory, of a journal that begins at its base.
-fn no_memory<R: Rules>(journal: &Journal<R>) -> StartFault
-    ensures fault { result ≡ start_fault.NoStart Memory }
-    ensures run { IsRetainedRun R.table R.NODE_WEIGHT (kept_of journal.now) }
-{
-    prove!(journal.len() <= step_log::MAX_ENTRIES);
-    StartFault::NoStart(BaseFault::Memory)
+    match base {
+        Some(base) => Board::from_base(alloc, places, base, READERS),
+        None => Board::new(alloc, places, present, READERS),
+    }
 }
 
 /// After the entry is posted nothing fails.

@@ -36,6 +36,7 @@ mod roaming;
 mod round;
 mod settle_fault;
 mod settling;
+mod sharing;
 mod step_fault;
 
 pub use board_reader::{BoardReader, SeenPartner, SeenPointer};

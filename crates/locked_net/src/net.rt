@@ -15,10 +15,11 @@ ghost use Rattle.graph_store.specs.Fault.{nodes_fault, ExplainsGraphFault};
 
 use crate::desk::PublishedJournal;
 use crate::key::{KeyInvariant, NetKey};
+use crate::sharing::{copy_of, share, share_from};
 use crate::{BoardReader, Clerk, ReaderFault};
 use keyed_lock::{Hold, KeyedLock};
 use rule_engine::{BaseFault, GraphFault, Net, Rules};
-use rule_machine::{Base, Want};
+use rule_machine::{Base, MAX_NAME, Want};
 use snapshots::Note;
 use std::alloc::{AllocError, AllocFailed, Global};
 use std::sync::Wait;
@@ -41,10 +42,10 @@ impl<R: Rules> LockedNet<R> {
     ghost use Rattle.keyed_lock.specs.Locks.{IsHoldOf};
     ghost use Rattle.locked_net.specs.RetainedParts.{IsPartOfLog};
     ghost use Rattle.locked_net.specs.Looks.{IsPublished};
-    ghost use Rattle.locked_net.specs.Nets.{net_key_of, name_count_of, first_nodes_of, beginning_of, start_number_of, log_limit_of, book_of, name_of, setting_of, HasSeenLog};
+    ghost use Rattle.step_log.specs.JournalViews.{kept_of};
+    ghost use Rattle.locked_net.specs.Nets.{net_key_of, name_count_of, first_nodes_of, beginning_of, log_limit_of, start_number_of, book_of, name_of, setting_of, HasSeenLog};
     ghost use Rattle.locked_net.specs.Receipts.{fresh};
     ghost use Rattle.locked_net.specs.declared.read_fault.ReaderFault.TheVariants.{NoPlace};
-    ghost use Rattle.step_log.specs.JournalViews.{kept_of};
     ghost use Rattle.step_log.specs.RetainedLogs.{IsRetainedRun};
 
     /// A new network of the nodes 1 to `nodes`, with a limit of 16,777,216 entries.
@@ -94,15 +95,8 @@ impl<R: Rules> LockedNet<R> {
         ensures small { OnOk result (nodes ≤ 65535) }
         ensures fault { IfErr result (λ fault. ExplainsGraphFault (nodes_fault nodes) fault) }
     {
-        let desk = PublishedJournal::new(alloc, nodes, present, limit)?;
-        let key = NetKey {
-            nodes,
-            present,
-            limit: limit.min(MAX_ENTRIES),
-            beginning: None,
-            opening: desk.note(),
-        };
-        match share(alloc, rt, desk, key) {
+        let journal = Journal::with_present(alloc, nodes, present, limit)?;
+        match share(alloc, rt, journal, present, limit.min(MAX_ENTRIES), None) {
             Ok(net) => Ok(net),
             Err(_) => Err(GraphFault::Memory),
         }
@@ -129,15 +123,9 @@ impl<R: Rules> LockedNet<R> {
         ensures full { IsErrOf result LogFull ↔ (min limit max_entries < base.number) }
         ensures fault { IfErr result (λ fault. ExplainsStartFault R.table R.NODE_WEIGHT size (min limit max_entries) base fault) }
     {
-        let (desk, base) = PublishedJournal::from_base(alloc, size, limit, base)?;
-        let key = NetKey {
-            nodes: size,
-            present: base.nodes.as_slice().len() as u32,
-            limit: limit.min(MAX_ENTRIES),
-            beginning: Some(base),
-            opening: desk.note(),
-        };
-        match share(alloc, rt, desk, key) {
+        let copy = copy_of(&base);
+        let journal = Journal::from_base(alloc, size, limit, base)?;
+        match share_from(alloc, rt, journal, limit.min(MAX_ENTRIES), copy) {
             Ok(net) => Ok(net),
             Err(_) => Err(StartFault::NoStart(BaseFault::Memory)),
         }
@@ -161,16 +149,12 @@ impl<R: Rules> LockedNet<R> {
         ensures limit { IfOk result (λ made. log_limit_of made ≡ max number (min limit max_entries)) }
         ensures beginning { IfOk result (λ made. beginning_of made ≡ Some (base_of number (net_moment net))) }
     {
-        let (nodes, present) = (net.store().capacity(), net.store().nodes());
-        let (desk, base) = PublishedJournal::of_net(alloc, net, number, limit)?;
-        let key = NetKey {
-            nodes,
-            present,
-            limit: number.max(limit.min(MAX_ENTRIES)),
-            beginning: Some(base),
-            opening: desk.note(),
-        };
-        share(alloc, rt, desk, key)
+        let base = net.base(number)?;
+        let present = net.store().nodes();
+        prove!(net.store().capacity() <= MAX_NAME);
+        let journal = Journal::of_net(alloc, net, number, limit)?;
+        let limit = number.max(limit.min(MAX_ENTRIES));
+        share(alloc, rt, journal, present, limit, Some(base))
     }
 
     /// A new clerk, without receipts.
@@ -273,18 +257,18 @@ impl<R: Rules> LockedNet<R> {
 }
 
 /// The network of this journal. The journal is boxed, so that taking the lock moves an address.
-fn share<R: Rules, W: Wait>(
+pub(crate) fn lock<R: Rules, W: Wait>(
     alloc: Global,
     rt: &W,
     desk: PublishedJournal<R>,
-    key: NetKey,
+    key: &NetKey,
 ) -> Result<LockedNet<R>, AllocError>
-    requires { IsOfKey key desk }
-    ensures { IfOk result (λ net. key_of net.lock ≡ key) }
+    requires { IsOfKey key.now desk }
+    ensures { IfOk result (λ net. key_of net.lock ≡ key.now) }
 {
     let start = number_of(&key.beginning);
     let desk = boxed(alloc, rt, desk)?;
-    match KeyedLock::new(alloc, desk, &key) {
+    match KeyedLock::new(alloc, desk, key) {
         Ok(lock) => Ok(LockedNet { alloc, lock, start }),
         Err(AllocFailed { value: desk }) => {
             Box::into_inner(desk).close(rt);
