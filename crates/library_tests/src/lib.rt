@@ -1,12 +1,18 @@
-//! Tests of many calls: the engine against the plain machine, and a full store of edges.
+//! Tests of many calls: the engine against the plain machine, and a full store of edges. And the example that
+//! docs/LIBRARIES.md shows.
 //!
-//! Each `#[test]` here is a loop that would be slow as a program of rows. The loops go through every network
-//! of up to three nodes, in every state and under every choice of up to two items; through drawn runs of 20
-//! and 50 nodes; and through a store with all its 1,048,576 edges. The engine and the auditor's
-//! `reply_checker` are compared with `reference_model`, which computes the definitions.
+//! Each `#[test]` here but that of the example is a loop that would be slow as a program of rows. The loops go
+//! through every network of up to three nodes, in every state and under every choice of up to two items;
+//! through drawn runs of 20 and 50 nodes; and through a store with all its 1,048,576 edges. The engine and the
+//! auditor's `reply_checker` are compared with `reference_model`, which computes the definitions.
+//!
+//! `two_threads` is the example of docs/LIBRARIES.md, word for word; `tests/readme` compares the two. It shows
+//! how a Rattle program combines `locked_net` with a rule set: two clerks in two threads edit one network
+//! behind its lock, and are settled at the end. A test gets a `HostRuntime` in place of a program's runtime.
 //!
 //! No crate depends on this one. Short calls and their replies are rows of `tests/call_rows`, and so are
-//! threads that meet. Words and bytes are cases of `tests/*.cases`. A proved test costs more than the code
+//! threads that meet. Words and bytes are cases of `tests/*.cases`. `tests/storms` and `tests/soak` test whole
+//! storms, and that two threads run at once, which no contract says. A proved test costs more than the code
 //! that it tests.
 //!
 //! ```text
@@ -24,3 +30,5 @@ mod long_runs;
 mod machines;
 #[cfg(test)]
 mod small_networks;
+#[cfg(test)]
+mod two_threads;
