@@ -8,7 +8,7 @@
 //!
 //! `two_threads` is the example of docs/LIBRARIES.md, word for word; `tests/readme` compares the two. It shows
 //! how a Rattle program combines `locked_net` with a rule set: two clerks in two threads edit one network
-//! behind its lock, and are settled at the end. A test gets a `HostRuntime` in place of a program's runtime.
+//! under its lock, and are settled at the end. A test gets a `HostRuntime` in place of a program's runtime.
 //!
 //! No crate depends on this one. Short calls and their replies are rows of `tests/call_rows`, and so are
 //! threads that meet. Words and bytes are cases of `tests/*.cases`. `tests/storms` and `tests/soak` test whole
