@@ -3,7 +3,7 @@ use Rattle.charge_laws.proofs.Prelude.{◌≡◌, ℕ, ◌+◌, Bool, false, con
 use Rattle.charge_laws.proofs.ListCounts.{IsIn, IsWithoutRepeats, sum_add, sum_agree, count_agree}
 use Rattle.charge_laws.proofs.Members.{in_names, names_without_repeats}
 use Rattle.charge_laws.proofs.EdgesByNodes.{zeros, marked_once, count_filter, edges_by_nodes}
-use Rattle.charge_laws.proofs.EdgesByEnds.{by_both}
+use Rattle.charge_laws.proofs.EdgesByNodes.{by_both}
 use Rattle.charge_laws.proofs.Stances.{null_from}
 
 -- ---- a pointer is at one neighbour
@@ -17,7 +17,7 @@ at_once (Some x) test xs at single = count_agree (λ w. nat_eq x w && test w) (�
     same w = ⊎_elim (λ e. ap (λ y. nat_eq x w && test y) (sym e)) (λ apart. let none = ne_eqb x w apart in and_left (nat_eq x w) (test w) none ∙ sym (and_left (nat_eq x w) (test x) none)) (cases_eq x w)
 
 -- among the neighbours that pass a test, v's target is one if it passes
-target_counted : (s : State) → IsState s → (test : ℕ → Bool) (v : ℕ) → count_by (λ w. points s.registers v w && test w) (neighbours s.network v) ≡ cond (holds_at test (pointer s v)) 1 0
+pub target_counted : (s : State) → IsState s → (test : ℕ → Bool) (v : ℕ) → count_by (λ w. points s.registers v w && test w) (neighbours s.network v) ≡ cond (holds_at test (pointer s v)) 1 0
 target_counted s good test v =
     count_filter (λ w. points s.registers v w && test w) (linked s.network v) (names s.network)
     ∙ count_agree (λ w. linked s.network v w && (points s.registers v w && test w)) (λ w. points s.registers v w && test w) same (names s.network)

@@ -1,16 +1,15 @@
 -- The moves of a run with disturbances are at most the charge at its start plus the costs of the
 -- disturbances.
-use Rattle.charge_laws.proofs.Prelude.{◌≡◌, ℕ, ◌+◌, ◌*◌, ◌≤◌, true, false, cond, List, [], ◌∷◌, length, map, nat_eq, Option, None, Some, IsTrue, ap, ap₂, ◌∙◌, ⊎_elim, arith, leb-true, true≢false, and_parts, same_Some, none-some, sum_by-cons, Event, Link, Unlink, Point, Flag, Join, Leave, UnknownNode, Reply, Accepted, node_count, present, linked, State, IsState, points, pointer, is_mutual, partner, is_unanswered, RuleTable, hsu_huang, manne, both_present, refusal_of, IsStable, mutual_pairs, Does, Answers, spent_after, Entry, Moment, Run, cond_none, none_cond, true_from_not, IsTable, answers_keep, runs_end_in_states, option_cases, pointer_linked, partner_some, after_leave, IsCharged, IsUndisturbed, moves_of, moves_in, IsPath, hsu_huang_cost, manne_leave_cost, manne_cost, answer_cost, path_cost, end_of_path, path_entries}
+use Rattle.charge_laws.proofs.Prelude.{◌≡◌, ℕ, ◌+◌, ◌*◌, ◌≤◌, true, false, List, [], ◌∷◌, length, map, nat_eq, Option, None, Some, IsTrue, ap, ap₂, ◌∙◌, ⊎_elim, arith, leb-true, true≢false, and_parts, same_Some, none-some, sum_by-cons, Event, Link, Unlink, Point, Flag, Join, Leave, UnknownNode, Reply, Accepted, node_count, present, linked, State, IsState, pointer, partner, is_unanswered, RuleTable, hsu_huang, manne, both_present, refusal_of, IsStable, mutual_pairs, Does, Answers, spent_after, Entry, Moment, Run, cond_none, none_cond, true_from_not, IsTable, answers_keep, runs_end_in_states, option_cases, pointer_linked, partner_some, after_leave, IsCharged, IsUndisturbed, moves_of, moves_in, IsPath, hsu_huang_cost, manne_leave_cost, manne_cost, answer_cost, path_cost, end_of_path, path_entries}
 use Rattle.std.proofs.Common.{eq-eqb}
 use Rattle.charge_laws.proofs.Runs.{answer_lowers}
 use Rattle.charge_laws.proofs.Tables.{hsu_huang_table, manne_table}
 use Rattle.charge_laws.proofs.Laws.{hsu_huang_charged, manne_charged, moves_are_paid}
 use Rattle.charge_laws.proofs.StableCharge.{hsu_huang_stable_is_zero}
-use Rattle.charge_laws.proofs.HsuHuangCosts.{point_costs}
+use Rattle.charge_laws.proofs.HsuHuangCosts.{link_costs, join_costs, point_costs, unlink_costs, leave_costs}
 use Rattle.charge_laws.proofs.ManneCosts as of_manne
 use Rattle.charge_laws.proofs.ManneStableCharge.{unmarried_charge, married_are_pairs, manne_stable_charge}
-use Rattle.charge_laws.proofs.HsuHuangEdits.{link_costs, join_costs, unlink_costs, leave_costs}
-use Rattle.charge_laws.proofs.DegreesLeft.{first_end, second_end, degree_without_edge, degree_without_node, degree_left_at}
+use Rattle.charge_laws.proofs.DegreesLeft.{degree_without_node}
 use Rattle.charge_laws.proofs.Stances.{is_waiting, unanswered_is, paired_from}
 
 -- each accepted disturbance adds at most its cost to the charge
@@ -27,6 +26,10 @@ point_parts t s v target e = grind (arith, none_cond, none-some, cond_none, and_
 
 pub join_low : (t : RuleTable) (s : State) (v : ℕ) → refusal_of t s (Join v) ≡ None → 1 ≤ v
 join_low t s v e = grind (arith, cond_none, leb-true, and_parts, true_from_not)
+
+-- a name that joins was not there
+join_absent : (t : RuleTable) (s : State) (v : ℕ) → refusal_of t s (Join v) ≡ None → present s.network v ≡ false
+join_absent t s v e = grind (arith, cond_none)
 
 pub unlink_has : (t : RuleTable) (s : State) (a b : ℕ) → refusal_of t s (Unlink a b) ≡ None → IsTrue (linked s.network a b)
 unlink_has t s a b e = grind (arith, cond_none, none_cond)
@@ -56,31 +59,12 @@ path_costs t weight cost table charged costed start good (((event, reply), s) �
 -- ---- Hsu and Huang
 
 pub hsu_huang_costed : IsCosted hsu_huang hsu_huang_cost
-hsu_huang_costed s good n (Link a b) s' e does =
-    let parts = link_parts hsu_huang s a b e in
-    let more = link_costs s a b good parts.0 parts.1 parts.2 parts.3 in
-    let is = ap hsu_huang.charge does in
-    omega (arith, more, is)
-hsu_huang_costed s good n (Unlink a b) s' e does =
-    let near = unlink_has hsu_huang s a b e in
-    let more = unlink_costs s a b good in
-    let is = ap hsu_huang.charge does in
-    let at_first = ap {B = ℕ} (λ d. cond (points s.registers b a) d 0) (degree_without_edge s a b a good near (first_end a b)) in
-    let at_second = ap {B = ℕ} (λ d. cond (points s.registers a b) d 0) (degree_without_edge s a b b good near (second_end a b)) in
-    omega (arith, more, is, at_first, at_second)
-hsu_huang_costed s good n (Point v target) s' e does =
-    let parts = point_parts hsu_huang s v target e in
-    let more = point_costs s v target good parts.0 parts.1 in
-    let is = ap hsu_huang.charge does in
-    omega (arith, more, is)
+hsu_huang_costed s good n (Link a b) s' e does = let parts = link_parts hsu_huang s a b e in rw does (link_costs s a b good parts.0 parts.1 parts.2)
+hsu_huang_costed s good n (Unlink a b) s' e does = rw does (unlink_costs s a b good (unlink_has hsu_huang s a b e))
+hsu_huang_costed s good n (Point v target) s' e does = let parts = point_parts hsu_huang s v target e in rw does (point_costs s v target good parts.0 parts.1)
 hsu_huang_costed s good n (Flag v value) s' e does = absurd cc
-hsu_huang_costed s good n (Join v) s' e does = let more = join_costs s v good (join_low hsu_huang s v e) in let is = ap hsu_huang.charge does in omega (arith, more, is)
-hsu_huang_costed s good n (Leave v) s' e does =
-    let has = leave_has hsu_huang s v e in
-    let more = leave_costs s v good has in
-    let left = degree_left_at s v good has in
-    let is = ap hsu_huang.charge does in
-    omega (arith, more, left, is)
+hsu_huang_costed s good n (Join v) s' e does = let less = join_costs s v good (join_low hsu_huang s v e) (join_absent hsu_huang s v e) in rw does (omega (arith, less))
+hsu_huang_costed s good n (Leave v) s' e does = rw does (leave_costs s v good (leave_has hsu_huang s v e))
 hsu_huang_costed s good n event s' e does = absurd does
 
 pub hsu_huang_path_costs : (start : Moment) → IsState start.state → (path : List (Entry × State)) → IsPath hsu_huang start path → moves_in (path_entries path) + hsu_huang.charge (end_of_path start.state path) ≤ hsu_huang.charge start.state + path_cost hsu_huang_cost start.state path
@@ -91,10 +75,6 @@ pub hsu_huang_stable_costs : (start : Moment) → IsState start.state → IsStab
 hsu_huang_stable_costs start good stable path is = grind (arith, hsu_huang_path_costs, hsu_huang_stable_is_zero)
 
 -- ---- Manne and others
-
--- a name that joins was not there
-join_absent : (s : State) (v : ℕ) → refusal_of manne s (Join v) ≡ None → present s.network v ≡ false
-join_absent s v e = grind (arith, cond_none)
 
 -- the edges that a node which leaves may open at its partner, by its pointer
 parted_within : (s : State) (v : ℕ) → IsState s → IsTrue (present s.network v) → of_manne.parted_cost (after_leave s v).network (partner s v) ≤ manne_leave_cost s.network (is_unanswered s v) (pointer s v)
@@ -111,32 +91,16 @@ parted_within s v good has =
     (option_cases (partner s v))
 
 pub manne_costed : IsCosted manne manne_cost
-manne_costed s good n (Link a b) s' e does =
-    let parts = link_parts manne s a b e in
-    let more = of_manne.link_costs s a b good parts.0 parts.1 parts.2 parts.3 in
-    let is = ap manne.charge does in
-    omega (arith, more, is)
-manne_costed s good n (Unlink a b) s' e does =
-    let near = unlink_has manne s a b e in
-    let more = of_manne.unlink_costs s a b good in
-    let is = ap manne.charge does in
-    let at_first = degree_without_edge s a b a good near (first_end a b) in
-    let at_second = degree_without_edge s a b b good near (second_end a b) in
-    let both = ap₂ {C = ℕ} (λ d c. cond (is_mutual s a b) (2 * (d + c) + 4) 0) at_first at_second in
-    omega (arith, more, is, both)
-manne_costed s good n (Point v target) s' e does =
-    let parts = point_parts manne s v target e in
-    let more = of_manne.point_costs s v target good parts.0 parts.1 in
-    let is = ap manne.charge does in
-    omega (arith, more, is)
-manne_costed s good n (Flag v value) s' e does = let more = of_manne.flag_costs s v value good (none_cond (present s.network v) UnknownNode e) in let is = ap manne.charge does in omega (arith, more, is)
-manne_costed s good n (Join v) s' e does = let more = of_manne.join_costs s v good (join_low manne s v e) (join_absent s v e) in let is = ap manne.charge does in omega (arith, more, is)
+manne_costed s good n (Link a b) s' e does = let parts = link_parts manne s a b e in rw does (of_manne.link_costs s a b good parts.0 parts.1 parts.2)
+manne_costed s good n (Unlink a b) s' e does = rw does (of_manne.unlink_costs s a b good (unlink_has manne s a b e))
+manne_costed s good n (Point v target) s' e does = let parts = point_parts manne s v target e in rw does (of_manne.point_costs s v target good parts.0 parts.1)
+manne_costed s good n (Flag v value) s' e does = rw does (of_manne.flag_costs s v value good (none_cond (present s.network v) UnknownNode e))
+manne_costed s good n (Join v) s' e does = rw does (of_manne.join_costs s v good (join_low manne s v e) (join_absent manne s v e))
 manne_costed s good n (Leave v) s' e does =
     let has = leave_has manne s v e in
     let more = of_manne.leave_costs s v good has in
     let cost = parted_within s v good has in
-    let is = ap manne.charge does in
-    omega (arith, more, cost, is)
+    rw does (omega (arith, more, cost))
 manne_costed s good n event s' e does = absurd does
 
 pub manne_path_costs : (start : Moment) → IsState start.state → (path : List (Entry × State)) → IsPath manne start path → moves_in (path_entries path) + manne.charge (end_of_path start.state path) ≤ manne.charge start.state + path_cost manne_cost start.state path

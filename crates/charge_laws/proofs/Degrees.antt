@@ -1,44 +1,9 @@
 -- How many edges a node has, and how many edges have an end at one of two nodes.
-use Rattle.charge_laws.proofs.Prelude.{◌≡◌, ℕ, ◌+◌, ◌≤◌, Bool, true, false, cond, not, ◌&&◌, ◌||◌, List, [], ◌∷◌, count_by, sum_by, nat_eq, IsTrue, refl, sym, ap, ◌∙◌, inl, inr, ⊎_elim, ◌⊎◌, arith, cases_eq, and_from, or_left, or_right, eq-eqb, eqb-true, ne_eqb, true≢false, sum_by-cons, Network, IsNetwork, is_end, linked, neighbours, edge_list, degree}
-use Rattle.charge_laws.proofs.ListCounts.{IsIn, IsWithoutRepeats, count_into, count_none, count_all, count_agree, sum_add, sum_agree, sum_le}
-use Rattle.charge_laws.proofs.Members.{in_edges}
+use Rattle.charge_laws.proofs.Prelude.{◌≡◌, ℕ, ◌+◌, ◌≤◌, ◌<◌, min, max, edge, Bool, true, false, cond, not, ◌&&◌, ◌||◌, List, count_by, sum_by, nat_eq, IsTrue, refl, sym, ap, ◌∙◌, arith, and_from, or_left, or_right, eq-eqb, ne_eqb, Network, IsNetwork, is_end, linked, neighbours, edge_list, degree}
+use Rattle.charge_laws.proofs.ListCounts.{none_count, one_count, at_most_one, count_all, count_agree, sum_add, sum_agree}
+use Rattle.charge_laws.proofs.Members.{in_edges, edges_contain}
+use Rattle.charge_laws.proofs.EdgesByNodes.{edges_without_repeats}
 use Rattle.charge_laws.proofs.EdgesByEnds.{one_node_changes}
-
--- ---- counts
-
-pub none_count : {X : Type 0} (p : X → Bool) (xs : List X) → ((x : X) → IsIn x xs → p x ≡ false) → count_by p xs ≡ 0
-none_count p [] none = refl
-none_count p (x ∷ xs) none = grind (arith, none_count p xs (λ y there. none y (inr there)), sum_by-cons)
-
-pub one_count : {X : Type 0} (p : X → Bool) (xs : List X) (x : X) → IsIn x xs → IsTrue (p x) → 1 ≤ count_by p xs
-one_count p xs x there passes =
-    ⊎_elim (λ (none : count_by p xs ≡ 0). absurd (true≢false (sym passes ∙ count_none p xs none x there))) (λ some. omega (arith, some)) (cases_eq (count_by p xs) 0)
-
--- in a list without repeats a number occurs at most once
-pub once : (v : ℕ) (xs : List ℕ) → IsWithoutRepeats xs → count_by (nat_eq v) xs ≤ 1
-once v xs single =
-    let into = count_into (nat_eq v) xs (λ (x : ℕ). x) (λ x. true) (v ∷ []) single (record {
-      lands = λ x there h. inl (eqb-true v x h);
-      passes = λ x there h. refl;
-      apart = λ x y there also h k same. same;
-    }) in
-    let one : count_by {X = ℕ} (λ x. true) (v ∷ []) ≡ 1 = count_all (v ∷ []) in
-    omega (arith, into, one)
-
--- If whatever passes a test passed another or is marked, the count grows by at most the marked.
-pub count_grows : {X : Type 0} (p p' marked : X → Bool) (xs xs' : List X) → IsWithoutRepeats xs' → ((x : X) → IsIn x xs' → IsIn x xs) → ((x : X) → IsIn x xs' → IsTrue (p' x) → IsTrue (p x) ⊎ IsTrue (marked x)) → count_by p' xs' ≤ count_by p xs + count_by marked xs'
-count_grows {X = X} p p' marked xs xs' single was passes =
-    let le = sum_le (λ x. cond (p' x) 1 0) (λ x. cond (p x) 1 0 + cond (marked x) 1 0) xs' (λ x there. one (p' x) (p x) (marked x) (passes x there)) in
-    let both = sum_add (λ x. cond (p x) 1 0) (λ x. cond (marked x) 1 0) xs' in
-    let into = count_into p xs' (λ (x : X). x) p xs single (record {
-      lands = λ x there h. was x there;
-      passes = λ x there h. h;
-      apart = λ x y there also h k same. same;
-    }) in
-    omega (arith, le, both, into)
-  where
-    one : (b c d : Bool) → (IsTrue b → IsTrue c ⊎ IsTrue d) → ◌≤◌ (cond b 1 0) (cond c 1 0 + cond d 1 0)
-    one b c d h = grind arith
 
 -- ---- edges at nodes
 
@@ -89,3 +54,10 @@ at_one net good v w near =
   where
     one : (b c : Bool) → ◌≡◌ {A = ℕ} (cond (b && not c) 1 0 + cond (b && c) 1 0) (cond b 1 0)
     one b c = grind arith
+
+-- an edge with two given ends is one
+pub one_between : (net : Network) → IsNetwork net → (v u : ℕ) → (v ≡ u → ⊥) → count_by (λ e. is_end v e && is_end u e) (edge_list net) ≤ 1
+one_between net good v u apart = at_most_one (λ e. is_end v e && is_end u e) (edge v u) (edge_list net) (edges_without_repeats net) (λ e there h. is v u e.0 e.1 apart (good.low_first e.0 e.1 (edges_contain net e there)) h)
+  where
+    is : (v u a b : ℕ) → (v ≡ u → ⊥) → a < b → (is_end v (a, b) && is_end u (a, b)) ≡ true → ◌≡◌ {A = ℕ × ℕ} (a, b) (edge v u)
+    is v u a b apart up h = grind (arith, min, max)

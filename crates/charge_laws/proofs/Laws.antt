@@ -2,7 +2,7 @@
 -- charge is at most twice the edges plus a weight for each node. If the charge is zero the network is
 -- stable. So between two disturbances there are at most as many moves as the charge was at first, whatever
 -- the daemon chooses and whatever allowed targets are taken. After as many moves the network is stable.
--- Turns shows why a step's moves are paid; Epochs has the bound for each epoch of a run.
+-- Pairs shows why a step's moves are paid; Epochs has the bound for each epoch of a run.
 use Rattle.charge_laws.proofs.Prelude.{◌≡◌, ℕ, ◌+◌, ◌≤◌, List, arith, IsState, opening_with, RuleTable, hsu_huang, manne, IsStable, Entry, Moment, Run, beginning_with, opening_is_state, IsTable, runs_end_in_states, IsCharged, moves_in, IsUndisturbed, IsWithinBound}
 use Rattle.charge_laws.proofs.Bounds.{hsu_huang_bounded, manne_bounded}
 use Rattle.charge_laws.proofs.HsuHuangFalls.{hsu_huang_falls}

@@ -1,5 +1,6 @@
 pub mod Prelude
 pub mod Laws
+pub mod Pairs
 pub mod ListCounts
 pub mod Members
 pub mod EdgesByNodes
@@ -7,14 +8,11 @@ pub mod EdgesByEnds
 pub mod EdgeChanges
 pub mod Bounds
 pub mod Stances
-pub mod Turns
 pub mod Writes
 pub mod NodeMoves
 pub mod PresentMovers
 pub mod Asks
-pub mod HsuHuangTurns
 pub mod HsuHuangFalls
-pub mod ManneTurns
 pub mod ManneFalls
 pub mod Zero
 pub mod Tables
@@ -25,9 +23,8 @@ pub mod RunsFromBases
 pub mod ClosedByPointers
 pub mod Degrees
 pub mod StableCharge
-pub mod DisturbedPairs
+pub mod Disturbed
 pub mod HsuHuangCosts
-pub mod HsuHuangEdits
 pub mod DegreesLeft
 pub mod CostsOfRuns
 pub mod PresentNodes

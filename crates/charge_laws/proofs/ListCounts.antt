@@ -1,5 +1,5 @@
 -- Counts and sums over a list, compared element by element, or by an injection of one list into another.
-use Rattle.charge_laws.proofs.Prelude.{◌≡◌, ℕ, ◌+◌, ◌*◌, ◌≤◌, Bool, true, false, cond, not, ◌&&◌, List, [], ◌∷◌, length, count_by, sum_by, IsTrue, refl, sym, ap, ap₂, ◌∙◌, subst, inl, inr, ⊎_elim, ◌⊎◌, arith, cases_Bool, cond-true, cond-false, sum_by-cons}
+use Rattle.charge_laws.proofs.Prelude.{◌≡◌, ℕ, ◌+◌, ◌*◌, ◌≤◌, Bool, true, false, cond, List, [], ◌∷◌, length, count_by, sum_by, IsTrue, refl, sym, ap, ap₂, ◌∙◌, subst, inl, inr, ⊎_elim, ◌⊎◌, arith, cases_Bool, cases_eq, cond-true, cond-false, nat_eq, eqb-true, true≢false, false_from_ne_true, sum_by-cons}
 
 -- y is in the list
 abbrev pub IsIn : {X : Type 0} → X → List X → Type 0
@@ -25,21 +25,6 @@ sum_add f g (x ∷ xs) =
 pub sum_le : {X : Type 0} (f g : X → ℕ) (xs : List X) → ((x : X) → IsIn x xs → f x ≤ g x) → sum_by f xs ≤ sum_by g xs
 sum_le f g [] h = omega arith
 sum_le f g (x ∷ xs) h = grind (arith, sum_le f g xs (λ y there. h y (inr there)), sum_by-cons)
-
--- four terms of each element that are bounded by four others bound each other as sums
-pub sum_four_le : {X : Type 0} (a b c d e f g h : X → ℕ) (xs : List X) → ((x : X) → IsIn x xs → a x + b x + c x + d x ≤ e x + f x + g x + h x) → sum_by a xs + sum_by b xs + sum_by c xs + sum_by d xs ≤ sum_by e xs + sum_by f xs + sum_by g xs + sum_by h xs
-sum_four_le a b c d e f g h xs le =
-    let left = four a b c d xs in
-    let right = four e f g h xs in
-    let whole = sum_le (λ x. a x + b x + c x + d x) (λ x. e x + f x + g x + h x) xs le in
-    omega (arith, left, right, whole)
-  where
-    four : {X : Type 0} (a b c d : X → ℕ) (xs : List X) → sum_by (λ x. a x + b x + c x + d x) xs ≡ sum_by a xs + sum_by b xs + sum_by c xs + sum_by d xs
-    four a b c d xs =
-        let last = sum_add (λ x. a x + b x + c x) d xs in
-        let third = sum_add (λ x. a x + b x) c xs in
-        let first = sum_add a b xs in
-        omega (arith, last, third, first)
 
 -- twice each term is twice the sum
 pub sum_twice : {X : Type 0} (f : X → ℕ) (xs : List X) → sum_by (λ x. 2 * f x) xs ≡ 2 * sum_by f xs
@@ -69,16 +54,6 @@ sum_agree f g same (x ∷ xs) = sum_by-cons f x xs ∙ ap₂ ◌+◌ (same x) (s
 
 pub count_agree : {X : Type 0} (p q : X → Bool) → ((x : X) → p x ≡ q x) → (xs : List X) → count_by p xs ≡ count_by q xs
 count_agree p q same xs = sum_agree (λ x. cond (p x) 1 0) (λ x. cond (q x) 1 0) (λ x. ap (λ b. cond b 1 0) (same x)) xs
-
--- If closed elements stay closed, the number of open ones falls by the number that close.
-pub open_falls : {X : Type 0} (closed closed' : X → Bool) (xs : List X) → ((x : X) → IsIn x xs → IsTrue (closed x) → IsTrue (closed' x)) → count_by (λ x. not (closed' x)) xs + count_by (λ x. not (closed x) && closed' x) xs ≤ count_by (λ x. not (closed x)) xs
-open_falls closed closed' xs stays =
-    let sum = sum_add (λ x. cond (not (closed' x)) 1 0) (λ x. cond (not (closed x) && closed' x) 1 0) xs in
-    let le = sum_le (λ x. cond (not (closed' x)) 1 0 + cond (not (closed x) && closed' x) 1 0) (λ x. cond (not (closed x)) 1 0) xs (λ x there. one (closed x) (closed' x) (stays x there)) in
-    omega (arith, sum, le)
-  where
-    one : (b c : Bool) → (IsTrue b → IsTrue c) → ◌≤◌ (cond (not c) 1 0 + cond (not b && c) 1 0) (cond (not b) 1 0)
-    one b c h = grind arith
 
 -- the list without one of its elements
 abbrev pub without : {X : Type 0} (xs : List X) (y : X) → IsIn y xs → List X
@@ -137,3 +112,42 @@ count_into p (x ∷ xs) f q ys single into =
     omega (arith, whole, rest, none)
     )
     (cases_Bool (p x))
+
+pub none_count : {X : Type 0} (p : X → Bool) (xs : List X) → ((x : X) → IsIn x xs → p x ≡ false) → count_by p xs ≡ 0
+none_count p [] none = refl
+none_count p (x ∷ xs) none = grind (arith, none_count p xs (λ y there. none y (inr there)), sum_by-cons)
+
+pub one_count : {X : Type 0} (p : X → Bool) (xs : List X) (x : X) → IsIn x xs → IsTrue (p x) → 1 ≤ count_by p xs
+one_count p xs x there passes =
+    ⊎_elim (λ (none : count_by p xs ≡ 0). absurd (true≢false (sym passes ∙ count_none p xs none x there))) (λ some. omega (arith, some)) (cases_eq (count_by p xs) 0)
+
+-- what passes a test that only y passes is counted at most once
+pub at_most_one : {X : Type 0} (q : X → Bool) (y : X) (xs : List X) → IsWithoutRepeats xs → ((x : X) → IsIn x xs → q x ≡ true → x ≡ y) → count_by q xs ≤ 1
+at_most_one {X = X} q y xs single only =
+    let into = count_into q xs (λ (x : X). x) (λ x. true) (y ∷ []) single (record {
+      lands = λ x there h. inl (sym (only x there h));
+      passes = λ x there h. refl;
+      apart = λ x z there also h k same. same;
+    }) in
+    let one : count_by {X = X} (λ x. true) (y ∷ []) ≡ 1 = count_all (y ∷ []) in
+    omega (arith, into, one)
+
+-- and once if y is there
+pub counted_once : {X : Type 0} (q : X → Bool) (y : X) (xs : List X) (b : Bool) → IsWithoutRepeats xs → ((x : X) → IsIn x xs → q x ≡ true → (x ≡ y) × (b ≡ true)) → (b ≡ true → IsIn y xs × (q y ≡ true)) → count_by q xs ≡ cond b 1 0
+counted_once q y xs true single only there = let most = at_most_one q y xs single (λ x at h. (only x at h).0) in let least = one_count q xs y (there refl).0 (there refl).1 in omega (arith, most, least)
+counted_once q y xs false single only there = none_count q xs (λ x at. false_from_ne_true (q x) (λ h. true≢false (sym (only x at h).1)))
+
+-- in a list without repeats a number occurs at most once
+pub once : (v : ℕ) (xs : List ℕ) → IsWithoutRepeats xs → count_by (nat_eq v) xs ≤ 1
+once v xs single = at_most_one (nat_eq v) v xs single (λ x there h. sym (eqb-true v x h))
+
+-- the order of two sums
+pub sum_swap : {X Y : Type 0} (f : X → Y → ℕ) (xs : List X) (ys : List Y) → sum_by (λ x. sum_by (f x) ys) xs ≡ sum_by (λ y. sum_by (λ x. f x y) xs) ys
+sum_swap {Y = Y} f [] ys = sym (none ys)
+  where
+    none : (zs : List Y) → sum_by (λ z. 0) zs ≡ 0
+    none [] = refl
+    none (z ∷ zs) = let whole = sum_by-cons {X = Y} (λ z. 0) z zs in let rest = none zs in omega (arith, whole, rest)
+sum_swap f (x ∷ xs) ys =
+    let each = sum_agree (λ y. sum_by (λ z. f z y) (x ∷ xs)) (λ y. f x y + sum_by (λ z. f z y) xs) (λ y. sum_by-cons (λ z. f z y) x xs) ys in
+    omega (arith, sum_by-cons (λ z. sum_by (f z) ys) x xs, sum_swap f xs ys, each, sum_add (f x) (λ y. sum_by (λ z. f z y) xs) ys)

@@ -17,7 +17,7 @@ range_without_repeats a zero = tt
 range_without_repeats a (suc n) = (λ h. let below = range_bounds (a + 1) n a h in omega arith, range_without_repeats (a + 1) n)
 
 -- what a filter keeps passes and was there, each once
-in_kept : (p : ℕ → Bool) (v : ℕ) (xs : List ℕ) → IsTrue (p v) → IsIn v xs → IsIn v (filter p xs)
+pub in_kept : (p : ℕ → Bool) (v : ℕ) (xs : List ℕ) → IsTrue (p v) → IsIn v xs → IsIn v (filter p xs)
 in_kept p v [] passes at = absurd at
 in_kept p v (x ∷ xs) passes (inl same) = subst (λ b. IsIn v (cond b (x ∷ filter p xs) (filter p xs))) (sym (ap p same ∙ passes)) (inl same)
 in_kept p v (x ∷ xs) passes (inr there) = grind (arith, in_kept p v xs passes there)

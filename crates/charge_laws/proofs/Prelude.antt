@@ -19,7 +19,7 @@ pub use Rattle.std.specs.declared.cmp.Ordering.{Ordering}
 pub use Rattle.std.specs.declared.cmp.Ordering.TheVariants.{Less, Equal, Greater}
 pub use Rattle.machine_laws.proofs.AcceptedEvents.{cond_none, none_cond, true_from_not}
 pub use Rattle.machine_laws.proofs.Bases.{base_tells}
-pub use Rattle.machine_laws.proofs.Edges.{left_was, removed_was, present_other, still_present, pair_total, pair_exact, contains-remove}
+pub use Rattle.machine_laws.proofs.Edges.{left_was, removed_was, inserted_cases, present_other, still_present, pair_total, pair_exact, contains-remove}
 pub use Rattle.machine_laws.proofs.EnabledNodes.{no_act, quiet_at, quiet_from}
 pub use Rattle.machine_laws.proofs.HalfMatchings.{stable_is_half}
 pub use Rattle.machine_laws.proofs.LeastAnswers.{makes_move_of}

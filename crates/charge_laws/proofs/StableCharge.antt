@@ -1,11 +1,8 @@
 -- The charge of a stable network.
-use Rattle.charge_laws.proofs.Prelude.{◌≡◌, ℕ, Bool, false, not, count_by, Some, IsTrue, ap, ◌∙◌, ⊎_elim, arith, not_from_true, linked, names, edge_list, State, IsState, pointer, is_unanswered, hsu_huang_closed, hsu_huang_charge, IsStable, option_cases, linked_pair, if_some_at}
-use Rattle.charge_laws.proofs.ListCounts.{IsIn}
+use Rattle.charge_laws.proofs.Prelude.{◌≡◌, ℕ, Bool, true, false, ◌||◌, married, not, count_by, Some, IsTrue, ap, ◌∙◌, ⊎_elim, arith, not_from_true, linked, names, edge_list, State, IsState, pointer, is_unanswered, hsu_huang_closed, hsu_huang_charge, IsStable, option_cases, linked_pair, if_some_at}
+use Rattle.charge_laws.proofs.ListCounts.{IsIn, none_count}
 use Rattle.charge_laws.proofs.Members.{edges_contain}
-use Rattle.charge_laws.proofs.Stances.{stance, is_paired, unanswered_is, paired_from}
-use Rattle.charge_laws.proofs.Degrees.{none_count}
-use Rattle.charge_laws.proofs.HsuHuangTurns.{low_paired, high_paired}
-use Rattle.charge_laws.proofs.HsuHuangFalls.{closed_from}
+use Rattle.charge_laws.proofs.Stances.{married_is, stance, is_paired, unanswered_is, paired_from}
 
 answer_of : (uses_flags : Bool) (s : State) → IsStable uses_flags s → (v w : ℕ) → pointer s v ≡ Some w → pointer s w ≡ Some v
 answer_of uses_flags s stable v w e = if_some_at (pointer s v) (λ x. pointer s x ≡ Some v) w e (stable.answered v)
@@ -31,5 +28,11 @@ an_end_paired uses_flags s good stable e there P low high =
 pub hsu_huang_stable_is_zero : (s : State) → IsState s → IsStable false s → hsu_huang_charge s ≡ 0
 hsu_huang_stable_is_zero s good stable =
     let unanswered = none_unanswered false s stable in
-    let open_edges = none_count (λ e. not (hsu_huang_closed s e)) (edge_list s.network) (λ e there. not_from_true (hsu_huang_closed s e) (an_end_paired false s good stable e there (IsTrue (hsu_huang_closed s e)) (λ h. closed_from s e.0 e.1 good (low_paired h)) (λ h. closed_from s e.0 e.1 good (high_paired h)))) in
+    let open_edges = none_count (λ e. not (hsu_huang_closed s e)) (edge_list s.network) (λ e there. not_from_true (hsu_huang_closed s e) (an_end_paired false s good stable e there (IsTrue (hsu_huang_closed s e)) (λ h. low (married s e.0) (married s e.1) _ _ _ (married_is s e.0 good ∙ h)) (λ h. high (married s e.0) (married s e.1) _ _ _ (married_is s e.1 good ∙ h)))) in
     omega (arith, unanswered, open_edges)
+  where
+    low : (m n a b c : Bool) → m ≡ true → (m || n || a || b || c) ≡ true
+    low m n a b c h = grind arith
+
+    high : (m n a b c : Bool) → n ≡ true → (m || n || a || b || c) ≡ true
+    high m n a b c h = grind arith

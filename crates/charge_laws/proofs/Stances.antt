@@ -1,6 +1,6 @@
 -- The stance of a node: its pointer is null, or at a node that does not point back, or at a node that
 -- points back.
-use Rattle.charge_laws.proofs.Prelude.{◌≡◌, ◌≢◌, ℕ, Bool, true, false, cond, Option, None, Some, is_some, is_none, IsTrue, refl, sym, ap, ◌∙◌, cond-true, cond-false, false_from_ne_true, State, IsState, is_at, pointer, is_unanswered, married, married_from, null_unmarried, unanswered_unmarried, some_from_is_at, is_at_from_some, arith}
+use Rattle.charge_laws.proofs.Prelude.{◌≡◌, ◌≢◌, ℕ, same_Some, Bool, true, false, cond, Option, None, Some, is_some, is_none, IsTrue, refl, sym, ap, ◌∙◌, cond-true, cond-false, false_from_ne_true, State, IsState, is_at, pointer, is_unanswered, married, married_from, null_unmarried, unanswered_unmarried, some_from_is_at, is_at_from_some, arith}
 use Rattle.std.proofs.Common.{true≢false}
 
 pub data Stance : Type 0 where
@@ -15,10 +15,6 @@ stance_by p v (Some w) = cond (is_at (p w) v) Paired Waiting
 -- v's stance if the pointers are p
 abbrev pub stance : (ℕ → Option ℕ) → ℕ → Stance
 stance p v = stance_by p v (p v)
-
-abbrev pub is_free_stance : Stance → Bool
-is_free_stance Free = true
-is_free_stance other = false
 
 abbrev pub is_waiting : Stance → Bool
 is_waiting Waiting = true
@@ -76,11 +72,11 @@ pub married_is : (s : State) (v : ℕ) → IsState s → married s v ≡ is_pair
 married_is s v good = grind (arith, null_unmarried, unanswered_unmarried, married_from)
 
 -- what a test of a stance implies for the pointers
-pub free_is : (p : ℕ → Option ℕ) (v : ℕ) → IsTrue (is_free_stance (stance p v)) → p v ≡ None
-free_is p v h = grind arith
-
 pub waiting_is : (p : ℕ → Option ℕ) (v : ℕ) → IsTrue (is_waiting (stance p v)) → (w : ℕ) × (p v ≡ Some w) × (p w ≢ Some v)
 waiting_is p v h = grind (arith, true≢false)
 
 pub paired_is : (p : ℕ → Option ℕ) (v : ℕ) → IsTrue (is_paired (stance p v)) → (w : ℕ) × (p v ≡ Some w) × (p w ≡ Some v)
 paired_is p v h = grind (arith, true≢false)
+
+pub unanswered_alone : (s : State) (v u : ℕ) → is_unanswered s v ≡ true → pointer s v ≡ Some u → pointer s u ≢ Some v
+unanswered_alone s v u h at = let aim = waiting_is (pointer s) v (sym (unanswered_is s v) ∙ h) in λ back. aim.2 (ap (pointer s) (same_Some aim.0 u (sym aim.1 ∙ at)) ∙ back)

@@ -10,8 +10,7 @@ pub use Rattle.std.specs.List.{cons_option}
 pub use Rattle.std.specs.Ordering.{eq_by_cmp}
 pub use Rattle.charge_laws.proofs.Asks.{hsu_huang_asks, manne_asks}
 pub use Rattle.charge_laws.proofs.CostsOfRuns.{point_parts}
-pub use Rattle.charge_laws.proofs.Degrees.{none_count, once}
-pub use Rattle.charge_laws.proofs.ListCounts.{IsIn, IsWithoutRepeats, count_into, count_all, sum_le, sum_add, sum_agree}
+pub use Rattle.charge_laws.proofs.ListCounts.{IsIn, IsWithoutRepeats, count_into, count_all, sum_le, sum_add, sum_agree, none_count, once}
 pub use Rattle.charge_laws.proofs.ManneStableCharge.{married_are_pairs}
 pub use Rattle.charge_laws.proofs.Members.{names_without_repeats, in_names, names_len}
 pub use Rattle.charge_laws.proofs.NodeMoves.{IsInside, step_done, Deed, idles, updates, marries, seduces, abandons, IsDone}

@@ -111,3 +111,23 @@ module _ (t : RuleTable) (is : IsContaining t) where
 
   pub reach_is_exact : law.ReachIsExact t
   reach_is_exact = exact.reach_is_exact t is.table
+
+  pub contains_faults : law.ContainsFaults t
+  contains_faults = record {
+    rest_is_idle = rest_is_idle;
+    steps_leave_rest = steps_leave_rest;
+    steps_keep_pairs = steps_keep_pairs;
+    runs_leave_rest = runs_leave_rest;
+    movers_were_restless = movers_were_restless;
+    runs_keep_pairs = runs_keep_pairs;
+    disturbances_reach = disturbances_reach;
+    disturbances_break_one = disturbances_break_one;
+    one_is_contained = one_is_contained;
+    movers_were_reached = movers_were_reached;
+    one_pair_is_lost = one_pair_is_lost;
+    all_are_contained = all_are_contained;
+    movers_are_accounted_for = movers_are_accounted_for;
+    pairs_are_accounted_for = pairs_are_accounted_for;
+    pairs_are_left = pairs_are_left;
+    reach_is_exact = reach_is_exact;
+  }

@@ -149,3 +149,24 @@ abbrev pub PairsAreLeft : RuleTable → Type 0
 PairsAreLeft t =
     (start : Moment) → IsState start.state → (path : List (Entry × State)) → IsPath t start path
     → length (mutual_pairs start.state) ≤ length (mutual_pairs (end_of_path start.state path)) + partings_in start.state path
+
+-- ---- all of them
+
+-- The table contains faults: all these laws hold of it.
+pub record ContainsFaults (t : RuleTable) : Type 0 where
+  pub rest_is_idle : RestIsIdle t
+  pub steps_leave_rest : StepsLeaveRest t
+  pub steps_keep_pairs : StepsKeepPairs t
+  pub runs_leave_rest : RunsLeaveRest t
+  pub movers_were_restless : MoversWereRestless t
+  pub runs_keep_pairs : RunsKeepPairs t
+  pub disturbances_reach : DisturbancesReach t
+  pub disturbances_break_one : DisturbancesBreakOne t
+  pub one_is_contained : OneIsContained t
+  pub movers_were_reached : MoversWereReached t
+  pub one_pair_is_lost : OnePairIsLost t
+  pub all_are_contained : AllAreContained t
+  pub movers_are_accounted_for : MoversAreAccountedFor t
+  pub pairs_are_accounted_for : PairsAreAccountedFor t
+  pub pairs_are_left : PairsAreLeft t
+  pub reach_is_exact : ReachIsExact t

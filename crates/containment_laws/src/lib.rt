@@ -21,9 +21,9 @@
 mod law;
 
 pub use law::{
-    all_are_contained, disturbances_break_one, disturbances_reach, movers_are_accounted_for,
-    movers_were_reached, movers_were_restless, one_is_contained, one_pair_is_lost,
-    pairs_are_accounted_for, pairs_are_left, reach_is_exact, reach_is_near, reach_is_small,
-    rest_is_idle, runs_keep_pairs, runs_leave_rest, stable_is_rest, steps_keep_pairs,
-    steps_leave_rest,
+    all_are_contained, disturbances_break_one, disturbances_reach, lawful_rules_contain,
+    movers_are_accounted_for, movers_were_reached, movers_were_restless, one_is_contained,
+    one_pair_is_lost, pairs_are_accounted_for, pairs_are_left, reach_is_exact, reach_is_near,
+    reach_is_small, rest_is_idle, runs_keep_pairs, runs_leave_rest, stable_is_rest,
+    steps_keep_pairs, steps_leave_rest,
 };

@@ -1,6 +1,6 @@
 -- The potential in numbers. With k unmarried nodes, f of them idle and c of them stuck it is k² - 2k + 4c +
 -- 2f, twice the moves that a run can still cost. Both sides of each line are written without subtraction.
-use Rattle.dense_laws.proofs.Prelude.{◌≡◌, ℕ, ◌+◌, ◌*◌, ◌-◌, ◌<◌, ◌≤◌, ap, ⊎_elim, arith, cases_lt}
+use Rattle.dense_laws.proofs.Prelude.{◌≡◌, ℕ, ◌+◌, ◌*◌, ◌-◌, ◌<◌, ◌≤◌, ap, arith, cases_lt}
 
 -- it is lower afterwards, by the room at least
 abbrev pub Falls : ℕ → ℕ → ℕ → ℕ → ℕ → ℕ → ℕ → Type 0

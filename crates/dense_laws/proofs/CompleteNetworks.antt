@@ -1,5 +1,5 @@
 -- The complete network of n nodes, and the states in it that begin the longest runs.
-use Rattle.dense_laws.proofs.Prelude.{◌≡◌, ℕ, zero, suc, ◌+◌, ◌*◌, ◌<◌, ◌≤◌, nat_le, nat_eq, true, false, cond, ◌&&◌, replicate, Option, None, Some, IsTrue, refl, sym, ap, ◌∙◌, subst, ⊎_elim, arith, range_with_len, eq_by_cmp, and_from, or_left, cases_eq, cases_lt, true≢false, le-leb, eq-eqb, ne_eqb, eq_by_cmp_equiv, length-replicate, get_or_past, length-map-range_with_len, get_or-map-range_with_len, length-range_with_len, length-filter, count_by-le-length, none-some, same_Some, Network, IsNetwork, pair_cmp, edge, edgeless, linked, node_count, present, with_edge, State, IsState, pointer, opening, after_link, pair_total, contains-insert, still_inserted, edgeless_is_network, with_edge_is_network, blank_flag, opening_is_state, link_keeps, linked_back, present_range, if_some_from, sum_le, count_all, range_bounds, bit, HasLongRun}
+use Rattle.dense_laws.proofs.Prelude.{◌≡◌, ℕ, zero, suc, ◌+◌, ◌*◌, ◌<◌, ◌≤◌, nat_eq, false, cond, replicate, Option, None, Some, IsTrue, refl, sym, ap, ◌∙◌, subst, ⊎_elim, arith, range_with_len, eq_by_cmp, and_from, or_left, cases_eq, cases_lt, true≢false, le-leb, eq-eqb, ne_eqb, eq_by_cmp_equiv, length-replicate, get_or_past, length-map-range_with_len, get_or-map-range_with_len, length-range_with_len, length-filter, count_by-le-length, none-some, same_Some, Network, IsNetwork, pair_cmp, edge, edgeless, linked, node_count, present, with_edge, State, IsState, pointer, opening, after_link, pair_total, contains-insert, still_inserted, edgeless_is_network, with_edge_is_network, blank_flag, opening_is_state, link_keeps, linked_back, present_range, if_some_from, sum_le, count_all, range_bounds, HasLongRun}
 use Rattle.std.proofs.Common.{map as list_map}
 use Rattle.std.specs.FinMap as map
 use Rattle.dense_laws.proofs.Plays.{IsLong}

@@ -9,7 +9,7 @@
 -- A trap is a set of nodes that point at each other and not back. All are stuck, and stay so while no node
 -- leaves one that is pointed at. The move that opens a trap makes two fewer nodes stuck; one that takes a
 -- suitor has four to spare, since two nodes are stuck already.
-use Rattle.dense_laws.proofs.Prelude.{◌≡◌, ◌≢◌, ℕ, ◌+◌, ◌*◌, ◌≤◌, Bool, not, ◌&&◌, List, Option, None, Some, is_none, IsTrue, nat_eq, sym, ap, ◌∙◌, inl, inr, ⊎_elim, ◌⊎◌, arith, cases_eq, and_parts, and_from, not-true, not_from_false, false_from_ne_true, true≢false, eq-eqb, ne_eqb, none-some, same_Some, IsIn, IsWithoutRepeats, stance, is_paired, null_is, null_from, paired_from, paired_is, paired_stays, SoloTurn, takes, courts, leaves, IsSolo, solo_turn}
+use Rattle.dense_laws.proofs.Prelude.{◌≡◌, ◌≢◌, ℕ, ◌+◌, ◌*◌, ◌≤◌, Bool, not, ◌&&◌, List, Option, None, Some, is_none, IsTrue, nat_eq, sym, ap, ◌∙◌, inl, inr, ⊎_elim, ◌⊎◌, arith, cases_eq, and_parts, and_from, not-true, not_from_false, false_from_ne_true, true≢false, eq-eqb, ne_eqb, none-some, same_Some, IsIn, IsWithoutRepeats, stance, is_paired, null_is, null_from, paired_from, paired_is, paired_stays, SoloTurn, takes, courts, leaves, IsSolo}
 use Rattle.dense_laws.proofs.Counts.{count_le, count_more, IsGone, count_less, count_less_two, count_one, count_two}
 use Rattle.dense_laws.proofs.NodeKinds.{is_single, is_idle, is_stuck, singles, idles, stucks, stuck_from, stuck_is, single_free, single_waiting, paired_not_single, kinds_are_all}
 use Rattle.dense_laws.proofs.Arithmetic.{Falls, falls_beside, falls_by_two}

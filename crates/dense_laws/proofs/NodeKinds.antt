@@ -1,6 +1,6 @@
 -- The unmarried nodes by their pointers: idle (null), stuck (at a node that points elsewhere), hoping (at a
 -- null one).
-use Rattle.dense_laws.proofs.Prelude.{◌≡◌, ◌≢◌, ℕ, ◌+◌, Bool, true, false, not, ◌&&◌, List, count_by, Option, None, Some, is_some, is_none, IsTrue, refl, sym, ap, ◌∙◌, ⊎_elim, arith, and_parts, and_from, not-true, not_from_false, false_from_ne_true, true≢false, none-some, same_Some, is_at, holds_at, option_cases, some_from_is_at, is_at_from_some, sum_add, sum_agree, holds_is, stance, is_paired, StanceCase, stance_cases, free, waiting, paired, free_from, waiting_from, paired_from, not_null, null_from, bit}
+use Rattle.dense_laws.proofs.Prelude.{◌≡◌, ◌≢◌, ℕ, ◌+◌, Bool, not, ◌&&◌, List, count_by, Option, None, Some, is_some, is_none, IsTrue, sym, ap, ◌∙◌, arith, and_parts, and_from, not-true, not_from_false, false_from_ne_true, true≢false, none-some, same_Some, is_at, holds_at, option_cases, some_from_is_at, is_at_from_some, sum_add, sum_agree, holds_is, stance, is_paired, StanceCase, stance_cases, free_from, waiting_from, paired_from, not_null, null_from, bit}
 
 abbrev pub is_single : (ℕ → Option ℕ) → ℕ → Bool
 is_single p v = not (is_paired (stance p v))

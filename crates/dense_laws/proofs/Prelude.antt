@@ -12,7 +12,7 @@ pub use Rattle.std.specs.Option.{option_or}
 pub use Rattle.std.specs.Ordering.{eq_by_cmp}
 pub use Rattle.charge_laws.proofs.EdgesByNodes.{marked_once}
 pub use Rattle.charge_laws.proofs.HsuHuangFalls.{one_mover, solo_from}
-pub use Rattle.charge_laws.proofs.HsuHuangTurns.{IsSolo, SoloTurn, takes, courts, leaves, solo_turn}
+pub use Rattle.charge_laws.proofs.HsuHuangFalls.{IsSolo, SoloTurn, takes, courts, leaves, paired_stays}
 pub use Rattle.charge_laws.proofs.ListCounts.{sum_le, count_all, count_agree, IsIn, IsWithoutRepeats, sum_add, sum_agree, count_none}
 pub use Rattle.charge_laws.proofs.Members.{range_bounds, in_names, names_without_repeats}
 pub use Rattle.charge_laws.proofs.NodeMoves.{IsDone, step_done}
@@ -21,7 +21,7 @@ pub use Rattle.charge_laws.proofs.Runs.{Effect, rests, steps, disturbs, effect}
 pub use Rattle.charge_laws.proofs.SilentRuns.{IsBudget, driven_is_quiet}
 pub use Rattle.charge_laws.proofs.Stances.{married_is, stance, is_paired, null_is, null_from, paired_from, paired_is, StanceCase, stance_cases, free, waiting, paired, free_from, waiting_from, not_null}
 pub use Rattle.charge_laws.proofs.Tables.{hsu_huang_table}
-pub use Rattle.charge_laws.proofs.Turns.{bit, paired_stays}
+pub use Rattle.charge_laws.proofs.Pairs.{bit}
 pub use Rattle.charge_laws.proofs.Writes.{is_mover_in}
 pub use Rattle.charge_laws.specs.ChargeWords.{moves_in, IsUndisturbed, moves_of}
 pub use Rattle.charge_laws.specs.Costs.{end_of_path, path_entries}

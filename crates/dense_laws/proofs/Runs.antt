@@ -4,7 +4,7 @@ use Rattle.dense_laws.proofs.Prelude.{◌≡◌, ◌≢◌, ℕ, ◌+◌, ◌-�
 use Rattle.dense_laws.proofs.Arithmetic.{falls_on}
 use Rattle.dense_laws.proofs.Moves.{IsAmong, IsTrap}
 use Rattle.dense_laws.proofs.Starts.{lone_is_low, most, not_below, trap_above, trap_or_less}
-use Rattle.dense_laws.proofs.Falls.{among_from, high_of, low_of, charge_is, IsFall, step_falls, dense_bounded}
+use Rattle.dense_laws.proofs.Falls.{among_from, high_of, low_of, charge_is, IsFall, step_falls}
 
 -- the two sides fall by twice the moves, and room besides
 abbrev Pays : ℕ → State → ℕ → State → Type 0

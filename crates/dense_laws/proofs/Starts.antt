@@ -1,6 +1,6 @@
 -- The potential from above and from below. If no node is married, none hopes and one is stuck, all that point
 -- are in a trap; else it is at most four less than its greatest value.
-use Rattle.dense_laws.proofs.Prelude.{◌≡◌, ◌≢◌, ℕ, refl, true, ◌+◌, ◌*◌, ◌<◌, ◌≤◌, false, List, length, count_by, Option, None, IsTrue, sym, ap, ◌∙◌, inl, inr, ⊎_elim, ◌⊎◌, arith, cases_lt, true≢false, none-some, option_cases, IsIn, count_none, count_all, stance, is_paired, null_is, paired_is, paired_from, StanceCase, stance_cases, free, waiting, paired}
+use Rattle.dense_laws.proofs.Prelude.{◌≡◌, ◌≢◌, ℕ, refl, true, ◌+◌, ◌*◌, ◌<◌, ◌≤◌, false, List, length, count_by, Option, None, IsTrue, ap, inl, inr, ⊎_elim, ◌⊎◌, arith, cases_lt, true≢false, none-some, option_cases, IsIn, count_none, count_all, stance, is_paired, null_is, paired_is, paired_from, StanceCase, stance_cases}
 use Rattle.dense_laws.proofs.Counts.{count_one, count_two, count_exists, count_both}
 use Rattle.dense_laws.proofs.NodeKinds.{is_idle, is_stuck, is_hoping, singles, idles, stucks, hopings, stuck_from, stuck_is, hoping_from, hoping_is, kinds_are_all}
 use Rattle.dense_laws.proofs.Arithmetic.{most_at_all, most_with_pair, most_with_hope, most_idle, most_alone, least, least_stuck}

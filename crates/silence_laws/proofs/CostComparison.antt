@@ -1,5 +1,5 @@
 -- The silent cost is compared with the table's cost, and rewriting a pointer changes nothing.
-use Rattle.silence_laws.proofs.Prelude.{◌≡◌, ℕ, zero, suc, ◌+◌, ◌-◌, ◌*◌, ◌≤◌, Bool, true, false, cond, not, ◌&&◌, List, [], ◌∷◌, Option, None, Some, nat_eq, get_or, set, IsTrue, refl, ap, ◌∙◌, ⊎_elim, arith, and_from, cond-true, cond-false, cases_Bool, length-filter, Link, Unlink, Point, Leave, linked, names, State, IsState, is_at, is_unanswered, pointer, married, linked_back, linked_present, married_from, pointer_linked, points_from, hsu_huang_cost, hsu_huang_point_cost, sum_add, sum_agree, sum_le, degree, one_count, in_names, mutual_is, IsStable, is_single_but, silent_point_cost, single_neighbours, single_neighbours_but, SilentCostIsLess, RewritingChangesNothing}
+use Rattle.silence_laws.proofs.Prelude.{◌≡◌, ℕ, zero, suc, ◌+◌, ◌*◌, ◌≤◌, Bool, true, false, cond, not, ◌&&◌, List, [], ◌∷◌, Option, None, Some, nat_eq, get_or, set, IsTrue, refl, ap, ◌∙◌, ⊎_elim, arith, and_from, cond-true, cond-false, cases_Bool, length-filter, Link, Unlink, Point, Leave, linked, names, State, IsState, is_at, is_unanswered, pointer, married, linked_back, linked_present, married_from, pointer_linked, points_from, hsu_huang_cost, hsu_huang_point_cost, sum_add, sum_agree, sum_le, degree, one_count, in_names, mutual_is, IsStable, is_single_but, silent_point_cost, single_neighbours, single_neighbours_but, SilentCostIsLess, RewritingChangesNothing}
 use Rattle.silence_laws.proofs.UnreachedNodes.{answer_at, none_courted}
 
 -- a married neighbour is none of the unmarried ones

@@ -1,5 +1,5 @@
 -- Which pairs are left after a disturbance of a stable network, once it is stable again; and how many nodes.
-use Rattle.silence_laws.proofs.Prelude.{◌≡◌, ℕ, ◌+◌, ◌≤◌, Bool, true, false, cond, not, ◌&&◌, ◌||◌, [], ◌∷◌, length, count_by, Option, None, Some, nat_eq, IsTrue, IfSome, refl, sym, ap, ◌∙◌, subst, inl, inr, ◌⊎◌, ⊎_elim, arith, true≢false, and_parts, and_from, or_cases, or_left, or_parts, cond-false, cases_Bool, eq-eqb, eqb-true, not-true, same_Some, Event, Link, Unlink, Point, Flag, Step, Show, Enabled, Matching, Status, Join, Leave, Accepted, linked, names, node_count, with_node, without_node, State, IsState, points, pointer, married, is_mutual, RuleTable, manne, IsStable, mutual_pairs, refusal_of, Answers, AnswersBy, Does, Refusal, Moment, present_other, still_present, pairs_apart, pair_from, pair_listed, married_some, pointer_linked, answers_keep, manne_one, IsIn, count_all, count_into, sum_add, sum_agree, once, in_names, names_present, names_without_repeats, run_keeps_network, mutual_from, mutual_is, contains_in, in_contains, pairs_once, path_pairs_left, share, IsContaining, manne_contains, is_parted, parts_a_pair, most_lost, nodes_gone, FewAreLost, ManneMovesArePaid}
+use Rattle.silence_laws.proofs.Prelude.{◌≡◌, ℕ, ◌+◌, ◌≤◌, Bool, true, false, cond, not, [], ◌∷◌, length, count_by, Option, None, Some, nat_eq, IsTrue, IfSome, refl, sym, ap, ◌∙◌, subst, inl, inr, ◌⊎◌, ⊎_elim, arith, true≢false, and_parts, and_from, or_cases, or_left, or_parts, cond-false, cases_Bool, eq-eqb, eqb-true, not-true, same_Some, Event, Link, Unlink, Point, Flag, Join, Leave, Accepted, linked, names, node_count, with_node, without_node, State, IsState, pointer, is_mutual, RuleTable, manne, IsStable, mutual_pairs, refusal_of, Answers, AnswersBy, Does, Refusal, Moment, present_other, still_present, pairs_apart, pair_from, pair_listed, married_some, pointer_linked, answers_keep, manne_one, IsIn, count_all, count_into, sum_add, sum_agree, once, in_names, names_present, names_without_repeats, run_keeps_network, mutual_from, mutual_is, contains_in, in_contains, pairs_once, path_pairs_left, share, IsContaining, manne_contains, is_parted, parts_a_pair, most_lost, nodes_gone, FewAreLost, ManneMovesArePaid}
 use Rattle.silence_laws.proofs.GainedPairs.{IsAfter, few_are_gained, has_mark, is_after, is_marked, marked_some, point_mark, split}
 
 module _ (t : RuleTable) (s : State) (event : Event) (after : State) (end : Moment) (is : IsAfter t s event after end) where

@@ -1,6 +1,6 @@
 -- What an edit or a fault costs a silent network by Manne's rules, if only unmarried neighbours count.
-use Rattle.silence_laws.proofs.Prelude.{◌≡◌, ℕ, ◌+◌, ◌-◌, ◌*◌, ◌<◌, ◌≤◌, Bool, true, false, cond, not, ◌&&◌, ◌||◌, [], List, count_by, Option, None, Some, is_some, nat_eq, IsTrue, refl, sym, ap, ◌∙◌, subst, inl, inr, ◌⊎◌, ⊎_elim, arith, true≢false, and_parts, and_from, or_cases, or_left, or_right, or_parts, cond-true, cond-false, cases_Bool, eq-eqb, eqb-true, not-true, false_from_ne_true, none-some, same_Some, Event, Link, Unlink, Point, Flag, Join, Leave, Refusal, Accepted, manne_charge, manne_closed, after_leave, after_point, after_unlink, manne, edge_list, linked, names, node_count, present, State, IsState, has_suitor, is_unanswered, married, is_mutual, pointer, points, IsStable, refusal_of, Answers, AnswersBy, Entry, Moment, Run, leave_keeps, unlink_keeps, married_from, married_some, null_unmarried, points_from, answers_keep, runs_end_in_states, IsUndisturbed, moves_in, manne_cost, manne_point_cost, leave_has, manne_disturbed, point_parts, IsIn, sum_add, sum_le, degree, none_count, once, leave_waits, leave_within, unlink_waits, unlink_within, manne_charged, moves_are_paid, manne_grows, manne_stable_charge, married_are_pairs, unmarried_charge, edges_contain, names_present, names_without_repeats, an_end_paired, is_paired, paired_is, stance, manne_table, IsSubNetwork, WaitsOnly, all_rest, rest_is_stable, answered_mild, disturbed_rests, mild_weds, run_keeps_network, IsMild, mutual_is, none_parted, manne_contains, is_hit, is_parted, parts_a_pair, most_gained, most_lost, nodes_gone, manne_silent_cost, manne_silent_point_cost, single_neighbours, single_neighbours_at, ManneSilentCostIsLess, ManneSilentCostPays}
-use Rattle.silence_laws.proofs.OpenedEdges.{edges_few, is_edge_to, is_single_edge, is_edge_touched, leave_apart, one_le, or_le, single_few, touched_few, touched_single, unlink_apart, unlink_who}
+use Rattle.silence_laws.proofs.Prelude.{◌≡◌, ℕ, ◌+◌, ◌*◌, ◌<◌, ◌≤◌, Bool, true, false, cond, not, ◌&&◌, ◌||◌, [], List, count_by, Option, None, Some, is_some, nat_eq, IsTrue, refl, sym, ap, ◌∙◌, subst, inl, inr, ◌⊎◌, ⊎_elim, arith, true≢false, and_parts, and_from, or_cases, or_left, or_right, or_parts, cond-true, cond-false, cases_Bool, eq-eqb, eqb-true, not-true, false_from_ne_true, none-some, same_Some, Event, Link, Unlink, Point, Flag, Join, Leave, Refusal, Accepted, manne_charge, after_leave, after_point, after_unlink, manne, edge_list, linked, names, node_count, present, State, IsState, has_suitor, is_unanswered, married, is_mutual, pointer, points, IsStable, refusal_of, Answers, AnswersBy, Entry, Moment, Run, leave_keeps, unlink_keeps, married_from, married_some, null_unmarried, points_from, answers_keep, runs_end_in_states, IsUndisturbed, moves_in, manne_cost, manne_point_cost, leave_has, manne_disturbed, point_parts, IsIn, sum_add, sum_le, degree, none_count, once, leave_waits, leave_within, unlink_waits, unlink_within, manne_charged, moves_are_paid, manne_grows, manne_stable_charge, married_are_pairs, unmarried_charge, edges_contain, names_present, names_without_repeats, manne_table, IsSubNetwork, WaitsOnly, count_or, all_rest, rest_is_stable, answered_mild, disturbed_rests, mild_weds, run_keeps_network, IsMild, mutual_is, none_parted, manne_contains, is_hit, is_parted, parts_a_pair, most_gained, most_lost, nodes_gone, manne_silent_cost, manne_silent_point_cost, single_neighbours, single_neighbours_at, ManneSilentCostIsLess, ManneSilentCostPays}
+use Rattle.silence_laws.proofs.OpenedEdges.{end_stays, end_wed, edges_few, is_edge_to, is_single_edge, is_edge_touched, leave_apart, one_le, or_le, single_few, touched_few, touched_single, unlink_apart, unlink_who}
 use Rattle.silence_laws.proofs.GainedPairs.{few_are_gained}
 use Rattle.silence_laws.proofs.LeftPairs.{few_are_lost, nodes_left}
 use Rattle.silence_laws.proofs.CostComparison.{partner_less, rewriting_changes_nothing}
@@ -11,54 +11,21 @@ use Rattle.silence_laws.proofs.UnreachedNodes.{answer_at, none_courted, none_wai
 abbrev pub is_inner : State → Event → ℕ × ℕ → Bool
 is_inner s event e = is_parted s event e.0 && is_parted s event e.1
 
-module _ (s : State) (event : Event) (s' : State) (good : IsState s) (good' : IsState s') (stable : IsStable true s) (mild : IsMild manne s event s') where
-  weds : (v : ℕ) → married s v ≡ true → is_parted s event v ≡ false → IsTrue (present s'.network v) → married s' v ≡ true
-  weds v wed kept has = mild_weds manne s event s' good' mild v wed kept has
-
-  yes : (b : Bool) → not b ≡ false → b ≡ true
-  yes b h = grind arith
-
-  second : (a b : Bool) → a ≡ true → (a && b) ≡ false → b ≡ false
-  second a b e h = grind arith
-
-  -- one end of two keeps a partner
-  one_weds : (x y : ℕ) → married s x ≡ true → IsTrue (present s'.network x) → IsTrue (present s'.network y) → (is_parted s event x && not (married s y)) ≡ false → (is_parted s event x && is_parted s event y) ≡ false → (married s' x ≡ true) ⊎ (married s' y ≡ true)
-  one_weds x y wed has_x has_y free inner =
-      ⊎_elim
-      (λ parted. inr (weds y (yes (married s y) (second (is_parted s event x) (not (married s y)) parted free)) (second (is_parted s event x) (is_parted s event y) parted inner) has_y))
-      (λ kept. inl (weds x wed kept has_x))
-      (cases_Bool (is_parted s event x))
-
-  closes : (x y : ℕ) → (married s' x ≡ true) ⊎ (married s' y ≡ true) → IsTrue (manne_closed s' (x, y))
-  closes x y b2 = grind arith
-
-  swap : (a b : Bool) → (a && b) ≡ false → (b && a) ≡ false
-  swap a b h = grind arith
-
-  pub manne_silent_grows : IsSubNetwork s.network s'.network → (marked : ℕ → Bool) → WaitsOnly (pointer s) (pointer s') marked → ((x : ℕ) → is_hit s event x ≡ false) → manne_charge s' ≤ manne_charge s + 2 * (count_by (is_edge_touched s event) (edge_list s'.network) + count_by (is_inner s event) (edge_list s'.network)) + count_by marked (names s'.network) + 2 * count_by (is_parted s event) (names s'.network)
-  manne_silent_grows within marked waits unhit =
-      let es = edge_list s'.network in
-      let grows = manne_grows s s' within (λ e. is_edge_touched s event e || is_inner s event e) marked (is_parted s event)
-      (λ x y there free was.
-      let ends = edges_contain s'.network (x, y) there in
-      let has_x = good'.is_network.low_present x y ends in
-      let has_y = good'.is_network.high_present x y ends in
-      let both = or_parts (is_edge_touched s event (x, y)) (is_inner s event (x, y)) free in
-      let sides = or_parts (is_parted s event x && not (married s y)) (is_parted s event y && not (married s x)) both.0 in
-      an_end_paired true s good stable (x, y) (within.edges (x, y) there) (IsTrue (manne_closed s' (x, y)))
-      (λ h. closes x y (one_weds x y (wed x h) has_x has_y sides.0 both.1))
-      (λ h. closes x y (⊎_elim (λ k. inr k) (λ k. inl k) (one_weds y x (wed y h) has_y has_x sides.1 (swap (is_parted s event x) (is_parted s event y) both.1)))))
-      waits
-      (λ x there kept.
-      let has = names_present s'.network x there in
-      let had = names_present s.network x (within.nodes x there) in
-      ((λ is. weds x is kept has), mild.flags x has (λ uses. stable.flagged uses x had) (unhit x))) in
-      let le = sum_le (λ e. cond (is_edge_touched s event e || is_inner s event e) 1 0) (λ e. cond (is_edge_touched s event e) 1 0 + cond (is_inner s event e) 1 0) es (λ e there. or_le (is_edge_touched s event e || is_inner s event e) (is_edge_touched s event e) (is_inner s event e) (or_cases (is_edge_touched s event e) (is_inner s event e))) in
-      let both = sum_add (λ e. cond (is_edge_touched s event e) 1 0) (λ e. cond (is_inner s event e) 1 0) es in
-      omega (arith, grows, le, both)
-    where
-      wed : (x : ℕ) → IsTrue (is_paired (stance (pointer s) x)) → married s x ≡ true
-      wed x h = let pair = paired_is (pointer s) x h in married_from s x pair.0 good pair.1 pair.2
+pub manne_silent_grows : (s : State) (event : Event) (s' : State) → IsState s → IsState s' → IsStable true s → IsMild manne s event s' → IsSubNetwork s.network s'.network → (marked : ℕ → Bool) → WaitsOnly (pointer s) (pointer s') marked → ((x : ℕ) → is_hit s event x ≡ false) → manne_charge s' ≤ manne_charge s + 2 * (count_by (is_edge_touched s event) (edge_list s'.network) + count_by (is_inner s event) (edge_list s'.network)) + count_by marked (names s'.network) + 2 * count_by (is_parted s event) (names s'.network)
+manne_silent_grows s event s' good good' stable mild within marked waits unhit =
+    let weds = mild_weds manne s event s' good' mild in
+    let grows = manne_grows s s' within (λ e. is_edge_touched s event e || is_inner s event e) marked (is_parted s event)
+    (λ x y there clear was.
+    let ends = edges_contain s'.network (x, y) there in
+    let both = or_parts (is_edge_touched s event (x, y)) (is_inner s event (x, y)) clear in
+    or_left (married s' x || married s' y) _
+    (end_stays (married s x) (married s y) (is_parted s event x) (is_parted s event y) (married s' x) (married s' y) (end_wed true s good stable (x, y) (within.edges (x, y) there)) both.0 both.1 (λ wed kept. weds x wed kept (good'.is_network.low_present x y ends)) (λ wed kept. weds y wed kept (good'.is_network.high_present x y ends))))
+    waits
+    (λ x there kept.
+    let has = names_present s'.network x there in
+    let had = names_present s.network x (within.nodes x there) in
+    ((λ is. weds x is kept has), mild.flags x has (λ uses. stable.flagged uses x had) (unhit x))) in
+    omega (arith, grows, count_or (is_edge_touched s event) (is_inner s event) (edge_list s'.network))
 
 -- ---- how many are parted
 

@@ -1,5 +1,5 @@
 -- In a stable network only the edges between a parted node and an unmarried one may open.
-use Rattle.silence_laws.proofs.Prelude.{◌≡◌, ℕ, ◌+◌, ◌*◌, ◌<◌, ◌≤◌, Bool, true, false, cond, not, ◌&&◌, ◌||◌, List, count_by, Option, None, Some, nat_eq, IsTrue, refl, sym, ap, ◌∙◌, subst, inl, inr, ◌⊎◌, ⊎_elim, arith, true≢false, and_parts, and_from, and_cases, or_cases, or_left, or_right, or_parts, cond-true, cond-false, cases_Bool, eq-eqb, eqb-true, ne_eqb, not_from_false, false_from_ne_true, none-some, same_Some, Event, Unlink, Leave, hsu_huang_charge, after_leave, after_unlink, hsu_huang, edge, edge_list, linked, names, present, State, IsState, pointer, married, is_mutual, IsStable, leave_keeps, unlink_keeps, linked_back, linked_pair, linked_present, married_from, married_some, IsIn, count_into, sum_add, sum_le, none_count, edges_without_repeats, taken_out, leave_waits, leave_within, unlink_waits, unlink_within, IsClosed, high_paired, low_paired, edges_contain, in_names, an_end_paired, hsu_huang_stable_is_zero, is_paired, paired_from, paired_is, stance, IsSubNetwork, WaitsOnly, hsu_huang_grows, mild_weds, IsMild, mutual_is, none_parted, is_parted, silent_cost, single_neighbours, single_neighbours_at}
+use Rattle.silence_laws.proofs.Prelude.{◌≡◌, ℕ, ◌+◌, ◌*◌, ◌<◌, ◌≤◌, Bool, true, false, cond, not, ◌&&◌, ◌||◌, List, count_by, Option, None, Some, nat_eq, IsTrue, refl, sym, ap, ◌∙◌, subst, inl, inr, ◌⊎◌, ⊎_elim, arith, true≢false, and_parts, and_from, or_cases, or_left, or_right, cond-true, cond-false, cases_Bool, eq-eqb, eqb-true, ne_eqb, false_from_ne_true, none-some, same_Some, Event, Unlink, Leave, hsu_huang_charge, after_leave, after_unlink, hsu_huang, edge, edge_list, linked, names, present, State, IsState, pointer, married, is_mutual, IsStable, leave_keeps, unlink_keeps, linked_back, linked_pair, linked_present, IsIn, count_into, sum_add, sum_le, none_count, edges_without_repeats, taken_out, leave_waits, leave_within, unlink_waits, unlink_within, awaits, is_courted, married_is, edges_contain, in_names, an_end_paired, hsu_huang_stable_is_zero, IsSubNetwork, WaitsOnly, hsu_huang_grows, mild_weds, IsMild, mutual_is, none_parted, is_parted, silent_cost, single_neighbours, single_neighbours_at}
 
 -- whether an edge has one end at the node and its other end passes a test
 abbrev pub is_edge_to : (ℕ → Bool) → ℕ → ℕ × ℕ → Bool
@@ -13,43 +13,36 @@ is_single_edge s v e = is_edge_to (λ w. not (married s w)) v e
 abbrev pub is_edge_touched : State → Event → ℕ × ℕ → Bool
 is_edge_touched s event e = (is_parted s event e.0 && not (married s e.1)) || (is_parted s event e.1 && not (married s e.0))
 
-module _ (s : State) (event : Event) (s' : State) (good : IsState s) (good' : IsState s') (stable : IsStable false s) (mild : IsMild hsu_huang s event s') where
-  -- a node in a pair that is not parted closes its edges
-  closes : (v : ℕ) → married s v ≡ true → is_parted s event v ≡ false → IsTrue (present s'.network v) → IsTrue (is_paired (stance (pointer s') v))
-  closes v wed kept has =
-      let pair = married_some s' v (mild_weds hsu_huang s event s' good' mild v wed kept has) in
-      ap is_paired (paired_from (pointer s') v pair.0 pair.1 pair.2)
+-- an edge with a married end keeps one if no parted end is at an unmarried or a parted one
+pub end_stays : (m n p q m' n' : Bool) → (m ≡ true) ⊎ (n ≡ true) → ((p && not n) || (q && not m)) ≡ false → (p && q) ≡ false → (m ≡ true → p ≡ false → m' ≡ true) → (n ≡ true → q ≡ false → n' ≡ true) → (m' || n') ≡ true
+end_stays m n p q m' n' wed clear inner low high = grind arith
 
-  low_stays : (x y : ℕ) → married s x ≡ true → (is_parted s event x ≡ true → is_parted s event y ≡ true → ⊥) → IsTrue (present s'.network x) → IsTrue (present s'.network y) → (is_parted s event x && not (married s y)) ≡ false → (P : Type 0) → (IsTrue (is_paired (stance (pointer s') x)) → P) → (IsTrue (is_paired (stance (pointer s') y)) → P) → P
-  low_stays x y wed apart has_x has_y free P low high =
-      ⊎_elim
-      (λ parted.
-      let other : married s y ≡ true = ⊎_elim (λ none. absurd (true≢false (sym parted ∙ none))) (λ some. wed_from y some) (and_cases (is_parted s event x) (not (married s y)) free) in
-      high (closes y other (false_from_ne_true (is_parted s event y) (apart parted)) has_y))
-      (λ kept. low (closes x wed kept has_x))
-      (cases_Bool (is_parted s event x))
-    where
-      wed_from : (y : ℕ) → not (married s y) ≡ false → married s y ≡ true
-      wed_from y h = ⊎_elim (λ is. is) (λ no. absurd (true≢false (sym (not_from_false (married s y) no) ∙ h))) (cases_Bool (married s y))
+-- in a stable network each edge has a married end
+pub end_wed : (uses_flags : Bool) (s : State) → IsState s → IsStable uses_flags s → (e : ℕ × ℕ) → IsIn e (edge_list s.network) → (married s e.0 ≡ true) ⊎ (married s e.1 ≡ true)
+end_wed uses_flags s good stable e there = an_end_paired uses_flags s good stable e there ((married s e.0 ≡ true) ⊎ (married s e.1 ≡ true)) (λ h. inl (married_is s e.0 good ∙ h)) (λ h. inr (married_is s e.1 good ∙ h))
 
-  pub silent_grows : IsSubNetwork s.network s'.network → WaitsOnly (pointer s) (pointer s') (λ x. false) → ((x y : ℕ) → IsIn (x, y) (edge_list s'.network) → is_parted s event x ≡ true → is_parted s event y ≡ true → ⊥) → hsu_huang_charge s' ≤ 2 * count_by (is_edge_touched s event) (edge_list s'.network)
-  silent_grows within waits apart =
-      let grows = hsu_huang_grows s s' good good' within (is_edge_touched s event) (λ x. false)
-      (λ x y there free was.
-      let ends = edges_contain s'.network (x, y) there in
-      let has_x = good'.is_network.low_present x y ends in
-      let has_y = good'.is_network.high_present x y ends in
-      let both = or_parts (is_parted s event x && not (married s y)) (is_parted s event y && not (married s x)) free in
-      an_end_paired false s good stable (x, y) (within.edges (x, y) there) (IsClosed (pointer s') x y)
-      (λ h. low_stays x y (wed x h) (apart x y there) has_x has_y both.0 (IsClosed (pointer s') x y) (λ k. low_paired k) (λ k. high_paired k))
-      (λ h. low_stays y x (wed y h) (λ p q. apart x y there q p) has_y has_x both.1 (IsClosed (pointer s') x y) (λ k. high_paired k) (λ k. low_paired k)))
-      waits in
-      let zero = hsu_huang_stable_is_zero s good stable in
-      let none = none_count (λ (x : ℕ). false) (names s'.network) (λ x there. refl) in
-      omega (arith, grows, zero, none)
-    where
-      wed : (x : ℕ) → IsTrue (is_paired (stance (pointer s) x)) → married s x ≡ true
-      wed x h = let pair = paired_is (pointer s) x h in married_from s x pair.0 good pair.1 pair.2
+pub silent_grows : (s : State) (event : Event) (s' : State) → IsState s → IsState s' → IsStable false s → IsMild hsu_huang s event s' → IsSubNetwork s.network s'.network → WaitsOnly (pointer s) (pointer s') (λ x. false) → ((x y : ℕ) → IsIn (x, y) (edge_list s'.network) → is_parted s event x ≡ true → is_parted s event y ≡ true → ⊥) → hsu_huang_charge s' ≤ 2 * count_by (is_edge_touched s event) (edge_list s'.network)
+silent_grows s event s' good good' stable mild within waits apart =
+    let grows = hsu_huang_grows s s' (is_edge_touched s event) (λ x. false)
+    (λ x y there clear. (
+      within.edges (x, y) there,
+      λ was.
+          let ends = edges_contain s'.network (x, y) there in
+          more (married s' x || married s' y) (awaits s' x y) (awaits s' y x) (is_courted s' x && is_courted s' y)
+          (end_stays (married s x) (married s y) (is_parted s event x) (is_parted s event y) (married s' x) (married s' y) (end_wed false s good stable (x, y) (within.edges (x, y) there)) clear (not_both (is_parted s event x) (is_parted s event y) (apart x y there))
+          (λ wed kept. mild_weds hsu_huang s event s' good' mild x wed kept (good'.is_network.low_present x y ends))
+          (λ wed kept. mild_weds hsu_huang s event s' good' mild y wed kept (good'.is_network.high_present x y ends))),
+    ))
+    waits (λ x there. inl (within.nodes x there)) in
+    let zero = hsu_huang_stable_is_zero s good stable in
+    let none = none_count (λ (x : ℕ). false) (names s'.network) (λ x there. refl) in
+    omega (arith, grows, zero, none)
+  where
+    more : (e a b c : Bool) → e ≡ true → (e || a || b || c) ≡ true
+    more e a b c h = grind arith
+
+    not_both : (p q : Bool) → (p ≡ true → q ≡ true → ⊥) → (p && q) ≡ false
+    not_both p q h = grind arith
 
 -- ---- counting such edges
 

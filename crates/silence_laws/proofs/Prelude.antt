@@ -4,19 +4,18 @@ pub use Rattle.std.proofs.lemmas.Bool.{and_from, cond-true, cond-false, cases_Bo
 pub use Rattle.std.proofs.lemmas.List.Sums.{length-filter}
 pub use Rattle.std.proofs.lemmas.Option.{same_Some, none-some}
 pub use Rattle.charge_laws.proofs.CostsOfRuns.{manne_one, leave_has, manne_disturbed, point_parts, hsu_huang_disturbed}
-pub use Rattle.charge_laws.proofs.Degrees.{one_count, none_count, once}
-pub use Rattle.charge_laws.proofs.DisturbedPairs.{IsSubNetwork, WaitsOnly, hsu_huang_grows}
+pub use Rattle.charge_laws.proofs.Disturbed.{count_or, IsSubNetwork, WaitsOnly, IsWritten, wed_stays, written_at, leave_waits, leave_within, unlink_waits, unlink_within}
 pub use Rattle.charge_laws.proofs.EdgeChanges.{taken_out}
 pub use Rattle.charge_laws.proofs.EdgesByNodes.{edges_without_repeats}
-pub use Rattle.charge_laws.proofs.HsuHuangEdits.{leave_waits, leave_within, unlink_waits, unlink_within}
-pub use Rattle.charge_laws.proofs.HsuHuangTurns.{IsClosed, high_paired, low_paired, closed_swap, high_awaits, low_awaits}
+pub use Rattle.charge_laws.proofs.HsuHuangCosts.{hsu_huang_grows}
+pub use Rattle.charge_laws.proofs.Pairs.{IsSeen, seen}
 pub use Rattle.charge_laws.proofs.Laws.{manne_charged, moves_are_paid, hsu_huang_charged}
-pub use Rattle.charge_laws.proofs.ListCounts.{sum_add, sum_agree, sum_le, IsIn, count_all, count_into, count_none}
+pub use Rattle.charge_laws.proofs.ListCounts.{sum_add, sum_agree, sum_le, IsIn, count_all, count_into, count_none, one_count, none_count, once}
 pub use Rattle.charge_laws.proofs.ManneCosts.{manne_grows}
 pub use Rattle.charge_laws.proofs.ManneStableCharge.{manne_stable_charge, married_are_pairs, unmarried_charge}
 pub use Rattle.charge_laws.proofs.Members.{in_names, names_present, names_without_repeats, edges_contain}
 pub use Rattle.charge_laws.proofs.StableCharge.{an_end_paired, hsu_huang_stable_is_zero}
-pub use Rattle.charge_laws.proofs.Stances.{is_paired, paired_is, stance, paired_from}
+pub use Rattle.charge_laws.proofs.Stances.{married_is, is_paired, paired_is, stance, paired_from}
 pub use Rattle.charge_laws.proofs.Tables.{manne_table, hsu_huang_table}
 pub use Rattle.charge_laws.specs.ChargeWords.{IsUndisturbed, moves_in}
 pub use Rattle.charge_laws.specs.Costs.{hsu_huang_cost, hsu_huang_point_cost, manne_cost, manne_leave_cost, manne_point_cost}
@@ -37,7 +36,7 @@ pub use Rattle.machine_laws.proofs.Runs.{answers_keep, runs_end_in_states}
 pub use Rattle.machine_laws.proofs.StatePreservation.{leave_keeps, unlink_keeps}
 pub use Rattle.machine_laws.proofs.Writes.{pointer-with_pointer_other, pointer-with_pointer_same}
 pub use Rattle.rule_machine.specs.Answer.{AnswersBy, Answers, Does}
-pub use Rattle.rule_machine.specs.Charge.{manne_charge, manne_closed, hsu_huang_charge}
+pub use Rattle.rule_machine.specs.Charge.{awaits, is_courted, hsu_huang_closed, manne_charge, manne_closed, hsu_huang_charge}
 pub use Rattle.rule_machine.specs.Disturbance.{after_leave, after_point, after_unlink}
 pub use Rattle.rule_machine.specs.HsuHuang.{hsu_huang}
 pub use Rattle.rule_machine.specs.Manne.{manne}

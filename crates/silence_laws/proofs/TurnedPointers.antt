@@ -1,8 +1,34 @@
 -- Changing the pointer of a paired node in a stable network opens the edges of the two nodes to unmarried
 -- neighbours, and their own edge.
-use Rattle.silence_laws.proofs.Prelude.{◌≡◌, ℕ, ◌+◌, ◌*◌, ◌≤◌, Bool, true, false, cond, not, ◌&&◌, ◌||◌, [], ◌∷◌, count_by, Option, None, Some, is_some, nat_eq, IsTrue, refl, sym, ap, ◌∙◌, subst, inl, inr, ⊎_elim, arith, true≢false, and_parts, and_from, and_cases, or_parts, or_left, or_right, or_cases, cases_Bool, cases_eq, eq-eqb, eqb-true, not_from_false, length-filter, same_Some, hsu_huang_charge, after_point, edge_list, linked, names, present, State, IsState, is_at, pointer, married, IsStable, linked_apart, linked_back, linked_pair, linked_present, present_range, married_from, married_some, pointer_linked, pointer-with_pointer_other, pointer-with_pointer_same, IsIn, count_all, count_into, sum_add, sum_agree, sum_le, degree, none_count, once, one_count, IsClosed, closed_swap, high_awaits, high_paired, low_awaits, low_paired, edges_contain, in_names, names_without_repeats, an_end_paired, hsu_huang_stable_is_zero, is_paired, paired_from, paired_is, stance, IsSubNetwork, WaitsOnly, hsu_huang_grows, is_single_but, single_neighbours, single_neighbours_but}
+use Rattle.silence_laws.proofs.Prelude.{◌≡◌, ℕ, ◌+◌, ◌*◌, ◌≤◌, Bool, true, false, cond, not, ◌&&◌, ◌||◌, [], ◌∷◌, count_by, Option, None, Some, is_some, nat_eq, IsTrue, refl, sym, ap, ◌∙◌, subst, inl, inr, ⊎_elim, arith, and_parts, and_from, or_left, or_cases, cases_Bool, cases_eq, not_from_false, length-filter, hsu_huang_charge, after_point, edge_list, linked, names, State, IsState, is_at, pointer, married, IsStable, linked_apart, linked_back, linked_present, married_from, pointer_linked, IsIn, count_all, count_into, sum_add, sum_agree, sum_le, degree, none_count, once, one_count, edges_contain, in_names, names_without_repeats, an_end_paired, hsu_huang_stable_is_zero, IsSubNetwork, WaitsOnly, IsSeen, seen, IsWritten, written_at, wed_stays, is_none, hsu_huang_grows, hsu_huang_closed, has_suitor, is_courted, awaits, married_is, is_single_but, single_neighbours, single_neighbours_but}
 use Rattle.silence_laws.proofs.OpenedEdges.{edges_few, is_edge_to, one_le, or_le}
 use Rattle.silence_laws.proofs.UnreachedNodes.{answer_at}
+
+-- what an untouched edge implies
+untouched : (v u : ℕ) (f g : ℕ → Bool) (b : Bool) (x y : ℕ) → (is_edge_to f v (x, y) || (is_edge_to g u (x, y) || (b && is_edge_to (nat_eq u) v (x, y)))) ≡ false → (x ≡ v → f y ≡ false) × (x ≡ u → g y ≡ false) × (x ≡ v → y ≡ u → b ≡ false) × (x ≡ u → y ≡ v → b ≡ false)
+untouched v u f g b x y h = grind arith
+
+both_ways_touched : (v u : ℕ) (f g : ℕ → Bool) (b : Bool) (x y : ℕ) → (is_edge_to f v (x, y) || (is_edge_to g u (x, y) || (b && is_edge_to (nat_eq u) v (x, y)))) ≡ false → (is_edge_to f v (y, x) || (is_edge_to g u (y, x) || (b && is_edge_to (nat_eq u) v (y, x)))) ≡ false
+both_ways_touched v u f g b x y h = grind arith
+
+-- in pointers alone; m is married, c has a suitor
+module _ (p p' : ℕ → Option ℕ) (m m' c c' : ℕ → Bool) (v u : ℕ) (target : Option ℕ) (old : IsSeen p m c) (new : IsSeen p' m' c') (it : IsWritten p p' v target) (at : p v ≡ Some u) (back : p u ≡ Some v) (answered : (x w : ℕ) → p x ≡ Some w → p w ≡ Some x) where
+  turned_waits : WaitsOnly p p' (λ x. (is_some target && nat_eq v x) || nat_eq u x)
+  turned_waits x w there alone = grind (arith, it.here, it.others, answered x, cases_eq)
+
+  -- another pair stays
+  turned_stays : (x : ℕ) → m x ≡ true → (x ≡ v → ⊥) → (x ≡ u → ⊥) → m' x ≡ true
+  turned_stays x wed not_v not_u = wed_stays p p' m m' c c' old new x (λ w to fro. (it.others x not_v ∙ to, kept w to fro)) wed
+    where
+      kept : (w : ℕ) → p x ≡ Some w → p w ≡ Some x → p' w ≡ Some x
+      kept w to fro = grind (arith, it.others w, cases_eq)
+
+  wed_some : (y w : ℕ) → p y ≡ Some w → m y ≡ true
+  wed_some y w there = old.weds y w there (answered y w there)
+
+  -- an untouched edge at a married node is closed
+  turned_side : (x y : ℕ) → (x ≡ y → ⊥) → (u ≡ v → ⊥) → m x ≡ true → (x ≡ v → (not (m y) && not (is_at target y)) ≡ false) → (x ≡ u → not (m y) ≡ false) → (x ≡ v → y ≡ u → is_some target ≡ false) → (x ≡ u → y ≡ v → is_some target ≡ false) → (m' x || m' y || (is_at (p' x) y && is_none (p' y)) || (is_at (p' y) x && is_none (p' x))) ≡ true
+  turned_side x y loop apart wed of_v of_u of_both of_back = grind (arith, it.here, it.others x, it.others y, turned_stays x wed, turned_stays y, wed_some y, cases_eq)
 
 module _ (s : State) (v u : ℕ) (target : Option ℕ) (good : IsState s) (stable : IsStable false s) (at : pointer s v ≡ Some u) (back : pointer s u ≡ Some v) (turned : target ≡ Some u → ⊥) (near : (w : ℕ) → target ≡ Some w → IsTrue (linked s.network v w)) (good' : IsState (after_point s v target)) where
   abbrev pub s' : State
@@ -11,28 +37,8 @@ module _ (s : State) (v u : ℕ) (target : Option ℕ) (good : IsState s) (stabl
   near_u : IsTrue (linked s.network v u)
   near_u = pointer_linked s v u good at
 
-  has_v : IsTrue (present s.network v)
-  has_v = linked_present s.network v u good.is_network near_u
-
-  here : pointer s' v ≡ target
-  here = pointer-with_pointer_same s.registers v target (let bounds = present_range s.network v has_v in let len = good.pointers_len in omega (arith, bounds, len))
-
-  other : (x : ℕ) → (x ≡ v → ⊥) → pointer s' x ≡ pointer s x
-  other x apart = pointer-with_pointer_other s.registers v target x apart
-
-  apart_u : u ≡ v → ⊥
-  apart_u e = linked_apart s.network v u good.is_network near_u (sym e)
-
-  -- the partner still points at v
-  waiting : pointer s' u ≡ Some v
-  waiting = other u apart_u ∙ back
-
-  -- another pair stays
-  stays : (x : ℕ) → married s x ≡ true → (x ≡ v → ⊥) → (x ≡ u → ⊥) → IsTrue (is_paired (stance (pointer s') x))
-  stays x wed not_v not_u =
-      let pair = married_some s x wed in
-      let apart : pair.0 ≡ v → ⊥ = λ e. not_u (same_Some x u (sym pair.2 ∙ ap (pointer s) e ∙ at)) in
-      ap is_paired (paired_from (pointer s') x pair.0 (other x not_v ∙ pair.1) (other pair.0 apart ∙ pair.2))
+  it : IsWritten (pointer s) (pointer s') v target
+  it = written_at s v target good (linked_present s.network v u good.is_network near_u)
 
   abbrev far : ℕ → Bool
   far x = is_single_but s target x
@@ -50,113 +56,20 @@ module _ (s : State) (v u : ℕ) (target : Option ℕ) (good : IsState s) (stabl
   abbrev pub marked : ℕ → Bool
   marked x = (is_some target && nat_eq v x) || nat_eq u x
 
-  target_some : (x : ℕ) → target ≡ Some x → is_some target ≡ true
-  target_some x e = ap is_some e
-
   pub waits : WaitsOnly (pointer s) (pointer s') marked
-  waits x y to alone =
-      ⊎_elim
-      (λ is_v. inr (or_left (is_some target && nat_eq v x) (nat_eq u x) (and_from (is_some target) (nat_eq v x) (target_some y (sym here ∙ ap (pointer s') (sym is_v) ∙ to)) (eq-eqb v x (sym is_v)))))
-      (λ not_v.
-      let back_y = answer_at false s stable x y (sym (other x not_v) ∙ to) in
-      ⊎_elim
-      (λ y_is. inr (or_right (is_some target && nat_eq v x) (nat_eq u x) (eq-eqb u x (same_Some u x (sym at ∙ ap (pointer s) (sym y_is) ∙ back_y)))))
-      (λ y_not. absurd (alone (other y y_not ∙ back_y)))
-      (cases_eq y v))
-      (cases_eq x v)
-
-  -- what an untouched edge implies for its end x, and for the other
-  record IsFree (x y : ℕ) : Type 0 where
-    pub of_v : x ≡ v → far y ≡ false
-    pub of_u : x ≡ u → single y ≡ false
-    pub of_both : x ≡ v → y ≡ u → is_some target ≡ false
-    pub of_both_back : x ≡ u → y ≡ v → is_some target ≡ false
-
-  second : (a b : Bool) → a ≡ true → (a && b) ≡ false → b ≡ false
-  second a b e h = grind arith
-
-  none_own : (x y : ℕ) → own (x, y) ≡ false → (x ≡ v) × (y ≡ u) → is_some target ≡ false
-  none_own x y free both = grind (arith, true≢false, and_from, eq-eqb, or_parts, and_cases)
-
-  none_own_back : (x y : ℕ) → own (x, y) ≡ false → (x ≡ u) × (y ≡ v) → is_some target ≡ false
-  none_own_back x y free both = grind (arith, true≢false, and_from, eq-eqb, or_parts, and_cases)
-
-  free_low : (x y : ℕ) → touched (x, y) ≡ false → IsFree x y
-  free_low x y free =
-      let first = or_parts (is_edge_to far v (x, y)) (is_edge_to single u (x, y) || own (x, y)) free in
-      let rest = or_parts (is_edge_to single u (x, y)) (own (x, y)) first.1 in
-      record {
-        of_v = λ e. second (nat_eq x v) (far y) (eq-eqb x v e) (or_parts (nat_eq x v && far y) (nat_eq y v && far x) first.0).0;
-        of_u = λ e. second (nat_eq x u) (single y) (eq-eqb x u e) (or_parts (nat_eq x u && single y) (nat_eq y u && single x) rest.0).0;
-        of_both = λ e f. none_own x y rest.1 (e, f);
-        of_both_back = λ e f. none_own_back x y rest.1 (e, f);
-      }
-
-  free_high : (x y : ℕ) → touched (x, y) ≡ false → IsFree y x
-  free_high x y free =
-      let first = or_parts (is_edge_to far v (x, y)) (is_edge_to single u (x, y) || own (x, y)) free in
-      let rest = or_parts (is_edge_to single u (x, y)) (own (x, y)) first.1 in
-      record {
-        of_v = λ e. second (nat_eq y v) (far x) (eq-eqb y v e) (or_parts (nat_eq x v && far y) (nat_eq y v && far x) first.0).1;
-        of_u = λ e. second (nat_eq y u) (single x) (eq-eqb y u e) (or_parts (nat_eq x u && single y) (nat_eq y u && single x) rest.0).1;
-        of_both = λ e f. none_own_back x y rest.1 (f, e);
-        of_both_back = λ e f. none_own x y rest.1 (f, e);
-      }
-
-  yes : (b : Bool) → not b ≡ false → b ≡ true
-  yes b h = grind arith
-
-  -- if v's pointer is null its partner awaits it
-  nowhere : is_some target ≡ false → pointer s' v ≡ None
-  nowhere h = here ∙ by target h
-    where
-      by : (o : Option ℕ) → is_some o ≡ false → o ≡ None
-      by o e = grind arith
-
-  -- at v
-  v_side : (x y : ℕ) → IsTrue (linked s.network x y) → IsFree x y → x ≡ v → IsClosed (pointer s') x y
-  v_side x y joins free is_v =
-      ⊎_elim
-      (λ is_u. high_awaits (ap (pointer s') is_u ∙ waiting ∙ ap Some (sym is_v)) (ap (pointer s') is_v ∙ nowhere (free.of_both is_v is_u)))
-      (λ not_u. ⊎_elim
-      (λ wed. high_paired (stays y (yes (married s y) wed) not_v not_u))
-      (λ aimed. courted not_u (aim target y (yes (is_at target y) aimed)) (pointer s y) refl)
-      (and_cases (not (married s y)) (not (is_at target y)) (free.of_v is_v)))
-      (cases_eq y u)
-    where
-      not_v : y ≡ v → ⊥
-      not_v e = linked_apart s.network x y good.is_network joins (is_v ∙ sym e)
-
-      aim : (o : Option ℕ) (z : ℕ) → is_at o z ≡ true → o ≡ Some z
-      aim o z h = grind arith
-
-      courted : (y ≡ u → ⊥) → target ≡ Some y → (o : Option ℕ) → pointer s y ≡ o → IsClosed (pointer s') x y
-      courted not_u aimed None null = low_awaits (ap (pointer s') is_v ∙ here ∙ aimed) (other y not_v ∙ null)
-      courted not_u aimed (Some z) some = high_paired (stays y (married_from s y z good some (answer_at false s stable y z some)) not_v not_u)
-
-  -- at its partner
-  u_side : (x y : ℕ) → IsTrue (linked s.network x y) → IsFree x y → x ≡ u → IsClosed (pointer s') x y
-  u_side x y joins free is_u =
-      ⊎_elim
-      (λ is_v. low_awaits (ap (pointer s') is_u ∙ waiting ∙ ap Some (sym is_v)) (ap (pointer s') is_v ∙ nowhere (free.of_both_back is_u is_v)))
-      (λ not_v. high_paired (stays y (yes (married s y) (free.of_u is_u)) not_v (λ e. linked_apart s.network x y good.is_network joins (is_u ∙ sym e))))
-      (cases_eq y v)
+  waits = turned_waits (pointer s) (pointer s') (married s) (married s') (has_suitor s) (has_suitor s') v u target (seen s good) (seen s' good') it at back (answer_at false s stable)
 
   -- an edge that is not touched is closed: one end is in a pair
-  one_side : (x y : ℕ) → married s x ≡ true → IsTrue (linked s.network x y) → IsFree x y → IsClosed (pointer s') x y
-  one_side x y wed joins free =
-      ⊎_elim
-      (λ is_v. v_side x y joins free is_v)
-      (λ not_v. ⊎_elim (λ is_u. u_side x y joins free is_u) (λ not_u. low_paired (stays x wed not_v not_u)) (cases_eq x u))
-      (cases_eq x v)
-
-  closed : (x y : ℕ) → IsIn (x, y) (edge_list s'.network) → touched (x, y) ≡ false → IsClosed (pointer s) x y → IsClosed (pointer s') x y
-  closed x y there free was =
-      let ends = edges_contain s.network (x, y) there in
-      let joins = linked_pair s.network x y (good.is_network.low_first x y ends) ∙ ends in
-      an_end_paired false s good stable (x, y) there (IsClosed (pointer s') x y)
-      (λ h. let pair = paired_is (pointer s) x h in one_side x y (married_from s x pair.0 good pair.1 pair.2) joins (free_low x y free))
-      (λ h. let pair = paired_is (pointer s) y h in closed_swap (pointer s') y x (one_side y x (married_from s y pair.0 good pair.1 pair.2) (linked_back s.network y x ∙ joins) (free_high x y free)))
+  closed : (x y : ℕ) → IsIn (x, y) (edge_list s'.network) → touched (x, y) ≡ false → hsu_huang_closed s' (x, y) ≡ true
+  closed x y there clear =
+      let up = good.is_network.low_first x y (edges_contain s.network (x, y) there) in
+      let side = λ (a b : ℕ) (loop : a ≡ b → ⊥) (wed : married s a ≡ true) (off : touched (a, b) ≡ false). let parts = untouched v u far single (is_some target) a b off in turned_side (pointer s) (pointer s') (married s) (married s') (has_suitor s) (has_suitor s') v u target (seen s good) (seen s' good') it at back (answer_at false s stable) a b loop (λ same. linked_apart s.network v u good.is_network near_u (sym same)) wed parts.0 parts.1 parts.2 parts.3 in
+      an_end_paired false s good stable (x, y) there (hsu_huang_closed s' (x, y) ≡ true)
+      (λ h. or_left _ (is_courted s' x && is_courted s' y) (side x y (λ same. omega (arith, same, up)) (married_is s x good ∙ h) clear))
+      (λ h. or_left _ (is_courted s' x && is_courted s' y) (turn (married s' y) (married s' x) (awaits s' y x) (awaits s' x y) (side y x (λ same. omega (arith, same, up)) (married_is s y good ∙ h) (both_ways_touched v u far single (is_some target) x y clear))))
+    where
+      turn : (m n a b : Bool) → (m || n || a || b) ≡ true → (n || m || b || a) ≡ true
+      turn m n a b h = grind arith
 
   -- the edge of the two is one, and none is touched if v points nowhere now
   pub own_few : count_by own (edge_list s'.network) ≤ cond (is_some target) 1 0
@@ -197,7 +110,7 @@ module _ (s : State) (v u : ℕ) (target : Option ℕ) (good : IsState s) (stabl
   turned_few =
       let es = edge_list s.network in
       let within : IsSubNetwork s.network s'.network = record { edges = λ e h. h; nodes = λ x h. h } in
-      let grows = hsu_huang_grows s s' good good' within touched marked closed waits in
+      let grows = hsu_huang_grows s s' touched marked (λ x y there clear. (there, λ was. closed x y there clear)) waits (λ x there. inl there) in
       let zero = hsu_huang_stable_is_zero s good stable in
       let le = sum_le (λ e. cond (touched e) 1 0) (λ e. cond (is_edge_to far v e) 1 0 + cond (is_edge_to single u e || own e) 1 0) es (λ e there. or_le (touched e) (is_edge_to far v e) (is_edge_to single u e || own e) (or_cases (is_edge_to far v e) (is_edge_to single u e || own e))) in
       let both = sum_add (λ e. cond (is_edge_to far v e) 1 0) (λ e. cond (is_edge_to single u e || own e) 1 0) es in

@@ -1,5 +1,5 @@
 -- In a stable network no node waits, and a disturbance that reaches no node leaves it stable.
-use Rattle.silence_laws.proofs.Prelude.{◌≡◌, ℕ, Bool, false, not, ◌&&◌, ◌||◌, Option, None, Some, is_some, find, IfSome, IsTrue, refl, sym, ap, ◌∙◌, subst, ⊎_elim, true≢false, and_parts, or_cases, cases_Bool, false_from_ne_true, none-some, Event, Accepted, hsu_huang_charge, hsu_huang, neighbours, State, IsState, has_suitor, holds_at, is_unanswered, married, pointer, points, IsStable, Answers, near_fails, points_from, points_true, suitor_some, answers_keep, hsu_huang_stable_is_zero, hsu_huang_table, all_rest, rest_is_stable, disturbed_rests, is_hit, is_in_reach, is_parted, NobodyWaits, arith}
+use Rattle.silence_laws.proofs.Prelude.{◌≡◌, ℕ, Bool, false, None, Some, IfSome, subst, true≢false, and_parts, or_cases, cases_Bool, false_from_ne_true, none-some, Event, Accepted, hsu_huang_charge, hsu_huang, State, IsState, has_suitor, is_unanswered, pointer, points, IsStable, Answers, near_fails, points_from, points_true, suitor_some, answers_keep, hsu_huang_stable_is_zero, hsu_huang_table, all_rest, rest_is_stable, disturbed_rests, is_hit, is_in_reach, is_parted, NobodyWaits, arith}
 
 -- ---- nobody waits
 

@@ -1,9 +1,5 @@
-use Rattle.containment_laws.proofs.Prelude.{hsu_huang, manne}
 use Rattle.containment_laws.proofs.Proved as proved
 use Rattle.containment_laws.proofs.law.steps_leave_rest.Goals as goal
 
-pub returns-clause-hsu_huang : goal.returns-clause-hsu_huang
-returns-clause-hsu_huang c = proved.steps_leave_rest hsu_huang proved.hsu_huang_contains
-
-pub returns-clause-manne : goal.returns-clause-manne
-returns-clause-manne c = proved.steps_leave_rest manne proved.manne_contains
+pub returns : goal.returns
+returns c t table asks = proved.steps_leave_rest t (proved.contains_from t table asks)
