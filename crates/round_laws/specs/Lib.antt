@@ -1,0 +1,4 @@
+pub mod Rounds
+pub mod LongRuns
+pub mod Stamps
+pub mod Pieces
