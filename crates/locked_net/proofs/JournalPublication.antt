@@ -3,9 +3,6 @@
 use Rattle.locked_net.proofs.Prelude.{◌≡◌, ◌+◌, ◌<◌, ◌≤◌, ℕ, [], ◌∷◌, ◌++◌, length, Some, None, Result, Ok, Err, OnOk, OnErr, inl, refl, sym, ap, ap₂, ◌∙◌, subst, arith, Event, State, RuleTable, Entry, Run, Base, Moment, beginning_with, dropped, IsTable, BoardShape, IsRun, BoardView, StartsAt, IsStart, BeginsIn, JournalView, kept_of, RetainedLog, checkpointed, kept_with, last_number, moment_in, next_entry, whole, empty_log_with, kept_from, max_entries, log_over, IsPublishedJournal}
 use Rattle.locked_net.proofs.RetainedParts.{above_len, recorded_is_log, recorded_size, recorded_above, checkpoint_above}
 use Rattle.std.proofs.Common.{false}
-use Rattle.std.proofs.lemmas.List.{length-map}
-use Rattle.rule_machine.specs.Base.{base_of, node_record_at, node_records}
-use Rattle.rule_machine.specs.Network.{names, node_count}
 use Rattle.rule_machine.specs.State.{IsState, flag}
 use Rattle.step_log.specs.BaseStarts.{resumed_log}
 use Rattle.locked_net.specs.WholeLogs.{IsWholeLog}
@@ -93,10 +90,6 @@ resumed_is_whole t number limit m good unflagged small few =
     let room : last_number log ≤ log.limit = grind arith in
     let within : log.limit ≤ max_entries = grind (arith, few) in
     record { start = m; begins = record { is_state = good; size_is = refl; lines = refl; unflagged = unflagged }; run = refl; size = small; room = room; limit = within }
-
--- the nodes of a base that is made from a moment
-pub node_records_count : (number : ℕ) (base : Base) (m : Moment) → base ≡ base_of number m → length base.nodes ≡ node_count m.state.network
-node_records_count number base m is = ap (λ (b : Base). length b.nodes) is ∙ length-map (names m.state.network) (node_record_at m.state)
 
 -- no entry is a run from the beginning of such a log
 pub none_is_run : (t : RuleTable) (kept : RetainedLog) → IsWholeLog t kept → kept.entries ≡ [] → IsRun t (record { places = kept.state.network.size + 1; present = kept.present; base = kept.base }) []

@@ -143,7 +143,6 @@ impl<R: Rules> LockedNet<R> {
         limit: u32,
     ) -> Result<LockedNet<R>, Want>
         requires few { number ≤ max_entries }
-        requires unflagged { R.table.flags ≡ false → (v : ℕ) → flag net.state v ≡ false }
         ensures nodes { IfOk result (λ made. name_count_of made ≡ net.state.network.size) }
         ensures present { IfOk result (λ made. first_nodes_of made ≡ node_count net.state.network) }
         ensures limit { IfOk result (λ made. log_limit_of made ≡ max number (min limit max_entries)) }

@@ -1,1 +1,2 @@
+pub mod SilentMoves
 pub mod SmallerBound

@@ -50,7 +50,7 @@ pub use Rattle.net_state.specs.StateViews.{without_place, StateView}
 pub use Rattle.net_state.specs.declared.change.Change.{Change}
 pub use Rattle.net_state.specs.declared.change.Change.TheVariants.{Pointed, Flagged}
 pub use Rattle.node_bound.proofs.SmallerBound.{smaller_bounds}
-pub use Rattle.node_bound.specs.MovesLeft.{moves_left, BoundsMoves}
+pub use Rattle.node_bound.specs.MovesLeft.{BoundsMoves}
 pub use Rattle.rule_machine.specs.Answer.{Answers, spent_after, AnswersBy}
 pub use Rattle.rule_machine.specs.Disturbance.{after_link, after_join, after_point, after_flag}
 pub use Rattle.rule_machine.specs.Least.{outcome_of, move_in, item_of, least_moves, outcome_at, outcome_by, reply_of, state_after, replies_of, reply_by, accepted_reply}

@@ -3,7 +3,7 @@ use Rattle.std.specs.Prelude.{◌≡◌, ℕ, ◌<◌, ◌⊎◌, Bool, true, fa
 use Rattle.rule_machine.specs.declared.event.Event.{Event}
 use Rattle.rule_machine.specs.declared.event.Event.TheVariants.{Link, Unlink, Point, Flag, Step, Show, Enabled, Matching, Status, Join, Leave}
 use Rattle.rule_machine.specs.declared.reply.Reply.{Reply}
-use Rattle.rule_machine.specs.State.{IsState}
+use Rattle.rule_machine.specs.State.{IsState, flag}
 use Rattle.rule_machine.specs.RuleTable.{RuleTable}
 use Rattle.rule_machine.specs.Refuse.{refusal_of}
 use Rattle.rule_machine.specs.Least.{reply_of}
@@ -39,10 +39,12 @@ pub record Prepares {E : Type 0} (t : RuleTable) (n : StateView) (spent : ℕ) (
   pub kept : n'.state ≡ n.state
   pub want : OnErr result ((refusal_of t n.state event ≡ None) × IsTrue (takes_memory event))
 
--- the state is valid, and spent moves plus charge are within the bound of the state's network
+-- the state is valid, spent moves plus charge are within the bound of the state's network, and no flag is true
+-- that the rules do not use
 pub record IsWithinBudget (t : RuleTable) (weight : ℕ) (m : Moment) : Type 0 where
   pub is_state : IsState m.state
   pub within : IsWithinBound t weight m
+  pub unflagged : t.flags ≡ false → (v : ℕ) → flag m.state v ≡ false
 
 -- the moment after all events in turn, if each reply has the least targets
 abbrev pub moment_after_all : RuleTable → Moment → List Event → Moment

@@ -1,14 +1,14 @@
 //! How many moves can still come.
 
-ghost use Rattle.std.specs.Prelude.{◌≡◌};
-ghost use Rattle.rule_machine.specs.Network.{node_count};
-ghost use Rattle.node_bound.specs.MovesLeft.{moves_left, BoundsMoves};
+ghost use Rattle.std.specs.Prelude.{◌≡◌, []};
+ghost use Rattle.rule_machine.specs.RuleTable.{enabled_names};
+ghost use Rattle.node_bound.specs.MovesLeft.{smaller_bound, moves_left, BoundsMoves};
 
 use crate::Net;
 use node_bound::NodeBound;
 
 fn smaller(charge: u32, most: Option<u32>) -> u32
-    ensures { result ≡ moves_left charge most }
+    ensures { result ≡ smaller_bound charge most }
 {
     match most {
         Some(most) => charge.min(most),
@@ -18,16 +18,20 @@ fn smaller(charge: u32, most: Option<u32>) -> u32
 
 impl<R: NodeBound> Net<R> {
     /// The most moves that can still come before the next accepted disturbance, for any daemon.
-    /// This is the charge, or a smaller bound by the number of nodes alone if the rules have one. Under Hsu
-    /// and Huang's rules (1992) the bound by nodes is n²/2 + n - 2 for n nodes, with n²/2 rounded down.
-    /// Costs as much as `charge`.
+    /// This is 0 if the network is silent; else the charge, or a smaller bound by the number of nodes alone
+    /// if the rules have one. Under Hsu and Huang's rules (1992) the bound by nodes is n²/2 + n - 2 for n
+    /// nodes, with n²/2 rounded down. Costs as much as `charge`.
     pub fn moves_left(&mut self) -> u32
-        ensures value { result ≡ moves_left (R.table.charge self.old.state) (R.most (node_count self.old.state.network)) }
+        ensures value { result ≡ moves_left R.table R.most self.old.state }
+        ensures silent { enabled_names R.table self.old.state ≡ [] → result ≡ 0 }
         ensures promise { BoundsMoves R.table self.old.state self.old.spent result }
         ensures kept { self.new ≡ self.old }
     {
         // Called only for the contract: the state is sound.
         let _ = self.registers();
+        if self.is_quiet() {
+            return 0;
+        }
         let charge = self.charge();
         smaller(charge, R::most_moves(self.store().nodes()))
     }

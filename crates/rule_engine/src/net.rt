@@ -1,12 +1,12 @@
 //! A network under a rule set.
 
-ghost use Rattle.std.specs.Prelude.{◌≡◌, ◌<◌, ◌≤◌, ◌+◌, ◌*◌, ◌↔◌, ℕ, List, [], IfOk, IfErr, IfSome, OnOk, OnErr, IsTrue, None, length, zip, slice_get};
+ghost use Rattle.std.specs.Prelude.{◌≡◌, ◌<◌, ◌≤◌, ◌+◌, ◌*◌, ◌↔◌, ℕ, List, [], IfOk, IfErr, IfSome, OnOk, OnErr, IsTrue, None, false, length, zip, slice_get};
 ghost use Rattle.enabled_set.specs.Members.{members};
 ghost use Rattle.graph_store.specs.Fault.{nodes_fault, ExplainsGraphFault};
 ghost use Rattle.charge_laws.specs.ChargeWords.{charge_bound};
 ghost use Rattle.rule_machine.specs.Base.{base_of};
 ghost use Rattle.rule_machine.specs.Network.{node_count, edge_count};
-ghost use Rattle.rule_machine.specs.State.{IsState};
+ghost use Rattle.rule_machine.specs.State.{IsState, flag};
 ghost use Rattle.rule_machine.specs.RuleTable.{enabled_names, rule_at};
 ghost use Rattle.rule_machine.specs.Refuse.{refusal_of};
 ghost use Rattle.rule_machine.specs.Least.{reply_of, replies_of};
@@ -94,6 +94,7 @@ impl<R: Rules> Net<R> {
     /// thirty bytes a name.
     pub fn of_state(alloc: Global, net: NetState, spent: u32) -> Result<Net<R>, Want>
         requires within { spent + R.table.charge net.state ≤ charge_bound R.NODE_WEIGHT net.state.network }
+        requires unflagged { R.table.flags ≡ false → (v : ℕ) → flag net.state v ≡ false }
         ensures { IfOk result (λ made. net_moment made ≡ record { state = net.state; spent = spent }) }
     {
         // Gives the prover `IsState`.
@@ -175,7 +176,8 @@ impl<R: Rules> Net<R> {
     }
 
     /// The most that an event, carried out now, would add to the charge, in moves.
-    /// So the result bounds how many more moves may come before the next disturbance. Nothing changes.
+    /// It bounds the growth of the charge, not the moves that follow: those may also use up charge that is
+    /// there already. Nothing changes.
     /// 0 for a step, for a query, and for an event that would be refused.
     /// Reads pointers and counts of the nodes that the event touches, whatever the size of the network.
     pub fn cost_of(&self, event: &Event) -> u32

@@ -29,12 +29,12 @@ begun_is_journal t weight size limit base s begun small nodes edges room within 
 }
 
 -- a journal that goes on with a network has the network's moment as its base
-pub resumed_is_journal : (t : RuleTable) (weight number limit present : ℕ) (m : Moment) → IsWithinBudget t weight m → (t.flags ≡ false → (v : ℕ) → flag m.state v ≡ false) → m.state.network.size ≤ 65535 → IsBaseOfGraph (Some (base_of number m)) → number ≤ limit → limit ≤ max_entries → (over : List Epoch) → over ≡ []
+pub resumed_is_journal : (t : RuleTable) (weight number limit present : ℕ) (m : Moment) → IsWithinBudget t weight m → m.state.network.size ≤ 65535 → IsBaseOfGraph (Some (base_of number m)) → number ≤ limit → limit ≤ max_entries → (over : List Epoch) → over ≡ []
     → IsJournal t weight (record { state = m.state; spent = m.spent; base = Some (base_of number m); entries = []; limit = limit; present = present }) over Forgotten
-resumed_is_journal t weight number limit present m budget unflagged small short room within over none = record {
+resumed_is_journal t weight number limit present m budget small short room within over none = record {
   is_kept = record {
     start = m;
-    begins = record { is_state = budget.is_state; size_is = refl; lines = refl; unflagged = unflagged; within = budget.within };
+    begins = record { is_state = budget.is_state; size_is = refl; lines = refl; unflagged = budget.unflagged; within = budget.within };
     run = refl;
     size = small;
     room = omega (arith, room);

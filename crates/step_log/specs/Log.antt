@@ -1,11 +1,10 @@
 -- What a journal contains, and recording an event.
-use Rattle.std.specs.Prelude.{ℕ, ◌+◌, ◌≤◌, List, [], ◌∷◌, ◌++◌, length}
+use Rattle.std.specs.Prelude.{ℕ, ◌≤◌, List, [], ◌∷◌, ◌++◌, length}
 use Rattle.rule_machine.specs.declared.event.Event.{Event}
 use Rattle.rule_machine.specs.State.{State, opening_with}
 use Rattle.rule_machine.specs.RuleTable.{RuleTable}
 use Rattle.rule_machine.specs.Least.{reply_of, state_after, spent_by}
 use Rattle.rule_machine.specs.Run.{Entry, Run, beginning_with}
-use Rattle.step_log.specs.declared.receipt.Receipt.{Receipt}
 pub use Rattle.step_log.specs.Recording.{max_entries}
 
 -- a network's state, the moves since the last disturbance, the entries that led to the state, the limit of
@@ -46,8 +45,3 @@ recorded t log event =
       spent = spent_by t log.state log.spent event;
       entries = log.entries ++ entry_of t log event ∷ [];
     }
-
--- the caller's receipt of the event
-abbrev pub receipt_of : RuleTable → Log → Event → Receipt
-receipt_of t log event =
-    record { seq = length log.entries + 1; event = event; reply = reply_of t log.state log.spent event }

@@ -86,7 +86,6 @@ impl<R: Rules> Journal<R> {
     /// `AllocError` if memory runs out. Costs what a checkpoint costs.
     pub fn of_net(alloc: Global, net: Net<R>, number: u32, limit: u32) -> Result<Journal<R>, Want>
         requires few { number ≤ max_entries }
-        requires unflagged { R.table.flags ≡ false → (v : ℕ) → flag net.state v ≡ false }
         ensures { IfOk result (λ journal. kept_of journal ≡ resumed_log (net_moment net) number limit) }
     {
         let base = net.base(number)?;

@@ -1,17 +1,18 @@
 //! How many moves can still come.
 
-ghost use Rattle.std.specs.Prelude.{◌≡◌};
-ghost use Rattle.rule_machine.specs.Network.{node_count};
+ghost use Rattle.std.specs.Prelude.{◌≡◌, []};
+ghost use Rattle.rule_machine.specs.RuleTable.{enabled_names};
 ghost use Rattle.node_bound.specs.MovesLeft.{moves_left, BoundsMoves};
 
 use crate::{Journal, Recorder};
 use rule_engine::NodeBound;
 
 impl<R: NodeBound> Recorder<R> {
-    /// The most moves that can still come before the next accepted disturbance.
+    /// The most moves that can still come before the next accepted disturbance, 0 in silence.
     /// See `Net::moves_left`, also for the cost.
     pub fn moves_left(&mut self) -> u32
-        ensures value { result ≡ moves_left (R.table.charge self.old.state) (R.most (node_count self.old.state.network)) }
+        ensures value { result ≡ moves_left R.table R.most self.old.state }
+        ensures silent { enabled_names R.table self.old.state ≡ [] → result ≡ 0 }
         ensures promise { BoundsMoves R.table self.old.state self.old.spent result }
         ensures kept { self.new ≡ self.old }
     {
@@ -20,10 +21,11 @@ impl<R: NodeBound> Recorder<R> {
 }
 
 impl<R: NodeBound> Journal<R> {
-    /// The most moves that can still come before the next accepted disturbance.
+    /// The most moves that can still come before the next accepted disturbance, 0 in silence.
     /// See `Net::moves_left`, also for the cost.
     pub fn moves_left(&mut self) -> u32
-        ensures value { result ≡ moves_left (R.table.charge self.old.state) (R.most (node_count self.old.state.network)) }
+        ensures value { result ≡ moves_left R.table R.most self.old.state }
+        ensures silent { enabled_names R.table self.old.state ≡ [] → result ≡ 0 }
         ensures promise { BoundsMoves R.table self.old.state self.old.spent result }
         ensures kept { self.new ≡ self.old }
     {

@@ -28,6 +28,7 @@ mod left;
 mod prepared;
 mod receipt;
 mod recorder;
+mod renumber;
 mod silence;
 mod start_fault;
 

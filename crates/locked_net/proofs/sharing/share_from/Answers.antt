@@ -1,7 +1,7 @@
 use Rattle.locked_net.proofs.Prelude.{◌≡◌, ◌≤◌, sym, subst, Base, BeginsIn, RetainedLog, kept_from, kept_of}
 use Rattle.std.proofs.lemmas.Result.{IfOk-at_ok}
 use Rattle.locked_net.specs.WholeLogs.{IsWholeLog}
-use Rattle.locked_net.proofs.JournalPublication.{based_is_whole, node_records_count}
+use Rattle.locked_net.proofs.JournalPublication.{based_is_whole}
 use Rattle.locked_net.proofs.sharing.share_from.Goals as goal
 
 pub share-requires-clause-whole : goal.share-requires-clause-whole

@@ -5,12 +5,12 @@ use Rattle.rule_engine.proofs.net.Net.commit.Goals as goal
 pub spent_after-self-inside-requires : goal.spent_after-self-inside-requires
 spent_after-self-inside-requires g c =
     let laws = g.R.Rules.laws in
-    omega (arith, (prepared_is_paid g.R.Rules.table g.R.Rules.NODE_WEIGHT laws.table laws.charged _ _ c.self.view_is c.self.invariant c.args.event.now c.args.reply.now c.requires c.commit.new.self.state c.commit.ensures).within, ap (charge_bound g.R.Rules.NODE_WEIGHT) c.store.ensures.network)
+    omega (arith, (prepared_is_paid g.R.Rules.table g.R.Rules.NODE_WEIGHT laws.table laws.charged laws.no_update _ _ c.self.view_is c.self.invariant c.args.event.now c.args.reply.now c.requires c.commit.new.self.state c.commit.ensures).within, ap (charge_bound g.R.Rules.NODE_WEIGHT) c.store.ensures.network)
 
 pub invariant_of-self : goal.invariant_of-self
 invariant_of-self g c =
     let laws = g.R.Rules.laws in
-    subst (λ n. IsWithinBudget g.R.Rules.table g.R.Rules.NODE_WEIGHT (moment c.commit.new.self.state n)) (sym c.spent_after-self-inside.ensures) (prepared_is_paid g.R.Rules.table g.R.Rules.NODE_WEIGHT laws.table laws.charged _ _ c.self.view_is c.self.invariant c.args.event.now c.args.reply.now c.requires c.commit.new.self.state c.commit.ensures)
+    subst (λ n. IsWithinBudget g.R.Rules.table g.R.Rules.NODE_WEIGHT (moment c.commit.new.self.state n)) (sym c.spent_after-self-inside.ensures) (prepared_is_paid g.R.Rules.table g.R.Rules.NODE_WEIGHT laws.table laws.charged laws.no_update _ _ c.self.view_is c.self.invariant c.args.event.now c.args.reply.now c.requires c.commit.new.self.state c.commit.ensures)
 
 pub returns-clause-machine : goal.returns-clause-machine
 returns-clause-machine g c =

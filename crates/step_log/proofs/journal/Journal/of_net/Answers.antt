@@ -13,7 +13,7 @@ invariant_of-result g c =
     let limit = c.max.result in
     let present = c.nodes-present.result in
     let there : Moment = record { state = c.args.net.state; spent = c.args.net.spent } in
-    let most : limit ≤ max_entries = grind (arith, c.max.ensures, c.min.ensures, c.requires.few) in
+    let most : limit ≤ max_entries = grind (arith, c.max.ensures, c.min.ensures, c.requires) in
     let room : number ≤ limit = grind (arith, c.max.ensures) in
     let names = c.capacity.ensures.size ∙ ap (λ (n : Network). n.size) c.store-2.ensures.network in
     let small : there.state.network.size ≤ 65535 = omega (arith, names, c.capacity.ensures.few) in
@@ -21,6 +21,6 @@ invariant_of-result g c =
     let short : IsBaseOfGraph (Some (base_of number there)) = subst (λ (b : Base). IsBaseOfGraph (Some b)) made c.in_ok-base.ensures.few in
     let budget = subst (λ (n : NetView). IsWithinBudget t weight (record { state = n.state; spent = n.spent })) c.net.view_is c.net.invariant in
     let over = c.new-2.result.over.items in
-    let begun = resumed_is_journal t weight number limit present there budget c.requires.unflagged small short room most over c.new-2.ensures.over in
+    let begun = resumed_is_journal t weight number limit present there budget small short room most over c.new-2.ensures.over in
     subst (λ (e : EpochStart). IsJournal t weight (record { state = there.state; spent = there.spent; base = Some c.in_ok-base.base; entries = c.new.result.items; limit = limit; present = present }) over e) (sym c.new-2.ensures.begun)
     (subst (λ (k : RetainedLog). IsJournal t weight k over Forgotten) (sym (ap₂ (λ (b : Base) (es : List Entry). record { state = there.state; spent = there.spent; base = Some b; entries = es; limit = limit; present = present }) made c.new.ensures.items)) begun)
