@@ -7,7 +7,7 @@ use Rattle.audit_parts.proofs.SeamRuns.{reopens}
 abbrev pub Reopens : RuleSet → ℕ → NumberedMoment → Type 0
 Reopens rules size at = Opens rules (Based size (base_of at.count at.moment)) at
 
-reopens_next : (rules : RuleSet) (size : ℕ) (at next : NumberedMoment) (part : LogPart) → Reopens rules size at → StepsTo (table_of rules) at part next → next.count ≤ max_entries → Reopens rules size next
+pub reopens_next : (rules : RuleSet) (size : ℕ) (at next : NumberedMoment) (part : LogPart) → Reopens rules size at → StepsTo (table_of rules) at part next → next.count ≤ max_entries → Reopens rules size next
 reopens_next rules size at next part begun step few =
     reopens rules (Based size (base_of at.count at.moment)) at next (part ∷ []) begun (passes_onto (table_of rules) at next next part [] step refl) few
 

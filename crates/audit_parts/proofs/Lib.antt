@@ -7,3 +7,4 @@ pub mod MeetingTexts
 pub mod Damages
 pub mod PartLaws
 mod ContinuedRuns
+mod ShortLines

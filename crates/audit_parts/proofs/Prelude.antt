@@ -68,5 +68,5 @@ pub use Rattle.rule_machine.specs.declared.rules.RuleSet.{RuleSet}
 pub use Rattle.rule_machine.specs.declared.rules.RuleSet.TheVariants.{Hh, Manne}
 pub use Rattle.audit_parts.specs.Continuations.{ContinuesRun, base_at, end_base}
 pub use Rattle.audit_parts.specs.FieldRanges.{AreLinesBefore}
-pub use Rattle.audit_parts.specs.Laws.{AcceptedIsContinued, AcceptedIsWhole, AllPartsAreAccepted, AreParts, BasesAreSeams, ContinuedIsDamaged, EndBasesAreAccepted, EndsAreContinued, FirstDamageStays, HasVerdict, IsAcceptedText, JoinedIsAccepted, PartsAreAccepted, PartsAreJudged, SecondDamageMoves}
+pub use Rattle.audit_parts.specs.Laws.{AcceptedIsContinued, AcceptedIsShort, AcceptedIsWhole, HasShortLines, IsShortLine, AllPartsAreAccepted, AreParts, BasesAreSeams, ContinuedIsDamaged, EndBasesAreAccepted, EndsAreContinued, FirstDamageStays, HasVerdict, IsAcceptedText, JoinedIsAccepted, PartsAreAccepted, PartsAreJudged, SecondDamageMoves}
 pub use Rattle.audit_parts.specs.Seams.{EndsLine, IsSeam, further, counted_both, Meets, Verdict, joined_verdict}

@@ -1,9 +1,11 @@
 -- The laws of texts that meet at a base; the functions of src/law.rt have them as contracts.
-use Rattle.std.specs.Prelude.{◌≡◌, ℕ, ◌≤◌, List, [], ◌∷◌, ◌++◌}
+use Rattle.std.specs.Prelude.{◌≡◌, ℕ, ◌≤◌, List, [], ◌∷◌, ◌++◌, length}
 use Rattle.std.specs.List.{AllByRecursion}
 use Rattle.rule_machine.specs.declared.base.Base.{Base}
 use Rattle.rule_machine.specs.declared.rules.RuleSet.{RuleSet}
+use Rattle.byte_streams.specs.Lines.{IsLine}
 use Rattle.line_text.specs.BaseText.{base_text}
+use Rattle.line_text.specs.Words.{lines_with_ends}
 use Rattle.entry_grammar.specs.BaseLines.{IsShaped}
 use Rattle.auditor.specs.declared.fault.AuditFault.{AuditFault}
 use Rattle.auditor.specs.declared.summary.Summary.{Summary}
@@ -95,3 +97,19 @@ EndBasesAreAccepted =
 -- An accepted text consists of whole lines.
 abbrev pub AcceptedIsWhole : Type 0
 AcceptedIsWhole = (text : List ℕ) → IsAcceptedText text → EndsLine text
+
+-- ---- how long the lines are: `lines_are_short` proves this law
+
+-- a line of at most 2,097,152 bytes without its LF
+abbrev pub IsShortLine : List ℕ → Type 0
+IsShortLine line = IsLine line × (length line ≤ 2097152)
+
+-- the text is that of these lines, each with its LF
+pub record HasShortLines (text : List ℕ) : Type 0 where
+  pub lines : List (List ℕ)
+  pub short : AllByRecursion IsShortLine lines
+  pub is : text ≡ lines_with_ends (λ line. line) lines
+
+-- Each line of an accepted text is short: the header, entries with whatever lists, and the lines of bases.
+abbrev pub AcceptedIsShort : Type 0
+AcceptedIsShort = (text : List ℕ) → IsAcceptedText text → HasShortLines text

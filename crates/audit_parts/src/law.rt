@@ -4,7 +4,7 @@ ghost use Rattle.std.specs.Prelude.{ℕ, ◌+◌, ◌-◌, List, ◌++◌};
 ghost use Rattle.auditor.specs.declared.summary.Summary.{Summary};
 ghost use Rattle.auditor.specs.AcceptedRuns.{IsAccepted};
 ghost use Rattle.audit_parts.specs.Continuations.{ContinuesRun};
-ghost use Rattle.audit_parts.specs.Laws.{AcceptedIsContinued, AcceptedIsWhole, AllPartsAreAccepted, BasesAreSeams, ContinuedIsDamaged, EndBasesAreAccepted, EndsAreContinued, FirstDamageStays, JoinedIsAccepted, PartsAreAccepted, PartsAreJudged, SecondDamageMoves};
+ghost use Rattle.audit_parts.specs.Laws.{AcceptedIsContinued, AcceptedIsShort, AcceptedIsWhole, AllPartsAreAccepted, BasesAreSeams, ContinuedIsDamaged, EndBasesAreAccepted, EndsAreContinued, FirstDamageStays, JoinedIsAccepted, PartsAreAccepted, PartsAreJudged, SecondDamageMoves};
 
 /// Two texts that meet at a base are both accepted exactly if the joined text is.
 ///
@@ -56,4 +56,11 @@ pub fn ends_are_continued()
     ensures ends { EndsAreContinued }
     ensures base { EndBasesAreAccepted }
     ensures whole { AcceptedIsWhole }
+{}
+
+/// Each line of an accepted text has at most 2,097,152 bytes, without its line feed.
+///
+/// So an audit gives up a longer line before its end, and no verdict is another for it.
+pub fn lines_are_short()
+    ensures { AcceptedIsShort }
 {}

@@ -18,6 +18,6 @@ mod verdicts;
 
 pub use law::{
     accepted_in_two, bases_are_seams, continued_in_two, damaged_in_two, ends_are_continued,
-    judged_in_parts,
+    judged_in_parts, lines_are_short,
 };
 pub use verdicts::join;

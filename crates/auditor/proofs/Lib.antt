@@ -16,6 +16,7 @@ pub mod ReadOpenings
 pub mod Spent
 pub mod WholeTranscripts
 pub mod NextParts
+pub mod LongLines
 pub mod PieceReading
 pub mod CursorPositions
 pub mod EpochSteps

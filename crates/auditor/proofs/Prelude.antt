@@ -30,6 +30,7 @@ pub use Rattle.entry_grammar.proofs.BaseLines.{spells_base_line_once}
 pub use Rattle.entry_grammar.proofs.BaseLists.{NodesSoFar, EdgesSoFar, lines_break, no_lines, one_more}
 pub use Rattle.entry_grammar.proofs.BaseOnce.{base_text_is, base_once, base_unbroken, breaks_once}
 pub use Rattle.entry_grammar.proofs.Entries.{spells_entry_once}
+pub use Rattle.entry_grammar.proofs.EntryLengths.{entry_short}
 pub use Rattle.entry_grammar.proofs.FirstLines.{IsField, field_free, rules_free, line_free}
 pub use Rattle.entry_grammar.proofs.Free.{free_number, mark_once, cons_parts, free_by}
 pub use Rattle.entry_grammar.proofs.Headers.{spells_header_once}

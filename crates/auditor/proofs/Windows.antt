@@ -52,7 +52,7 @@ feeds_behind rest line behind cut =
 
 -- ---- whether a base begins there
 
-front_in_line : (front line x m : List ℕ) → IsFree 10 front → front ++ m ≡ line ++ 10 ∷ x → (k : List ℕ) × (line ≡ front ++ k)
+pub front_in_line : (front line x m : List ℕ) → IsFree 10 front → front ++ m ≡ line ++ 10 ∷ x → (k : List ℕ) × (line ≡ front ++ k)
 front_in_line [] line x m free e = (line, refl)
 front_in_line (b ∷ front) [] x m free e = absurd (free.0 (cons_parts b 10 (front ++ m) x e).0)
 front_in_line (b ∷ front) (c ∷ line) x m free e =

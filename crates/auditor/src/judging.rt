@@ -5,6 +5,7 @@ ghost use Rattle.auditor.specs.TranscriptCursors.{EndsIn, IsCursorAt, IsCompared
 ghost use Rattle.auditor.specs.TranscriptEnds.{EndsRun, MayGoOn};
 ghost use Rattle.auditor.specs.Verdict.{IsJudged};
 
+use crate::lines::MAX_LINE;
 use crate::replay::TranscriptCursor;
 use crate::{AuditFault, TranscriptEnd};
 use byte_streams::split_line;
@@ -130,7 +131,8 @@ fn judge_behind(
 }
 
 // Like `judge_behind`, but copies less: if bytes are held, the piece's first line is judged first, since it
-// may complete `held`. Then only the part that the piece begins and does not end is copied.
+// may complete `held`. Then only the part that the piece begins and does not end is copied. A piece without
+// an LF is judged only if `held` is longer than any line.
 fn judge_piece(
     alloc: Global,
     run: &mut TranscriptCursor,
@@ -147,6 +149,9 @@ fn judge_piece(
         return judge_behind(alloc, run, held, piece);
     }
     let Some((_, behind)) = split_line(piece) else {
+        if held.len() > MAX_LINE {
+            return judge_behind(alloc, run, held, piece);
+        }
         held.extend_from_slice(piece)?;
         return Ok(());
     };
@@ -197,7 +202,8 @@ impl IncrementalAudit {
         ensures fault { IfErr result (λ fault. (more : List ℕ) → IsJudged (self.old.held.items ++ piece.now ++ more) (Err fault)) }
     {
         self.held.extend_from_slice(piece)?;
-        if split_line(piece).is_none() || self.held.len() < self.enough {
+        let unended = split_line(piece).is_none() && self.held.len() <= MAX_LINE;
+        if unended || self.held.len() < self.enough {
             return Ok(());
         }
         self.run = begin(alloc, &mut self.held)?;

@@ -40,6 +40,7 @@ pub use fault::AuditFault;
 pub use laws::{
     one_count, one_damage, one_run, transcript_has_no_damage, undamaged_is_a_transcript,
 };
+pub use lines::MAX_LINE;
 pub use pieces::PieceAudit;
 pub use reach::{ReplayFault, ReplayedRun, state_after};
 pub use summary::Summary;

@@ -4,6 +4,9 @@ ghost use Rattle.std.specs.Prelude.{◌≡◌, ◌≤◌, ℕ, List, ◌++◌, l
 ghost use Rattle.auditor.specs.Damage.{line_feeds};
 ghost use Rattle.auditor.specs.TranscriptCursors.{AreSameUpTo, ArePartedAt};
 
+/// The most bytes of a transcript's line, without its LF. No transcript has a longer line.
+pub const MAX_LINE: usize = 2_097_152;
+
 pub(crate) fn line_feeds(bytes: &[u8]) -> u64
     ensures { result ≡ line_feeds bytes.now }
 {

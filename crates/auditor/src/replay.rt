@@ -1,6 +1,6 @@
 //! Going through a transcript part by part.
 
-ghost use Rattle.std.specs.Prelude.{◌≡◌, ◌≢◌, ◌≤◌, ◌++◌, ℕ, List, [], None, Some, IfErr, IfOk, MatchOption, OnOk};
+ghost use Rattle.std.specs.Prelude.{◌≡◌, ◌≢◌, ◌≤◌, ◌+◌, ◌*◌, ◌++◌, ℕ, List, [], false, length, None, Some, IfErr, IfOk, MatchOption, OnOk};
 ghost use Rattle.rule_machine.specs.declared.rules.RuleSet.{RuleSet as Rules};
 ghost use Rattle.entry_grammar.specs.declared.base_line.BaseLine.TheVariants.{Head};
 ghost use Rattle.line_text.specs.BaseText.{base_head};
@@ -11,7 +11,7 @@ ghost use Rattle.auditor.specs.EntryWindows.{IsMetBehind, IsMetFirst};
 ghost use Rattle.auditor.specs.TranscriptCursors.{IsCursorAfter, HasCutStart, IsCursorAt, IsCompared, IsMetAt, IsPassed, IsReachable, IsUnended, StaysInPlace, AwaitsBase};
 
 use crate::check::Audit;
-use crate::lines::{common_len, line_feeds, lines_before};
+use crate::lines::{MAX_LINE, common_len, line_feeds, lines_before};
 use crate::{AuditFault, Summary};
 use byte_streams::split_line;
 use entry_grammar::{BaseFault, BaseLine, read_base, read_base_line, read_header};
@@ -67,6 +67,16 @@ fn cut_start(text: &[u8]) -> AuditFault
     }
 }
 
+// Whether the bytes can be a base's beginning of fewer than `number` whole lines, and a line that has not ended.
+//
+// A whole line of a base has fewer than 128 bytes; so if not, the last line is longer than any line.
+fn is_short(rest: &[u8], number: u64) -> bool
+    requires { number ≤ length rest.now + 1 }
+    ensures { result ≡ false → 128 * number + 128 ≤ length rest.now }
+{
+    rest.len() as u64 / 128 <= number + 16_384
+}
+
 impl Audit {
     pub(crate) fn into_judge(self) -> Judge
         ensures { result ≡ self.state }
@@ -118,7 +128,10 @@ impl TranscriptCursor {
             Ok(found) => found,
             Err(BaseFault::BadLine(number)) => {
                 if line_feeds(rest) < number {
-                    return Ok(None);
+                    if is_short(rest, number) {
+                        return Ok(None);
+                    }
+                    return Err(AuditFault::BadBase { line: number + 1 });
                 }
                 return Err(AuditFault::BadBase { line: number + 1 });
             }
@@ -153,6 +166,9 @@ impl TranscriptCursor {
         ensures fault { IfErr result (λ fault. (more : List ℕ) → IsMetFirst (text.now ++ more) fault) }
     {
         let Some((line, rest)) = split_line(text) else {
+            if text.len() > MAX_LINE {
+                return Err(AuditFault::BadHeader);
+            }
             return Ok(None);
         };
         if let Ok(header) = read_header(line) {
@@ -186,7 +202,7 @@ impl TranscriptCursor {
         self.audit.number()
     }
 
-    // `None` if the entry's line has no LF yet.
+    // `None` if the entry's line has no LF yet. A line that is too long is refused before its LF comes.
     fn pass_entry<'a>(
         &mut self,
         alloc: Global,
@@ -199,6 +215,10 @@ impl TranscriptCursor {
         ensures fault { IfErr result (IsMetAt self.old rest.now) }
     {
         let Some((line, behind)) = split_line(rest) else {
+            if rest.len() > MAX_LINE {
+                let line = self.lines + 1;
+                return Err(AuditFault::NotALine { line });
+            }
             return Ok(None);
         };
         self.lines += 1;

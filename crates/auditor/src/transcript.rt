@@ -1,6 +1,6 @@
 //! The audit of a whole transcript.
 
-ghost use Rattle.std.specs.Prelude.{◌≡◌, false, IfOk, IfErr, IfSome, IsErrOf, OnOk};
+ghost use Rattle.std.specs.Prelude.{◌≡◌, ℕ, List, false, IfOk, IfErr, IfSome, IsErrOf, OnOk};
 ghost use Rattle.std.specs.Io.KnownBytes.{IsAtEnd};
 ghost use Rattle.byte_streams.specs.StreamEnds.{IsEnded};
 ghost use Rattle.auditor.specs.declared.fault.AuditFault.TheVariants.{Memory, Read as Unread};
@@ -37,11 +37,13 @@ pub fn audit<In: Read>(
 
 /// Reads a transcript to its end, judges it as `audit` does, and returns where its run ends.
 ///
-/// Errors and costs are those of `audit`. The network takes some forty bytes a name and four an edge.
+/// Of whatever reader, the result is that of some bytes: those read, if no read failed. Errors and costs are
+/// those of `audit`. The network takes some forty bytes a name and four an edge.
 pub fn end_of<In: Read>(
     alloc: Global,
     reader: &mut CountingReader<In>,
 ) -> Result<TranscriptEnd, AuditFault>
+    ensures some { (bytes : List ℕ) × IsEndResult bytes result }
     ensures ended { IfSome (In.remaining reader.old.reader) (λ bytes. IfOk result (IsTranscriptEnd bytes)) }
     ensures damage { IfSome (In.remaining reader.old.reader) (λ bytes. IfErr result (IsAuditFault bytes)) }
     ensures accepts_runs { IfSome (In.remaining reader.old.reader) (λ bytes. AcceptsRuns bytes (summary_in result)) }
@@ -58,6 +60,7 @@ fn judge_read<In: Read>(
     alloc: Global,
     reader: &mut CountingReader<In>,
 ) -> Result<TranscriptEnd, AuditFault>
+    ensures some { (bytes : List ℕ) × IsEndResult bytes result }
     ensures heard { IfSome (In.remaining reader.old.reader) (λ bytes. IsEndResult bytes result) }
     ensures goes_on { IfOk result MayGoOn }
     ensures end { OnOk result (IsAtEnd (In.remaining reader.new.reader)) }

@@ -3,6 +3,7 @@ pub mod Words
 pub mod Once
 pub mod Lengths
 pub mod LineEnds
+pub mod LongLines
 pub mod TextLines
 pub mod ScriptCounts
 pub mod Silence

@@ -1,5 +1,5 @@
 -- What the proofs of this crate import from the crates below and from its own definitions.
-pub use Rattle.std.proofs.Common.{ℕ, ◌<◌, ◌≤◌, List, length, codes, ap, length-append, arith, ◌≡◌, ◌==◌, Bool, true, false, if◌then◌else◌, [], ◌∷◌, ◌++◌, refl, ◌∙◌, zero, suc, ◌+◌, ◌*◌, ◌||◌, nat_eq, Option, None, Some, get_or, sym, subst, append_assoc, map, drop, Result, Ok, Err, IfOk, ⊎_elim, inr, ◌^◌, take, add-one}
+pub use Rattle.std.proofs.Common.{ℕ, ◌<◌, ◌≤◌, inl, List, length, codes, ap, length-append, arith, ◌≡◌, ◌==◌, Bool, true, false, if◌then◌else◌, [], ◌∷◌, ◌++◌, refl, ◌∙◌, zero, suc, ◌+◌, ◌*◌, ◌||◌, nat_eq, Option, None, Some, get_or, sym, subst, append_assoc, map, drop, Result, Ok, Err, IfOk, ⊎_elim, inr, ◌^◌, take, add-one}
 pub use Rattle.std.proofs.lemmas.Bool.{eqb-true, true≢false}
 pub use Rattle.std.proofs.lemmas.Fmt.{length-decimal-le, digits_decimal, decimal_injective}
 pub use Rattle.std.proofs.lemmas.Iterator.Adapters.{YieldsList-from_vec}
@@ -38,8 +38,8 @@ pub use Rattle.rule_machine.specs.declared.rules.RuleSet.{RuleSet}
 pub use Rattle.seeded_turns.specs.DrawnEvents.{Draws, seeded_stream, drawn_step, drawn_fault}
 pub use Rattle.script_text.specs.Command.{IsTurns, IsCommand, turns_text, command_text, SaysNothing, Says}
 pub use Rattle.script_text.specs.Readers.{AllHold, FirstBadScript}
-pub use Rattle.script_text.specs.Script.{lines_of, onto_first, Progress, AppendsEntry, TurnDoes, TurnsDo, CommandDoes, LineDoes, LinesDo}
-pub use Rattle.script_text.specs.Texts.{LineHolds, LinesHold, IsGoodLine, FirstBad, TextHolds}
+pub use Rattle.script_text.specs.Script.{lines_of, onto_first, Progress, AppendsEntry, TurnDoes, TurnsDo, CommandDoes, LineDoes, LinesDo, IsBadLine}
+pub use Rattle.script_text.specs.Texts.{LineHolds, LinesHold, IsGoodLine, FirstBad, TextHolds, EndsInLine, IsReadSoFar}
 pub use Rattle.script_text.specs.declared.command.Command.{Command}
 pub use Rattle.script_text.specs.declared.command.Command.TheVariants.{Tell, Drive, Scramble, Checkpoint}
 pub use Rattle.script_text.specs.declared.command.Turns.{Turns}

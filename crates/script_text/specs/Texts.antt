@@ -1,5 +1,6 @@
 -- The script of a text, line by line, and the first bad line.
-use Rattle.std.specs.Prelude.{◌≡◌, ℕ, ◌+◌, ◌⊎◌, List, [], ◌∷◌, ◌++◌, min}
+use Rattle.std.specs.Prelude.{◌≡◌, ℕ, ◌+◌, ◌<◌, ◌⊎◌, List, [], ◌∷◌, ◌++◌, length, min}
+use Rattle.byte_streams.specs.Lines.{IsLine}
 use Rattle.script_text.specs.declared.command.Command.{Command}
 use Rattle.script_text.specs.Command.{Says}
 use Rattle.script_text.specs.Script.{IsBadLine, lines_of}
@@ -52,3 +53,12 @@ IsTextFault script text TooManyScripts = ⊥
 IsTextFault script text (BadLine its bad) = (its ≡ script) × FirstBad 1 (lines_of text) bad
 IsTextFault script text Read = ⊥
 IsTextFault script text Memory = Unit {0}
+
+-- the last bytes of the text, as many as this, have no LF
+abbrev pub EndsInLine : List ℕ → ℕ → Type 0
+EndsInLine text begun = (front : List ℕ) × (line : List ℕ) × (text ≡ front ++ line) × IsLine line × (length line ≡ begun)
+
+-- all of the text was read; or its beginning was, which ends inside a line that is too long to be a command
+abbrev pub IsReadSoFar : List ℕ → List ℕ → Type 0
+IsReadSoFar all text =
+    (all ≡ text) ⊎ ((more : List ℕ) × (begun : ℕ) × (all ≡ text ++ more) × EndsInLine text begun × (1048576 < begun))

@@ -1,29 +1,63 @@
 //! Reading several scripts, each from its own reader.
 
-ghost use Rattle.std.specs.Prelude.{◌<◌, ◌≤◌, ◌+◌, ◌↔◌, length, map, IfOk, IfErr, IsErrOf, IfSome};
+ghost use Rattle.std.specs.Prelude.{◌<◌, ◌≤◌, ◌+◌, ◌^◌, ◌++◌, ◌↔◌, ℕ, List, length, map, IfOk, IfErr, IsErrOf, IfSome};
 ghost use Rattle.script_text.specs.declared.fault.TextsFault.TheVariants.{TooManyScripts};
-ghost use Rattle.script_text.specs.Texts.{TextHolds};
+ghost use Rattle.script_text.specs.Texts.{EndsInLine, IsReadSoFar, TextHolds};
 ghost use Rattle.script_text.specs.Readers.{AllHold, IsTextsFault, IsReaderFault};
 
-use crate::{Script, TextsFault, read_text};
-use byte_streams::{CountingReader, InputFault, read_whole};
+use crate::{MAX_LINE, Script, TextsFault, read_text};
+use byte_streams::{CountingReader, InputFault, chunk_of, split_line};
 use std::alloc::Global;
 use std::io::Read;
 
 /// The most scripts that `read_scripts` reads.
 pub const MAX_SCRIPTS: usize = 64;
 
+// How many bytes the last line has at least after the piece, if it had `begun` of them before.
+fn line_after(begun: usize, piece: &[u8]) -> usize
+    requires { begun + length piece.now < 2 ^ 64 }
+    ensures more { (text : List ℕ) → EndsInLine text begun → EndsInLine (text ++ piece.now) result }
+    ensures few { result ≤ begun + length piece.now }
+{
+    match split_line(piece) {
+        Some(_) => 0,
+        None => begun + piece.len(),
+    }
+}
+
+// The reader's bytes, up to its end or to a line that is too long to be a command.
+fn read_lines<In: Read>(
+    alloc: Global,
+    reader: &mut CountingReader<In>,
+) -> Result<Vec<u8>, InputFault>
+    ensures { IfSome (In.remaining reader.old.reader) (λ all. IfOk result (λ text. IsReadSoFar all text.items)) }
+{
+    let mut text = Vec::new(alloc);
+    let mut chunk = chunk_of(alloc)?;
+    let mut begun = 0;
+    while begun <= MAX_LINE {
+        let len = reader.read(&mut chunk)?;
+        if len == 0 {
+            return Ok(text);
+        }
+        let piece = &chunk[..len];
+        begun = line_after(begun, piece);
+        text.extend_from_slice(piece)?;
+    }
+    Ok(text)
+}
+
 fn read_from<In: Read + Drop>(alloc: Global, number: u32, reader: In) -> Result<Script, TextsFault>
     ensures script { IfOk result (λ script. IfSome (In.remaining reader) (λ text. TextHolds text script)) }
     ensures fault { IfErr result (IsReaderFault number (In.remaining reader)) }
 {
     let mut reader = CountingReader::new(reader);
-    let text = match read_whole(alloc, &mut reader) {
+    let text = match read_lines(alloc, &mut reader) {
         Ok(text) => text,
         Err(InputFault::Read) => return Err(TextsFault::Read),
         Err(InputFault::Memory) => return Err(TextsFault::Memory),
     };
-    Ok(read_text(alloc, number, &text)?)
+    read_text(alloc, number, &text)
 }
 
 fn read_each<In: Read + Drop>(alloc: Global, readers: Vec<In>) -> Result<Vec<Script>, TextsFault>
@@ -47,11 +81,13 @@ fn read_each<In: Read + Drop>(alloc: Global, readers: Vec<In>) -> Result<Vec<Scr
 ///
 /// - `TooManyScripts` if there are more than 64 readers; then nothing was read.
 /// - `Read` at a reader's first error, which is not retried, or after 4,294,967,295 reads.
-/// - `BadLine` at the first line that is neither empty nor a command.
+/// - `BadLine` at the first line that is neither empty nor a command. A line above 1,048,576 bytes is bad
+///   before its end is read.
 /// - `Memory` if memory runs out.
 ///
 /// The first script with an error decides. If a read of that script fails, the error is `Read`, even after
-/// a bad line. At any time the text of only one script is in memory.
+/// a bad line. No byte is read after a line that is too long. At any time the text of only one script is in
+/// memory.
 pub fn read_scripts<In: Read + Drop>(
     alloc: Global,
     readers: Vec<In>,

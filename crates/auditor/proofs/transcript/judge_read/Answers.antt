@@ -14,6 +14,16 @@ returns-then-len-eq0-clause-heard g c =
     Consumes-whole (left c.args.reader.now.reader) (left c.read.new.self.reader) i.read (λ bytes. IsEndResult bytes c.into_end.result) consumed (c.in-Ok-read.ensures.end c.if-len-eq0.true)
     (inl (c.into_end.ensures.ended i.read i.is))
 
+-- the bytes read so far are judged
+pub returns-then-len-eq0-clause-some : goal.returns-then-len-eq0-clause-some
+returns-then-len-eq0-clause-some g c =
+    let i = c.loop-len.invariant in (i.read, inl (c.into_end.ensures.ended i.read i.is))
+
+pub returns-in-Err-clause-some : goal.returns-in-Err-clause-some
+returns-in-Err-clause-some g c =
+    let i = c.loop-len.invariant in
+    (i.read ++ take c.in-Ok-read.len c.deref.result.now ++ [], inl (c.in-Err.ensures.fault i.read [] i.is))
+
 pub returns-in-Err-clause-heard : goal.returns-in-Err-clause-heard
 returns-in-Err-clause-heard g c =
     let left = g.In.Read.remaining in

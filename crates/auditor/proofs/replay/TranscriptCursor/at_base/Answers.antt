@@ -1,14 +1,35 @@
-use Rattle.auditor.proofs.Prelude.{ℕ, ◌+◌, ◌<◌, ◌≤◌, ◌++◌, arith, refl, subst, sym, BadBase, base_lines, base_head, line_feeds, IsMetFirst}
+use Rattle.auditor.proofs.LongLines.{base_too_long}
+use Rattle.auditor.proofs.Prelude.{ℕ, ◌+◌, ◌*◌, length, ◌<◌, ◌≤◌, ◌++◌, arith, refl, subst, sym, BadBase, base_lines, base_head, line_feeds, IsMetFirst}
 use Rattle.auditor.proofs.ReadOpenings.{base_opened, breaks_few, edges_rise}
 use Rattle.auditor.proofs.NextParts.{broken_more, cut_base_start, nowhere_more}
 use Rattle.auditor.proofs.Windows.{base_few}
 use Rattle.auditor.proofs.replay.TranscriptCursor.at_base.Goals as goal
 
-pub returns-then-line_feeds-number-clause-begins : goal.returns-then-line_feeds-number-clause-begins
-returns-then-line_feeds-number-clause-begins c =
+pub returns-then-is_short-clause-begins : goal.returns-then-is_short-clause-begins
+returns-then-is_short-clause-begins c =
     let bad = c.in-Err-BadLine in
     let short : line_feeds c.args.rest.now < bad.number = subst (λ (n : ℕ). n < bad.number) c.line_feeds.ensures (subst (λ (n : ℕ). c.line_feeds.result < n) bad.number-is c.if-line_feeds-number.true) in
     cut_base_start c.args.text.now c.args.rest.now c.args.rules c.args.size bad.number c.requires.few c.requires.first (bad.ensures.bad bad.number bad.field-0-is) short
+
+pub is_short-requires : goal.is_short-requires
+is_short-requires c =
+    let few = breaks_few c.args.rest.now c.in-Err-BadLine.number (c.in-Err-BadLine.ensures.bad c.in-Err-BadLine.number c.in-Err-BadLine.field-0-is) in
+    let same = c.in-Err-BadLine.number-is in
+    grind arith
+
+pub returns-then-line_feeds-number-clause-fault : goal.returns-then-line_feeds-number-clause-fault
+returns-then-line_feeds-number-clause-fault c more =
+    let bad = c.in-Err-BadLine in
+    let short : line_feeds c.args.rest.now < bad.number = subst (λ (n : ℕ). n < bad.number) c.line_feeds.ensures (subst (λ (n : ℕ). c.line_feeds.result < n) bad.number-is c.if-line_feeds-number.true) in
+    let long : 128 * bad.number + 128 ≤ length c.args.rest.now = subst (λ (n : ℕ). 128 * n + 128 ≤ length c.args.rest.now) bad.number-is (c.is_short.ensures c.if-is_short.false) in
+    subst (λ (n : ℕ). IsMetFirst (c.args.text.now ++ more) (BadBase (n + 1))) (sym bad.number-is)
+    (base_too_long c.args.text.now c.args.rest.now c.args.rules c.args.size bad.number c.requires.few c.requires.first (bad.ensures.bad bad.number bad.field-0-is) short long more)
+
+pub overflow_add-result-in-Err-BadLine : goal.overflow_add-result-in-Err-BadLine
+overflow_add-result-in-Err-BadLine c =
+    let few = breaks_few c.args.rest.now c.in-Err-BadLine.number (c.in-Err-BadLine.ensures.bad c.in-Err-BadLine.number c.in-Err-BadLine.field-0-is) in
+    let same = c.in-Err-BadLine.number-is in
+    grind arith
 
 pub overflow_add-result : goal.overflow_add-result
 overflow_add-result c =

@@ -1,5 +1,6 @@
 use Rattle.std.proofs.Common.{◌+◌, refl, arith}
 use Rattle.auditor.proofs.WholeTranscripts.{somewhere_few}
+use Rattle.auditor.proofs.LongLines.{entry_too_long}
 use Rattle.auditor.proofs.NextParts.{entry_damaged, entry_passed}
 use Rattle.auditor.proofs.replay.TranscriptCursor.pass_entry.Goals as goal
 
@@ -16,3 +17,13 @@ pub returns-in-Err-clause-fault : goal.returns-in-Err-clause-fault
 returns-in-Err-clause-fault c =
     let self = c.args.self.now in
     entry_damaged self c.check_line.new.self c.in-Some.line.now c.args.rest.now c.in-Some.behind.now c.in-Err.fault (self.lines + 1) refl c.requires.other c.in-Some.ensures.first c.in-Err.ensures
+
+pub overflow_add-line : goal.overflow_add-line
+overflow_add-line c =
+    let room = somewhere_few c.args.self.now c.args.rest.now c.requires.at in
+    grind (arith, room)
+
+pub returns-then-rest-gt-MAX_LINE-clause-fault : goal.returns-then-rest-gt-MAX_LINE-clause-fault
+returns-then-rest-gt-MAX_LINE-clause-fault c =
+    let self = c.args.self.now in
+    entry_too_long self c.args.rest.now (self.lines + 1) c.requires.other c.in_default.ensures.first (let long = c.if-rest-gt-MAX_LINE.true in grind (arith, long)) refl
