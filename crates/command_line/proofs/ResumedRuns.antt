@@ -1,19 +1,25 @@
 -- The end of a run or a storm that was to go on where the run of a file ended.
-use Rattle.std.proofs.Common.{ℕ, List, Option, None, Some, ◌≡◌, Result, Ok, Err, OnErr, IfOk, false, length, refl, inl, inr, subst}
+use Rattle.std.proofs.Common.{ℕ, ◌≤◌, arith, List, Option, None, Some, ◌≡◌, Result, Ok, Err, OnErr, IfOk, false, length, refl, inl, inr, subst}
 use Rattle.std.specs.Prelude.{IfSome}
 use Rattle.std.specs.Io.KnownBytes.{Appends}
 use Rattle.std.proofs.KnownBytes.{Keeps-refl}
 use Rattle.rule_machine.specs.declared.rules.RuleSet.{RuleSet}
 use Rattle.rule_machine.specs.Tables.{table_of}
-use Rattle.script_text.specs.Script.{Progress}
+use Rattle.script_text.specs.Script.{Progress, lines_of}
 use Rattle.auditor.specs.declared.end.TranscriptEnd.{TranscriptEnd}
 use Rattle.auditor.specs.declared.fault.AuditFault.{AuditFault}
 use Rattle.auditor.specs.declared.fault.AuditFault.TheVariants.{BadHeader, NotALine, OutOfOrder, NotTheMachines, BadBase, Read, Memory}
-use Rattle.auditor.specs.TranscriptEnds.{MayGoOn}
+use Rattle.auditor.specs.TranscriptEnds.{IsEndResult, IsTranscriptEnd, MayGoOn}
 use Rattle.byte_streams.specs.PartialOutput.{AppendsBeginning}
 use Rattle.cli_args.specs.TaskWords.{ResumedStorm}
 use Rattle.script_run.specs.Restarts.{RestartView}
+use Rattle.script_run.specs.declared.fault.RunFault.{RunFault}
 use Rattle.script_run.specs.declared.fault.RunFault.TheVariants as run
+use Rattle.script_run.specs.Outcome.{IsRunOutcome}
+use Rattle.written_text.proofs.Outcomes.{resumed_accepted, run_accepted}
+use Rattle.command_line.specs.ProgramEnds.{TellsOutcome}
+use Rattle.command_line.specs.Status.{ended_status}
+use Rattle.command_line.specs.ViewEnds.{TellsFault}
 use Rattle.storm_runner.specs.FaultText.{end_line}
 use Rattle.storm_runner.specs.Status.{end_status}
 use Rattle.storm_runner.specs.declared.fault.StormFault.{StormFault}
@@ -42,23 +48,46 @@ fault_told items line file (BadBase n) known before after status read want is to
 fault_told items line file Read known before after status read want is told memory = absurd (read refl)
 fault_told items line file Memory known before after status read want is told memory = absurd (want refl)
 
+-- the bytes have the end that was found
+was_ended : (bytes : List ℕ) (end : TranscriptEnd) → IsEndResult bytes (Ok end) → IsTranscriptEnd bytes end
+was_ended bytes end (inl is) = is
+was_ended bytes end (inr failed) = absurd cc
+
+-- the script was run, and what was written is accepted
+pub ran : (input : Option (List ℕ)) (rules : RuleSet) (nodes present limit : ℕ) (ended : Result Unit RunFault) (old new before : WrittenBytes) (after : WriterState) (status : ℕ)
+    → nodes ≤ 65535 → present ≤ nodes → limit ≤ 16777216 → IfSome input (λ script. IsRunOutcome rules nodes present limit script old new ended) → TellsFault before after ended → status ≡ ended_status ended
+    → IfSome input (λ script. TellsOutcome rules nodes present limit script old new before after status)
+ran None rules nodes present limit ended old new before after status few within most outcome told is = tt
+ran (Some script) rules nodes present limit ended old new before after status few within most outcome told is =
+    (ended, outcome, run_accepted rules nodes present limit (lines_of script) ended (Appends old new) (AppendsBeginning old new) few within most outcome, told, is)
+
 -- the script was run from the end of the file
-pub went_on : (input : Option (List ℕ)) (end : TranscriptEnd) (rules : RuleSet) (limit : ℕ) (start : Progress) (file : List ℕ) (old new before : WrittenBytes) (after : WriterState) (status : ℕ)
-    → MayGoOn end → rules ≡ end.rules → limit ≡ 16777216 → start ≡ start_at end
+pub went_on : (input : Option (List ℕ)) (bytes : List ℕ) (end : TranscriptEnd) (rules : RuleSet) (limit : ℕ) (start : Progress) (file : List ℕ) (old new before : WrittenBytes) (after : WriterState) (status : ℕ)
+    → IsEndResult bytes (Ok end) → MayGoOn end → rules ≡ end.rules → limit ≡ 16777216 → start ≡ start_at end
     → IfSome input (λ script. TellsRunFrom (table_of rules) limit start script old new before after status)
     → IfSome input (λ script. ResumesFile file script old new before after status)
-went_on None end rules limit start file old new before after status may same most first told = tt
-went_on (Some script) end rules limit start file old new before after status may same most first told =
+went_on None bytes end rules limit start file old new before after status is may same most first told = tt
+went_on (Some script) bytes end rules limit start file old new before after status is may same most first told =
     let under = subst (λ (z : RuleSet). TellsRunFrom (table_of z) limit start script old new before after status) same told in
     let within = subst (λ (z : ℕ). TellsRunFrom (table_of end.rules) z start script old new before after status) most under in
-    (Ok end, (may, subst (λ (z : Progress). TellsRunFrom (table_of end.rules) 16777216 z script old new before after status) first within))
+    let all = subst (λ (z : Progress). TellsRunFrom (table_of end.rules) 16777216 z script old new before after status) first within in
+    let ended = all.0 in
+    let accepted = resumed_accepted bytes end 16777216 (lines_of script) ended (Appends old new) (AppendsBeginning old new) (was_ended bytes end is) (omega arith) all.1 in
+    (bytes, Ok end, is, (may, (ended, all.1, accepted, all.2, all.3)))
 
 -- the storm was played from the end of the file
-pub stormed_on : (end : TranscriptEnd) (storm : ResumedStorm) (restart : RestartView) (scripts : ℕ) (old new before : WrittenBytes) (after : WriterState) (ended : Result Unit StormFault) (status : ℕ)
-    → MayGoOn end → restart ≡ storm_from end storm → scripts ≡ length storm.scripts → EndsStormFrom restart scripts old new ended
+pub stormed_on : (bytes : List ℕ) (end : TranscriptEnd) (storm : ResumedStorm) (restart : RestartView) (scripts : ℕ) (old new before : WrittenBytes) (after : WriterState) (ended : Result Unit StormFault) (status : ℕ)
+    → IsEndResult bytes (Ok end) → MayGoOn end → restart ≡ storm_from end storm → scripts ≡ length storm.scripts → EndsStormFrom restart scripts old new ended
     → AppendsBeginning before after.got (end_line ended) → (after.failed ≡ false → Appends before after.got (end_line ended)) → status ≡ end_status ended
     → ResumesStorm storm old new before after status
-stormed_on end storm restart scripts old new before after ended status may same count ends begun whole is =
+stormed_on bytes end storm restart scripts old new before after ended status judged may same count ends begun whole is =
     let from = subst (λ (r : RestartView). EndsStormFrom r scripts old new ended) same ends in
     let some = subst (λ (n : ℕ). EndsStormFrom (storm_from end storm) n old new ended) count from in
-    (Ok end, (may, (ended, some, (begun, whole), is)))
+    (bytes, Ok end, judged, (may, (ended, some, (begun, whole), is)))
+
+-- the file was refused
+pub refused : (input : Option (List ℕ)) (bytes : List ℕ) (fault : AuditFault) (file : List ℕ) (old new before : WrittenBytes) (after : WriterState) (status : ℕ)
+    → IsEndResult bytes (Err fault) → TellsAuditFault file fault old new before after status
+    → IfSome input (λ script. ResumesFile file script old new before after status)
+refused None bytes fault file old new before after status is told = tt
+refused (Some script) bytes fault file old new before after status is told = (bytes, Err fault, is, told)

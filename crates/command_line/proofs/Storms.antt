@@ -1,11 +1,13 @@
 -- How a storm ends.
-use Rattle.std.proofs.Common.{ℕ, List, length, replicate, None, Err, inr, ap, arith}
+use Rattle.std.proofs.Common.{◌≡◌, ◌∙◌, ◌≤◌, ℕ, List, length, map, replicate, None, Result, Err, inr, ap, arith}
 use Rattle.std.proofs.KnownBytes.{Keeps-refl}
-use Rattle.std.proofs.lemmas.List.{length-replicate}
+use Rattle.std.proofs.lemmas.List.{length-map, length-replicate}
 use Rattle.script_run.specs.Restarts.{RestartView}
 use Rattle.script_run.specs.RunOptions.{OptionsView}
 use Rattle.storm_runner.specs.declared.fault.StormFault.{StormFault}
 use Rattle.storm_runner.specs.declared.fault.StormFault.TheVariants.{TooManyScripts, BadLine, LogFull, Read, Write, Memory, Behind, Thread, Unsettled}
+use Rattle.storm_runner.specs.Outcome.{IsResumedStorm, IsStormOutcome, opening_start}
+use Rattle.written_text.proofs.Storms.{resumed_storm_accepted, storm_accepted}
 use Rattle.command_line.specs.ViewEnds.{WrittenBytes}
 use Rattle.command_line.specs.StormEnds.{EndsStorm, EndsStormFrom, FailsToOpen}
 
@@ -14,10 +16,10 @@ pub unopened : (asked : OptionsView) (files : ℕ) (old : WrittenBytes) (fault :
 unopened asked files old Read some =
     let none : WrittenBytes = None in
     let count = length-replicate files none in
-    (replicate files none, count, (λ e. omega (arith, some, count, ap (λ (l : List WrittenBytes). length l) e), Keeps-refl old))
+    (replicate files none, count, (λ e. omega (arith, some, count, ap (λ (l : List WrittenBytes). length l) e), Keeps-refl old), Keeps-refl old)
 unopened asked files old Memory some =
     let none : WrittenBytes = None in
-    (replicate files none, length-replicate files none, inr (Keeps-refl old))
+    (replicate files none, length-replicate files none, inr (Keeps-refl old), inr (Keeps-refl old))
 unopened asked files old TooManyScripts some = absurd some
 unopened asked files old (BadLine script line) some = absurd some
 unopened asked files old LogFull some = absurd some
@@ -31,10 +33,10 @@ pub unopened_from : (restart : RestartView) (files : ℕ) (old : WrittenBytes) (
 unopened_from restart files old Read some =
     let none : WrittenBytes = None in
     let count = length-replicate files none in
-    (replicate files none, count, (λ e. omega (arith, some, count, ap (λ (l : List WrittenBytes). length l) e), Keeps-refl old))
+    (replicate files none, count, (λ e. omega (arith, some, count, ap (λ (l : List WrittenBytes). length l) e), Keeps-refl old), Keeps-refl old)
 unopened_from restart files old Memory some =
     let none : WrittenBytes = None in
-    (replicate files none, length-replicate files none, inr (Keeps-refl old))
+    (replicate files none, length-replicate files none, inr (Keeps-refl old), inr (Keeps-refl old))
 unopened_from restart files old TooManyScripts some = absurd some
 unopened_from restart files old (BadLine script line) some = absurd some
 unopened_from restart files old LogFull some = absurd some
@@ -42,3 +44,13 @@ unopened_from restart files old Write some = absurd some
 unopened_from restart files old Behind some = absurd some
 unopened_from restart files old Thread some = absurd some
 unopened_from restart files old (Unsettled why) some = absurd some
+
+-- the storm of the files that were opened: the auditor accepts what it wrote
+pub played : {File : Type 0} (left : File → WrittenBytes) (files : List File) (asked : OptionsView) (names : ℕ) (old new : WrittenBytes) (ended : Result Unit StormFault) → asked.present ≤ asked.nodes → length files ≡ names → IsStormOutcome asked (map left files) old new ended → EndsStorm asked names old new ended
+played {File} left files asked names old new ended within count ends =
+    (map left files, length-map files left ∙ count, ends, storm_accepted (opening_start asked) (map left files) within old new ended ends)
+
+-- so it does for a storm that goes on
+pub played_on : {File : Type 0} (left : File → WrittenBytes) (files : List File) (restart : RestartView) (names : ℕ) (old new : WrittenBytes) (ended : Result Unit StormFault) → length files ≡ names → IsResumedStorm restart (map left files) old new ended → EndsStormFrom restart names old new ended
+played_on {File} left files restart names old new ended count ends =
+    (map left files, length-map files left ∙ count, ends, resumed_storm_accepted restart (map left files) old new ended ends)

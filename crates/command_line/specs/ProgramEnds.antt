@@ -1,6 +1,7 @@
 -- How the program ends: what the writers have, and the exit status.
 use Rattle.std.specs.Prelude.{◌≡◌, ℕ, List, length, Option, None, Some, Result, Ok, Err, IfOk}
-use Rattle.std.specs.Io.KnownBytes.{Keeps}
+use Rattle.std.specs.Io.KnownBytes.{Appends, Keeps}
+use Rattle.byte_streams.specs.PartialOutput.{AppendsBeginning}
 use Rattle.clap.specs.Words.{kind_of}
 use Rattle.clap.specs.declared.error.Error.{Error}
 use Rattle.clap.specs.declared.error.kind.ErrorKind.{ErrorKind}
@@ -9,6 +10,8 @@ use Rattle.rule_machine.specs.declared.rules.RuleSet.{RuleSet}
 use Rattle.script_run.specs.declared.fault.RunFault.{RunFault}
 use Rattle.script_run.specs.declared.fault.RunFault.TheVariants.{Memory}
 use Rattle.script_run.specs.Outcome.{IsRunOutcome}
+use Rattle.audit_parts.specs.Laws.{IsAcceptedText}
+use Rattle.written_text.specs.Written.{EndsAccepted}
 use Rattle.cli_args.specs.declared.task.Task.{Task}
 use Rattle.cli_args.specs.declared.task.Task.TheVariants as variants
 use Rattle.cli_args.specs.declared.task.Task.TheVariants.{Run, Resume, Audit, Picture, Epochs, ResumeStorm, Show}
@@ -29,10 +32,11 @@ abbrev pub checked_status : Result CheckEnd RunFault → ℕ
 checked_status (Ok end) = verdict_status end
 checked_status (Err fault) = run_status fault
 
--- the script was run, the writer has its transcript, a fault was reported, and the exit status fits
+-- The script was run, the writer has its transcript, a fault was reported, and the exit status fits. The auditor
+-- accepts what was written; if the writer failed or memory ran out, it accepts a text that begins so.
 abbrev pub TellsOutcome : RuleSet → ℕ → ℕ → ℕ → List ℕ → WrittenBytes → WrittenBytes → WrittenBytes → WriterState → ℕ → Type 0
 TellsOutcome rules nodes present limit script old new before after status =
-    (ended : Result Unit RunFault) × IsRunOutcome rules nodes present limit script old new ended × TellsFault before after ended × (status ≡ ended_status ended)
+    (ended : Result Unit RunFault) × IsRunOutcome rules nodes present limit script old new ended × EndsAccepted ended IsAcceptedText (Appends old new) (AppendsBeginning old new) × TellsFault before after ended × (status ≡ ended_status ended)
 
 -- too many nodes for the start are reported, nothing is read, and nothing is written to the writer
 abbrev pub TellsBadPresent : WrittenBytes → WrittenBytes → WrittenBytes → WriterState → ℕ → Type 0

@@ -1,17 +1,20 @@
 -- How a run or a storm ends that goes on where the run of a file ended: what the writers have, and the exit
 -- status.
 use Rattle.std.specs.Prelude.{◌≡◌, ◌⊎◌, ℕ, List, [], ◌++◌, length, max, min, Result, Ok, Err, codes}
-use Rattle.std.specs.Io.KnownBytes.{Keeps}
+use Rattle.std.specs.Io.KnownBytes.{Appends, Keeps}
 use Rattle.rule_machine.specs.RuleTable.{RuleTable}
 use Rattle.rule_machine.specs.Tables.{table_of}
 use Rattle.script_text.specs.Script.{Progress, with_checkpoint}
 use Rattle.auditor.specs.declared.end.TranscriptEnd.{TranscriptEnd}
 use Rattle.auditor.specs.declared.fault.AuditFault.{AuditFault}
 use Rattle.auditor.specs.declared.fault.AuditFault.TheVariants as audit
-use Rattle.auditor.specs.TranscriptEnds.{MayGoOn}
+use Rattle.auditor.specs.TranscriptEnds.{IsEndResult, MayGoOn}
 use Rattle.script_run.specs.declared.fault.RunFault.{RunFault}
 use Rattle.script_run.specs.declared.fault.RunFault.TheVariants as run
 use Rattle.script_run.specs.Outcome.{EndsFrom}
+use Rattle.audit_parts.specs.Laws.{IsAcceptedText}
+use Rattle.written_text.specs.Written.{EndsAccepted}
+use Rattle.byte_streams.specs.PartialOutput.{AppendsBeginning}
 use Rattle.script_run.specs.Restarts.{RestartView}
 use Rattle.cli_args.specs.TaskWords.{ResumedStorm}
 use Rattle.command_line.specs.declared.verdict.CheckEnd.TheVariants as verdict
@@ -52,16 +55,24 @@ start_at end = with_checkpoint (record {
   text = [];
 })
 
--- what is done with the audit of a file: the run goes on from its end, or a fault is reported
-abbrev pub ResumesAfter : Result TranscriptEnd AuditFault → List ℕ → List ℕ → WrittenBytes → WrittenBytes → WrittenBytes → WriterState → ℕ → Type 0
-ResumesAfter (Ok end) file script old new before after status =
-    MayGoOn end × TellsRunFrom (table_of end.rules) 16777216 (start_at end) script old new before after status
-ResumesAfter (Err fault) file script old new before after status = TellsAuditFault file fault old new before after status
+-- The script was run from the end of a transcript, a fault was reported, and the exit status fits. The auditor
+-- accepts what was written, alone and behind the transcript; if the writer failed or memory ran out, it accepts
+-- a text that begins so.
+abbrev pub GoesOnBehind : List ℕ → TranscriptEnd → List ℕ → WrittenBytes → WrittenBytes → WrittenBytes → WriterState → ℕ → Type 0
+GoesOnBehind first end script old new before after status =
+    (ended : Result Unit RunFault) × EndsFrom (table_of end.rules) 16777216 (start_at end) script old new ended × EndsAccepted ended (λ text. IsAcceptedText text × IsAcceptedText (first ++ text)) (Appends old new) (AppendsBeginning old new) × TellsFault before after ended × (status ≡ ended_status ended)
 
--- some audit's result was reported so; nothing is said of what the file holds
+-- what is done with the audit of a file with these bytes: the run goes on from its end, or a fault is reported
+abbrev pub ResumesAfter : List ℕ → Result TranscriptEnd AuditFault → List ℕ → List ℕ → WrittenBytes → WrittenBytes → WrittenBytes → WriterState → ℕ → Type 0
+ResumesAfter bytes (Ok end) file script old new before after status =
+    MayGoOn end × GoesOnBehind bytes end script old new before after status
+ResumesAfter bytes (Err fault) file script old new before after status = TellsAuditFault file fault old new before after status
+
+-- Some bytes were audited, and the result was reported so: the run goes on from the end of the run whose
+-- transcript these bytes are, or they have the damage that is reported. A file's contents are not known.
 abbrev pub ResumesFile : List ℕ → List ℕ → WrittenBytes → WrittenBytes → WrittenBytes → WriterState → ℕ → Type 0
 ResumesFile file script old new before after status =
-    (audited : Result TranscriptEnd AuditFault) × ResumesAfter audited file script old new before after status
+    (bytes : List ℕ) × (audited : Result TranscriptEnd AuditFault) × IsEndResult bytes audited × ResumesAfter bytes audited file script old new before after status
 
 -- the end of a transcript as where a run or a storm goes on, with this many workers for a step
 abbrev pub restart_from : TranscriptEnd → ℕ → RestartView
@@ -87,7 +98,8 @@ StormsAfter (Ok end) storm old new before after status =
     MayGoOn end × PlaysStormFrom (storm_from end storm) (length storm.scripts) old new before after status
 StormsAfter (Err fault) storm old new before after status = TellsAuditFault storm.from fault old new before after status
 
--- some audit's result was reported so; nothing is said of what the file holds
+-- Some bytes were audited, and the result was reported so: the storm goes on from the end of the run whose
+-- transcript these bytes are, or they have the damage that is reported. A file's contents are not known.
 abbrev pub ResumesStorm : ResumedStorm → WrittenBytes → WrittenBytes → WrittenBytes → WriterState → ℕ → Type 0
 ResumesStorm storm old new before after status =
-    (audited : Result TranscriptEnd AuditFault) × StormsAfter audited storm old new before after status
+    (bytes : List ℕ) × (audited : Result TranscriptEnd AuditFault) × IsEndResult bytes audited × StormsAfter audited storm old new before after status

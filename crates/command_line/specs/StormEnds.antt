@@ -7,6 +7,7 @@ use Rattle.storm_runner.specs.declared.fault.StormFault.TheVariants.{Read, Memor
 use Rattle.storm_runner.specs.FaultText.{end_line}
 use Rattle.storm_runner.specs.Outcome.{IsResumedStorm, IsStormOutcome}
 use Rattle.storm_runner.specs.Status.{end_status}
+use Rattle.written_text.specs.StormTexts.{WritesAccepted}
 use Rattle.command_line.specs.WriterStates.{WrittenBytes, WriterState, WritesLine}
 
 -- one of these files cannot be opened, or memory ran out for opening them
@@ -15,10 +16,10 @@ FailsToOpen files Read = 0 < files
 FailsToOpen files Memory = Unit {0}
 FailsToOpen files _ = ⊥
 
--- the storm of this many scripts ended in one of the ways in which a storm may; nothing is said of their
--- texts
+-- The storm of this many scripts ended in one of the ways in which a storm may; nothing is said of their
+-- texts. The auditor accepts what was written; if the writer failed, it accepts a text that begins so.
 abbrev pub EndsStorm : OptionsView → ℕ → WrittenBytes → WrittenBytes → Result Unit StormFault → Type 0
-EndsStorm asked scripts old new ended = (texts : List WrittenBytes) × (length texts ≡ scripts) × IsStormOutcome asked texts old new ended
+EndsStorm asked scripts old new ended = (texts : List WrittenBytes) × (length texts ≡ scripts) × IsStormOutcome asked texts old new ended × WritesAccepted old new ended
 
 -- the storm's end was reported, and the exit status fits
 abbrev pub PlaysStorm : OptionsView → ℕ → WrittenBytes → WrittenBytes → WrittenBytes → WriterState → ℕ → Type 0
@@ -27,7 +28,7 @@ PlaysStorm asked scripts old new before after status =
 
 -- the same of a storm that goes on
 abbrev pub EndsStormFrom : RestartView → ℕ → WrittenBytes → WrittenBytes → Result Unit StormFault → Type 0
-EndsStormFrom restart scripts old new ended = (texts : List WrittenBytes) × (length texts ≡ scripts) × IsResumedStorm restart texts old new ended
+EndsStormFrom restart scripts old new ended = (texts : List WrittenBytes) × (length texts ≡ scripts) × IsResumedStorm restart texts old new ended × WritesAccepted old new ended
 
 abbrev pub PlaysStormFrom : RestartView → ℕ → WrittenBytes → WrittenBytes → WrittenBytes → WriterState → ℕ → Type 0
 PlaysStormFrom restart scripts old new before after status =

@@ -1,8 +1,8 @@
 //! Going on where the run of a file ended.
 
-ghost use Rattle.std.specs.Prelude.{◌≡◌, ◌⊎◌, IfOk, IfSome, OnErr};
+ghost use Rattle.std.specs.Prelude.{◌≡◌, ◌⊎◌, ℕ, List, IfOk, IfSome, OnErr};
 ghost use Rattle.rule_machine.specs.Tables.{table_of};
-ghost use Rattle.auditor.specs.TranscriptEnds.{MayGoOn};
+ghost use Rattle.auditor.specs.TranscriptEnds.{IsEndResult, MayGoOn};
 ghost use Rattle.script_run.specs.Restarts.{restart_of, restarted};
 ghost use Rattle.command_line.specs.FaultText.{run_fault_line};
 ghost use Rattle.command_line.specs.ResumeEnds.{ResumesFile, TellsAuditFault, TellsRunFrom, damaged_line, restart_from, start_at};
@@ -28,7 +28,8 @@ pub(crate) fn end_of_file<T: Files>(
     alloc: Global,
     file: &str,
 ) -> Result<TranscriptEnd, AuditFault>
-    ensures { IfOk result MayGoOn }
+    ensures audited { (bytes : List ℕ) × IsEndResult bytes result }
+    ensures goes_on { IfOk result MayGoOn }
 {
     match File::open(rt, file) {
         Ok(opened) => end_of(alloc, &mut CountingReader::new(opened)),

@@ -1,5 +1,5 @@
 -- Entries that are written one after another.
-use Rattle.storm_runner.proofs.Prelude.{◌≡◌, ◌∙◌, ℕ, suc, ◌+◌, List, ◌∷◌, ◌++◌, drop, Some, slice_get, sym, ap, append_assoc, add-one, drop-cons, slice_get_within, get_or_from_slice_get, Event, Reply, Entry, entry_line, entry_lines, Extends}
+use Rattle.storm_runner.proofs.Prelude.{◌≡◌, ◌∙◌, ℕ, suc, ◌+◌, List, ◌∷◌, ◌++◌, drop, Some, slice_get, sym, ap, append_assoc, add-one, drop-cons, slice_get_within, get_or_from_slice_get, Event, Reply, Entry, entry_line, entry_lines, Extends, IsWritableEntry, AreWritable, subst}
 
 -- the entry at a place is the first of those from there on
 from_place : (log : List Entry) (k : ℕ) (e : Entry) → slice_get log k ≡ Some e → drop k log ≡ e ∷ drop (k + 1) log
@@ -26,3 +26,7 @@ one_more log number k e event reply all before after at is_event is_reply wrote 
 pub grown_more : (old before after line : List ℕ) → Extends old before → after ≡ before ++ line → Extends old after
 grown_more old before after line x wrote =
     record { more = x.more ++ line; is = wrote ∙ ap (λ (l : List ℕ). l ++ line) x.is ∙ append_assoc old x.more line }
+
+-- once the entry at a place can be written, so can all, if the others from there on can
+pub one_more_value : (log : List Entry) (k : ℕ) (e : Entry) → slice_get log k ≡ Some e → IsWritableEntry e → (AreWritable (drop k log) → AreWritable log) → AreWritable (drop (k + 1) log) → AreWritable log
+one_more_value log k e at is so_far rest = so_far (subst AreWritable (sym (from_place log k e at)) (is, rest))

@@ -1,5 +1,5 @@
 -- How a storm ends, from how its parts do.
-use Rattle.storm_runner.proofs.Prelude.{arith, ◌≡◌, ℕ, inl, inr, List, Option, None, Some, Result, Err, refl, IsErr, IsErrAnd, IsErrOf, sym, subst, Appends, RuleTable, RetainedLog, CallFault, Behind, LogFull, Memory, ScriptLine, StormStart, AllHold, StormFault, of_call, Leaves, LeavesText, EndsAllScripts, text_of, FailsToPlay, FailsToWrite}
+use Rattle.storm_runner.proofs.Prelude.{arith, ◌≡◌, ℕ, inl, inr, List, Option, None, Some, Result, Err, refl, IsErr, IsErrAnd, IsErrOf, sym, subst, Appends, RuleTable, RetainedLog, CallFault, Behind, LogFull, Memory, ScriptLine, StormStart, AllHold, StormFault, of_call, Leaves, LeavesText, EndsAllScripts, WritesKept, FailsToPlay, FailsToWrite}
 use Rattle.std.specs.Io.KnownBytes.{Keeps}
 use Rattle.storm_runner.specs.declared.fault.StormFault.TheVariants as storm
 
@@ -33,14 +33,14 @@ module _ {t : RuleTable} {weight : ℕ} {at : StormStart} {scripts : List (List 
 
 module _ {t : RuleTable} {weight : ℕ} {at : StormStart} {scripts : List (List ScriptLine)} {kept : RetainedLog} (texts : List (Option (List ℕ))) (old new : Option (List ℕ)) where
   -- all was written, and the first fault that a script met is returned
-  told_fault : (fault : CallFault) → AllHold texts scripts → Leaves t weight at scripts (Some fault) kept → Appends old new (text_of at.asked kept)
+  told_fault : (fault : CallFault) → AllHold texts scripts → Leaves t weight at scripts (Some fault) kept → WritesKept (Appends old new) at.asked kept
       → EndsAllScripts t weight at texts old new (Err (of_call fault))
   told_fault (Behind front seen) held leaves wrote = (front, seen, (scripts, kept, held, leaves, wrote))
   told_fault LogFull held leaves wrote = (scripts, kept, held, leaves, wrote)
   told_fault Memory held leaves wrote = inl (scripts, kept, held, leaves, wrote)
 
   -- or not all was written
-  failed : {met : Option CallFault} (fault : StormFault) → AllHold texts scripts → Leaves t weight at scripts met kept → FailsToWrite old new (text_of at.asked kept) fault
+  failed : {met : Option CallFault} (fault : StormFault) → AllHold texts scripts → Leaves t weight at scripts met kept → FailsToWrite old new at.asked kept fault
       → EndsAllScripts t weight at texts old new (Err fault)
   failed {met} storm.Write held leaves wrote = (met, (scripts, kept, held, leaves, wrote))
   failed storm.Memory held leaves nothing = inr nothing
@@ -48,19 +48,19 @@ module _ {t : RuleTable} {weight : ℕ} {at : StormStart} {scripts : List (List 
 
   -- so that is returned
   pub told_failed : {met : Option CallFault} (fault : StormFault) (result : Result Unit StormFault) → IsErr result → IsErrAnd result (λ found. found ≡ fault) → AllHold texts scripts
-      → Leaves t weight at scripts met kept → FailsToWrite old new (text_of at.asked kept) fault → EndsAllScripts t weight at texts old new result
+      → Leaves t weight at scripts met kept → FailsToWrite old new at.asked kept fault → EndsAllScripts t weight at texts old new result
   told_failed fault result is gives held leaves fails =
       subst (λ (r : Result Unit StormFault). EndsAllScripts t weight at texts old new r) (told result fault is gives) (failed fault held leaves fails)
 
   -- all scripts were played to their ends, and all was written
-  pub done_all : {met : Option CallFault} → met ≡ None → AllHold texts scripts → Leaves t weight at scripts met kept → Appends old new (text_of at.asked kept)
+  pub done_all : {met : Option CallFault} → met ≡ None → AllHold texts scripts → Leaves t weight at scripts met kept → WritesKept (Appends old new) at.asked kept
       → LeavesText t weight at texts None (Appends old new)
   done_all is held leaves wrote =
       (scripts, kept, held, subst (λ (f : Option CallFault). Leaves t weight at scripts f kept) is leaves, wrote)
 
   -- a script met a fault, and all was written
   pub told_met : {met : Option CallFault} (fault : CallFault) (found : StormFault) → met ≡ Some fault → found ≡ of_call fault → AllHold texts scripts → Leaves t weight at scripts met kept
-      → Appends old new (text_of at.asked kept) → EndsAllScripts t weight at texts old new (Err found)
+      → WritesKept (Appends old new) at.asked kept → EndsAllScripts t weight at texts old new (Err found)
   told_met fault found is same held leaves wrote =
       subst (λ (f : StormFault). EndsAllScripts t weight at texts old new (Err f)) (sym same)
       (told_fault fault held (subst (λ (f : Option CallFault). Leaves t weight at scripts f kept) is leaves) wrote)

@@ -16,6 +16,8 @@ pub use mathlib.Core.List.{IsPrefix}
 pub use Rattle.byte_streams.specs.PartialOutput.{AppendsLess}
 pub use Rattle.daemon.proofs.EmptyDraws.{rests}
 pub use Rattle.daemon.specs.DrawnChoices.{choice_drawn}
+pub use Rattle.line_text.specs.EventText.{IsEvent}
+pub use Rattle.line_text.specs.ReplyText.{IsReply}
 pub use Rattle.line_text.specs.EntryText.{entry_line, entry_lines}
 pub use Rattle.line_text.specs.Words.{Extends, number_text}
 pub use Rattle.locked_net.proofs.ReceiptAddition.{seen_few, front_more, front_free}
@@ -56,7 +58,8 @@ pub use Rattle.step_log.specs.JournalViews.{kept_of}
 pub use Rattle.step_log.specs.RetainedLogs.{RetainedLog, IsRetainedRun, last_number, next_receipt}
 pub use Rattle.step_log.specs.declared.receipt.Receipt.{Receipt}
 pub use Rattle.storm_runner.specs.Faults.{of_call}
-pub use Rattle.storm_runner.specs.Outcome.{Leaves, LeavesText, EndsAllScripts, text_of, StormStart, start_setting}
+pub use Rattle.storm_runner.specs.RetainedText.{IsWritableEntry, AreWritable}
+pub use Rattle.storm_runner.specs.Outcome.{Leaves, LeavesText, EndsAllScripts, WritesKept, text_of, StormStart, start_setting}
 pub use Rattle.storm_runner.specs.Parts.{FailsToPlay, FailsToWrite}
 pub use Rattle.storm_runner.specs.PlayedCommands.{AddsReceipts, PlayedOn, ToldOn, IsBased, AllStop, scene_of, Plays, TakesTurnsUpTo}
 pub use Rattle.storm_runner.specs.Storm.{IsFor, AreAbove, IsRoaming, IsOfStep, IsOfFault, IsPartOf, AreScriptReceipts, IsLastCheckpoint, StandsInPart, MayEndScript, is_checkpoint, has_checkpoint, AllPlayed, IsStormResult}

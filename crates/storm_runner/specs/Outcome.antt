@@ -22,7 +22,7 @@ use Rattle.locked_net.specs.Settings.{Setting}
 use Rattle.locked_net.specs.Headline.{Headline}
 use Rattle.script_text.specs.declared.script.ScriptLine.{ScriptLine}
 use Rattle.storm_runner.specs.Storm.{IsStormResult}
-use Rattle.storm_runner.specs.RetainedText.{kept_text}
+use Rattle.storm_runner.specs.RetainedText.{AreWritable, kept_text}
 use Rattle.script_run.specs.Restarts.{RestartView, options_at}
 use Rattle.script_run.specs.RunOptions.{OptionsView}
 use Rattle.script_run.specs.Restarts.{RestartView}
@@ -65,10 +65,14 @@ pub record Leaves (t : RuleTable) (weight : ℕ) (at : StormStart) (scripts : Li
 abbrev pub text_of : OptionsView → RetainedLog → List ℕ
 text_of asked kept = kept_text asked.rules asked.nodes asked.present kept.state.network.size kept.base kept.entries
 
+-- the entries of a kept log can be written, and P holds of the log's text
+abbrev pub WritesKept : (List ℕ → Type 0) → OptionsView → RetainedLog → Type 0
+WritesKept P asked kept = AreWritable kept.entries × P (text_of asked kept)
+
 -- the scripts are those of the texts, they leave a kept log with this fault, and P holds of the log's text
 abbrev pub LeavesText : RuleTable → ℕ → StormStart → List (Option (List ℕ)) → Option CallFault → (List ℕ → Type 0) → Type 0
 LeavesText t weight at texts fault P =
-    (scripts : List (List ScriptLine)) × (kept : RetainedLog) × AllHold texts scripts × Leaves t weight at scripts fault kept × P (text_of at.asked kept)
+    (scripts : List (List ScriptLine)) × (kept : RetainedLog) × AllHold texts scripts × Leaves t weight at scripts fault kept × WritesKept P at.asked kept
 
 -- If the result is `Ok`, each script was played to its end, no worker met a fault, and the whole text was
 -- written. If the first fault is returned, the whole text was written too. If the writer failed, a beginning

@@ -2,7 +2,10 @@
 use Rattle.std.specs.Prelude.{◌≢◌, ℕ, List, Option}
 use Rattle.std.specs.Io.KnownBytes.{Keeps}
 use Rattle.byte_streams.specs.PartialOutput.{AppendsBeginning}
+use Rattle.script_run.specs.RunOptions.{OptionsView}
+use Rattle.step_log.specs.RetainedLogs.{RetainedLog}
 use Rattle.locked_net.specs.declared.settle_fault.SettleFault.TheVariants as settle
+use Rattle.storm_runner.specs.Outcome.{WritesKept}
 use Rattle.storm_runner.specs.declared.fault.StormFault.{StormFault}
 use Rattle.storm_runner.specs.declared.fault.StormFault.TheVariants.{Write, Memory, Unsettled}
 
@@ -12,8 +15,8 @@ FailsToPlay Memory = Unit {0}
 FailsToPlay (Unsettled why) = why ≢ settle.Memory
 FailsToPlay _ = ⊥
 
--- a text was not written to its end
-abbrev pub FailsToWrite : Option (List ℕ) → Option (List ℕ) → List ℕ → StormFault → Type 0
-FailsToWrite old new text Write = AppendsBeginning old new text
-FailsToWrite old new text Memory = Keeps old new
-FailsToWrite old new text _ = ⊥
+-- the text of a kept log was not written to its end
+abbrev pub FailsToWrite : Option (List ℕ) → Option (List ℕ) → OptionsView → RetainedLog → StormFault → Type 0
+FailsToWrite old new asked kept Write = WritesKept (AppendsBeginning old new) asked kept
+FailsToWrite old new asked kept Memory = Keeps old new
+FailsToWrite old new asked kept _ = ⊥

@@ -4,7 +4,7 @@ ghost use Rattle.std.specs.Prelude.{◌≡◌, ◌+◌, ◌++◌, OnOk, OnErr};
 ghost use Rattle.line_text.specs.EntryText.{entry_lines};
 ghost use Rattle.line_text.specs.Words.{Extends};
 ghost use Rattle.rule_machine.specs.Base.{dropped};
-ghost use Rattle.storm_runner.specs.RetainedText.{kept_text, retained_opening};
+ghost use Rattle.storm_runner.specs.RetainedText.{AreWritable, kept_text, retained_opening};
 
 use line_text::{put_entry, put_header};
 use rule_machine::{RuleSet, Want};
@@ -14,6 +14,7 @@ use step_log::Journal;
 fn append_entries<R: Rules>(out: &mut Vec<u8>, journal: &Journal<R>) -> Result<(), Want>
     ensures ok { OnOk result (out.new.items ≡ out.old.items ++ entry_lines (dropped journal.now.base + 1) journal.now.entries) }
     ensures err { OnErr result (Extends out.old.items out.new.items) }
+    ensures values { OnOk result (AreWritable journal.now.entries) }
 {
     for before in journal.base().unwrap_or(0)..journal.len() {
         let entry = journal.entry(before + 1).unwrap();
@@ -54,6 +55,7 @@ pub fn put_log<R: Rules>(
 ) -> Result<(), Want>
     ensures ok { OnOk result (out.new.items ≡ out.old.items ++ kept_text rules nodes present journal.now.state.network.size journal.now.base journal.now.entries) }
     ensures err { OnErr result (out.new.items ≡ out.old.items) }
+    ensures values { OnOk result (AreWritable journal.now.entries) }
 {
     let len = out.len();
     put_opening(out, rules, nodes, present, journal)?;

@@ -4,7 +4,7 @@ ghost use Rattle.std.specs.Prelude.{◌≡◌, true, OnOk, IfErr, IsErrOf};
 ghost use Rattle.std.specs.Io.KnownBytes.{Appends};
 ghost use Rattle.script_run.specs.RunOptions.{asked_of};
 ghost use Rattle.step_log.specs.JournalViews.{kept_of};
-ghost use Rattle.storm_runner.specs.Outcome.{text_of};
+ghost use Rattle.storm_runner.specs.Outcome.{WritesKept};
 ghost use Rattle.storm_runner.specs.Parts.{FailsToWrite};
 ghost use Rattle.storm_runner.specs.declared.fault.StormFault.TheVariants.{Write as Unwritten};
 
@@ -23,8 +23,8 @@ pub fn write_log<R: Rules, Out: Write>(
     journal: &Journal<R>,
     writer: &mut FailStopWriter<Out>,
 ) -> Result<(), StormFault>
-    ensures ok { OnOk result (Appends (Out.contents writer.old.writer) (Out.contents writer.new.writer) (text_of (asked_of options.now) (kept_of journal.now))) }
-    ensures fault { IfErr result (FailsToWrite (Out.contents writer.old.writer) (Out.contents writer.new.writer) (text_of (asked_of options.now) (kept_of journal.now))) }
+    ensures ok { OnOk result (WritesKept (Appends (Out.contents writer.old.writer) (Out.contents writer.new.writer)) (asked_of options.now) (kept_of journal.now)) }
+    ensures fault { IfErr result (FailsToWrite (Out.contents writer.old.writer) (Out.contents writer.new.writer) (asked_of options.now) (kept_of journal.now)) }
     ensures unwritten { IsErrOf result Unwritten → writer.new.failed ≡ true }
 {
     let mut text = Vec::new(alloc);

@@ -1,18 +1,14 @@
-use Rattle.storm_runner.proofs.Prelude.{◌≡◌, ◌∙◌, ℕ, ◌≤◌, false, Some, sym, ap, subst, arith, RuleTable, base_of, beginning_of, name_count_of, first_nodes_of, log_limit_of}
+use Rattle.storm_runner.proofs.Prelude.{◌≡◌, ◌∙◌, ℕ, ◌≤◌, Some, ap, subst, arith, RuleTable, base_of, beginning_of, name_count_of, first_nodes_of, log_limit_of}
 use Rattle.std.specs.Prelude.{IfOk, max, min}
 use Rattle.rule_machine.specs.Network.{node_count}
 use Rattle.rule_machine.specs.Run.{Moment}
-use Rattle.rule_machine.specs.State.{State, flag}
 use Rattle.storm_runner.proofs.opening.resumed_net.Goals as goal
 
 limit_kept : (number limit : ℕ) → number ≤ limit → limit ≤ 16777216 → max number (min limit 16777216) ≡ limit
 limit_kept number limit within few = grind arith
 
-pub of_net-requires-clause-unflagged : goal.of_net-requires-clause-unflagged
-of_net-requires-clause-unflagged g c none v =
-    let restart = c.args.restart in
-    let same = ap (λ (m : Moment). m.state) c.in_ok-net.ensures in
-    subst (λ (s : State). flag s v ≡ false) (sym same) (restart.unflagged (ap (λ (t : RuleTable). t.flags) c.requires.table ∙ none) v)
+pub of_state-requires-clause-unflagged : goal.of_state-requires-clause-unflagged
+of_state-requires-clause-unflagged g c none v = c.args.restart.unflagged (ap (λ (t : RuleTable). t.flags) c.requires.table ∙ none) v
 
 pub returns-clause-nodes : goal.returns-clause-nodes
 returns-clause-nodes g c =
