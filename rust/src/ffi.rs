@@ -9,6 +9,10 @@ pub(crate) const NO_MEMORY: u32 = 3;
 pub(crate) const REFUSED: u32 = 6;
 pub(crate) const DAMAGED: u32 = 7;
 pub(crate) const NOT_SILENT: u32 = 8;
+pub(crate) const NOT_SHOWN: u32 = 9;
+
+/// The rule number of a repair.
+pub(crate) const REPAIR: u32 = 5;
 
 /// Holds a session or an audit. A full slot stays at its address.
 #[repr(C)]
@@ -45,6 +49,14 @@ pub(crate) struct Row {
 }
 
 #[repr(C)]
+#[derive(Clone, Copy, Default)]
+pub(crate) struct RawNode {
+    pub pointer: u32,
+    pub flag: bool,
+    pub present: bool,
+}
+
+#[repr(C)]
 #[derive(Clone, Copy)]
 pub(crate) struct RawItem {
     pub node: u32,
@@ -59,6 +71,27 @@ pub(crate) struct RawVerdict {
     pub epochs: u32,
     pub moves: u64,
     pub line: u64,
+}
+
+/// What a node holds of itself, or of a neighbour; pointer 0 is null.
+#[repr(C)]
+#[derive(Clone, Copy)]
+pub(crate) struct RawRecord {
+    pub node: u32,
+    pub pointer: u32,
+    pub flag: bool,
+}
+
+/// The move of a node, or the fault of what it holds.
+#[repr(C)]
+#[derive(Clone, Copy, Default)]
+pub(crate) struct RawLocalMove {
+    pub rule: u32,
+    pub target: u32,
+    pub pointer: u32,
+    pub flag: bool,
+    pub fault: u32,
+    pub at: u32,
 }
 
 extern "C" {
@@ -90,6 +123,12 @@ extern "C" {
     pub(crate) fn rudekpi_scramble(slot: *mut Slot, seed: u64, count: u32, told: *mut Told) -> u32;
     pub(crate) fn rudekpi_checkpoint(slot: *mut Slot, told: *mut Told) -> u32;
     pub(crate) fn rudekpi_transcript(slot: *mut Slot, keeps: bool) -> u32;
+    pub(crate) fn rudekpi_session_renumber(slot: *mut Slot, ended: *mut usize) -> u32;
+    pub(crate) fn rudekpi_registers(slot: *mut Slot, node: u32, registers: *mut RawNode) -> u32;
+    pub(crate) fn rudekpi_neighbours(slot: *mut Slot, node: u32, out: *mut u32, room: usize, count: *mut usize) -> u32;
+    pub(crate) fn rudekpi_nodes(slot: *mut Slot, out: *mut u32, room: usize, count: *mut usize) -> u32;
+    pub(crate) fn rudekpi_restless(slot: *mut Slot, out: *mut u32, room: usize, count: *mut usize) -> u32;
+    pub(crate) fn rudekpi_edges(slot: *mut Slot, out: *mut Row, room: usize, count: *mut usize) -> u32;
     pub(crate) fn rudekpi_partner(slot: *mut Slot, node: u32, partner: *mut u32) -> u32;
     pub(crate) fn rudekpi_moves_left(slot: *mut Slot, moves: *mut u32) -> u32;
     pub(crate) fn rudekpi_is_at_rest(slot: *mut Slot, node: u32, rests: *mut bool) -> u32;
@@ -143,6 +182,22 @@ extern "C" {
         out: *mut u32,
         room: usize,
         count: *mut usize,
+    ) -> u32;
+    pub(crate) fn rudekpi_local_rule(
+        rules: u32,
+        own: *const RawRecord,
+        neighbours: *const RawRecord,
+        length: usize,
+        told: *mut RawLocalMove,
+    ) -> u32;
+    pub(crate) fn rudekpi_may_move(
+        rules: u32,
+        own: *const RawRecord,
+        neighbours: *const RawRecord,
+        length: usize,
+        rule: u32,
+        target: u32,
+        may: *mut bool,
     ) -> u32;
     pub(crate) fn rudekpi_audit(bytes: *const u8, length: usize, verdict: *mut RawVerdict);
     pub(crate) fn rudekpi_audit_new(slot: *mut Slot) -> u32;

@@ -18,11 +18,13 @@
 mod audit;
 mod fault;
 mod ffi;
+mod local;
 mod network;
 
 pub use audit::{audit, Audit, Damage, Summary, Verdict};
 pub use fault::{Fault, Refusal};
-pub use network::{Counts, Enabled, Item, Move, Network, Rule, Rules};
+pub use local::{local_rule, may_move, BadView, LocalMove, Record};
+pub use network::{Counts, Enabled, Item, Move, Network, Registers, Rule, Rules};
 
 /// A node's name, from 1 on.
 pub type Node = u32;

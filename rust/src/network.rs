@@ -2,7 +2,7 @@
 
 use crate::audit::Verdict;
 use crate::fault::{answer, fault, Fault};
-use crate::ffi::{self, RawItem, RawVerdict, Row, Slot, Told};
+use crate::ffi::{self, RawItem, RawNode, RawVerdict, Row, Slot, Told};
 use crate::Node;
 
 /// A rule set.
@@ -24,7 +24,7 @@ pub enum Rule {
 }
 
 impl Rule {
-    fn of(number: u32) -> Rule {
+    pub(crate) fn of(number: u32) -> Rule {
         match number {
             1 => Rule::Update,
             2 => Rule::Marry,
@@ -68,7 +68,15 @@ pub struct Item {
     pub wish: Option<Node>,
 }
 
-fn node_or_null(node: u32) -> Option<Node> {
+/// A node's pointer and flag, and whether the node is present. An absent node has neither.
+#[derive(Clone, Copy, Debug, PartialEq, Eq)]
+pub struct Registers {
+    pub pointer: Option<Node>,
+    pub flag: bool,
+    pub present: bool,
+}
+
+pub(crate) fn node_or_null(node: u32) -> Option<Node> {
     Some(node).filter(|&it| it != 0)
 }
 
@@ -126,7 +134,7 @@ macro_rules! lists {
     ($($(#[$text:meta])* $name:ident, $call:ident, ($($word:ident: $kind:ty),*);)*) => {$(
         $(#[$text])*
         pub fn $name(&mut self, $($word: $kind),*) -> Result<Vec<Node>, Fault> {
-            self.names(|slot, out, room, count| unsafe { ffi::$call(slot, $($word,)* out, room, count) })
+            self.listed(|slot, out, room, count| unsafe { ffi::$call(slot, $($word,)* out, room, count) })
         }
     )*};
 }
@@ -183,11 +191,16 @@ impl Network {
     }
 
     values! {
-        /// The most moves that can still come before the next edit or fault.
+        /// The most moves that can still come before the next edit or fault, 0 in silence.
         moves_left, rudekpi_moves_left, () -> u32;
         /// Whether a node is at rest: it does not move until an edit or a fault reaches it.
         is_at_rest, rudekpi_is_at_rest, (node: Node) -> bool;
-        /// The cost, in moves, of adding an edge at this moment; 0 if the edge would be refused. Changes nothing.
+        /// Numbers the entries from 1 again, in the same state, before or after the log is full. Returns how many
+        /// bytes of the next `take_transcript` end the transcript so far, with a base; the bytes after them begin
+        /// the next transcript.
+        renumber, rudekpi_session_renumber, () -> usize;
+        /// The cost, in moves, of adding an edge at this moment: the charge would grow by at most this. 0 if the
+        /// edge would be refused. Changes nothing.
         cost_of_link, rudekpi_cost_of_link, (a: Node, b: Node) -> u32;
         /// The cost of removing an edge.
         cost_of_unlink, rudekpi_cost_of_unlink, (a: Node, b: Node) -> u32;
@@ -215,6 +228,12 @@ impl Network {
     }
 
     lists! {
+        /// All neighbours of a node, ascending; an absent node has none. Changes nothing.
+        neighbours, rudekpi_neighbours, (node: Node);
+        /// All nodes that are present, ascending.
+        nodes, rudekpi_nodes, ();
+        /// All nodes that are not at rest, ascending: only these may move before the next edit or fault.
+        restless, rudekpi_restless, ();
         /// The nodes that adding an edge would reach, ascending. Changes nothing.
         reach_of_link, rudekpi_reach_of_link, (a: Node, b: Node);
         /// The nodes that removing an edge would reach.
@@ -228,7 +247,7 @@ impl Network {
     /// The nodes that writing a pointer would reach.
     pub fn reach_of_point(&mut self, node: Node, target: Option<Node>) -> Result<Vec<Node>, Fault> {
         let target = target.unwrap_or(0);
-        self.names(|slot, out, room, count| unsafe {
+        self.listed(|slot, out, room, count| unsafe {
             ffi::rudekpi_reach_of_point(slot, node, target, out, room, count)
         })
     }
@@ -241,6 +260,26 @@ impl Network {
             ffi::DONE => Ok(cost),
             status => Err(fault(status)),
         }
+    }
+
+    /// The node's registers, and whether the node is present. Adds no entry.
+    pub fn registers(&mut self, node: Node) -> Result<Registers, Fault> {
+        let mut found = RawNode::default();
+        match unsafe { ffi::rudekpi_registers(&mut *self.slot, node, &mut found) } {
+            ffi::DONE => Ok(Registers {
+                pointer: node_or_null(found.pointer),
+                flag: found.flag,
+                present: found.present,
+            }),
+            status => Err(fault(status)),
+        }
+    }
+
+    /// All edges, each with its lower end first, ascending. Adds no entry.
+    pub fn edges(&mut self) -> Result<Vec<(Node, Node)>, Fault> {
+        let rows: Vec<Row> =
+            self.listed(|slot, out, room, count| unsafe { ffi::rudekpi_edges(slot, out, room, count) })?;
+        Ok(rows.iter().map(|it| (it.node, it.other)).collect())
     }
 
     /// The node's partner, if the node has one. Adds no entry.
@@ -346,17 +385,20 @@ impl Network {
         Ok(rows)
     }
 
-    fn names(&mut self, call: impl Fn(*mut Slot, *mut u32, usize, *mut usize) -> u32) -> Result<Vec<Node>, Fault> {
-        let mut ask = |names: &mut [u32]| {
+    fn listed<Item: Clone + Default>(
+        &mut self,
+        call: impl Fn(*mut Slot, *mut Item, usize, *mut usize) -> u32,
+    ) -> Result<Vec<Item>, Fault> {
+        let mut ask = |items: &mut [Item]| {
             let mut count = 0;
-            match call(&mut *self.slot, names.as_mut_ptr(), names.len(), &mut count) {
+            match call(&mut *self.slot, items.as_mut_ptr(), items.len(), &mut count) {
                 ffi::DONE => Ok(count),
                 status => Err(fault(status)),
             }
         };
-        let mut names = vec![0; ask(&mut [])?];
-        ask(&mut names)?;
-        Ok(names)
+        let mut items = vec![Item::default(); ask(&mut [])?];
+        ask(&mut items)?;
+        Ok(items)
     }
 }
 

@@ -1,7 +1,8 @@
 //! Each call once, with answers worked out by hand, and each fault.
 
 use rudekpi::{
-    audit, version, Audit, Counts, Damage, Enabled, Fault, Item, Move, Network, Refusal, Rule, Rules, Verdict,
+    audit, local_rule, may_move, version, Audit, BadView, Counts, Damage, Enabled, Fault, Item, LocalMove, Move,
+    Network, Record, Refusal, Registers, Rule, Rules, Verdict,
 };
 
 /// Three nodes in a row, 1 - 2 - 3, of four names, before any move.
@@ -42,6 +43,18 @@ fn edits_steps_and_questions() {
     };
     assert_eq!(net.status(), Ok(silent));
     assert_eq!((net.moves_left(), net.is_at_rest(1)), (Ok(0), Ok(true)));
+    assert_eq!((net.nodes(), net.restless()), (Ok(vec![1, 2, 3]), Ok(vec![])));
+    assert_eq!((net.neighbours(2), net.neighbours(4)), (Ok(vec![1, 3]), Ok(vec![])));
+    assert_eq!(net.edges(), Ok(vec![(1, 2), (2, 3)]));
+    let of = |pointer, present| Registers {
+        pointer,
+        flag: false,
+        present,
+    };
+    assert_eq!(
+        (net.registers(2), net.registers(4)),
+        (Ok(of(Some(3), true)), Ok(of(None, false)))
+    );
     assert_eq!(net.join(4), Ok(10));
     assert_eq!(net.leave(4), Ok(11));
 }
@@ -160,8 +173,96 @@ fn resumptions() {
 }
 
 #[test]
+fn renumbering() {
+    let mut net = Network::new(Rules::HsuHuang, 2).expect("a network");
+    net.link(1, 2).expect("an edge");
+    net.step(&[Item { node: 1, wish: None }]).expect("a move");
+    let ended = net.renumber().expect("new numbers");
+    net.step(&[Item { node: 2, wish: None }]).expect("a move");
+    let text = net.take_transcript();
+    let (first, second) = text.split_at(ended);
+    let base = " spent=1 nodes=2 edges=1\nnode 1 2 0\nnode 2 - 0\nedge 1 2\n";
+    let begun = "matching hh 2\n1 link 1 2 = ok\n2 step 1 = 1:seduce>2\n";
+    assert_eq!(first, format!("{begun}matching2 hh 2\nbase 2{base}").as_bytes());
+    assert_eq!(
+        second,
+        format!("matching2 hh 2\nbase 0{base}1 step 2 = 2:marry>1\n").as_bytes()
+    );
+    let verdict = |text: &[u8]| audit(text).expect("memory").to_string();
+    assert_eq!(verdict(first), "accepted: 2 entries, 2 epochs, 1 moves");
+    assert_eq!(verdict(second), "accepted: 1 entries, 1 epochs, 1 moves");
+}
+
+#[test]
 fn version_of_the_package() {
     let number = version();
     let text = format!("{}.{}.{}", number / 1_000_000, number / 1000 % 1000, number % 1000);
     assert_eq!(text, env!("CARGO_PKG_VERSION"));
+}
+
+/// A node 3 with neighbours 5 and 7, under Manne's rules.
+fn held(pointer: Option<u32>, flag: bool, at_seven: (Option<u32>, bool)) -> (Record, [Record; 2]) {
+    let record = |node, pointer, flag| Record { node, pointer, flag };
+    (
+        record(3, pointer, flag),
+        [record(5, None, false), record(7, at_seven.0, at_seven.1)],
+    )
+}
+
+#[test]
+fn rule_of_one_node() {
+    let told = |rule, target, pointer, flag| {
+        Ok(Some(LocalMove {
+            rule,
+            target,
+            pointer,
+            flag,
+        }))
+    };
+    let ask = |(own, near): (Record, [Record; 2])| local_rule(Rules::Manne, &own, &near);
+    // 7 points at it: it marries 7; else it seduces the greatest that is above it and open
+    let marries = told(Some(Rule::Marry), Some(7), Some(7), false);
+    assert_eq!(ask(held(None, false, (Some(3), true))), marries);
+    assert_eq!(
+        ask(held(None, false, (None, false))),
+        told(Some(Rule::Seduce), Some(7), Some(7), false)
+    );
+    assert_eq!(
+        ask(held(None, false, (None, true))),
+        told(Some(Rule::Seduce), Some(5), Some(5), false)
+    );
+    assert_eq!(
+        ask(held(Some(7), false, (Some(3), true))),
+        told(Some(Rule::Update), None, Some(7), true)
+    );
+    assert_eq!(
+        ask(held(Some(7), false, (Some(9), true))),
+        told(Some(Rule::Abandon), None, None, false)
+    );
+    assert_eq!(ask(held(Some(7), true, (Some(3), true))), Ok(None));
+    // 8 is no neighbour: the repair
+    assert_eq!(ask(held(Some(8), true, (None, false))), told(None, None, None, true));
+}
+
+#[test]
+fn views_of_no_state() {
+    let (own, near) = held(None, false, (None, false));
+    let back = [near[1], near[0]];
+    assert_eq!(local_rule(Rules::HsuHuang, &own, &back), Err(BadView::NotAscending(5)));
+    assert_eq!(local_rule(Rules::HsuHuang, &near[0], &near), Err(BadView::OwnNeighbour));
+    let (_, odd) = held(None, false, (Some(7), false));
+    assert_eq!(local_rule(Rules::HsuHuang, &own, &odd), Err(BadView::PointsAtItself(7)));
+    let nameless = Record { node: 0, ..own };
+    assert_eq!(local_rule(Rules::HsuHuang, &nameless, &near), Err(BadView::BadArgument));
+    let may = |own: &Record, rule, target| may_move(Rules::HsuHuang, own, &near, rule, target);
+    // Hsu and Huang's rules let it seduce either
+    assert_eq!(may(&own, Rule::Seduce, Some(5)), Ok(true));
+    assert_eq!(may(&own, Rule::Seduce, Some(9)), Ok(false));
+    assert_eq!(may(&own, Rule::Abandon, None), Ok(false));
+    let astray = Record {
+        pointer: Some(8),
+        ..own
+    };
+    assert_eq!(may(&astray, Rule::Abandon, None), Err(BadView::PointsAtStranger(8)));
+    assert_eq!(may(&own, Rule::Seduce, Some(65_536)), Err(BadView::BadArgument));
 }

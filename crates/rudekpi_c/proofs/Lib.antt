@@ -6,11 +6,14 @@ pub mod AuditCalls
 pub mod CommandCalls
 pub mod StatusNumbers
 pub mod LineCalls
+pub mod LocalCalls
 pub mod SessionCycle
 pub mod TextTransfer
 pub mod JoinedVerdicts
 pub mod AuditVerdicts
 pub mod NameOutput
+pub mod NodeLists
 pub mod Partners
+pub mod Renumbering
 pub mod Resumption
 pub mod RowOutput

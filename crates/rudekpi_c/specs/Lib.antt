@@ -5,9 +5,11 @@ pub mod CostCalls
 pub mod CountCalls
 pub mod HandleOwnership
 pub mod JoinCalls
+pub mod LocalCalls
 pub mod AuditVerdicts
 pub mod SessionQuestions
 pub mod ReachCalls
+pub mod Renumbering
 pub mod Resumption
 pub mod Session
 pub mod Slot
@@ -15,3 +17,4 @@ pub mod ReplyNumbers
 pub mod MovesLeftCalls
 pub mod SilentDrives
 pub mod SilentCosts
+pub mod StateViews

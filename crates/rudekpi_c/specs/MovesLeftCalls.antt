@@ -2,7 +2,6 @@
 use Rattle.std.specs.Prelude.{◌≡◌, ℕ, Option, None, Some}
 use Rattle.rule_machine.specs.declared.rules.RuleSet.{RuleSet}
 use Rattle.rule_machine.specs.declared.rules.RuleSet.TheVariants.{Hh, Manne}
-use Rattle.rule_machine.specs.Network.{node_count}
 use Rattle.rule_machine.specs.RuleTable.{RuleTable}
 use Rattle.rule_machine.specs.Run.{Moment}
 use Rattle.rule_machine.specs.Tables.{table_of}
@@ -16,9 +15,9 @@ abbrev pub most_of : RuleSet → ℕ → Option ℕ
 most_of Hh n = Some (dense_bound n)
 most_of Manne n = None
 
--- the smaller of the bound by nodes and the charge, in the session's state
+-- none in silence, else the smaller of the bound by nodes and the charge, in the session's state
 abbrev pub left_at : Session → ℕ
-left_at s = moves_left ((table_of (rules_of s)).charge (stands s).moment.state) (most_of (rules_of s) (node_count (stands s).moment.state.network))
+left_at s = moves_left (table_of (rules_of s)) (most_of (rules_of s)) (stands s).moment.state
 
 -- until the next disturbance, at most this many moves come
 abbrev pub IsMost : RuleTable → Moment → ℕ → Type 0

@@ -1,7 +1,6 @@
 //! A bound on the moves that can still come in a session's state. Asking makes no entry.
 
 ghost use Rattle.std.specs.Prelude.{◌≡◌};
-ghost use Rattle.rule_machine.specs.Network.{node_count};
 ghost use Rattle.node_bound.specs.MovesLeft.{moves_left, BoundsMoves};
 ghost use Rattle.rudekpi_c.specs.MovesLeftCalls.{AnswersMovesLeft};
 
@@ -12,14 +11,14 @@ use run_session::Run;
 use std::alloc::Global;
 
 pub(crate) fn moves_left<R: NodeBound>(run: &mut Run<R>) -> u32
-    ensures value { result ≡ moves_left (R.table.charge run.old.recorder.state) (R.most (node_count run.old.recorder.state.network)) }
+    ensures value { result ≡ moves_left R.table R.most run.old.recorder.state }
     ensures promise { BoundsMoves R.table run.old.recorder.state run.old.recorder.spent result }
     ensures kept { run.new ≡ run.old }
 {
     run.recorder.moves_left()
 }
 
-/// Writes a bound on the moves that can still come before the next accepted edit or fault.
+/// Writes a bound on the moves that can still come before the next accepted edit or fault: 0 in silence.
 ///
 /// Returns 4 if there is no session.
 #[unsafe(no_mangle)]

@@ -60,7 +60,7 @@ impl Session {
     }
 }
 
-fn put_names(out: &mut [u32], nodes: &[Node])
+pub(crate) fn put_names(out: &mut [u32], nodes: &[Node])
     requires { length nodes.now ≤ length out.old }
     ensures { out.new ≡ nodes.now ++ drop (length nodes.now) out.old }
 {

@@ -67,7 +67,7 @@ impl AsRow for Edge {
     }
 }
 
-fn rule_told(act: Act) -> u32
+pub(crate) fn rule_told(act: Act) -> u32
     ensures { result ≡ rule_number act }
 {
     match act {

@@ -26,3 +26,6 @@ pub(crate) const DAMAGED: u32 = 7;
 
 /// A rule is enabled, so the network is not silent.
 pub(crate) const NOT_SILENT: u32 = 8;
+
+/// No state of the machine shows what a node holds.
+pub(crate) const NOT_SHOWN: u32 = 9;

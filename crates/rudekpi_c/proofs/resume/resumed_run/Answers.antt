@@ -1,5 +1,6 @@
 use Rattle.std.proofs.Common.{◌≡◌, ◌∙◌, ℕ, ◌≤◌, [], IfOk, ap, subst, arith}
 use Rattle.std.specs.Prelude.{max, min}
+use Rattle.rule_machine.specs.RuleTable.{RuleTable}
 use Rattle.step_log.specs.Recording.{Recording, resumed_recording}
 use Rattle.script_text.specs.Script.{with_checkpoint}
 use Rattle.run_session.specs.Line.{progress, progress_of}
@@ -7,6 +8,9 @@ use Rattle.rudekpi_c.proofs.resume.resumed_run.Goals as goal
 
 limit_kept : (number : ℕ) → number ≤ 16777216 → max number (min 16777216 16777216) ≡ 16777216
 limit_kept number few = grind arith
+
+pub of_state-requires-clause-unflagged : goal.of_state-requires-clause-unflagged
+of_state-requires-clause-unflagged g c none v = c.requires.goes_on.unflagged (ap (λ (t : RuleTable). t.flags) c.requires.table ∙ none) v
 
 pub returns-clause-begins : goal.returns-clause-begins
 returns-clause-begins g c =

@@ -1,5 +1,4 @@
 use Rattle.std.proofs.Common.{◌≡◌, ℕ, sym, subst}
-use Rattle.rule_machine.specs.Network.{node_count}
 use Rattle.rule_machine.specs.Tables.{table_of}
 use Rattle.node_bound.specs.MovesLeft.{moves_left}
 use Rattle.rudekpi_c.specs.declared.session.Machine.{Machine}
@@ -8,7 +7,7 @@ use Rattle.rudekpi_c.specs.Session.{stands_at, rules_at}
 use Rattle.rudekpi_c.proofs.session.Session.moves_left.Goals as goal
 
 abbrev left_by : Machine → ℕ
-left_by m = moves_left ((table_of (rules_at m)).charge (stands_at m).moment.state) (most_of (rules_at m) (node_count (stands_at m).moment.state.network))
+left_by m = moves_left (table_of (rules_at m)) (most_of (rules_at m)) (stands_at m).moment.state
 
 pub returns-in-Hh-clause-value : goal.returns-in-Hh-clause-value
 returns-in-Hh-clause-value c = subst (λ (m : Machine). c.moves_left.result ≡ left_by m) (sym c.in-Hh.is) c.moves_left.ensures.value

@@ -1,0 +1,9 @@
+pub mod Prelude
+pub mod Rows
+pub mod Shown
+pub mod Stars
+pub mod Looks
+pub mod Alike
+pub mod Steps
+pub mod Repairs
+pub mod Writes

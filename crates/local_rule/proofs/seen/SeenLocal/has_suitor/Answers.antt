@@ -1,0 +1,9 @@
+use Rattle.local_rule.proofs.Prelude.{map, ◌∙◌, ap, is_some, star}
+use Rattle.local_rule.proofs.Looks.{shown_suitor}
+use Rattle.local_rule.proofs.seen.SeenLocal.has_suitor.Goals as goal
+
+pub returns : goal.returns
+returns g c =
+    let it = c.args.self.now in
+    let around = map g.T.AsRecord.shows it.around.now in
+    c.is_some.ensures ∙ ap is_some (c.first_suitor.ensures ∙ shown_suitor (star it.own.now around) it.own.now around it.shown)

@@ -1,0 +1,7 @@
+pub mod Views
+pub mod Faults
+pub mod Moves
+pub mod Star
+pub mod Looks
+pub mod Locals
+pub mod Steps
