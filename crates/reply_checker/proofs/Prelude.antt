@@ -14,9 +14,8 @@ pub use Rattle.std.specs.Option.{option_map, option_or}
 pub use Rattle.std.specs.Ordering.{is_lt, nat_cmp}
 pub use Rattle.charge_laws.proofs.Bounds.{hsu_huang_bounded, manne_bounded}
 pub use Rattle.charge_laws.proofs.ClosedByPointers.{hsu_huang_split, manne_split}
-pub use Rattle.charge_laws.proofs.Degrees.{none_count}
 pub use Rattle.charge_laws.proofs.EdgesByEnds.{edges_agree}
-pub use Rattle.charge_laws.proofs.ListCounts.{sum_agree, sum_add}
+pub use Rattle.charge_laws.proofs.ListCounts.{sum_agree, sum_add, none_count}
 pub use Rattle.charge_laws.specs.ChargeWords.{charge_bound}
 pub use Rattle.charge_laws.specs.ClosedByPointers.{hsu_huang_apart, manne_apart}
 pub use Rattle.charge_laws.specs.Degrees.{degree}

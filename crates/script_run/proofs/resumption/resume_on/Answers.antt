@@ -1,11 +1,15 @@
 use Rattle.script_run.proofs.Prelude.{◌≡◌, ◌∙◌, ℕ, ◌≤◌, [], ap, arith, lines_of, progress, with_checkpoint}
 use Rattle.std.specs.Prelude.{max, min}
+use Rattle.rule_machine.specs.RuleTable.{RuleTable}
 use Rattle.step_log.specs.Recording.{Recording, resumed_recording}
 use Rattle.script_run.proofs.RunEnds.{WritesPart-none, Ends-asked, Whole-asked, for_any}
 use Rattle.script_run.proofs.resumption.resume_on.Goals as goal
 
 limit_kept : (number limit : ℕ) → number ≤ limit → limit ≤ 16777216 → max number (min limit 16777216) ≡ limit
 limit_kept number limit within few = grind arith
+
+pub of_state-requires-clause-unflagged : goal.of_state-requires-clause-unflagged
+of_state-requires-clause-unflagged g c none v = c.args.restart.unflagged (ap (λ (t : RuleTable). t.flags) c.requires.table ∙ none) v
 
 pub returns-in_default-clause-outcome : goal.returns-in_default-clause-outcome
 returns-in_default-clause-outcome g c =
