@@ -28,6 +28,7 @@ from .bursts import Burst, bursts
 from .conformance import Conformance, Divergence, conform
 from .errors import (
     BadLine,
+    BadView,
     Damaged,
     Ended,
     Garbled,
@@ -40,6 +41,7 @@ from .errors import (
     WrongChoice,
 )
 from .explanations import Explanation, explain
+from .local_rules import LocalMove, local_rule, may_move
 from .name_files import read_names, write_names
 from .network import Network
 from .parts import audit_parts
@@ -72,6 +74,7 @@ __all__ = [
     "Accepted",
     "Audit",
     "BadLine",
+    "BadView",
     "Base",
     "Batch",
     "Burst",
@@ -84,6 +87,7 @@ __all__ = [
     "Explanation",
     "Fault",
     "Garbled",
+    "LocalMove",
     "Lost",
     "Matching",
     "Move",
@@ -111,7 +115,9 @@ __all__ = [
     "epochs",
     "explain",
     "graphs",
+    "local_rule",
     "longest",
+    "may_move",
     "read_names",
     "replay",
     "storm",

@@ -3,16 +3,16 @@
 from __future__ import annotations
 
 import argparse
-import sys
 from typing import Callable
 
-from . import drawings, streams
-from .graphs import graph_of
-from .kept_graphs import folder_of, kept_graph
+from . import drawings, outputs
+from .graphs import graph_of, is_path
+from .kept_graphs import folder_of, kept_graph, path_of
 from .name_files import write_names
 from .names import names_for
 from .numbers import number_within
 from .plans import play_again, row_in
+from .rows import lines_of_file
 from .simple_graph import Graph
 from .sweeps import MOST_EXPERIMENTS
 
@@ -21,20 +21,25 @@ Command = Callable[[str, Callable[[argparse.Namespace], int], str], argparse.Arg
 
 
 def run_again(given: argparse.Namespace) -> int:
-    with open(given.rows, newline="") as file:
-        row = row_in(file, number_within(given.number, MOST_EXPERIMENTS, "the number of a row"))
-    played = play_again(row, program=given.program, graph=graph_in(given, row.graph))
+    with open(given.rows, "rb") as file:
+        found = row_in(
+            lines_of_file(file), given.rows, number_within(given.number, MOST_EXPERIMENTS, "the number of a row")
+        )
+    title = found.row.graph
+    reads = [given.rows, title if is_path(title) else None, path_of(given.rows, title), given.program]
+    outputs.refuse_clashes([given.output, outputs.names_file(given.output), given.page], reads)
+    graph = graph_in(given, title)
+    try:
+        played = play_again(found.row, program=given.program, graph=graph)
+    except ValueError as error:
+        raise ValueError(f"{given.rows}: line {found.line}: {error}") from None
     has_numbers = played.nodes == tuple(range(1, len(played.nodes) + 1))
     if given.page is not None:
         names = None if has_numbers else names_for(played.transcript, played.nodes)
         drawings.write_page(played.transcript, given.page, given.program, names)
-    if given.output is None or given.output == "-":
-        sys.stdout.write(played.transcript)
-    else:
-        with streams.output_file(given.output) as out:
-            out.write(played.transcript)
-        if not has_numbers:
-            write_names(f"{given.output}.names", played.nodes)
+    outputs.write(given.output, played.transcript)
+    if outputs.is_file(given.output) and not has_numbers:
+        write_names(f"{given.output}.names", played.nodes)
     return DONE
 
 

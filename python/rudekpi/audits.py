@@ -13,6 +13,7 @@ from typing import Any, Iterable, Optional, Union
 
 from .containment import reaches
 from .errors import VERDICT, Damaged, Ended, Garbled, text_of
+from .given import Given, became_shorter, bytes_of, naming, opened, path_of, size_of
 from .labels import named_picture
 from .library import Library, chosen
 from .names import names_for
@@ -32,46 +33,56 @@ class Slice:
     file: Union[str, int, bytes]
     start: int
     end: int
+    # of the file, for errors
+    path: str = ""
 
     def audit(self, judge: Library) -> Summary:
         if isinstance(self.file, bytes):
             return judge.audit_bytes(self.file, self.start, self.end)
-        with open(self.file, "rb", buffering=0, closefd=isinstance(self.file, str)) as file:
+        with naming(self.path), open(self.file, "rb", buffering=0, closefd=isinstance(self.file, str)) as file:
             return judge.audit_file(file.fileno(), self.start, self.end)
 
     def send(self, pipe: int) -> None:
-        """Writes the range to a pipe, or less if the file has become shorter."""
+        """Writes the range to a pipe. Raises `OSError` if the file has become shorter."""
         if isinstance(self.file, bytes):
             return send(memoryview(self.file)[self.start : self.end], pipe)
         at = self.start
-        with open(self.file, "rb", buffering=0, closefd=isinstance(self.file, str)) as file:
+        with naming(self.path), open(self.file, "rb", buffering=0, closefd=isinstance(self.file, str)) as file:
             while at < self.end:
                 taken = os.sendfile(pipe, file.fileno(), at, self.end - at)
                 if not taken:
-                    return
+                    raise became_shorter()
                 at += taken
 
 
-def bytes_of(transcript: Text) -> bytes:
-    if isinstance(transcript, str):
-        return transcript.encode()
-    if not isinstance(transcript, (bytes, bytearray, memoryview)):
-        # `bytes` would accept a number, and read something into it
-        raise TypeError(f"a transcript is text or bytes, and not {transcript!r}; a pathlib.Path is for audit_parts")
-    return bytes(transcript)
+def to_judge(transcript: Union[Given, Slice]) -> Union[bytes, bytearray, memoryview, Slice]:
+    """What an engine judges: a regular file that is given by its path is not read whole."""
+    if isinstance(transcript, (Slice, bytearray, memoryview)):
+        return transcript
+    path = path_of(transcript)
+    if path is not None:
+        with opened(path) as file:
+            size = size_of(file)
+        if size is not None:
+            return Slice(os.path.abspath(path), 0, size, path)
+    return bytes_of(transcript)
 
 
-def audit(transcript: Union[Text, Slice], *, program: Program = None, engine: Optional[str] = None) -> Summary:
-    """Judges a text: returns the counts of a transcript of a run of the rules, else raises `Damaged`.
+def audit(transcript: Union[Given, Slice], *, program: Program = None, engine: Optional[str] = None) -> Summary:
+    """Judges a transcript of a run of the rules: returns its counts, else raises `Damaged`.
+
+    A transcript is given as to every function here: a `str` with a line feed, or an empty one, is its text,
+    and any other `str` the path of its file, as a `pathlib.Path` is; or bytes, an open file, or lines. A file
+    is read piece by piece if its path is given. `OSError`: the file can't be read, or becomes shorter
+    meanwhile.
 
     The engine is chosen as for a `Network`. If memory runs out, the library raises `MemoryError`, and the
     program `Ended`.
     """
     judge = chosen(engine, program)
     if judge:
-        if isinstance(transcript, Slice):
-            return transcript.audit(judge)
-        return judge.audit_bytes(bytes_of(transcript))
+        given = to_judge(transcript)
+        return given.audit(judge) if isinstance(given, Slice) else judge.audit_bytes(bytes(given))
     return summary_read(judged(["audit"], transcript, program))
 
 
@@ -79,27 +90,29 @@ def summary_read(said: str) -> Summary:
     return Summary(*numbers_in("audit", said, r"accepted: ([0-9]+) entries, ([0-9]+) epochs, ([0-9]+) moves\n")[0])
 
 
-def epochs(transcript: Text, *, program: Program = None) -> list[Epoch]:
+def epochs(transcript: Given, *, program: Program = None) -> list[Epoch]:
     """The epochs of a transcript, each with its bound, and the cost and size of reach of its disturbance.
 
     The program judges the transcript and lists all but the reach, which the client counts. Raises `Damaged`
     if `audit` refuses the transcript, `Garbled` if the program's epochs are not those of the entries, and
     `Ended`.
     """
-    first, *rest = judged_epochs(transcript, program)
-    lines = (line.decode().rstrip("\n") for line in io.BytesIO(bytes_of(transcript)))
+    text = bytes_of(transcript)
+    first, *rest = judged_epochs(text, program)
+    lines = (line.decode().rstrip("\n") for line in io.BytesIO(text))
     sizes = dict(reaches(lines))
     if [epoch.start for epoch in rest] != [*sizes]:
         raise Garbled("the program lists epochs that begin at other entries than the accepted edits and faults")
     return [first, *(replace(epoch, reach=size) for epoch, size in zip(rest, sizes.values()))]
 
 
-def judged_epochs(transcript: Text, program: Program = None) -> list[Epoch]:
+def judged_epochs(transcript: Given, program: Program = None) -> list[Epoch]:
     """The epochs as `epochs` lists them, but with None for the reach."""
     row = ",".join(["([0-9]+|-)", *["([0-9]+)"] * 4, "([0-9]+|-)"]) + "\n"
-    rows = numbers_in("epochs", judged(["epochs"], transcript, program), row, "start,moves,edges,nodes,bound,cost\n")
+    text = bytes_of(transcript)
+    rows = numbers_in("epochs", judged(["epochs"], text, program), row, "start,moves,edges,nodes,bound,cost\n")
     # the second word of a header, also if the transcript begins with a base
-    rules = "hh" if bytes_of(transcript[:16]).split(b" ")[1] == b"hh" else "manne"
+    rules = "hh" if text[:16].split(b" ")[1] == b"hh" else "manne"
     return [bounded(Epoch(*numbers), rules) for numbers in rows]
 
 
@@ -115,7 +128,7 @@ def bounded(epoch: Epoch, rules: str) -> Epoch:
 
 
 def picture(
-    transcript: Text,
+    transcript: Given,
     entry: Optional[int] = None,
     *,
     names: Optional[Iterable[Name]] = None,
@@ -130,20 +143,20 @@ def picture(
     words = (
         ["picture"] if entry is None else ["picture", "--entry", str(number_within(entry, MOST_ENTRIES, "an entry"))]
     )
+    text = bytes_of(transcript)
     try:
-        said = judged(words, transcript, program)
+        said = judged(words, text, program)
     except Ended as ended:
         if ended.last_line.startswith("! no entry "):
             raise ValueError(ended.last_line[2:]) from None
         raise
     if not said.startswith("graph ") and not said.startswith("digraph "):
         raise Garbled(f"{said[:200]!r} is no picture")
-    return said if names is None else named_picture(said, names_for(bytes_of(transcript).decode(), names))
+    return said if names is None else named_picture(said, names_for(text.decode(), names))
 
 
-def judged(words: list[str], transcript: Union[Text, Slice], program: Program) -> str:
-    given = transcript if isinstance(transcript, (Slice, bytearray, memoryview)) else bytes_of(transcript)
-    return said_by(*fed([found_program(program), *words], given))
+def judged(words: list[str], transcript: Union[Given, Slice], program: Program) -> str:
+    return said_by(*fed([found_program(program), *words], to_judge(transcript)))
 
 
 def said_by(status: int, out: bytes, told: bytes) -> str:

@@ -7,7 +7,7 @@ import csv
 import sys
 from typing import Callable
 
-from .bursts import HEAD, bursts, row_of
+from .bursts import COUNTS, HEAD, bursts, row_of
 from .errors import Damaged
 from .log_commands import names_given, read, words_of_names
 
@@ -21,8 +21,9 @@ def run_bursts(given: argparse.Namespace) -> int:
     except Damaged as damaged:
         print(damaged, file=sys.stderr)
         return FAILED
-    print(HEAD)
-    csv.writer(sys.stdout, lineterminator="\n").writerows(map(row_of, found))
+    has_nodes = not given.no_nodes
+    print(HEAD if has_nodes else COUNTS)
+    csv.writer(sys.stdout, lineterminator="\n").writerows(row_of(burst, has_nodes) for burst in found)
     return DONE
 
 
@@ -30,4 +31,5 @@ def add_commands(command: Command) -> None:
     of_bursts = command("bursts", run_bursts, "lists moves and summed costs from silence to silence, as CSV")
     of_bursts.add_argument("transcript", nargs="?", default="-", help="a file (standard input)")
     words_of_names(of_bursts)
+    of_bursts.add_argument("--no-nodes", action="store_true", help="leaves out the two columns that list nodes")
     of_bursts.add_argument("--program", help="the program that judges")

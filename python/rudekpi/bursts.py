@@ -12,9 +12,10 @@ from collections import Counter
 from dataclasses import dataclass
 from typing import Iterable, Iterator, Mapping, Optional
 
-from .audits import Text, bytes_of, judged_epochs
+from .audits import judged_epochs
 from .containment import reach
 from .errors import Garbled
+from .given import Given, bytes_of
 from .names import Names, names_for
 from .program import Program
 from .reading import numbers_of_base
@@ -137,15 +138,15 @@ class BurstReader:
         )
 
 
-def bursts(transcript: Text, *, names: Optional[Iterable[Name]] = None, program: Program = None) -> list[Burst]:
+def bursts(transcript: Given, *, names: Optional[Iterable[Name]] = None, program: Program = None) -> list[Burst]:
     """The bursts of a transcript, from silence to silence, in order.
 
     `names` are the caller's, in the order of the numbers. Raises `Damaged` if `audit` refuses the transcript,
     `ValueError` if the number of names differs, `Garbled` if the program lists other moves than the entries
     have, and `Ended`.
     """
-    epochs = judged_epochs(transcript, program)
-    text = bytes_of(transcript).decode()
+    given = bytes_of(transcript)
+    epochs, text = judged_epochs(given, program), given.decode()
     parts = parts_of(text)
     state, head = State(), next(parts)
     state.follow(head)
@@ -160,17 +161,18 @@ def bursts(transcript: Text, *, names: Optional[Iterable[Name]] = None, program:
     return found
 
 
-HEAD = "start,end,disturbances,cost,bound,moves,steps,rounds,pairs_before,pairs_after,reached,moved"
+COUNTS = "start,end,disturbances,cost,bound,moves,steps,rounds,pairs_before,pairs_after"
+HEAD = f"{COUNTS},reached,moved"
 
 
-def row_of(burst: Burst) -> list[str]:
-    """A burst as a row of CSV below `HEAD`: `-` for None, lists separated by blanks.
+def row_of(burst: Burst, has_nodes: bool = True) -> list[str]:
+    """A burst as a row of CSV below `HEAD`, or `COUNTS`: `-` for None, lists separated by blanks.
 
     A name with a blank or a quote is written in quotes, as in JSON.
     """
     words = " ".join(f"{count} {word}" for word, count in burst.disturbances.items())
     figures = (burst.cost, burst.bound, burst.moves, burst.steps, burst.rounds, burst.pairs_before, burst.pairs_after)
-    lists = (" ".join(map(word_of, nodes)) for nodes in (burst.reached, burst.moved))
+    lists = (" ".join(map(word_of, nodes)) for nodes in ((burst.reached, burst.moved) if has_nodes else ()))
     told = ["-" if it is None else str(it) for it in (burst.start, burst.end)]
     return [*told, words, *("-" if it is None else str(it) for it in figures), *lists]
 

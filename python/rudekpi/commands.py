@@ -13,7 +13,7 @@ import socket
 import sys
 import warnings
 from concurrent.futures import Executor
-from typing import Any, Callable, Iterable, Iterator, Optional, Sequence, TextIO
+from typing import Any, Callable, Iterable, Iterator, Optional, Sequence
 
 from . import (
     again_commands,
@@ -21,40 +21,38 @@ from . import (
     daemons,
     json_lines,
     log_commands,
+    outputs,
     page_commands,
     script_words,
     shell,
-    streams,
     sweeps,
     tables,
 )
 from .audits import audit
 from .errors import Damaged
-from .graphs import Graph, decimal, graph_of
-from .schedules import longest
+from .given import read_whole
+from .graphs import Graph, decimal, graph_of, is_path
+from .labels import visible
+from .name_files import write_names
+from .schedules import Longest, longest
 from .network import Network
 from .numbers import counted
 from .plans import read_plan
 from .progress import shown
-from .resumption import rows_there
+from .resumption import RowTarget, is_row_file, rows_of_file
 from .disturbances import REGISTERS, Disturbance
 from .sweeps import Row
 
 DONE, FAILED, BAD_WORDS, INTERRUPTED = 0, 1, 2, 130
 REACHED_SECONDS = 5
+# how many names are told in a line
+MOST_TOLD = 5
 IN_PLAN = (
-    *(
-        "--graph",
-        "--undirected",
-        "--rules",
-        "--daemon",
-        "--seeds",
-        "--first-seed",
-        "--faults",
-        "--registers",
-    ),
-    *("--joins", "--leaves", "--cut", "--add", "--rewire", "--move", "--every"),
+    *("--graph", "--undirected", "--rules", "--daemon", "--seeds", "--first-seed", "--faults", "--registers"),
+    *("--joins", "--leaves", "--cut", "--add", "--rewire", "--move", "--every", "--any-value"),
 )
+# the flags of a sweep that plays, in addition to those of a plan
+IN_SWEEP = ("--csv", "--resume", "--force", "--maximum", "--processes", "--dask", "--program")
 # graphs, rules, daemons, seeds and disturbances
 Words = tuple[Sequence[Graph], Sequence[str], Sequence[str], Sequence[int], Sequence[Disturbance]]
 MADE = (
@@ -63,21 +61,8 @@ MADE = (
 )
 
 
-@contextlib.contextmanager
-def written(path: Optional[str], appends: bool = False) -> Iterator[TextIO]:
-    """A file opened to write or append; standard output if the path is None or `-`."""
-    if path is None or path == "-":
-        yield sys.stdout
-    else:
-        with streams.output_file(path, appends) as file:
-            yield file
-
-
 def read(path: str) -> bytes:
-    if path == "-":
-        return sys.stdin.buffer.read()
-    with open(path, "rb") as file:
-        return file.read()
+    return sys.stdin.buffer.read() if path == "-" else read_whole(path)
 
 
 def listed(text: str) -> list[str]:
@@ -117,9 +102,7 @@ def graph_given(parser: argparse.ArgumentParser, text: str, undirected: bool) ->
 
 def words_of_graph(parser: argparse.ArgumentParser) -> None:
     parser.add_argument(
-        "--undirected",
-        action="store_true",
-        help="takes a directed graph of a file without its directions",
+        "--undirected", action="store_true", help="takes a directed graph of a file without its directions"
     )
     parser.set_defaults(parser=parser)
 
@@ -136,20 +119,17 @@ def read_graphs(given: argparse.Namespace) -> None:
 
 
 def words_of_sweep(parser: argparse.ArgumentParser, rules: str) -> None:
-    parser.add_argument("plan", nargs="?", help="a file with what to play, .toml or .json")
+    parser.add_argument(
+        "plan", nargs="?", help="a file with what to play, .toml or .json; or rows that are there, .csv"
+    )
     parser.add_argument("--graph", action="append", help=f"{MADE}; may be given again")
     words_of_graph(parser)
-    parser.add_argument(
-        "--rules",
-        type=listed,
-        default=rules,
-        help="hh, manne or hh,manne (%(default)s)",
-    )
+    parser.add_argument("--rules", type=listed, default=rules, help="hh, manne or hh,manne (%(default)s)")
     parser.add_argument(
         "--daemon",
         type=listed,
         default="seeded",
-        help=f"some of {','.join(daemons.WORDS)} (%(default)s)",
+        help=f"some of {','.join([*daemons.WORDS, 'probability:P'])} (%(default)s)",
     )
     parser.add_argument("--seeds", type=least(1), default=10, help="how many seeds (%(default)s)")
     parser.add_argument("--first-seed", type=least(0), default=0, help="the first seed (%(default)s)")
@@ -166,25 +146,23 @@ def words_of_sweep(parser: argparse.ArgumentParser, rules: str) -> None:
         help="which registers the faults write; flags only under manne (%(default)s)",
     )
     parser.add_argument(
-        "--joins",
-        type=least(0),
-        default=0,
-        help="how many nodes join, with their edges (%(default)s)",
+        "--any-value",
+        action="store_true",
+        help="faults write any value, also the one that is held; else each changes its register",
     )
+    parser.add_argument("--joins", type=least(0), default=0, help="how many nodes join, with their edges (%(default)s)")
     parser.add_argument("--leaves", type=least(0), default=0, help="how many nodes leave (%(default)s)")
     words_of_links(parser)
     parser.add_argument("--csv", help="a file for the rows, written one by one (standard output)")
+    parser.add_argument("--resume", action="store_true", help="makes only the rows that the file of --csv lacks")
+    parser.add_argument("--force", action="store_true", help="begins the file of --csv anew if it is there")
     parser.add_argument(
-        "--resume",
-        action="store_true",
-        help="makes only the rows that the file of --csv lacks",
+        "--maximum", action="store_true", help="adds a column with the size of a maximum matching; needs networkx"
     )
     parser.add_argument("--plot", help="a file for a plot, .svg, .png or .pdf; needs matplotlib")
     parser.add_argument("--processes", type=least(1), help="how many processes (one a processor)")
     parser.add_argument(
-        "--dask",
-        metavar="tcp://HOST:PORT",
-        help="a Dask scheduler, whose workers play; needs distributed",
+        "--dask", metavar="tcp://HOST:PORT", help="a Dask scheduler, whose workers play; needs distributed"
     )
     parser.add_argument("--program", help="the program that plays")
 
@@ -192,12 +170,7 @@ def words_of_sweep(parser: argparse.ArgumentParser, rules: str) -> None:
 def words_of_links(parser: argparse.ArgumentParser) -> None:
     parser.add_argument("--cut", type=least(0), default=0, help="how many links are cut (%(default)s)")
     parser.add_argument("--add", type=least(0), default=0, help="how many links are added (%(default)s)")
-    parser.add_argument(
-        "--rewire",
-        type=least(0),
-        default=0,
-        help="how many links are moved at one end (%(default)s)",
-    )
+    parser.add_argument("--rewire", type=least(0), default=0, help="how many links are moved at one end (%(default)s)")
     parser.add_argument(
         "--move",
         type=length,
@@ -225,16 +198,8 @@ def length(text: str) -> float:
 
 
 def disturbances_of(given: argparse.Namespace) -> list[Disturbance]:
-    counts = (
-        given.joins,
-        given.leaves,
-        given.cut,
-        given.add,
-        given.rewire,
-        given.move,
-        given.every,
-    )
-    return [Disturbance(count, given.registers, *counts) for count in given.faults]
+    counts = (given.joins, given.leaves, given.cut, given.add, given.rewire, given.move, given.every)
+    return [Disturbance(count, given.registers, *counts, any_value=given.any_value) for count in given.faults]
 
 
 def reach(address: str) -> None:
@@ -267,14 +232,19 @@ def words_to_play(given: argparse.Namespace) -> Words:
     if given.plan is None:
         seeds = range(given.first_seed, given.first_seed + given.seeds)
         return given.graph, given.rules, given.daemon, seeds, disturbances_of(given)
-    for flag in IN_PLAN:
+    refuse_beside(given, IN_PLAN, "stands in the plan, and not beside it")
+    plan = read_plan(given.plan)
+    return plan.graphs, plan.rules, plan.daemons, plan.seeds, plan.disturbances
+
+
+def refuse_beside(given: argparse.Namespace, flags: Iterable[str], why: str) -> None:
+    """Raises `ValueError` if one of these flags is given."""
+    for flag in flags:
         name = flag[2:].replace("-", "_")
         is_usual = getattr(given, name) in (None, given.parser.get_default(name))
         # argparse converts defaults that are texts
         if not is_usual and getattr(given, name) != usual_of(given.parser, name):
-            raise ValueError(f"{flag} stands in the plan, and not beside it")
-    plan = read_plan(given.plan)
-    return plan.graphs, plan.rules, plan.daemons, plan.seeds, plan.disturbances
+            raise ValueError(f"{flag} {why}")
 
 
 def usual_of(parser: argparse.ArgumentParser, name: str) -> object:
@@ -282,21 +252,40 @@ def usual_of(parser: argparse.ArgumentParser, name: str) -> object:
     return parser._get_value(action, action.default) if isinstance(action.default, str) else action.default
 
 
-def rows_of(given: argparse.Namespace, rows: list[Row], file: Optional[TextIO]) -> int:
-    """Plays a sweep, and adds each row to the file as it comes; returns the exit status."""
-    words = words_to_play(given)
+def experiments_given(given: argparse.Namespace, words: Words) -> list[sweeps.Experiment]:
+    """The experiments to play; tells of those that are left out. Raises `ValueError` if there are none."""
     todo = sweeps.experiments_of(*words)
-    total = len(todo)
-    if total < math.prod(map(len, words)):
+    most = math.prod(map(len, words))
+    if len(todo) < most:
         why = "under hh no two nodes move at once, and there are no flags"
-        if not total:
+        if not todo:
             raise ValueError(f"there is nothing to play: {why}")
-        left_out = counted(math.prod(map(len, words)) - total, "experiment")
-        print(f"! left out: {left_out}, since {why}", file=sys.stderr)
+        print(f"! left out: {counted(most - len(todo), 'experiment')}, since {why}", file=sys.stderr)
     if given.plot:
         from . import plots
 
         plots.check(given.plot, len(words[0]) * len(words[4]))
+    return todo
+
+
+def refuse_clashes(given: argparse.Namespace, graphs: Sequence[Graph]) -> None:
+    """Raises `ValueError` if rows or a plot would be written over a file that is read."""
+    outputs.refuse_clashes([given.csv, given.plot], [given.plan, *map(path_of, graphs), given.program])
+
+
+def path_of(graph: Graph) -> Optional[str]:
+    """The path of the file of a graph that was read."""
+    return graph.title if is_path(graph.title) else None
+
+
+def rows_of(given: argparse.Namespace, rows: list[Row], is_written: bool) -> int:
+    """Plays a sweep, and writes each row as it comes unless it goes nowhere; returns the exit status."""
+    words = words_to_play(given)
+    refuse_clashes(given, words[0])
+    target = RowTarget(given.csv, given.resume, given.force)
+    todo = experiments_given(given, words)
+    target.check({it.graph.title: it.graph for it in todo}, given.maximum)
+    rows += target.rows
     with executor_of(given) as executor:
         found = sweeps.sweep(
             *words,
@@ -304,24 +293,42 @@ def rows_of(given: argparse.Namespace, rows: list[Row], file: Optional[TextIO]) 
             program=given.program,
             processes=given.processes,
             there=rows,
+            maximum=given.maximum,
         )
-        left = total - len({row.key for row in rows} & {it.key for it in todo})
-        written: Iterable[Row] = sweeps.write_csv(found, file, bool(rows)) if file else found
+        left = len(todo) - len({row.key for row in rows} & {it.key for it in todo})
         try:
-            rows.extend(shown(written, left))
+            found.wait()
+            with target.opened() if is_written else contextlib.nullcontext() as file:
+                written: Iterable[Row] = sweeps.write_csv(found, file, bool(target.columns)) if file else found
+                rows.extend(shown(written, left))
         except KeyboardInterrupt:
-            print(
-                f"! cut short: {len(rows)} of {counted(total, 'row')} are there",
-                file=sys.stderr,
-            )
+            print(f"! cut short: {len(rows)} of {counted(len(todo), 'row')} are there", file=sys.stderr)
             return INTERRUPTED
+    target.sort(rows, (it.key for it in todo), found.columns)
     return DONE
 
 
+def rows_given(given: argparse.Namespace) -> Optional[list[Row]]:
+    """The rows of a file that is given instead of a plan; None if it is none of rows."""
+    if given.plan is None or not is_row_file(given.plan):
+        return None
+    refuse_beside(given, (*IN_PLAN, *IN_SWEEP), f"is for rows that are to be played, and {given.plan} has rows")
+    refuse_clashes(given, [])
+    if given.plot:
+        from . import plots
+
+        plots.check(given.plot)
+    return rows_of_file(given.plan)
+
+
 def run_sweep(given: argparse.Namespace) -> int:
-    rows = rows_there(given.csv) if given.resume else []
-    with written(given.csv, bool(rows)) as file:
-        status = rows_of(given, rows, file)
+    there = rows_given(given)
+    if there is not None and not given.plot:
+        raise ValueError(
+            f"the rows of {given.plan} are there: --plot draws them, and `compare {given.plan}` prints a table"
+        )
+    rows = there or []
+    status = DONE if there is not None else rows_of(given, rows, True)
     plot_rows(given, rows)
     return status
 
@@ -334,9 +341,9 @@ def plot_rows(given: argparse.Namespace, rows: list[Row]) -> None:
 
 
 def run_compare(given: argparse.Namespace) -> int:
-    rows = rows_there(given.csv) if given.resume else []
-    with written(given.csv, bool(rows)) if given.csv else contextlib.nullcontext() as file:
-        status = rows_of(given, rows, file)
+    there = rows_given(given)
+    rows = there or []
+    status = DONE if there is not None else rows_of(given, rows, given.csv is not None)
     print("\n".join(tables.table_of(rows, given.markdown)))
     plot_rows(given, rows)
     return status
@@ -344,6 +351,8 @@ def run_compare(given: argparse.Namespace) -> int:
 
 def run_worst(given: argparse.Namespace) -> int:
     """Writes the longest schedule as a script, after the script was played and its transcript judged."""
+    names = outputs.names_file(given.output)
+    outputs.refuse_clashes([given.output, names], [path_of(given.graph), given.program])
     found = longest(given.graph, given.rules, seconds=given.seconds, seed=given.seed)
     transcript = found.play(program=given.program)
     known = (
@@ -352,12 +361,23 @@ def run_worst(given: argparse.Namespace) -> int:
         else f"the longest found, in {found.states} tries"
     )
     print(
-        f"{found.graph.title}, {found.rules}: {found.moves} moves, {known}; the bound is {found.bound}",
+        f"{found.graph.title}, {found.rules}: {found.moves} moves, {known}; the bound is {found.bound}"
+        f"{'' if given.transcript else f'; to play it: rudekpi run {found.setting}'}{nodes_told(found, names)}",
         file=sys.stderr,
     )
-    with written(given.output) as file:
-        file.write(transcript if given.transcript else found.script())
+    outputs.write(given.output, transcript if given.transcript else found.script())
+    if names and not found.has_own_numbers and outputs.is_file(given.output):
+        write_names(names, found.graph.nodes)
     return DONE
+
+
+def nodes_told(found: Longest, names: Optional[str]) -> str:
+    """Which nodes the numbers of a schedule are, if these are not their names."""
+    if found.has_own_numbers:
+        return ""
+    count = len(found.graph.nodes)
+    first = ", ".join(visible(node) for node in found.graph.nodes[:MOST_TOLD])
+    return f"; the nodes 1 to {count} are {first}{', ..' if count > MOST_TOLD else ''}{f': {names}' if names else ''}"
 
 
 def run_check(given: argparse.Namespace) -> int:
@@ -393,38 +413,22 @@ def run_json(given: argparse.Namespace) -> int:
 
 
 def parser_of() -> argparse.ArgumentParser:
-    parser = argparse.ArgumentParser(prog="rudekpi", description=__doc__)
+    parser = argparse.ArgumentParser(allow_abbrev=False, prog="rudekpi", description=__doc__)
     commands = parser.add_subparsers(dest="command", required=True)
 
     def command(name: str, run: Callable[[argparse.Namespace], int], text: str) -> argparse.ArgumentParser:
-        made = commands.add_parser(name, help=text, description=text)
+        made = commands.add_parser(name, help=text, description=text, allow_abbrev=False)
         made.set_defaults(run=run)
         return made
 
-    words_of_sweep(
-        command(
-            "sweep",
-            run_sweep,
-            "plays networks by the thousand and writes a CSV row for each",
-        ),
-        "manne",
-    )
-    compare = command(
-        "compare",
-        run_compare,
-        "prints a table of the moves under both rule sets, with the bound",
-    )
+    words_of_sweep(command("sweep", run_sweep, "plays networks by the thousand and writes a CSV row for each"), "manne")
+    compare = command("compare", run_compare, "prints a table of the moves under both rule sets, with the bound")
     words_of_sweep(compare, "hh,manne")
     compare.add_argument("--markdown", action="store_true", help="writes the table in Markdown")
     worst = command("worst", run_worst, "writes the longest schedule of a network as a script")
     worst.add_argument("--graph", required=True, help=MADE)
     words_of_graph(worst)
-    worst.add_argument(
-        "--rules",
-        choices=("hh", "manne"),
-        default="manne",
-        help="the rules (%(default)s)",
-    )
+    worst.add_argument("--rules", choices=("hh", "manne"), default="manne", help="the rules (%(default)s)")
     worst.add_argument(
         "--seconds",
         type=least(0),
@@ -432,11 +436,7 @@ def parser_of() -> argparse.ArgumentParser:
         help="seconds of a search, if there are too many states to look at all (%(default)s)",
     )
     worst.add_argument("--seed", type=least(0), default=0, help="the seed of that search (%(default)s)")
-    worst.add_argument(
-        "--transcript",
-        action="store_true",
-        help="writes the transcript instead of the script",
-    )
+    worst.add_argument("--transcript", action="store_true", help="writes the transcript instead of the script")
     worst.add_argument("--output", help="a file (standard output)")
     worst.add_argument("--program", help="the program that plays")
     check = command("check", run_check, "explains which lines of a script are no commands, and why")

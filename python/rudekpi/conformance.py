@@ -9,17 +9,17 @@ from __future__ import annotations
 
 import contextlib
 import heapq
-import io
 import json
 import os
 import re
 from collections import Counter
 from dataclasses import dataclass
-from typing import Any, BinaryIO, Callable, Mapping, NamedTuple, Optional, Sequence, Tuple, Union, cast
+from typing import Any, BinaryIO, Callable, Mapping, NamedTuple, Optional, Sequence, Tuple, Union
 
 from . import log_lines, rules
 from .engines import RULES, Engine, Stand, engine_of
 from .errors import BadLine, Garbled
+from .files import WholeFile
 from .library import MOVES, REFUSALS
 from .log_lines import Log, cut, shown, spelled
 from .name_files import write_names
@@ -28,7 +28,6 @@ from .program import Program
 from .reasons import Reasons
 from .replies import Name
 from .state import State
-from .streams import Output
 
 UPDATE, ABANDON = RULES["update"], RULES["abandon"]
 CHOOSING = RULES["marry"], RULES["seduce"]
@@ -130,7 +129,7 @@ class Named:
         if odd is not None:
             raise BadLine(number, f"the first line has nodes and capacity, and no key {spelled(odd)}")
         nodes = head["nodes"]
-        if not isinstance(nodes, list):
+        if not isinstance(nodes, (list, tuple)):
             raise BadLine(number, f"nodes is a list of names, and not {spelled(nodes)}")
         self.numbers: dict[Any, int] = {}
         self.all: list[Any] = []
@@ -306,7 +305,7 @@ class LogJudge:
         return observed(node, old, new, was, flag)
 
     def all_observed(self, number: int, moves: Any, named: Named) -> list[Observed]:
-        if not isinstance(moves, list) or not moves:
+        if not isinstance(moves, (list, tuple)) or not moves:
             raise BadLine(number, f"moves is a list of one move or more, and not {spelled(moves)}")
         if len(moves) > MOST_NODES:
             raise BadLine(number, f"{len(moves)} moves are more than a step takes, which is {MOST_NODES}")
@@ -324,7 +323,7 @@ class LogJudge:
         """Raises `BadLine` if the machine refuses the edit."""
         given = event[kind]
         if kind in ("link", "unlink"):
-            if not isinstance(given, list) or len(given) != 2:
+            if not isinstance(given, (list, tuple)) or len(given) != 2:
                 raise BadLine(number, f"{kind} has a list of two names, and not {spelled(given)}")
             numbers = [named.number(number, name) for name in given]
         elif kind == "join" and type(given) in (str, int) and given not in named.numbers:
@@ -577,11 +576,14 @@ def is_allowed(state: State, seen: Observed) -> bool:
 
 
 class Transcript:
-    """Where the transcript and the file of names go: into files, or nowhere."""
+    """The transcript and the file of names: they go into files, or nowhere.
+
+    A file takes its place at the end, also at an end by an error: it then has the transcript so far.
+    """
 
     def __init__(self, target: Target) -> None:
         self.target = target
-        self.file: Optional[BinaryIO] = None
+        self.file: Union[WholeFile, BinaryIO, None] = None
 
     def __enter__(self) -> Transcript:
         return self
@@ -591,20 +593,29 @@ class Transcript:
         if not text or self.target is None:
             return
         if self.file is None:
-            if isinstance(self.target, (str, os.PathLike)):
-                path = os.fspath(self.target)
-                self.file = cast(BinaryIO, io.BufferedWriter(Output(path, path)))
-            else:
-                self.file = self.target
-        self.file.write(text)
+            self.begin(self.target)
+        if self.file:
+            self.file.write(text)
+
+    def begin(self, target: Union[str, os.PathLike[str], BinaryIO]) -> None:
+        if isinstance(target, (str, os.PathLike)):
+            self.file = file = WholeFile(target)
+            file.begin()
+        else:
+            self.file = target
 
     def __exit__(self, kind: Optional[type[BaseException]], *_: object) -> None:
-        if self.file and self.file is not self.target:
-            self.file.close()
+        file = self.file
+        if isinstance(file, WholeFile):
+            try:
+                file.close()
+            except BaseException:
+                file.drop()
+                raise
 
     def write_names(self, names: Sequence[Name]) -> None:
-        if self.file and isinstance(self.target, (str, os.PathLike)) and os.path.isfile(self.target):
-            write_names(f"{os.fspath(self.target)}.names", names)
+        if isinstance(self.file, WholeFile) and self.file.is_beside and self.file.file:
+            write_names(f"{self.file.path}.names", names)
 
 
 def judge_blocks(judge: LogJudge, log: Log, target: Target) -> Conformance:
@@ -640,12 +651,14 @@ def conform(
 ) -> Conformance:
     """Judges whether the rules allow every move in the log of your own implementation.
 
-    `log` is a `pathlib.Path`, a file open for bytes, text or bytes, or anything that yields the log's lines
-    or objects one by one. Judging ends at the first divergence; with `resync` it goes on, after the observed
+    `log` is given as a transcript to `audit`: a `str` without a line feed, or a `pathlib.Path`, is the path
+    of a file; other text, bytes or an open file is its text; anything else yields its lines or its objects,
+    one by one. Judging ends at the first divergence; with `resync` it goes on, after the observed
     values were written as faults. `on_divergence` is called with each divergence at once. `transcript`, a
     path or a file open for bytes, receives the machine's transcript; for a path the names go to `PATH.names`.
 
-    Raises `BadLine` for a line that is no event, or that is an edit or a fault which the machine refuses.
+    Raises `BadLine` for a line that is no event, or that is an edit or a fault which the machine refuses, and
+    `OSError` if the file can't be read.
     """
     judge = LogJudge(
         rules, resync=resync, keeps=transcript is not None, on_divergence=on_divergence, program=program, engine=engine

@@ -13,7 +13,9 @@ daemons in self-stabilization", 2011:
 - `ByAge`: a central round-robin daemon, which is fair;
 - `Seeded`: a randomised daemon, central under `hh` and distributed under `manne`: the program's own, `drive`;
 - `Greedy`: a central daemon that sees the whole state. `Greedy()` is an adversary, `Greedy(most=True)` a
-  helper.
+  helper;
+- `LocallyCentral`: a randomised locally central daemon, only under `manne`;
+- `Activation`: a randomised distributed daemon with a probability, only under `manne`.
 
 A function from the enabled nodes to those that move is a daemon too.
 """
@@ -22,17 +24,21 @@ from __future__ import annotations
 
 import itertools
 from dataclasses import dataclass
-from typing import TYPE_CHECKING, Callable, Union, get_args
+from typing import TYPE_CHECKING, Callable, Optional, Union, get_args
 
-from . import rules
-from .numbers import MOST_TURNS
+from .chance_daemons import Activation, LocallyCentral, refuse_central
+from .errors import Garbled, PastBound
+from .falls import Entry, Falls, Watched
+from .graphs import decimal
+from .numbers import MOST_TURNS, counted
 from .replies import Choice, Enabled, Name, Settled, Wish
 
 if TYPE_CHECKING:
     from .choices import Daemon
     from .network import Network
+    from .state import State
 
-__all__ = ["WORDS", "ByAge", "ByName", "Greedy", "Seeded", "Synchronous", "named"]
+__all__ = ["WORDS", "Activation", "ByAge", "ByName", "Greedy", "LocallyCentral", "Seeded", "Synchronous", "named"]
 
 
 @dataclass(frozen=True)
@@ -40,10 +46,7 @@ class Synchronous:
     """All enabled nodes move at once; `begin` raises `ValueError` under `hh`."""
 
     def begin(self, net: Network) -> Daemon:
-        if net.rules == "hh":
-            raise ValueError(
-                "the synchronous daemon wants the rules 'manne': those of Hsu and Huang take one node at a time"
-            )
+        refuse_central(net, "synchronous")
         return list
 
 
@@ -98,27 +101,65 @@ class Seeded:
 class Greedy:
     """The enabled node and target whose move lowers the charge least, or most.
 
-    Each step looks at every enabled node and at the edges near it.
+    It keeps an index of the enabled moves, and after a step looks at the nodes near the changed ones alone.
+    In `settle` it asks for no list of the enabled nodes before a step.
     """
 
     most: bool = False
 
-    def begin(self, net: Network) -> Daemon:
-        follower, sign = net.follower(), -1 if self.most else 1
-
-        def choose(enabled: Enabled) -> Choice:
-            state, found = follower.state(), []
-            for name, rule in enabled.items():
-                node = net.number_of(name)
-                for target in rules.targets(state, node, rule) or [0]:
-                    found.append((sign * rules.fall(state, node, rule, target), node, target))
-            _, node, target = min(found)
-            return [Wish(net.name_of(node), net.name_of(target)) if target else net.name_of(node)]
-
-        return choose
+    def begin(self, net: Network) -> GreedyChoice:
+        return GreedyChoice(net, -1 if self.most else 1)
 
 
-AnyDaemon = Union[Synchronous, ByName, ByAge, Seeded, Greedy]
+class GreedyChoice:
+    """The choices of `Greedy` in a network."""
+
+    def __init__(self, net: Network, sign: int) -> None:
+        self.net, self.sign = net, sign
+        self.follower = net.follower(Watched)
+        self.falls = Falls(Watched(), sign)
+
+    def __call__(self, enabled: Enabled) -> Choice:
+        return self.choice()
+
+    def choice(self) -> list[Union[Name, Wish]]:
+        """The node that moves next, with its target; none if no node is enabled."""
+        found = self.follower.look(self.first)
+        if not found:
+            return []
+        _, node, target = found
+        name_of = self.net.name_of
+        return [Wish(name_of(node), name_of(target)) if target else name_of(node)]
+
+    def first(self, state: State) -> Optional[Entry]:
+        if self.falls.state is not state:
+            # it is followed afresh, as after an interrupt
+            self.falls = Falls(state, self.sign)  # type: ignore[arg-type]
+        return self.falls.first()
+
+    def settle(self) -> Settled:
+        """As `Network.settle`, but asks for the enabled nodes only at the end."""
+        charge, moves, is_last = self.net.status().charge, 0, False
+        while True:
+            choice = self.choice()
+            if choice:
+                if moves >= charge:
+                    raise PastBound(f"a node is enabled after {counted(moves, 'move')}, as many as the charge was")
+                moves += len(self.net.step(choice))
+                continue
+            enabled = self.net.enabled()
+            if not enabled:
+                return Settled(moves, moves, charge)
+            if is_last:
+                raise Garbled(f"{counted(len(enabled), 'node is', 'nodes are')} enabled that the entries do not show")
+            # a signal's handler may have disturbed the network meanwhile
+            is_last = True
+
+
+AnyDaemon = Union[Synchronous, ByName, ByAge, Seeded, Greedy, LocallyCentral, Activation]
+# the daemons that let several nodes move at once, which no network does under `hh`
+OF_MANNE = Synchronous, LocallyCentral, Activation
+PROBABILITY = "probability"
 WORDS: dict[str, Callable[[int], AnyDaemon]] = {
     "synchronous": lambda seed: Synchronous(),
     "least": lambda seed: ByName(),
@@ -127,7 +168,10 @@ WORDS: dict[str, Callable[[int], AnyDaemon]] = {
     "seeded": Seeded,
     "greedy": lambda seed: Greedy(),
     "helpful": lambda seed: Greedy(most=True),
+    "local": LocallyCentral,
 }
+# the words as a help shows them
+TOLD = f"{', '.join(WORDS)}, {PROBABILITY}:P"
 
 
 def check_daemon(daemon: object) -> None:
@@ -141,7 +185,16 @@ def check_daemon(daemon: object) -> None:
 
 
 def named(word: str, seed: int = 0) -> AnyDaemon:
-    """The daemon that a word of `WORDS` names, `seeded` with this seed. Raises `ValueError` for others."""
+    """The daemon of a word of `WORDS`, or of `probability:P`; those that draw have this seed.
+
+    Raises `ValueError` for other words.
+    """
+    kind, colon, rest = word.partition(":")
+    if kind == PROBABILITY and colon:
+        try:
+            return Activation(decimal(rest), seed)
+        except ValueError:
+            raise ValueError(f"{word[:80]!r} is no daemon: it is probability:P, with P above 0 and at most 1") from None
     if word not in WORDS:
-        raise ValueError(f"no daemon has the name {word!r}: they are {', '.join(WORDS)}")
+        raise ValueError(f"no daemon has the name {word[:80]!r}: they are {TOLD}")
     return WORDS[word](seed)

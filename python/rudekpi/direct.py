@@ -8,25 +8,24 @@ is asked in the same C call, which no handler interrupts.
 from __future__ import annotations
 
 import ctypes
-import mmap
 import os
 import threading
 import weakref
-from typing import TYPE_CHECKING, Callable, Optional, Sequence, Union
+from typing import TYPE_CHECKING, Callable, NoReturn, Optional, Sequence
 
 from .batch import Batch
 from .calls import DirectBatch, Rooms
-from .errors import Ended, Inherited, RudekpiError, text_of
+from .errors import Ended, Inherited, NoReply, RudekpiError, text_of
 from .kept_text import KeptText
-from .library import DONE, LOG_FULL, NO_MEMORY, NO_SESSION, NOT_SILENT, Library, Slot
+from .library import DONE, LOG_FULL, NO_MEMORY, NO_SESSION, NOT_SILENT, ROW_NUMBERS, Library, NodeView, Slot
 from .names import Names
 
 if TYPE_CHECKING:
     from ctypes import _CArgObject
 
 SESSIONS: weakref.WeakSet[Direct] = weakref.WeakSet()
-# how many nodes the first question for a reach has room for
-REACH_ROOM = 64
+# how many nodes or edges the first question for a list has room for
+FIRST_ROOM = 64
 
 
 class Direct:
@@ -45,7 +44,7 @@ class Direct:
         rules: str,
         present: int,
         keeps: bool,
-        transcript: Union[bytes, mmap.mmap, None] = None,
+        transcript: Optional[bytes] = None,
     ) -> None:
         self.library, self.names, self.rules, self.keeps = library, names, rules, keeps
         self.lock = threading.RLock()
@@ -98,7 +97,7 @@ class Direct:
         if isinstance(self.ended, Inherited):
             raise self.ended
 
-    def raise_for(self, status: int) -> None:
+    def raise_for(self, status: int) -> NoReturn:
         """Raises the error of a status that is neither done nor refused."""
         if status == NO_SESSION:
             raise self.ended or ValueError("the network is closed")
@@ -146,12 +145,61 @@ class Direct:
         found = ctypes.c_uint32()
         with self.lock:
             status = self.library.partner(self.at, number, ctypes.byref(found))
+        return found.value if self._is_answered(status) else None
+
+    def registers(self, number: int) -> Optional[NodeView]:
+        """A node's registers, and whether the node is present; None if the session is over."""
+        found = NodeView()
+        with self.lock:
+            status = self.library.registers(self.at, number, ctypes.byref(found))
+        return found if self._is_answered(status) else None
+
+    def neighbours(self, number: int) -> Optional[list[int]]:
+        """All neighbours of a node, ascending, none of an absent node; None if the session is over."""
+        return self._listed(self.library.neighbours, number)
+
+    def present(self) -> Optional[list[int]]:
+        """All nodes that are present, ascending; None if the session is over."""
+        return self._listed(self.library.nodes, room=self.names.count)
+
+    def edges(self) -> Optional[list[tuple[int, int]]]:
+        """All edges, ascending; None if the session is over."""
+        rows = self._listed(self.library.edges, width=ROW_NUMBERS)
+        return None if rows is None else list(zip(rows[::ROW_NUMBERS], rows[2::ROW_NUMBERS]))
+
+    def restless(self) -> list[int]:
+        """All nodes that are not at rest, ascending."""
+        return self._or_closed(self._listed(self.library.restless, room=self.names.count))
+
+    def _is_answered(self, status: int) -> bool:
+        """Whether a question was answered; false if the session is over. Raises the error of other statuses."""
         if status == NO_SESSION:
             self.check_owner()
-            return None
+            return False
         if status != DONE:
             self.raise_for(status)
-        return found.value
+        return True
+
+    def _listed(
+        self, call: Callable[..., int], *numbers: int, room: int = FIRST_ROOM, width: int = 1
+    ) -> Optional[list[int]]:
+        """The items of a call that lists all of them if there is room, each of `width` numbers."""
+        count = ctypes.c_size_t()
+        while True:
+            found = (ctypes.c_uint32 * (width * room))()
+            with self.lock:
+                status = call(self.at, *numbers, found, ctypes.c_size_t(room), ctypes.byref(count))
+            if not self._is_answered(status):
+                return None
+            if count.value <= room:
+                return found[: width * count.value]
+            room = count.value
+
+    def _or_closed(self, found: Optional[list[int]]) -> list[int]:
+        """The items; raises the error of a session that is over."""
+        if found is None:
+            self.raise_for(NO_SESSION)
+        return found
 
     def cost_of(self, word: str, numbers: Sequence[int]) -> int:
         return self._number(f"cost_of_{word}", numbers)[1]
@@ -171,17 +219,7 @@ class Direct:
         return status, found.value
 
     def reach(self, word: str, numbers: Sequence[int]) -> list[int]:
-        count, room = ctypes.c_size_t(), REACH_ROOM
-        call: Callable[..., int] = getattr(self.library, f"reach_of_{word}")
-        with self.lock:
-            while True:
-                found = (ctypes.c_uint32 * room)()
-                status = call(self.at, *numbers, found, ctypes.c_size_t(room), ctypes.byref(count))
-                if status:
-                    self.raise_for(status)
-                if count.value <= room:
-                    return found[: count.value]
-                room = count.value
+        return self._or_closed(self._listed(getattr(self.library, f"reach_of_{word}"), *numbers))
 
     def is_at_rest(self, number: int) -> bool:
         found = ctypes.c_bool()
@@ -198,6 +236,20 @@ class Direct:
         if status:
             self.raise_for(status)
         return found.value
+
+    def renumber(self) -> str:
+        """Numbers the entries from 1 again; returns the transcript that ends.
+
+        Raises `MemoryError` if nothing was done, and `NoReply` if only the text is not returned.
+        """
+        with self.lock:
+            status, text_ended = self.text_kept.renumbered()
+            if status:
+                self.raise_for(status)
+            try:
+                return text_of(text_ended())
+            except MemoryError:
+                raise NoReply(0, "the entries are numbered anew, and the next renumbering returns this text:") from None
 
     def batch(self, raises: bool = True, keeps: bool = True) -> Batch:
         return DirectBatch(self, raises, keeps)

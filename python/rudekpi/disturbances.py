@@ -5,12 +5,13 @@ from __future__ import annotations
 import math
 import random
 from dataclasses import dataclass
-from typing import Iterator, Sequence, Tuple
+from typing import Callable, Iterator, Sequence, Tuple
 
 from .batch import Batch
 from .numbers import counted
 from .replies import Name
 from .simple_graph import Graph
+from .state import State
 from .walks import Topology, Walk
 
 REGISTERS = ("any", "pointer", "flag")
@@ -22,9 +23,11 @@ Event = Sequence[Tuple[str, Tuple[int, ...]]]
 class Disturbance:
     """What hits a silent network: faults, joins, leaves, links cut, added or rewired, and walks.
 
-    Faults hit any registers, or only pointers or flags. Nodes join with their edges. A rewired link moves one
-    end. In a walk each node of a unit disk graph walks the length `move` in a random direction. If nothing
-    hits the network, it settles from the start, with all pointers null.
+    Faults hit any registers, or only pointers or flags. Each fault changes the register that it hits; there
+    is none if no register can change. With `any_value` a fault may write the value that is held already, as
+    the machine's `scramble` does. Nodes join with their edges. A rewired link moves one end. In a walk
+    each node of a unit disk graph walks the length `move` in a random direction. If nothing hits the network,
+    it settles from the start, with all pointers null.
 
     If `every` is 0, all disturbances come at once. Otherwise the daemon moves between two of them: at least
     `every` moves, or until silence. Raises `ValueError` for numbers out of range.
@@ -39,6 +42,7 @@ class Disturbance:
     rewire: int = 0
     move: float = 0
     every: int = 0
+    any_value: bool = False
 
     def __post_init__(self) -> None:
         counts = self.faults, self.joins, self.leaves, self.cut, self.add, self.rewire, self.every
@@ -51,6 +55,7 @@ class Disturbance:
 
     def __str__(self) -> str:
         of = "" if self.registers == "any" else f" of {self.registers}s"
+        of += " with any value" * self.any_value
         parts = [
             (counted(self.faults, "fault") + of) * bool(self.faults),
             counted(self.joins, "join") * bool(self.joins),
@@ -81,6 +86,32 @@ class Disturbance:
             raise ValueError(f"{graph.title}: only the nodes of disk:N,RADIUS,SEED walk, which are at places")
 
 
+class ChangingFaults:
+    """Draws faults that change a register: a node, a register of it that can change, and another value.
+
+    A pointer can change if its node has a neighbour, and a flag under `manne`. `nodes` are those with such a
+    register. Each node has the same chance, then each of its registers, then each other value.
+    """
+
+    def __init__(self, registers: str, rules: str, topology: Topology, drawn: random.Random) -> None:
+        self.drawn, near = drawn, topology.near
+        self.has_flags = rules == "manne" and registers != "pointer"
+        linked = [node for node in sorted(near) if near[node]] if registers != "flag" else []
+        # looked up once: faults change no edges
+        self.around = {node: [0, *sorted(near[node])] for node in linked}
+        self.nodes = sorted(near) if self.has_flags else linked
+
+    def draw(self, state: State) -> tuple[str, tuple[int, int]]:
+        """The next fault of a network in this state. Needs a node in `nodes`."""
+        node = self.drawn.choice(self.nodes)
+        around = self.around.get(node)
+        if not around or (self.has_flags and self.drawn.random() < 0.5):
+            return "flag", (node, int(node not in state.flags))
+        # the last value takes the place of the one that is held
+        target = around[self.drawn.randrange(len(around) - 1)]
+        return "point", (node, around[-1] if target == state.pointers.get(node, 0) else target)
+
+
 class Events:
     """The edits and faults of a disturbance, drawn at random; the nodes `joining` join the graph."""
 
@@ -91,9 +122,11 @@ class Events:
         self.edges = [(numbers[a], numbers[b]) for a, b in graph.edges]
         present = [number for number in numbers.values() if graph.nodes[number - 1] not in joining]
         self.topology = Topology(present, self.edges)
+        # how many faults changed a register
+        self.changes = 0
 
-    def all(self, seed: int) -> Iterator[Event]:
-        """All edits and faults in order, each when it is drawn; those of one item belong together."""
+    def edits(self) -> Iterator[Event]:
+        """All edits in order, each when it is drawn; those of one item belong together."""
         topology, wanted, drawn = self.topology, self.wanted, self.drawn
         leaving = sorted(drawn.sample([*topology.near], wanted.leaves))
         yield from self.joins()
@@ -109,7 +142,6 @@ class Events:
         for _ in range(wanted.rewire):
             cut, added = topology.rewire(drawn)
             yield [("unlink", cut), ("link", added)]
-        yield from self.faults(seed)
 
     def joins(self) -> Iterator[Event]:
         """Nodes that join, each with its edges to present nodes. If all come at once, nodes precede edges."""
@@ -129,7 +161,20 @@ class Events:
                 topology.link(a, b)
             yield links
 
-    def faults(self, seed: int) -> Iterator[Event]:
+    def faults_that_change(self, look: Callable[[], State]) -> Iterator[Event]:
+        """The faults after all edits; each changes a register when it comes. None if none can.
+
+        `look` returns the network's state before the next fault, which is then changed by this fault.
+        """
+        draws = ChangingFaults(self.wanted.registers, look().rules, self.topology, self.drawn)
+        for _ in range(self.wanted.faults if draws.nodes else 0):
+            state = look()
+            word, (node, value) = draws.draw(state)
+            (state.point if word == "point" else state.flag)(node, value)
+            self.changes += 1
+            yield [(word, (node, value))]
+
+    def faults_with_any_value(self, seed: int) -> Iterator[Event]:
         """Faults of registers: of any, by the machine's own `scramble`, or of one kind."""
         wanted, near, drawn = self.wanted, self.topology.near, self.drawn
         if wanted.registers == "any":

@@ -1,8 +1,12 @@
-"""The client's errors. Each can be pickled, so that a process pool can raise it unchanged."""
+"""The client's errors. Each can be pickled, so that a process pool can raise it unchanged.
+
+Two errors are equal if they have the same type and say the same.
+"""
 
 from __future__ import annotations
 
 import re
+from dataclasses import dataclass
 
 VERDICT = re.compile(r"line ([0-9]+): (.*)\n")
 
@@ -17,9 +21,23 @@ class RudekpiError(Exception):
     Wrong arguments and a missing program raise `ValueError`, `TypeError` or `OSError` instead.
     """
 
+    def __eq__(self, other: object) -> bool:
+        if not isinstance(other, RudekpiError) or type(self) is not type(other):
+            return NotImplemented
+        return self.__reduce__()[:2] == other.__reduce__()[:2]
 
+    def __hash__(self) -> int:
+        return hash((type(self), str(self)))
+
+
+@dataclass(init=False, repr=False, eq=False)
 class Refused(RudekpiError):
     """The network refused an event, and is unchanged."""
+
+    event: str
+    number: int
+    text: str
+    entry: int
 
     def __init__(self, event: str, number: int, text: str, entry: int) -> None:
         super().__init__(f"{event}: refused {number} {text} (entry {entry})")
@@ -72,8 +90,12 @@ class Garbled(RudekpiError):
     """The program wrote something that answers no command."""
 
 
+@dataclass(init=False, repr=False, eq=False)
 class Damaged(RudekpiError):
     """`audit` refuses a transcript: the number of the first wrong line, and why that line is wrong."""
+
+    line: int
+    why: str
 
     def __init__(self, line: int, why: str) -> None:
         super().__init__(f"line {line}: {why}")
@@ -91,8 +113,12 @@ class Damaged(RudekpiError):
         return cls(int(found[1]), found[2])
 
 
+@dataclass(init=False, repr=False, eq=False)
 class BadLine(RudekpiError, ValueError):
     """A line of a log is no event, or an event that the machine refuses: the line's number, and why."""
+
+    line: int
+    why: str
 
     def __init__(self, line: int, why: str) -> None:
         super().__init__(f"line {line}: {why}")
@@ -100,6 +126,21 @@ class BadLine(RudekpiError, ValueError):
 
     def __reduce__(self) -> tuple[object, ...]:
         return type(self), (self.line, self.why)
+
+
+class BadView(RudekpiError, ValueError):
+    """No state of the machine shows what a node holds: the fault's word, and the name that it is about.
+
+    The words are `own-neighbour` (the node is among its neighbours), `points-at-itself` (a neighbour does),
+    and of `may_move` also `points-at-stranger` (the node points at a name that is no neighbour).
+    """
+
+    def __init__(self, fault: str, name: object) -> None:
+        super().__init__(f"no state shows this at a node: {fault} ({name!r})")
+        self.fault, self.name = fault, name
+
+    def __reduce__(self) -> tuple[object, ...]:
+        return type(self), (self.fault, self.name)
 
 
 class Lost(RudekpiError):

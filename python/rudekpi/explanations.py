@@ -11,8 +11,9 @@ from dataclasses import dataclass
 from typing import Iterable, Iterator, Optional, Sequence
 
 from . import base_faults, rules
-from .audits import Text, audit, bytes_of
+from .audits import audit
 from .errors import Damaged, Garbled
+from .given import Given, bytes_of
 from .labels import label
 from .line_faults import Fault, at_word, of_entry, of_header, text_of_line, unprinted
 from .names import own_names
@@ -80,6 +81,13 @@ class Broken:
     def before(self) -> Optional[str]:
         return text_of_line(self.text[self.last : self.start - 1][: 2 * WIDTH]) if self.start else None
 
+    @property
+    def after(self) -> bytes:
+        """The line after the wrong one."""
+        start = self.start + len(self.raw) + 1
+        end = self.text.find(b"\n", start)
+        return self.text[start:] if end < 0 else self.text[start:end]
+
     def base_before(self, end: int) -> int:
         """The offset of the last base before a place; 0 if there is none."""
         return self.text.rfind(b"\n" + HEAD, 0, end) + 1
@@ -95,7 +103,7 @@ class Broken:
 
 
 def explain(
-    transcript: Text,
+    transcript: Given,
     *,
     names: Optional[Iterable[Name]] = None,
     program: Program = None,
@@ -137,18 +145,20 @@ def explained(
     if damaged.why == "not a transcript line":
         return broken.explained(damaged, of_entry(broken.raw, broken.is_cut, state.entry + 1))
     if damaged.why == "out of order":
-        return broken.explained(damaged, of_order(broken.raw, state.entry + 1))
+        return broken.explained(damaged, of_order(broken.raw, state.entry + 1, broken.after))
     with replay(prefix, program=program, engine=engine) as net:
         reply = replied(net, broken.raw.decode("ascii"))
     fault, node = of_replies(broken.raw.decode("ascii"), reply, state, told)
     return broken.explained(damaged, fault, notes_of(state, broken.raw.decode("ascii"), reply, node, told))
 
 
-def of_order(raw: bytes, expected: int) -> Fault:
+def of_order(raw: bytes, expected: int, after: bytes = b"") -> Fault:
     line = text_of_line(raw)
     number = int(line.split(" ")[0])
     if number < expected:
         return at_word(line, 0, f"here stands entry {expected}; an entry {number} stands above")
+    if number == expected + 1 and after.startswith(b"%d " % expected):
+        return at_word(line, 0, f"swapped with the next line, which is entry {expected}")
     missing = f"entry {expected} is" if number == expected + 1 else f"entries {expected} to {number - 1} are"
     return at_word(line, 0, f"here stands entry {expected}: {missing} missing")
 
@@ -177,8 +187,17 @@ def of_replies(line: str, reply: str, state: State, name: Told) -> tuple[Fault, 
     ours, theirs = told.split(" "), reply.split(" ")
     place = next((at for at, (a, b) in enumerate(zip(ours, theirs)) if a != b), min(len(ours), len(theirs)))
     if word == "status":
-        return at_word(line, place, f"the machine says `{theirs[place]}`", start), None
+        why, other = f"the machine says `{theirs[place]}`", enabled_beyond(ours[place], theirs[place], state)
+        return at_word(line, place, f"{why}: {name(other)} is enabled" if other else why, start), other
     return of_listed(line, start, place, ours, theirs)
+
+
+def enabled_beyond(ours: str, theirs: str, state: State) -> Optional[int]:
+    """A node that is enabled, if these are counts of enabled nodes and the first is too small."""
+    told, real = (re.fullmatch(r"enabled=([0-9]+)", text) for text in (ours, theirs))
+    if not told or not real or int(told[1]) >= int(real[1]):
+        return None
+    return next(iter(rules.enabled(state)), None)
 
 
 def whole_reply(line: str, start: int, why: str) -> Fault:
@@ -237,7 +256,7 @@ def notes_of(state: State, line: str, reply: str, node: Optional[int], name: Tol
         return notes
     if not 0 < node <= state.count:
         return [*notes, f"the names of this network are 1 to {state.count}"]
-    if event.split(" ")[0] in ("step", "enabled"):
+    if event.split(" ")[0] in ("step", "enabled", "status"):
         notes.append(words.allowed(node))
     nodes = [node]
     if event.split(" ")[0] in ("link", "unlink", "point"):

@@ -178,7 +178,7 @@ class EndJoiner:
             self.edges.update((edges[place], edges[-1]))
 
 
-def unit_disk(n: int, radius: float, seed: int = 0) -> Graph:
+def disk(n: int, radius: float, seed: int = 0) -> Graph:
     """Random points in a square of side 1, linked if they are within the radius of each other."""
     title = f"disk:{n},{shortest(radius)},{seed}"
     if not 0 <= radius < math.inf:
@@ -187,6 +187,10 @@ def unit_disk(n: int, radius: float, seed: int = 0) -> Graph:
     drawn = random.Random(seed)
     at = [(drawn.random(), drawn.random()) for _ in range(n)]
     return replace(numbered(title, n, near_pairs(at, radius)), disk=Disk(radius, tuple(at)))
+
+
+# the name in the literature
+unit_disk = disk
 
 
 def near_pairs(at: list[tuple[float, float]], radius: float) -> Iterator[Edge]:

@@ -7,6 +7,7 @@ graphs are always refused.
 from __future__ import annotations
 
 import json
+from collections import Counter
 from typing import Any, Optional
 from xml.parsers import expat
 
@@ -151,8 +152,8 @@ def once(pairs: list[tuple[str, Any]]) -> dict[str, Any]:
     """Raises `ValueError` if the object has a key twice."""
     found = dict(pairs)
     if len(found) != len(pairs):
-        names = [name for name, _ in pairs]
-        raise ValueError(f"an object has {next(name for name in names if names.count(name) > 1)!r} twice")
+        counts = Counter(name for name, _ in pairs)
+        raise ValueError(f"an object has {next(name for name, _ in pairs if counts[name] > 1)!r} twice")
     return found
 
 

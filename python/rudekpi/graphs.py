@@ -4,9 +4,9 @@ from __future__ import annotations
 
 import os
 import re
-from typing import Any, Callable, Optional, Union
+from typing import Any, Callable, Optional, Tuple, Union
 
-from .generators import complete, gnp, grid, path, regular, ring, star, unit_disk
+from .generators import complete, disk, gnp, grid, path, regular, ring, star, unit_disk
 from .graph_documents import graphml, node_link
 from .graph_text import dimacs, edge_list, metis
 from .numbers import MOST_SEED
@@ -15,6 +15,7 @@ from .simple_graph import Graph
 __all__ = [
     "Graph",
     "complete",
+    "disk",
     "from_networkx",
     "gnp",
     "graph_of",
@@ -53,7 +54,7 @@ MADE: dict[str, tuple[Callable[..., Graph], str, tuple[Callable[[str], Any], ...
     "grid": (grid, "RxC", (whole_number, whole_number)),
     "gnp": (gnp, "N,P,SEED", (whole_number, decimal, whole_number)),
     "regular": (regular, "N,DEGREE,SEED", (whole_number, whole_number, whole_number)),
-    "disk": (unit_disk, "N,RADIUS,SEED", (whole_number, decimal, whole_number)),
+    "disk": (disk, "N,RADIUS,SEED", (whole_number, decimal, whole_number)),
 }
 
 # the readers by file extension, and whether each takes `undirected`
@@ -67,6 +68,12 @@ READERS: dict[str, tuple[Callable[..., Graph], bool]] = {
 }
 
 
+def is_path(words: str) -> bool:
+    """Whether `graph_of` takes these words for the path of a file."""
+    word, colon, _ = words.partition(":")
+    return not colon or word not in MADE
+
+
 def graph_of(words: str, *, undirected: bool = False) -> Graph:
     """The graph that a word of the command line names: `ring:100`, `gnp:100,0.05,7` or a file's path.
 
@@ -74,7 +81,7 @@ def graph_of(words: str, *, undirected: bool = False) -> Graph:
     graph.
     """
     word, colon, rest = words.partition(":")
-    if not colon or word not in MADE:
+    if is_path(words):
         if not os.path.exists(words):
             made = ", ".join(f"{name}:{of}" for name, (_, of, _) in MADE.items())
             raise FileNotFoundError(f"no file {words!r}; graphs that are made: {made}")
@@ -95,6 +102,23 @@ def graph_of(words: str, *, undirected: bool = False) -> Graph:
         return make(*numbers)
     except ValueError as error:
         raise ValueError(f"{words!r} makes no graph: {str(error).rpartition(': ')[2]}") from None
+
+
+def family_of(title: str) -> Optional[Tuple[str, int]]:
+    """The family of a made graph, as `ring:N` or `regular:N,4`, and its number of nodes; None for others.
+
+    The seed of a random graph makes no difference.
+    """
+    word, colon, rest = title.partition(":")
+    if is_path(title):
+        return None
+    numbers = rest.split("x" if word == "grid" else ",")
+    try:
+        if word == "grid":
+            return "grid:RxC", int(numbers[0]) * int(numbers[1])
+        return ",".join([f"{word}:N", *numbers[1:2]]), int(numbers[0])
+    except (ValueError, IndexError):
+        return None
 
 
 def read(path: Union[str, "os.PathLike[str]"], *, undirected: bool = False) -> Graph:

@@ -8,10 +8,10 @@ from __future__ import annotations
 
 import contextlib
 import hashlib
+import itertools
 import json
 import os
 import warnings
-from operator import index
 from typing import Any, Generator, Iterable, Optional, TextIO, TypeVar
 from urllib.parse import quote
 
@@ -19,7 +19,7 @@ from .files import write_whole
 from .graph_documents import json_of
 from .graphs import MADE, graph_of
 from .replies import Name
-from .simple_graph import Graph
+from .simple_graph import Graph, written_name
 
 Item = TypeVar("Item")
 FOLDER = ".graphs"
@@ -45,15 +45,6 @@ def is_known(graph: Graph) -> bool:
     with contextlib.suppress(ValueError, OSError):
         return graph_of(graph.title) == graph
     return False
-
-
-def written_name(name: Name) -> Any:
-    """A name in JSON: a text, a number, or a list for a tuple. Raises `TypeError` for any other."""
-    if isinstance(name, tuple):
-        return [written_name(part) for part in name]
-    if isinstance(name, (str, float, bool)):
-        return name
-    return index(name)
 
 
 def read_name(given: Any) -> Name:
@@ -112,13 +103,18 @@ def keep_beside(file: TextIO, graphs: Iterable[Graph], goes_on: bool) -> None:
 
 
 class Rows(Generator[Item, None, None]):
-    """The rows of a sweep, as they come, with the graphs of the sweep."""
+    """The rows of a sweep, as they come, with the sweep's graphs and the columns that the rows have."""
 
-    def __init__(self, rows: Generator[Item, None, None], graphs: Iterable[Graph]) -> None:
-        self._rows, self.graphs = rows, tuple(graphs)
+    def __init__(self, rows: Generator[Item, None, None], graphs: Iterable[Graph], columns: tuple[str, ...]) -> None:
+        self._rows, self.graphs, self.columns = rows, tuple(graphs), columns
+        self._first: list[Item] = []
+
+    def wait(self) -> None:
+        """Waits for the first row, or raises what prevents it; nothing needs to be written before."""
+        self._first += itertools.islice(self._rows, 1)
 
     def send(self, value: None) -> Item:
-        return self._rows.send(value)
+        return self._first.pop() if self._first else self._rows.send(value)
 
     def throw(self, *given: Any) -> Item:
         return self._rows.throw(*given)

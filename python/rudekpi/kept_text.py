@@ -50,6 +50,10 @@ class KeptText:
         # all parts below this index are empty
         self.low = 0
         self.readers: list[weakref.ref[Reader]] = []
+        # the renumberings: the part that each wrote, its status, and how many bytes of the part end the old text
+        self.renumberings: list[tuple[int, int, ctypes.c_size_t]] = []
+        # the part and the offset of the text that the next renumbering returns
+        self.returned = (0, 0)
         self.length: Callable[[], int] = functools.partial(library.session_length, at)
 
     def collect(self) -> None:
@@ -77,8 +81,57 @@ class KeptText:
         """The text from a place of the list on, and the place after it."""
         self.collect()
         end = len(self.parts)
-        text = b"".join([self.part(at) for at in range(max(place, self.low), end)])
+        begin, offset = self.begin()
+        first = max(place, self.low, begin)
+        text = b"".join([self.part(at) for at in range(first, end)])
+        if first == begin:
+            text = text[offset:]
         return text if self.keeps else text[max(0, last_base(text)) :], end
+
+    def begin(self) -> tuple[int, int]:
+        """The part that begins the text, and the offset in it: those of the last renumbering."""
+        for place, status, ended in reversed(self.renumberings):
+            if not status:
+                return self.filled(place), ended.value
+        return 0, 0
+
+    def filled(self, place: int) -> int:
+        """The first part at or after a place of the list that is not empty."""
+        while place < len(self.parts) and not self.part(place):
+            place += 1
+        return place
+
+    def renumbered(self) -> tuple[int, Callable[[], bytes]]:
+        """Numbers the entries anew: the status, and a function that returns the text that ends."""
+        self.collect()
+        ended = ctypes.c_size_t()
+        place = functools.partial(len, self.parts)
+        call = functools.partial(self.library.session_renumber, self.at, ctypes.byref(ended))
+        # one C call, so that no handler takes the two texts for one
+        self.renumberings.extend(zip(map(CALLED, (place,)), map(CALLED, (call,)), (ended,)))
+        at, status, _ = next(made for made in self.renumberings if made[2] is ended)
+        return status, functools.partial(self.text_before, at, ended)
+
+    def text_before(self, place: int, ended: ctypes.c_size_t) -> bytes:
+        """The text that ends in the first part at or after a place, so far as not returned yet; forgets it."""
+        self.collect()
+        last = self.filled(place)
+        first, offset = self.returned if self.returned[0] >= self.low else (self.low, 0)
+        before = b"".join([self.part(at) for at in range(first, last)])
+        text = (before + self.part(last)[: ended.value])[offset:]
+        self.returned = (last, ended.value)
+        self.drop_below(place)
+        # the last base ends the text
+        return text if self.keeps else text[max(0, last_base(text[: last_base(text)])) :]
+
+    def drop_below(self, first: int) -> None:
+        """Forgets the parts below a place of the list, unless a reader waits for a part."""
+        self.readers[:] = [reader for reader in self.readers if reader() is not None]
+        if self.readers or first <= self.low:
+            return
+        for at in range(self.low, first):
+            self.parts[at] = b""
+        self.low = first
 
     def written_by(self, call: Callable[[], int]) -> tuple[int, Callable[[], bytes]]:
         """Makes a call that writes several lines: its status, and a function that returns the lines."""
@@ -105,10 +158,4 @@ class KeptText:
     def forget(self) -> None:
         """Forgets the parts before the one with the last base, unless a reader waits for a part."""
         self.collect()
-        self.readers[:] = [reader for reader in self.readers if reader() is not None]
-        if self.readers:
-            return
-        first = next(at for at in reversed(range(len(self.parts))) if last_base(self.part(at)) >= 0)
-        for at in range(self.low, first):
-            self.parts[at] = b""
-        self.low = first
+        self.drop_below(next(at for at in reversed(range(len(self.parts))) if last_base(self.part(at)) >= 0))

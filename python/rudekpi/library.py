@@ -2,23 +2,22 @@
 
 from __future__ import annotations
 
-import contextlib
 import ctypes
 import functools
-import mmap
 import os
 import platform
-from typing import TYPE_CHECKING, Callable, Iterator, Optional, Union
+from typing import TYPE_CHECKING, Callable, Optional, Union
 
 from .costs import COSTED
 from .errors import Damaged
+from .given import pieces_of
 from .program import PACKAGE, Program
 from .replies import Summary
 
 if TYPE_CHECKING:
     from ctypes import _CArgObject
 
-DONE, BAD_LINE, LOG_FULL, NO_MEMORY, NO_SESSION, BAD_ARGUMENT, REFUSED, DAMAGED, NOT_SILENT = range(9)
+DONE, BAD_LINE, LOG_FULL, NO_MEMORY, NO_SESSION, BAD_ARGUMENT, REFUSED, DAMAGED, NOT_SILENT, NOT_SHOWN = range(10)
 ENGINES = ("library", "program")
 # numbered from 1
 REFUSALS = (
@@ -39,6 +38,9 @@ REFUSALS = (
 MOVES = ("", "update", "marry", "seduce", "abandon")
 DAMAGES = {1: "bad header", 2: "not a transcript line", 3: "out of order", 4: "not the machine's reply", 5: "bad base"}
 
+# what is wrong with what a node holds, numbered from 1
+VIEW_FAULTS = ("", "not-ascending", "own-neighbour", "points-at-itself", "points-at-stranger")
+
 # the 32-bit numbers of rudekpi_told; after them its rows, one 64-bit number
 TOLD_NUMBERS, TOLD_ROWS = 6, 2
 ENTRY, REFUSAL, TARGET = range(3)
@@ -50,9 +52,28 @@ class Slot(ctypes.Structure):
     _fields_ = [("at", ctypes.c_void_p), ("full", ctypes.c_bool)]
 
 
+class NodeView(ctypes.Structure):
+    """A node's registers, and whether the node is present."""
+
+    _fields_ = [("pointer", ctypes.c_uint32), ("flag", ctypes.c_bool), ("present", ctypes.c_bool)]
+
+
 class Verdict(ctypes.Structure):
     _fields_ = [(name, ctypes.c_uint32) for name in ("kind", "entries", "epochs")] + [
         (name, ctypes.c_uint64) for name in ("moves", "line")
+    ]
+
+
+class LocalAnswer(ctypes.Structure):
+    """A node's move, or the fault of what the node holds."""
+
+    _fields_ = [
+        ("rule", ctypes.c_uint32),
+        ("target", ctypes.c_uint32),
+        ("pointer", ctypes.c_uint32),
+        ("flag", ctypes.c_bool),
+        ("fault", ctypes.c_uint32),
+        ("at", ctypes.c_uint32),
     ]
 
 
@@ -83,9 +104,13 @@ SHORT = (
     "show",
     "status",
     "partner",
+    "registers",
+    "neighbours",
     "moves_left",
     "is_at_rest",
     "transcript",
+    "local_rule",
+    "may_move",
     *(f"cost_of_{word}" for word in COSTED),
     *(f"silent_cost_of_{word}" for word in COSTED),
     *(f"reach_of_{word}" for word in COSTED),
@@ -94,6 +119,10 @@ LONG = (
     "session_new",
     "session_resume",
     "session_feed",
+    "session_renumber",
+    "nodes",
+    "edges",
+    "restless",
     "join",
     "leave",
     "step",
@@ -111,16 +140,9 @@ SIZES = ("rows", "session_length", "session_read")
 NONE = ("session_free", "audit_free")
 
 
-@contextlib.contextmanager
-def address_of(text: Union[bytes, mmap.mmap]) -> Iterator[int]:
-    """The address of bytes, or of a mapped file, which is not closed meanwhile."""
-    if isinstance(text, bytes):
-        at: int = ctypes.cast(ctypes.c_char_p(text), ctypes.c_void_p).value  # type: ignore[assignment]
-        yield at
-    else:
-        # a mapping ends when nothing refers to it: an interrupt may keep this reference for a while
-        first = ctypes.c_char.from_buffer(text)
-        yield ctypes.addressof(first)
+def address_of(text: bytes) -> int:
+    """The address of bytes, which the caller keeps meanwhile."""
+    return ctypes.cast(ctypes.c_char_p(text), ctypes.c_void_p).value  # type: ignore[return-value]
 
 
 class Library:
@@ -170,27 +192,31 @@ class Library:
         return summary_of(verdict)
 
     def audit_bytes(self, text: bytes, start: int = 0, end: Optional[int] = None) -> Summary:
-        with address_of(text) as at:
-            return self.audit(at + start, (len(text) if end is None else end) - start)
+        return self.audit(address_of(text) + start, (len(text) if end is None else end) - start)
 
     def audit_file(self, file: int, start: int, end: int) -> Summary:
-        """The verdict on a range of an open file, given by its number. The file is not read whole."""
-        end = min(end, os.fstat(file).st_size)
-        if start >= end:
-            return self.audit_bytes(b"")
-        before = start % mmap.ALLOCATIONGRANULARITY
-        # ctypes needs a mapping that may be written to; it is not written to
-        held = mmap.mmap(file, end - start + before, access=mmap.ACCESS_COPY, offset=start - before)
-        with address_of(held) as at:
-            return self.audit(at + before, end - start)
+        """The verdict on a range of an open file, given by its number. The file is read piece by piece.
 
-    def resume(self, slot: _CArgObject, transcript: Union[bytes, mmap.mmap]) -> None:
+        A mapped file would end this process if another one shortens it. Raises `OSError` instead.
+        """
+        slot, verdict = Slot(), Verdict()
+        at = ctypes.byref(slot)
+        try:
+            if self.audit_new(at):
+                raise MemoryError("no memory for an audit")
+            for piece in pieces_of(file, start, end):
+                if self.audit_feed(at, piece, ctypes.c_size_t(len(piece))):
+                    break
+            self.audit_finish(at, ctypes.byref(verdict))
+        finally:
+            self.audit_free(at)
+        return summary_of(verdict)
+
+    def resume(self, slot: _CArgObject, transcript: bytes) -> None:
         """Begins a session at the end of a transcript's run. Raises `Damaged`, or `MemoryError`."""
         verdict = Verdict()
-        with address_of(transcript) as at:
-            status = self.session_resume(
-                slot, ctypes.c_void_p(at), ctypes.c_size_t(len(transcript)), ctypes.byref(verdict)
-            )
+        at, size = ctypes.c_void_p(address_of(transcript)), ctypes.c_size_t(len(transcript))
+        status = self.session_resume(slot, at, size, ctypes.byref(verdict))
         if status == DAMAGED or verdict.kind:
             summary_of(verdict)
         if status != DONE:

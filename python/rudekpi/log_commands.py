@@ -3,17 +3,17 @@
 from __future__ import annotations
 
 import argparse
-import os
 import pathlib
 import sys
 from typing import Callable, Optional
 
-from . import log_lines
+from . import log_lines, outputs
 from .audits import audit
 from .conformance import Conformance, Divergence, LogJudge, judge_blocks
 from .errors import Ended
 from .explanations import explain
-from .name_files import read_names
+from .given import read_whole
+from .name_files import names_in, read_names
 from .numbers import counted
 from .replies import Name
 
@@ -53,15 +53,10 @@ def log_of(path: str) -> log_lines.Log:
     return sys.stdin.buffer if path == "-" else pathlib.Path(path)
 
 
-def is_same_file(one: str, other: str) -> bool:
-    return os.path.exists(one) and os.path.exists(other) and os.path.samefile(one, other)
-
-
 def run_conform(given: argparse.Namespace) -> int:
     if given.output == "-":
         raise ValueError("a transcript goes to a file, since the verdict goes to standard output")
-    if given.output is not None and is_same_file(given.output, given.log):
-        raise ValueError(f"the transcript would be written over the log {given.log}")
+    outputs.refuse_clashes([given.output, outputs.names_file(given.output)], [given.log, given.program])
     judge = LogJudge(
         given.rules,
         resync=given.resync,
@@ -86,7 +81,7 @@ def run_conform(given: argparse.Namespace) -> int:
 
 
 def read(path: str) -> bytes:
-    return sys.stdin.buffer.read() if path == "-" else pathlib.Path(path).read_bytes()
+    return sys.stdin.buffer.read() if path == "-" else read_whole(path)
 
 
 def words_of_names(parser: argparse.ArgumentParser) -> None:
@@ -94,7 +89,11 @@ def words_of_names(parser: argparse.ArgumentParser) -> None:
 
 
 def names_given(given: argparse.Namespace) -> Optional[list[Name]]:
-    return None if given.names is None else read_names(given.names)
+    if given.names != "-":
+        return None if given.names is None else read_names(given.names)
+    if given.transcript == "-":
+        raise ValueError("standard input has the transcript or the names, and not both")
+    return names_in(sys.stdin.buffer.read(), "standard input")
 
 
 def run_explain(given: argparse.Namespace) -> int:

@@ -7,11 +7,14 @@ import io
 import json
 import os
 import re
-from typing import Any, BinaryIO, Iterable, Iterator, List, NoReturn, Tuple, Union, cast
+from collections import Counter
+from typing import IO, Any, BinaryIO, Iterable, Iterator, List, NoReturn, Tuple, Union, cast
 
 from .errors import BadLine
+from .given import encoded, is_file, opened, path_of
 
-Log = Union["os.PathLike[str]", BinaryIO, str, bytes, Iterable[Any]]
+# as `Given`, with lines or objects
+Log = Union["os.PathLike[str]", IO[bytes], IO[str], str, bytes, Iterable[Any]]
 # lines or objects that came at once, with their numbers
 Block = List[Tuple[int, Any]]
 # how many bytes are read at once, and how many a line may have
@@ -55,8 +58,8 @@ def unique(pairs: list[tuple[str, Any]]) -> dict[str, Any]:
     """Raises `ValueError` if the object has a key twice."""
     made = dict(pairs)
     if len(made) != len(pairs):
-        keys = [key for key, _ in pairs]
-        raise ValueError(f"the key {spelled(next(key for key in keys if keys.count(key) > 1))} is there twice")
+        counts = Counter(key for key, _ in pairs)
+        raise ValueError(f"the key {spelled(next(key for key, _ in pairs if counts[key] > 1))} is there twice")
     return made
 
 
@@ -104,10 +107,10 @@ def object_of(number: int, line: bytes, is_last: bool = False) -> Any:
 
 
 def pieces(file: BinaryIO) -> Iterator[bytes]:
-    """The bytes of a file, each piece as soon as it can be read."""
+    """The bytes of a file, or of its text, each piece as soon as it can be read."""
     read = getattr(file, "read1", file.read)
     while piece := read(PIECE):
-        yield piece
+        yield encoded(piece)
 
 
 def blocks_of_pieces(parts: Iterable[bytes]) -> Iterator[Block]:
@@ -130,8 +133,8 @@ def blocks_of_pieces(parts: Iterable[bytes]) -> Iterator[Block]:
         yield [(number + 1, object_of(number + 1, rest, True))]
 
 
-def file_blocks(path: os.PathLike[str]) -> Iterator[Block]:
-    with open(path, "rb") as file:
+def file_blocks(path: str) -> Iterator[Block]:
+    with opened(path) as file:
         yield from blocks_of_pieces(pieces(cast(BinaryIO, file)))
 
 
@@ -140,16 +143,15 @@ def blocks(log: Log) -> Iterator[Block]:
 
     Raises `BadLine` and `OSError`.
     """
-    if isinstance(log, os.PathLike):
-        return file_blocks(log)
-    if isinstance(log, str):
-        log = log.encode("utf-8", "surrogatepass")
-    if isinstance(log, (bytes, bytearray, memoryview)):
-        return blocks_of_pieces(pieces(io.BytesIO(log)))
-    if hasattr(log, "read"):
+    path = path_of(log)
+    if path is not None:
+        return file_blocks(path)
+    if isinstance(log, (str, bytes, bytearray, memoryview)):
+        return blocks_of_pieces(pieces(io.BytesIO(encoded(log))))
+    if is_file(log):
         return blocks_of_pieces(pieces(cast(BinaryIO, log)))
     if isinstance(log, dict) or not isinstance(log, Iterable):
-        raise TypeError(f"a log is a pathlib.Path, an open file, its text, or its lines, and not {cut(repr(log))}")
+        raise TypeError(f"a log is a path, an open file, bytes, text or lines, and not {cut(repr(log))}")
     return ([pair] for pair in enumerate(log, 1))
 
 

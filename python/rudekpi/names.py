@@ -3,7 +3,6 @@
 from __future__ import annotations
 
 import itertools
-import mmap
 import re
 from collections import Counter
 from operator import index
@@ -150,7 +149,7 @@ class Names:
 PRESENT = re.compile(rb"^(?:[0-9]+ join ([0-9]+) = ok|node ([0-9]+) .*)$", re.MULTILINE)
 
 
-def head_of(transcript: Union[str, bytes, mmap.mmap]) -> tuple[int, int]:
+def head_of(transcript: Union[str, bytes]) -> tuple[int, int]:
     """The capacity in the first line of a transcript, and how many nodes that line makes present."""
     if isinstance(transcript, str):
         line = transcript.partition("\n")[0].encode()
@@ -160,14 +159,14 @@ def head_of(transcript: Union[str, bytes, mmap.mmap]) -> tuple[int, int]:
     return int(count), int((rest or [count])[0]) if kind == b"matching" else 0
 
 
-def most_present(transcript: Union[str, bytes, mmap.mmap]) -> tuple[int, int]:
+def most_present(transcript: Union[str, bytes]) -> tuple[int, int]:
     """The capacity of an accepted transcript, and the greatest number of a node that is ever present."""
     capacity, first = head_of(transcript)
     text = transcript.encode() if isinstance(transcript, str) else transcript
     return capacity, max([first, *(int(found[1] or found[2]) for found in PRESENT.finditer(text))])
 
 
-def names_for(transcript: Union[str, bytes, mmap.mmap], names: Optional[Iterable[Name]]) -> Names:
+def names_for(transcript: Union[str, bytes], names: Optional[Iterable[Name]]) -> Names:
     """The names of the nodes of an accepted transcript: the caller's, or the numbers.
 
     Raises `ValueError` if a node that is ever present has no name, or there are more names than the capacity.

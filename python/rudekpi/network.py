@@ -10,10 +10,11 @@ from .answers import Setting
 from .batch import Batch
 from .choices import Daemon, checked_choice
 from .costs import numbers_of_edit, why_refused
-from .daemons import AnyDaemon, Seeded, check_daemon, named
+from .daemons import AnyDaemon, GreedyChoice, Seeded, check_daemon, named
 from .direct import Direct
 from .errors import Ended, PastBound
 from .files import write_whole
+from .given import Given
 from .graphs import Graph, from_networkx, is_networkx
 from .labels import named_picture
 from .name_files import names_text
@@ -39,7 +40,7 @@ from .replies import (
 )
 from .rules import moves_left
 from .session import Session
-from .sources import Source, Transcript, refusal_of, source_of
+from .sources import Source, refusal_of, source_of
 from .state import Follower, Seen, State
 
 
@@ -94,7 +95,7 @@ class Network:
     @classmethod
     def resume(
         cls,
-        transcript: Transcript,
+        transcript: Given,
         *,
         nodes: Optional[Iterable[Name]] = None,
         program: Program = None,
@@ -103,10 +104,10 @@ class Network:
     ) -> Network:
         """A network that goes on where the run of a transcript ended; the transcript may be a base alone.
 
-        `transcript` is bytes, the path of a file, or an open file, which is read to its end. The new
-        network's transcript begins with the base at the end of the run, and its next entry has the next
-        number: appended to the given transcript, it makes one transcript. `nodes` are the caller's names, in
-        the order of the numbers, one for each node that was ever present. The rules and the capacity are the
+        `transcript` is given as to `audit`: a path, an open file, bytes, text or lines. The new network's
+        transcript begins with the base at the end of the run, and its next entry has the next number:
+        appended to the given transcript, it makes one transcript. `nodes` are the caller's names, in the
+        order of the numbers, one for each node that was ever present. The rules and the capacity are the
         transcript's.
 
         Raises `Damaged` if `audit` refuses the transcript, `ValueError` if the number of names differs, and
@@ -182,26 +183,48 @@ class Network:
 
     @property
     def present(self) -> list[Name]:
-        """The names of the present nodes, in the order of their numbers."""
-        return [self.name_of(number) for number in self._look(lambda state: sorted(state.neighbours))]
+        """The names of the present nodes, in the order of their numbers.
+
+        The library answers this, `edges`, `neighbours` and `registers` from its state, whatever the length of
+        the log. With the program, and after `close`, the answer is read from the transcript.
+        """
+        found = self._session.present()
+        return [
+            self.name_of(number)
+            for number in (self._look(lambda state: sorted(state.neighbours)) if found is None else found)
+        ]
 
     @property
     def edges(self) -> list[tuple[Name, Name]]:
         """The edges, in the order of their nodes' numbers, each with the node of the lower number first."""
-        return [(self.name_of(a), self.name_of(b)) for a, b in self._look(State.edges)]
+        found = self._session.edges()
+        return [(self.name_of(a), self.name_of(b)) for a, b in (self._look(State.edges) if found is None else found)]
 
     def neighbours(self, node: Name) -> list[Name]:
         """The neighbours of a present node, in the order of their numbers.
 
         Raises `ValueError` for any other node.
         """
-        near = self._look_at(node, lambda state, number: sorted(state.neighbours[number]))
+        near = self._session.neighbours(self.number_of(node))
+        if near is None:
+            near = self._look_at(node, lambda state, number: sorted(state.neighbours[number]))
+        elif not near:
+            # an absent node has none either
+            self.registers(node)
         return [self.name_of(number) for number in near]
 
     def registers(self, node: Name) -> Registers:
         """The registers of a present node. Raises `ValueError` for any other node."""
-        pointer, flag = self._look_at(node, lambda state, number: (state.pointers.get(number), number in state.flags))
-        return Registers(self._names.named(pointer), flag)
+        found = self._session.registers(self.number_of(node))
+        if found is None:
+            pointer, flag = self._look_at(
+                node, lambda state, number: (state.pointers.get(number, 0), number in state.flags)
+            )
+        elif found.present:
+            pointer, flag = found.pointer, found.flag
+        else:
+            raise self._absent(node)
+        return Registers(self._names.named(pointer or None), flag)
 
     def partner(self, node: Name) -> Optional[Name]:
         """The partner of a present node, or None. Raises `ValueError` for any other node.
@@ -227,9 +250,12 @@ class Network:
         """The name of the node with this number in the transcript."""
         return self._names.name_of(number)
 
-    def follower(self) -> Follower:
-        """Follows the network's state by node number: for daemons that look at the whole state."""
-        return Follower(self._session)
+    def follower(self, make: Callable[[], State] = State) -> Follower:
+        """Follows the network's state by node number: for daemons that look at the whole state.
+
+        The state that is followed is made by `make`.
+        """
+        return Follower(self._session, make)
 
     def batch(self, raises: bool = True) -> Batch:
         """Commands that do not wait for each other: `with net.batch() as batch:`, then `batch.link(1, 2)`."""
@@ -313,6 +339,20 @@ class Network:
         write_whole(path, lines, flushes=True)
         return base
 
+    def renumber(self) -> str:
+        """Ends the transcript, and goes on in the same state with a new one, whose entries count from 1.
+
+        Returns the transcript that ends: its last lines are the base of the state. The network's transcript
+        then begins with the base of the same state, numbered 0; the moves spent are kept. `audit` accepts
+        both. A log takes 16,777,216 entries: called before it is full, this lets a network run for weeks.
+        With `keep=False` the returned text begins at the last checkpoint.
+
+        Raises `MemoryError` if memory runs out; then nothing has changed. With `NoReply`, also a
+        `MemoryError`, the network goes on anew, and the next `renumber` returns this text before its own.
+        Raises `NoSuchCommand` with a program.
+        """
+        return self._session.renumber()
+
     def cost_of(self, word: str, *given: Name) -> int:
         """The cost in moves of an edit or a fault if it came now: `net.cost_of("unlink", "ann", "bob")`.
 
@@ -369,19 +409,19 @@ class Network:
 
         Raises `NoSuchCommand` with a program.
         """
-        return [node for node in self.present if not self.is_at_rest(node)]
+        return [self.name_of(number) for number in self._session.restless()]
 
     def moves_left(self) -> int:
         """The most moves before the next edit or fault, whatever the daemon chooses.
 
-        This is the charge, but under `hh` at most n²/2 + n - 2 for n nodes, the half rounded down. The
-        library adds no entry. A program is asked for the `status`, which adds one.
+        This is 0 if the network is silent; else the charge, but under `hh` at most n²/2 + n - 2 for n nodes,
+        the half rounded down. The library adds no entry. A program is asked for the `status`, which adds one.
         """
         found = self._session.moves_left()
         if found is not None:
             return found
         status = self.status()
-        return moves_left(self.rules, status.charge, status.nodes)
+        return moves_left(self.rules, status.charge, status.nodes) if status.enabled else 0
 
     def settle(self, daemon: Union[Daemon, AnyDaemon, str], *, seed: int = 0) -> Settled:
         """Lets a daemon choose the movers until the network is silent; returns steps, moves and first charge.
@@ -389,7 +429,7 @@ class Network:
         The daemon is called with a mapping from each enabled node to its rule, and returns the nodes that are
         to move, each as a name or a `Wish`. A daemon of `rudekpi.daemons` is given as a value or by its word,
         such as "seeded", with a `seed`. The transcript gets a `status` first, and an `enabled` before each
-        step and at the end.
+        step and at the end; with `Greedy` only at the end.
 
         Raises `TypeError` if `daemon` is none, and `WrongChoice` if the daemon chooses no node or a node that
         is not enabled. Raises `Refused` if the network refuses the choice for another reason (two nodes under
@@ -401,6 +441,8 @@ class Network:
         if isinstance(daemon, Seeded):
             return daemon.settle(self)
         choose = daemon.begin(self) if hasattr(daemon, "begin") else cast(Daemon, daemon)
+        if isinstance(choose, GreedyChoice):
+            return choose.settle()
         charge, steps, moves = self.status().charge, 0, 0
         while True:
             enabled = self.enabled()
@@ -506,10 +548,13 @@ class Network:
 
         def look(state: State) -> Seen:
             if number not in state.neighbours:
-                raise ValueError(f"node {node!r} is not present")
+                raise self._absent(node)
             return see(state, number)
 
         return self._look(look)
+
+    def _absent(self, node: Name) -> ValueError:
+        return ValueError(f"node {node!r} is not present")
 
     def _played(self, events: Iterable[str]) -> str:
         for event in events:

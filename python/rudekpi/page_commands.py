@@ -6,7 +6,7 @@ import argparse
 import sys
 from typing import Callable
 
-from . import audits, drawings, streams
+from . import audits, drawings, outputs
 from .errors import Damaged
 from .log_commands import names_given, read, words_of_names
 from .names import names_for
@@ -16,6 +16,7 @@ Command = Callable[[str, Callable[[argparse.Namespace], int], str], argparse.Arg
 
 
 def run_page(given: argparse.Namespace) -> int:
+    refuse_clashes(given)
     transcript, names = read(given.transcript), names_given(given)
     try:
         audits.audit(transcript, program=given.program)
@@ -27,17 +28,18 @@ def run_page(given: argparse.Namespace) -> int:
     return DONE
 
 
+def refuse_clashes(given: argparse.Namespace) -> None:
+    outputs.refuse_clashes([given.output], [given.transcript, given.names, given.program])
+
+
 def run_picture(given: argparse.Namespace) -> int:
+    refuse_clashes(given)
     try:
         text = audits.picture(read(given.transcript), given.entry, names=names_given(given), program=given.program)
     except Damaged as damaged:
         print(damaged)
         return FAILED
-    if given.output is None or given.output == "-":
-        sys.stdout.buffer.write(text.encode())
-    else:
-        with streams.output_file(given.output) as out:
-            out.write(text)
+    outputs.write(given.output, text)
     return DONE
 
 

@@ -6,12 +6,12 @@ import contextlib
 import functools
 import os
 import re
-import stat
 from concurrent.futures import Executor, Future, ProcessPoolExecutor, ThreadPoolExecutor
 from typing import Iterator, Optional, Tuple, Union
 
-from .audits import Slice, audit, bytes_of
+from .audits import Slice, audit
 from .errors import Damaged, Lost
+from .given import Given, bytes_of, naming, opened, path_of, pieces_of, size_of
 from .library import chosen, found_library
 from .numbers import MOST_EDGES, MOST_NODES
 from .program import Program
@@ -65,17 +65,18 @@ class Held:
         if self.file is None:
             return Slice(self.text, start, end) if isinstance(executor, ThreadPoolExecutor) else self.text[start:end]
         if isinstance(executor, ThreadPoolExecutor):
-            return Slice(self.file, start, end)
+            return Slice(self.file, start, end, self.path)
         if self.is_shared or isinstance(executor, ProcessPoolExecutor):
-            return Slice(self.path, start, end)
-        return b"".join(self.read(at, min(PIECE, end - at)) for at in range(start, end, PIECE))
+            return Slice(self.path, start, end, self.path)
+        with naming(self.path):
+            return b"".join(pieces_of(self.file, start, end))
 
     def lines_before(self, end: int) -> int:
         return sum(self.read(at, min(PIECE, end - at)).count(b"\n") for at in range(0, end, PIECE))
 
 
 def audit_parts(
-    transcript: Union[str, bytes, "os.PathLike[str]"],
+    transcript: Given,
     executor: Optional[Executor] = None,
     *,
     program: Program = None,
@@ -90,22 +91,21 @@ def audit_parts(
     has the line's number in the whole. Without a base inside there is one part.
 
     The executor is any of `concurrent.futures`, or that of a cluster whose workers have this package and the
-    program; by default a thread for each processor of this machine. A `pathlib.Path` names a file, which is
-    not read whole and must not change meanwhile. Workers open the file if they are threads or processes of
-    this machine, or if the file is `shared`: all of them find it by this path.
+    program; by default a thread for each processor of this machine. A file that is given by its path is not
+    read whole and must not change meanwhile; `OSError` if it becomes shorter. Workers open the file if they
+    are threads or processes of this machine, or if the file is `shared`: all of them find it by this path.
 
     If a cluster loses a part's verdict, the part is judged once more. If the second verdict is lost too, and
     everything before the part is accepted, `LostPart` is raised. A process pool of the caller breaks if one
     of its processes dies: the pool is not replaced, and raises its `BrokenExecutor`.
     """
-    if not isinstance(transcript, os.PathLike):
+    path = path_of(transcript)
+    if path is None:
         return audit_held(Held(bytes_of(transcript)), executor, size, program, engine)
-    with open(transcript, "rb", buffering=0) as file:
-        if not stat.S_ISREG(os.fstat(file.fileno()).st_mode):
+    with opened(path) as file:
+        if size_of(file) is None:
             return audit_held(Held(file.readall()), executor, size, program, engine)
-        return audit_held(
-            Held(b"", file.fileno(), os.path.abspath(transcript), shared), executor, size, program, engine
-        )
+        return audit_held(Held(b"", file.fileno(), os.path.abspath(path), shared), executor, size, program, engine)
 
 
 def audit_held(held: Held, executor: Optional[Executor], size: int, program: Program, engine: Optional[str]) -> Summary:

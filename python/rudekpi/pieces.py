@@ -10,7 +10,8 @@ import select
 import threading
 from typing import Iterator, NoReturn, Optional, Sequence, Union
 
-from .audits import Text, bytes_of, said_by, summary_read
+from .audits import Text, said_by, summary_read
+from .given import checked
 from .library import NO_SESSION, Library, Slot, Verdict, chosen, summary_of
 from .processes import IS_NONE, READ, Run
 from .program import Program, found_program
@@ -57,7 +58,7 @@ class Audit:
         again. The program may report the damage only at a later call, at the latest at `finish`. If memory
         runs out, raises `MemoryError`, or with a program `Ended`; that ends the audit.
         """
-        self._judge.feed(bytes_of(piece))
+        self._judge.feed(checked(piece, "a piece of a transcript"))
 
     def finish(self) -> Summary:
         """The counts of the transcript that was fed; raises as `feed` does.

@@ -5,28 +5,32 @@ from __future__ import annotations
 import importlib
 import json
 import re
-from dataclasses import dataclass, fields
-from typing import Any, Callable, Optional, TextIO
+from dataclasses import dataclass, fields, replace
+from typing import Any, Callable, Iterable, Optional
 
 from . import daemons
 from .disturbances import Disturbance
 from .errors import RudekpiError
 from .graphs import graph_of
 from .program import Program
+from .rows import COLUMNS, EARLIER, FoundRow, Row, RowFile
 from .simple_graph import Graph
-from .sweeps import Experiment, Played, Row, read_csv
+from .sweeps import Experiment, Played
 
 KEYS = ("graphs", "undirected", "rules", "daemons", "seeds", "first_seed", "disturbances")
 # the parts of a disturbance in a row, and how each is read
 PARTS: tuple[tuple[str, Callable[[re.Match[str]], dict[str, Any]]], ...] = (
-    (r"([0-9]+) faults?(?: of (pointer|flag)s)?", lambda it: {"faults": int(it[1]), "registers": it[2] or "any"}),
-    (r"([0-9]+) joins?", lambda it: {"joins": int(it[1])}),
-    (r"([0-9]+) leaves?", lambda it: {"leaves": int(it[1])}),
-    (r"nodes walk ([0-9.e-]+)", lambda it: {"move": float(it[1])}),
-    (r"([0-9]+) links? cut", lambda it: {"cut": int(it[1])}),
-    (r"([0-9]+) links? added", lambda it: {"add": int(it[1])}),
-    (r"([0-9]+) links? rewired", lambda it: {"rewire": int(it[1])}),
-    (r"every ([0-9]+) moves?", lambda it: {"every": int(it[1])}),
+    (
+        r"([0-9]{1,20}) faults?(?: of (pointer|flag)s)?( with any value)?",
+        lambda it: {"faults": int(it[1]), "registers": it[2] or "any", "any_value": bool(it[3])},
+    ),
+    (r"([0-9]{1,20}) joins?", lambda it: {"joins": int(it[1])}),
+    (r"([0-9]{1,20}) leaves?", lambda it: {"leaves": int(it[1])}),
+    (r"nodes walk ([0-9]+(?:\.[0-9]+)?(?:e[+-]?[0-9]{1,3})?)", lambda it: {"move": float(it[1])}),
+    (r"([0-9]{1,20}) links? cut", lambda it: {"cut": int(it[1])}),
+    (r"([0-9]{1,20}) links? added", lambda it: {"add": int(it[1])}),
+    (r"([0-9]{1,20}) links? rewired", lambda it: {"rewire": int(it[1])}),
+    (r"every ([0-9]{1,20}) moves?", lambda it: {"every": int(it[1])}),
 )
 
 
@@ -116,7 +120,7 @@ def disturbance_of(given: Any) -> Disturbance:
     for key, value in given.items():
         if key not in known:
             raise ValueError(f"a disturbance has no key {key!r}: its keys are {', '.join(known)}")
-        kinds: dict[Any, tuple[type, ...]] = {"str": (str,), "float": (int, float)}
+        kinds: dict[Any, tuple[type, ...]] = {"str": (str,), "float": (int, float), "bool": (bool,)}
         if type(value) not in kinds.get(known[key], (int,)):
             raise ValueError(f"{key} of a disturbance is not {value!r}")
     return Disturbance(**given)
@@ -130,7 +134,7 @@ def disturbance_in(text: str) -> Disturbance:
     for part in text.split(", "):
         found = next(((made, it) for of, made in PARTS if (it := re.fullmatch(of, part))), None)
         if not found:
-            raise ValueError(f"{text!r} is no disturbance of a row")
+            raise ValueError(f"{text[:80]!r} is no disturbance of a row")
         words.update(found[0](found[1]))
     return Disturbance(**words)
 
@@ -140,12 +144,23 @@ def experiment_of(
 ) -> Experiment:
     """The experiment of a row. Its graph is the one given, else it is made or read again by its title.
 
-    Raises `ValueError` if the daemon is the caller's own function, or there is no such graph.
+    The faults of a row of an earlier version have any value. Raises `ValueError` if the daemon is the
+    caller's own function, or there is no such graph, and `RudekpiError` if the graph has another digest.
     """
-    if row.daemon not in daemons.WORDS:
-        raise ValueError(f"the daemon {row.daemon!r} is none that has a word: they are {', '.join(daemons.WORDS)}")
+    try:
+        daemons.named(row.daemon)
+    except ValueError:
+        raise ValueError(f"the daemon {row.daemon[:80]!r} is none that has a word: they are {daemons.TOLD}") from None
     graph = graph or graph_of(row.graph, undirected=undirected)
-    return Experiment(graph, row.rules, row.daemon, row.seed, disturbance_in(row.disturbance), program)
+    if row.digest not in ("", graph.digest):
+        raise RudekpiError(
+            f"another row comes of it: the digest of {row.graph} is {graph.digest}, and not {row.digest}; is the graph "
+            "another one?"
+        )
+    hit = disturbance_in(row.disturbance)
+    if not row.digest:
+        hit = replace(hit, any_value=True)
+    return Experiment(graph, row.rules, row.daemon, row.seed, hit, program, row.maximum is not None)
 
 
 def play_again(row: Row, undirected: bool = False, program: Program = None, graph: Optional[Graph] = None) -> Played:
@@ -156,16 +171,23 @@ def play_again(row: Row, undirected: bool = False, program: Program = None, grap
     experiment = experiment_of(row, undirected, program, graph)
     played = experiment.played()
     made = experiment.measured(played, 0.0)
-    for it in fields(Row):
-        was, now = getattr(row, it.name), getattr(made, it.name)
-        if it.name != "seconds" and was != now:
-            raise RudekpiError(f"another row comes of it: {it.name} is {now}, and not {was}; is the graph another one?")
+    known = COLUMNS if row.digest else EARLIER
+    for name in (*known, "maximum"):
+        was, now = getattr(row, name), getattr(made, name)
+        is_said_otherwise = name == "disturbance" and not row.digest
+        if name != "seconds" and was != now and not is_said_otherwise:
+            raise RudekpiError(f"another row comes of it: {name} is {now}, and not {was}; is the graph another one?")
     return played
 
 
-def row_in(file: TextIO, number: int) -> Row:
-    """A row of a file that a sweep wrote, from 1 on. Raises `ValueError` if there is none."""
-    rows = read_csv(file)
-    if not 1 <= number <= len(rows):
-        raise ValueError(f"there is no row {number}: {getattr(file, 'name', 'the file')} has rows 1 to {len(rows)}")
-    return rows[number - 1]
+def row_in(lines: Iterable[str], title: str, number: int) -> FoundRow:
+    """A row of a file that a sweep wrote, from 1 on. What follows the row is not read.
+
+    Raises `ValueError`, with the file's title, if there is no such row, or one up to it is not whole.
+    """
+    file, count = RowFile(lines, title), 0
+    for count, found in enumerate(file, 1):
+        if count == number:
+            return found
+    torn = f", and line {file.torn} is torn" if file.torn else ""
+    raise ValueError(f"there is no row {number}: {title} has {f'rows 1 to {count}' if count else 'no rows'}{torn}")

@@ -2,6 +2,7 @@
 
 from __future__ import annotations
 
+import itertools
 from typing import Union, cast
 
 from .choices import Daemon, checked_choice
@@ -43,12 +44,25 @@ class Player:
 
 def disturb_at_once(net: Network, events: Events, seed: int) -> None:
     with net.batch() as batch:
-        for event in events.all(seed):
+        for event in events.edits():
+            events.send(batch, event)
+    if events.wanted.any_value:
+        faults = events.faults_with_any_value(seed)
+    else:
+        # no node moves before the faults are drawn
+        state = net.follower().state()
+        faults = events.faults_that_change(lambda: state)
+    with net.batch() as batch:
+        for event in faults:
             events.send(batch, event)
 
 
 def disturb_one_by_one(net: Network, events: Events, seed: int, player: Player) -> None:
-    for event in events.all(seed):
+    if events.wanted.any_value:
+        faults = events.faults_with_any_value(seed)
+    else:
+        faults = events.faults_that_change(net.follower().state)
+    for event in itertools.chain(events.edits(), faults):
         with net.batch() as batch:
             events.send(batch, event)
         player.play(events.wanted.every)

@@ -2,12 +2,17 @@
 
 from __future__ import annotations
 
+import io
+import math
 import os
 import textwrap
 from collections import Counter
-from typing import Any, Iterable, Sequence, Union
+from typing import Any, Iterable, Optional, Sequence, Union
 
 from . import rules as rule_sets
+from .files import write_whole
+from .given import Given, bytes_of
+from .graphs import family_of
 from .replays import parts_of
 from .state import State
 from .sweeps import Row, natural
@@ -22,8 +27,13 @@ MOST_PANELS, ACROSS = 60, 4
 TITLE = "moves until silence"
 # the height of the legend, in inches
 LEGEND = 0.6
-# a bound above this multiple of the moves is written at the top, not drawn, so that the moves can be seen
+# a bound above this multiple of a panel's moves is written at the top, not drawn, so that the moves can be seen
 MOST_ABOVE = 4
+ABOVE = "bound \u2191: above the axis"
+# a sign for each daemon, as they come in natural order
+SIGNS = "os^Dv<>pXP*hd"
+# sizes that differ by more than this factor are on a logarithmic axis
+MOST_LINEAR = 4
 
 
 def figure_of(width: float, height: float) -> Any:
@@ -80,26 +90,34 @@ def of_rows(rows: Sequence[Row], path: Path) -> None:
     """Writes a picture of each run's moves, with a panel and its bounds for each graph and disturbance.
 
     In a panel each daemon with its rules has a place on the axis. Runs with equal moves are side by side, and
-    a line shows the median. The axis reaches as far as the moves, and as far as the bounds if they are near.
-    Raises `ValueError` if there are no rows, or more than 60 panels.
+    a line shows the median. A bound of at most four times the panel's moves is drawn; any other is a number
+    at the top, with an arrow. Raises `ValueError` if there are no rows, or more than 60 panels.
     """
-    panels_figure(rows).savefig(path, metadata=date_of(path))
+    save(panels_figure(rows), path)
+
+
+def save(figure: Any, path: Path) -> None:
+    """Writes a picture, whole or not at all. Raises `OSError`, and `ValueError` for an unknown extension."""
+    made = io.BytesIO()
+    figure.savefig(made, format=os.path.splitext(path)[1][1:].lower(), metadata=date_of(path))
+    write_whole(path, made.getvalue())
 
 
 def panels_figure(rows: Sequence[Row]) -> Any:
     panels = panels_of(rows)
     check_panels(len(panels))
     groups = groups_of(panels)
-    tops, are_near = tops_of(panels)
+    tops = tops_of(panels)
     columns = columns_of(list(panels))
     lines = -(-len(panels) // columns)
     width = max(2.4, 0.9 + 0.55 * len(groups))
     figure = figure_of(max(4.5, columns * width), LEGEND + lines * 2.9)
-    body = below_legend(figure, {row.rules for row in rows})
+    drawn = {fits(group, panel) for panel in panels.values() for group in panel.values()}
+    body = below_legend(figure, {row.rules for row in rows}, bounds=drawn)
     axes = body.subplots(lines, columns, squeeze=False).flatten()
     titles = titles_of({graph for graph, _ in panels})
     for place, ((graph, disturbance), panel) in enumerate(panels.items()):
-        draw_panel(axes[place], panel, groups, tops[graph, disturbance], are_near)
+        draw_panel(axes[place], panel, groups, tops[graph, disturbance])
         axes[place].set_title(f"{titles[graph]}\n{plain(disturbance)}", fontsize="small")
         if place % columns == 0:
             axes[place].set_ylabel("moves")
@@ -117,32 +135,41 @@ def columns_of(panels: Sequence[Pair]) -> int:
     return min(len(panels), ACROSS)
 
 
-def tops_of(panels: dict[Pair, dict[Pair, list[Row]]]) -> tuple[dict[Pair, float], bool]:
-    """How far each panel's axis reaches, and whether bounds are drawn.
+def moves_of(panel: dict[Pair, list[Row]]) -> int:
+    """The most moves of a run in a panel, at least 1."""
+    return max([1, *(row.moves for group in panel.values() for row in group)])
 
-    Bounds are drawn if they are near the moves in all panels. Panels of one disturbance share an axis if
-    their moves differ at most by a factor of two.
+
+def fits(group: Sequence[Row], panel: dict[Pair, list[Row]]) -> bool:
+    """Whether the bounds of some runs are near enough to be drawn in their panel."""
+    return max(row.bound for row in group) <= MOST_ABOVE * moves_of(panel)
+
+
+def tops_of(panels: dict[Pair, dict[Pair, list[Row]]]) -> dict[Pair, float]:
+    """How far each panel's axis reaches: to its most moves, and to each bound that is drawn.
+
+    Panels of one disturbance share an axis if theirs differ at most by a factor of two.
     """
-    of_panel = {key: [row for group in panel.values() for row in group] for key, panel in panels.items()}
-    most = {key: max([1, *(row.moves for row in rows)]) for key, rows in of_panel.items()}
-    bounds = {key: max(row.bound for row in rows) for key, rows in of_panel.items()}
-    are_near = all(bounds[key] <= MOST_ABOVE * most[key] for key in panels)
-    reach = {key: float(max(most[key], bounds[key]) if are_near else most[key]) for key in panels}
+    reach = {}
+    for key, panel in panels.items():
+        bounds = [row.bound for group in panel.values() if fits(group, panel) for row in group]
+        reach[key] = float(max([moves_of(panel), *bounds]))
     tops = {}
     for key in panels:
         like = [reach[other] for other in panels if other[1] == key[1]]
         tops[key] = max(like) if max(like) <= 2 * min(like) else reach[key]
-    return tops, are_near
+    return tops
 
 
-def draw_panel(axes: Any, panel: dict[Pair, list[Row]], groups: Sequence[Pair], top: float, draws_bounds: bool) -> None:
+def draw_panel(axes: Any, panel: dict[Pair, list[Row]], groups: Sequence[Pair], top: float) -> None:
     """The runs of one network, a place for each group; the axis reaches to `top`."""
-    axes.set_ylim(-0.04 * top, top * (1.08 if draws_bounds else 1.25))
+    axes.set_ylim(-0.04 * top, top * (1.08 if all(fits(group, panel) for group in panel.values()) else 1.25))
     axes.set_xlim(-0.6, len(groups) - 0.4)
     for place, key in enumerate(groups):
         if key in panel:
             draw_runs(axes, place, panel[key], 0.8)
-            (draw_bounds if draws_bounds else tell_bounds)(axes, place, [row.bound for row in panel[key]], 0.9)
+            draw = draw_bounds if fits(panel[key], panel) else tell_bounds
+            draw(axes, place, [row.bound for row in panel[key]], 0.9)
     axes.set_xticks(range(len(groups)), [f"{plain(daemon)}\n{rules}" for daemon, rules in groups], fontsize="x-small")
     if max(len(daemon) for daemon, _ in groups) > 9:
         axes.tick_params(axis="x", labelrotation=60)
@@ -150,12 +177,11 @@ def draw_panel(axes: Any, panel: dict[Pair, list[Row]], groups: Sequence[Pair], 
     axes.tick_params(axis="y", labelsize="x-small")
 
 
-def draw_runs(axes: Any, place: float, group: Sequence[Row], width: float) -> None:
+def draw_runs(axes: Any, place: float, group: Sequence[Row], width: float, sign: str = "o") -> None:
     """A dot for each run, and a line at the median."""
-    at = sorted(row.moves for row in group)
-    axes.scatter(
-        [place + aside for aside in asides(at, width)], at, s=9, alpha=0.6, color=OF_RULES[group[0].rules], linewidths=0
-    )
+    at, colour = sorted(row.moves for row in group), OF_RULES[group[0].rules]
+    across = [place + aside for aside in asides(at, width)]
+    axes.scatter(across, at, s=9, alpha=0.6, color=colour, linewidths=0, marker=sign)
     middle = (at[(len(at) - 1) // 2] + at[len(at) // 2]) / 2
     axes.plot([place - width / 3, place + width / 3], [middle, middle], color="#000000", linewidth=1)
 
@@ -193,53 +219,101 @@ def tell_bounds(axes: Any, place: float, bounds: Sequence[int], _: float) -> Non
 def over_graphs(rows: Sequence[Row], path: Path) -> None:
     """Writes a picture of the moves of each run over graphs of growing size.
 
-    Each graph with its disturbance has a place on the axis, with its own bounds. The axis of the moves is
-    logarithmic, but linear below 1 if a run has no moves. Raises `ValueError` if there are no rows.
+    Graphs of one family, such as `ring:N`, are at their numbers of nodes, on an axis that is logarithmic if
+    these differ by more than a factor of four. Other graphs, and several disturbances of a graph, have a place
+    each, without a scale, in the order of their sizes; the axis says which. The sign shows the daemon. The axis
+    of the moves is logarithmic, but linear below 1 if a run has no moves. Raises `ValueError` if there are no
+    rows.
     """
-    growth_figure(rows).savefig(path, metadata=date_of(path))
+    save(growth_figure(rows), path)
 
 
 def growth_figure(rows: Sequence[Row]) -> Any:
     found = panels_of(rows)
     panels = dict(sorted(found.items(), key=lambda item: max(row.n for rows in item[1].values() for row in rows)))
     groups = groups_of(panels)
-    figure = figure_of(max(5.0, 1 + len(panels) * (0.3 + 0.4 * len(groups))), 4.4)
-    axes = below_legend(figure, {row.rules for row in rows}).subplots()
+    daemons = list(dict.fromkeys(daemon for daemon, _ in groups))
+    signs = {daemon: SIGNS[at % len(SIGNS)] for at, daemon in enumerate(daemons)}
+    # as wide as the legend at least
+    figure = figure_of(max(4.5 + len(signs), 1 + len(panels) * (0.3 + 0.4 * len(groups))), 4.4)
+    axes = below_legend(figure, {row.rules for row in rows}, signs).subplots()
     axes.set_ylabel("moves")
-    least, most = min(row.moves for row in rows), max(max(row.bound, row.moves, 1) for row in rows)
-    axes.set_yscale("log" if least else "symlog", **({} if least else {"linthresh": 1}))
-    axes.set_ylim(bottom=least / 3, top=1.3 * most)
-    width = 0.8 / len(groups)
-    for at, panel in enumerate(panels.values()):
+    set_heights(axes, rows)
+    places = set_places(axes, list(panels))
+    gap = min([after - before for before, after in zip(places, places[1:])], default=1.0)
+    width = 0.8 * gap / len(groups)
+    for at, panel in zip(places, panels.values()):
         for number, key in enumerate(groups):
             if key in panel:
-                draw_group(axes, at + (number - (len(groups) - 1) / 2) * width, panel[key], width)
-    titles = titles_of({graph for graph, _ in panels})
-    names = [f"{titles[graph]}\n{plain(disturbance)}" for graph, disturbance in panels]
-    axes.set_xticks(range(len(panels)), names, fontsize="x-small")
-    axes.set_xlim(-0.55, len(panels) - 0.45)
-    axes.yaxis.set_major_formatter("{x:g}")
+                place = at + (number - (len(groups) - 1) / 2) * width
+                draw_runs(axes, place, panel[key], width * 0.8, signs[key[0]])
+                draw_bounds(axes, place, [row.bound for row in panel[key]], width)
+    axes.set_xlim(places[0] - 0.55 * gap, places[-1] + 0.55 * gap)
     return figure
 
 
-def draw_group(axes: Any, place: float, group: Sequence[Row], width: float) -> None:
-    draw_runs(axes, place, group, width * 0.8)
-    draw_bounds(axes, place, [row.bound for row in group], width)
-    axes.annotate(
-        plain(group[0].daemon), (place, 0.01), xycoords=("data", "axes fraction"), ha="center", fontsize=6, rotation=90
-    )
+def set_heights(axes: Any, rows: Sequence[Row]) -> None:
+    """The axis of the moves, with all runs and bounds inside it, also those at 0."""
+    least, most = min(row.moves for row in rows), max(max(row.bound, row.moves, 1) for row in rows)
+    if least:
+        axes.set_yscale("log")
+        axes.set_ylim(least / 3, 1.3 * most)
+    else:
+        axes.set_yscale("symlog", linthresh=1)
+        axes.set_ylim(-0.4, 1.3 * most)
+    axes.yaxis.set_major_formatter("{x:g}")
 
 
-def below_legend(figure: Any, rules: Iterable[str]) -> Any:
-    """The part of a figure below the legend of its colours and lines."""
+def set_places(axes: Any, panels: Sequence[Pair]) -> list[float]:
+    """Puts the panels on an axis, by size if they are of one family; returns their places, ascending."""
+    sizes = sizes_of(panels)
+    if sizes is None:
+        titles = titles_of({graph for graph, _ in panels})
+        names = [f"{titles[graph]}\n{plain(disturbance)}" for graph, disturbance in panels]
+        axes.set_xticks(range(len(panels)), names, fontsize="x-small")
+        axes.set_xlabel("graphs in the order of their sizes, without a scale", fontsize="x-small")
+        return [float(place) for place in range(len(panels))]
+    family, numbers = sizes
+    is_wide = max(numbers) > MOST_LINEAR * max(1, min(numbers))
+    places = [math.log2(max(1, number)) if is_wide else float(number) for number in numbers]
+    hits = [plain(disturbance) for _, disturbance in panels]
+    names = [f"{number}\n{hit}" if len(set(hits)) > 1 else str(number) for number, hit in zip(numbers, hits)]
+    axes.set_xticks(places, names, fontsize="x-small")
+    after = "" if len(set(hits)) > 1 else f" after {hits[0]}" if hits[0] != "start" else " from the start"
+    axes.set_xlabel(f"nodes N of {plain(family)}{after}{', logarithmic' if is_wide else ''}", fontsize="x-small")
+    return places
+
+
+def sizes_of(panels: Sequence[Pair]) -> Optional[tuple[str, list[int]]]:
+    """The family and the sizes of graphs, ascending; None if they are of several, or two have one size."""
+    found = [family_of(graph) for graph, _ in panels]
+    known = [it for it in found if it is not None]
+    numbers = [size for _, size in known]
+    if len(known) < len(panels) or len({family for family, _ in known}) > 1 or len(set(numbers)) < len(numbers):
+        return None
+    return (known[0][0], numbers) if numbers == sorted(numbers) else None
+
+
+def below_legend(
+    figure: Any, rules: Iterable[str], signs: Optional[dict[str, str]] = None, bounds: Iterable[bool] = (True,)
+) -> Any:
+    """The part of a figure below the legend of its colours, signs and lines.
+
+    `bounds` says whether bounds are drawn, whether they are numbers at the top, or both.
+    """
     from matplotlib.lines import Line2D
 
     marks = [
         Line2D([], [], linestyle="", marker="o", markersize=4, color=OF_RULES[name], label=f"a run, {name}")
         for name in sorted(rules)
     ]
+    marks += [
+        Line2D([], [], linestyle="", marker=sign, markersize=4, color="#000000", fillstyle="none", label=plain(daemon))
+        for daemon, sign in (signs or {}).items()
+    ]
     marks += [Line2D([], [], color="#000000", linewidth=1, label="median")]
-    marks += [Line2D([], [], color=BOUND, linewidth=1.2, label="bound")]
+    marks += [Line2D([], [], color=BOUND, linewidth=1.2, label="bound")] * (True in set(bounds))
+    marks += [Line2D([], [], linestyle="", label=ABOVE)] * (False in set(bounds))
     height = figure.get_figheight()
     head, body = figure.subfigures(2, 1, height_ratios=[LEGEND, height - LEGEND])
     head.legend(handles=marks, loc="center", ncols=len(marks), fontsize="x-small", frameon=False, title=TITLE)
@@ -273,17 +347,17 @@ def charges_of(transcript: str) -> list[tuple[int, int, bool]]:
     return found
 
 
-def of_run(transcript: str, path: Path) -> None:
+def of_run(transcript: Given, path: Path) -> None:
     """Writes a picture of the charge over the moves of a single run; a disturbance lets the charge rise."""
     figure = figure_of(7, 4.2)
     axes = figure.add_subplot(title="the charge of a run", xlabel="moves", ylabel="charge")
-    charges = charges_of(transcript)
+    charges = charges_of(bytes_of(transcript).decode())
     axes.step([moves for moves, _, _ in charges], [charge for _, charge, _ in charges], where="post", color=COLOURS[0])
     disturbed = [(moves, charge) for moves, charge, is_disturbed in charges if is_disturbed]
     if disturbed:
         axes.scatter(*zip(*disturbed), s=10, color=COLOURS[1], label="edit, fault or base")
         axes.legend(fontsize="small")
-    figure.savefig(path, metadata=date_of(path))
+    save(figure, path)
 
 
 def date_of(path: Path) -> Any:

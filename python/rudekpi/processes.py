@@ -10,6 +10,7 @@ import contextlib
 import functools
 import io
 import itertools
+import math
 import operator
 import os
 import signal
@@ -109,9 +110,9 @@ class Run:
     def has_status(self) -> bool:
         return bool(self.statuses) and self.statuses[-1][0] != 0
 
-    def status(self) -> int:
+    def status(self, seconds: float = LAST_SECONDS) -> int:
         """Waits for the program's exit status, and kills it after too long; 0 if none was started."""
-        last, pause = time.monotonic() + LAST_SECONDS, 0.0001
+        last, pause = time.monotonic() + seconds, 0.0001
         while self.numbers and not self.has_status():
             if time.monotonic() > last:
                 self.kill()
@@ -142,3 +143,29 @@ class Run:
         self.close()
         for file in self.files:
             file.close()
+
+
+class Silent(Run):
+    """A run without input or output; its standard error is this process's."""
+
+    def start(self, words: Sequence[str], given: Optional[io.FileIO] = None) -> None:
+        null = [
+            (os.POSIX_SPAWN_OPEN, number, os.devnull, way, 0) for number, way in ((0, os.O_RDONLY), (1, os.O_WRONLY))
+        ]
+        spawn = functools.partial(os.posix_spawnp, file_actions=null, setsid=True, setsigdef=IGNORED)
+        self.numbers.extend(map(spawn, (words[0],), (list(words),), (dict(os.environ),)))
+
+
+def status_of(words: Sequence[str]) -> int:
+    """Runs a program to its end, however long that takes; returns its exit status.
+
+    An interrupt ends the program and all that it started. Raises `OSError` if there is no such program.
+    """
+    run = Silent()
+    try:
+        run.start(words)
+        return run.status(math.inf)
+    except BaseException:
+        run.kill()
+        run.status()
+        raise

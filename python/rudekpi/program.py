@@ -4,10 +4,10 @@ from __future__ import annotations
 
 import functools
 import os
-import subprocess
 from typing import Union
 
 from .errors import Ended
+from .processes import status_of
 
 Program = Union[str, "os.PathLike[str]", None]
 PACKAGE = os.path.dirname(os.path.realpath(__file__))
@@ -19,9 +19,9 @@ def repository_program() -> str:
     path = os.path.join(os.path.dirname(os.path.dirname(PACKAGE)), "console")
     if not os.path.isfile(path):
         raise FileNotFoundError(f"no program at {path}: name one by program= or RUDEKPI_CONSOLE")
-    built = subprocess.run([path, "--version"], stdin=subprocess.DEVNULL, stdout=subprocess.DEVNULL)
-    if built.returncode:
-        raise Ended(built.returncode, b"the program could not be built")
+    status = status_of([path, "--version"])
+    if status:
+        raise Ended(status, b"the program could not be built")
     return path
 
 

@@ -6,7 +6,8 @@ import itertools
 from typing import Iterable, Iterator, Optional, Union
 
 from .answers import BASE, CHECKPOINT
-from .audits import Text, audit
+from .audits import audit
+from .given import Given, bytes_of
 from .names import names_for
 from .network import Network
 from .program import Program
@@ -15,7 +16,7 @@ from .replies import Name
 
 
 def replay(
-    transcript: Text,
+    transcript: Given,
     *,
     names: Optional[Iterable[Name]] = None,
     program: Program = None,
@@ -31,17 +32,18 @@ def replay(
 
     Raises `Damaged` if `audit` refuses the transcript, and `ValueError` if the number of names differs.
     """
-    audit(transcript, program=program, engine=engine)
-    transcript = transcript if isinstance(transcript, str) else bytes(transcript).decode()
-    head, *parts = parts_of(transcript)
+    given = bytes_of(transcript)
+    audit(given, program=program, engine=engine)
+    text = given.decode()
+    head, *parts = parts_of(text)
     _, rules, count, *rest = head[0].split(" ")
     present, edits = edits_to(head) if len(head) > 1 else (int((rest or [count])[0]), [])
     capacity = int(count)
-    nodes: Union[int, list[Name]] = capacity if names is None else names_for(transcript, names).all()
+    nodes: Union[int, list[Name]] = capacity if names is None else names_for(text, names).all()
     entries = [(CHECKPOINT, "") if len(part) > 1 else tuple(part[0].split(" ", 1)[1].split(" = ")) for part in parts]
     net = Network(rules, nodes, present=present, capacity=capacity, program=program, engine=engine)
     if len(head) == 1:
-        if net._played(event for event, _ in entries) == transcript:
+        if net._played(event for event, _ in entries) == text:
             return net
         net.close()
         net = Network(rules, nodes, present=present, capacity=capacity, program=program, engine=engine)

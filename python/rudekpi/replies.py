@@ -186,10 +186,16 @@ class Turns(_Items[Reply]):
 
 @dataclass(frozen=True)
 class Registers:
-    """The registers of a node: its pointer, at a neighbour or None, and its flag."""
+    """The registers of a node: its pointer, at a neighbour or None, and its flag.
+
+    They unpack: `pointer, flag = net.registers(node)`.
+    """
 
     pointer: Optional[Name]
     flag: bool
+
+    def __iter__(self) -> Iterator[Any]:
+        return iter((self.pointer, self.flag))
 
 
 @dataclass(frozen=True)

@@ -17,6 +17,7 @@ from . import rules as rule_sets
 from .audits import judged_epochs
 from .graphs import Graph
 from .network import Network
+from .numbers import MOST_NODES
 from .program import Program
 from .replies import Name, Wish
 from .state import State
@@ -45,10 +46,38 @@ class Longest:
     flags: tuple[Name, ...]
     steps: tuple[tuple[Wish, ...], ...]
 
+    @property
+    def has_own_numbers(self) -> bool:
+        """Whether the names are ascending numbers that a network takes; the script then has these names."""
+        nodes = self.graph.nodes
+        are_numbers = all(type(node) is int and 1 <= node <= MOST_NODES for node in nodes)
+        return are_numbers and list(nodes) == sorted(nodes)
+
+    @property
+    def numbers(self) -> dict[Name, int]:
+        """The number of each node in the script: its name, or its place in the graph."""
+        places = enumerate(self.graph.nodes, 1)
+        return {node: node if self.has_own_numbers else place for place, node in places}
+
+    @property
+    def is_numbered(self) -> bool:
+        """Whether the script's numbers are 1 to the number of nodes; else the nodes join first."""
+        return list(self.numbers.values()) == list(range(1, len(self.graph.nodes) + 1))
+
+    @property
+    def setting(self) -> str:
+        """The words after `run` that play the script."""
+        nodes = max(self.numbers.values(), default=0)
+        return f"--rules {self.rules} --nodes {nodes}{'' if self.is_numbered else ' --present 0'}"
+
     def script(self) -> str:
-        """The schedule as a script: the edges, the faults before its start, its steps and two questions."""
-        number = {node: place for place, node in enumerate(self.graph.nodes, 1)}
-        lines = [f"link {number[a]} {number[b]}" for a, b in self.graph.edges]
+        """The schedule as a script, which is run with `setting`.
+
+        It has the nodes that join and the edges, the faults before its start, its steps and two questions.
+        """
+        number = self.numbers
+        lines = [] if self.is_numbered else [f"join {number[node]}" for node in self.graph.nodes]
+        lines += [f"link {number[a]} {number[b]}" for a, b in self.graph.edges]
         lines += [f"point {number[a]} {number[b]}" for a, b in self.pointers] + [
             f"flag {number[node]} 1" for node in self.flags
         ]
@@ -66,7 +95,8 @@ class Longest:
 
         Raises `AssertionError` if the number of moves differs, and what playing raises.
         """
-        with Network(self.rules, len(self.graph.nodes), program=program) as net:
+        nodes = max(self.numbers.values(), default=0)
+        with Network(self.rules, nodes, present=len(self.numbers) if self.is_numbered else 0, program=program) as net:
             transcript = net._played(self.script().splitlines())
         played = judged_epochs(transcript, program=program)[-1].moves
         if played != self.moves:

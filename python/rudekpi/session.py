@@ -4,11 +4,13 @@ from __future__ import annotations
 
 import io
 import itertools
+import struct
 from typing import Optional, Sequence
 
 from .answers import STEP, Answers, Setting, refusal
 from .batch import Asked, AskedTurns, Batch, Pending
 from .errors import Garbled, Inherited, NoReply, NoSuchCommand, RudekpiError, text_of
+from .library import NodeView
 from .reading import read_accepted
 from .replies import Reply
 from .talk import Load, Talk
@@ -17,6 +19,16 @@ from .talk import Load, Talk
 UNSENT = 1 << 16
 # beyond this many parts of output, the session looks for parts that were read, and drops them
 MOST_CAME = 8
+
+
+def range_of(text: bytearray, start: int, end: int) -> bytes:
+    """A copy of a range of a text, made by one C call.
+
+    It slices no bytearray: without memory for the slice, CPython frees an object whose count of exported
+    buffers was never set, and prints a `SystemError`.
+    """
+    found: bytes = struct.unpack_from(f"{max(0, end - start)}s", text, min(start, end))[0]
+    return found
 
 
 class Session:
@@ -75,7 +87,7 @@ class Session:
             raise self.talk.ended
         answers = self.answers
         end = answers.said.rfind(b"\n", 0, answers.said_size) + 1
-        return (bytes(answers.said[max(0, place - answers.said_place) : end]), answers.said_place + end)
+        return range_of(answers.said, max(0, place - answers.said_place), end), answers.said_place + end
 
     def batch(self, raises: bool = True, keeps: bool = True) -> Batch:
         return Batch(self, raises, keeps)
@@ -83,6 +95,25 @@ class Session:
     def partner(self, number: int) -> Optional[int]:
         """None: the program has no such question."""
         return None
+
+    def registers(self, number: int) -> Optional[NodeView]:
+        """None, as for the next questions: the program has none of them."""
+        return None
+
+    def neighbours(self, number: int) -> Optional[list[int]]:
+        return None
+
+    def present(self) -> Optional[list[int]]:
+        return None
+
+    def edges(self) -> Optional[list[tuple[int, int]]]:
+        return None
+
+    def restless(self) -> list[int]:
+        raise self._untold("does not tell who is at rest")
+
+    def renumber(self) -> str:
+        raise self._untold("numbers its entries once")
 
     def cost_of(self, word: str, numbers: Sequence[int]) -> int:
         raise self._untold(f"tells no cost of {word} beforehand")

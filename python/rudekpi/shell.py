@@ -37,7 +37,7 @@ class Shell:
             raise EOFError
         if word in OWN:
             return self.own(word, rest.strip())
-        why = why_no_command(line.encode())
+        why = why_no_command(line.encode("utf-8", "surrogateescape"))
         if why:
             return f"not sent: {why}\n"
         if not line:

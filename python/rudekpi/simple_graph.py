@@ -2,8 +2,12 @@
 
 from __future__ import annotations
 
+import hashlib
+import json
 from dataclasses import dataclass, field
-from typing import Optional
+from functools import cached_property
+from operator import index
+from typing import Any, Optional
 
 from .numbers import MOST_EDGES, MOST_NODES
 from .replies import Name
@@ -55,6 +59,30 @@ class Graph:
             if key in seen:
                 raise ValueError(f"{self.title}: the edge of {a!r} and {b!r} is there twice")
             seen.add(key)
+
+    @cached_property
+    def digest(self) -> str:
+        """16 hexadecimal digits of the SHA-256 of the nodes and edges in their order, without the title."""
+        place = {node: at for at, node in enumerate(self.nodes, 1)}
+        made = hashlib.sha256("\n".join(map(spelled, self.nodes)).encode())
+        made.update("".join(f"\n{place[a]} {place[b]}" for a, b in self.edges).encode())
+        return made.hexdigest()[:16]
+
+
+def written_name(name: Name) -> Any:
+    """A name in JSON: a text, a number, or a list for a tuple. Raises `TypeError` for any other."""
+    if isinstance(name, tuple):
+        return [written_name(part) for part in name]
+    if isinstance(name, (str, float, bool)):
+        return name
+    return index(name)
+
+
+def spelled(name: Name) -> str:
+    try:
+        return json.dumps(written_name(name))
+    except TypeError:
+        return ascii(name)
 
 
 def edge_key(a: int, b: int) -> int:

@@ -5,20 +5,18 @@ from __future__ import annotations
 import contextlib
 import errno
 import io
-import mmap
 import os
 import re
-import stat
-from typing import Any, BinaryIO, Iterable, Iterator, Optional, Union
+from typing import Any, Iterable, Iterator, Optional
 
 from .audits import audit
 from .errors import Damaged, Ended
+from .given import Given, became_shorter, bytes_of, opened, path_of, size_of
 from .names import Names, names_for
 from .processes import add_nameless, no_low_numbers
 from .program import Program
 from .replies import Name
 
-Transcript = Union[bytes, bytearray, memoryview, str, "os.PathLike[str]", BinaryIO]
 # the first line of a transcript, or of a base
 HEAD = re.compile(rb"matching2? (hh|manne) [0-9]{1,5}(?: [0-9]{1,5})?\n")
 # the program's last line if it refuses the file that it is to go on from
@@ -26,9 +24,9 @@ REFUSED_FILE = re.compile(r"! .*: line ([0-9]+): (.*)")
 
 
 class Source:
-    """The bytes of a transcript; if they are a file's, without a copy."""
+    """The bytes of a transcript, and the regular file that has them, if any."""
 
-    def __init__(self, text: Union[bytes, mmap.mmap], file: Optional[io.FileIO] = None) -> None:
+    def __init__(self, text: bytes, file: Optional[io.FileIO] = None) -> None:
         self.text, self.file = text, file
 
     @contextlib.contextmanager
@@ -65,39 +63,24 @@ class Source:
             return head[1].decode(), names_for(self.text, nodes)
         except ValueError:
             # a damaged transcript is refused as such, whatever the names
-            audit(self.text[:], program=program, engine=engine)
+            audit(self.text, program=program, engine=engine)
             raise
 
 
 @contextlib.contextmanager
-def source_of(transcript: Transcript) -> Iterator[Source]:
+def source_of(transcript: Given) -> Iterator[Source]:
     """The bytes of a transcript while the context lasts. Raises `OSError` if a file can't be read."""
-    if isinstance(transcript, (bytes, bytearray, memoryview)):
-        yield Source(bytes(transcript))
+    path = path_of(transcript)
+    if path is None:
+        yield Source(bytes_of(transcript))
         return
-    if not isinstance(transcript, (str, os.PathLike)):
-        yield Source(read_whole(transcript))
-        return
-    if "\n" in os.fspath(transcript):
-        raise ValueError("a str is the path of a file: a transcript's text is given as bytes, by encode()")
-    with no_low_numbers():
-        file = io.FileIO(transcript)
-    with file:
-        found = os.fstat(file.fileno())
-        if not stat.S_ISREG(found.st_mode) or not found.st_size:
-            yield Source(file.readall())
-            return
-        # ctypes needs a mapping that may be written to; it is not written to
-        yield Source(mmap.mmap(file.fileno(), 0, access=mmap.ACCESS_COPY), file)
-
-
-def read_whole(file: BinaryIO) -> bytes:
-    if not hasattr(file, "read"):
-        raise TypeError(f"a transcript is bytes, a path or an open file, and not {file!r}")
-    data = file.read()
-    if not isinstance(data, bytes):
-        raise TypeError("a transcript's file is opened to read bytes: open(path, 'rb')")
-    return data
+    with opened(path) as file:
+        size, text = size_of(file), file.readall()
+        if size is not None and len(text) < size:
+            raise became_shorter(path)
+        # the program reads the file itself, from its start
+        os.lseek(file.fileno(), 0, os.SEEK_SET) if size is not None else None
+        yield Source(text, None if size is None else file)
 
 
 def refusal_of(ended: Ended) -> Exception:

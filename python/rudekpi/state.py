@@ -117,8 +117,8 @@ class State:
 class Follower:
     """The state of a session's network. It is followed on from the last time it was asked for."""
 
-    def __init__(self, session: Union[Direct, Session]) -> None:
-        self.session = session
+    def __init__(self, session: Union[Direct, Session], make: Callable[[], State] = State) -> None:
+        self.session, self.make = session, make
         # the state at a place of the kept text, unless it is in use: a signal's handler that asks meanwhile
         # starts afresh
         self.followed: list[tuple[int, State]] = []
@@ -132,7 +132,7 @@ class Follower:
         try:
             place, state = self.followed.pop()
         except IndexError:
-            place, state = 0, State()
+            place, state = 0, self.make()
         text, end = self.session.since(place)
         # if an interrupt cuts this function short, it begins again at the start
         state.follow(text.decode().splitlines())

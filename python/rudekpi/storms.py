@@ -73,6 +73,6 @@ def path_of(script: Script, path: str) -> str:
     if isinstance(script, os.PathLike):
         return os.path.abspath(script)
     lines = script.splitlines() if isinstance(script, str) else script
-    with open(path, "w") as file:
+    with open(path, "w", encoding="utf-8") as file:
         file.writelines(f"{line.rstrip()}\n" for line in lines)
     return path

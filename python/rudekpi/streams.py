@@ -12,6 +12,11 @@ if TYPE_CHECKING:
     from _typeshed import ReadableBuffer, WriteableBuffer
 
 
+# of all files, and of standard streams that are no terminal, whatever the locale; a path whose bytes are no
+# text is written as these bytes
+ENCODING, LETTERS = "utf-8", "surrogateescape"
+
+
 class Input(io.FileIO):
     """A standard input that names itself if a read fails."""
 
@@ -46,7 +51,7 @@ class Output(io.FileIO):
 
 def output_file(path: str, appends: bool = False) -> TextIO:
     """A file opened to write or append, which names its path if a write fails. Raises `OSError`."""
-    return io.TextIOWrapper(io.BufferedWriter(Output(path, path, appends)), newline="")
+    return io.TextIOWrapper(io.BufferedWriter(Output(path, path, appends)), ENCODING, LETTERS, newline="")
 
 
 def fill_closed() -> None:
@@ -65,11 +70,14 @@ def prepare() -> None:
     """Replaces Python's standard streams by ones that name what fails."""
     fill_closed()
     if sys.stderr is None:
-        sys.stderr = open(2, "w", closefd=False)
+        sys.stderr = open(2, "w", closefd=False, encoding=ENCODING, errors="backslashreplace")
     if sys.stdin is None or not sys.stdin.isatty():
-        sys.stdin = io.TextIOWrapper(io.BufferedReader(Input(0, "r", closefd=False)))
+        sys.stdin = io.TextIOWrapper(io.BufferedReader(Input(0, "r", closefd=False)), ENCODING, LETTERS)
     if sys.stdout is None or not sys.stdout.isatty():
-        sys.stdout = io.TextIOWrapper(io.BufferedWriter(Output(1)))
+        sys.stdout = io.TextIOWrapper(io.BufferedWriter(Output(1)), ENCODING, LETTERS)
+    elif isinstance(sys.stdout, io.TextIOWrapper):
+        # a terminal has the locale's letters, and the others are escaped
+        sys.stdout.reconfigure(errors="backslashreplace")
 
 
 def let_go() -> None:

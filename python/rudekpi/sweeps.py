@@ -6,7 +6,6 @@ A sweep has an experiment for each combination of graph, rules, daemon, seed and
 from __future__ import annotations
 
 import contextlib
-import csv
 import itertools
 import math
 import os
@@ -15,10 +14,10 @@ import re
 import time
 from collections import deque
 from concurrent.futures import Executor
-from dataclasses import asdict, astuple, dataclass, fields
-from typing import Any, Callable, Generator, Iterable, Iterator, Optional, Sequence, TextIO, Union
+from dataclasses import asdict, dataclass
+from typing import Any, Generator, Iterable, Optional, Sequence, Union
 
-from . import daemons
+from . import daemons, maximum_matchings
 from .audits import judged_epochs
 from .bursts import bound_of_costs
 from .choices import Daemon
@@ -26,7 +25,7 @@ from .disturbances import Disturbance as Disturbance
 from .disturbances import Events
 from .errors import Lost, RudekpiError
 from .graphs import from_networkx, is_networkx
-from .kept_graphs import Rows, keep_beside
+from .kept_graphs import Rows
 from .simple_graph import Graph
 from .network import Network
 from .numbers import MOST_SEED, MOST_TURNS, counted, number_within
@@ -34,6 +33,8 @@ from .program import Program, found_program
 from .plays import Player, disturb_at_once, disturb_one_by_one
 from .replies import Name, Status
 from .rounds import watch_after
+from .rows import COLUMNS as COLUMNS, read_csv as read_csv, write_csv as write_csv  # noqa: F401
+from .rows import Row as Row, columns_of
 from .workers import Handing, count_of
 
 AnyDaemon = Union[daemons.AnyDaemon, Daemon, str]
@@ -56,40 +57,6 @@ class LostExperiments(Lost):
 
 
 @dataclass(frozen=True)
-class Row:
-    """The results of an experiment: its sizes, counts, bounds and time.
-
-    `charge` is the charge at the beginning, `pairs` the number of pairs at the end. `bound` is that of the
-    last `Epoch`. If disturbances come one by one, `charge` also includes the sum of their costs, and `bound`
-    is that of a `Burst`. The moves exceed neither charge nor bound. The rounds are measured; no bound on them
-    is proved: see `rudekpi.rounds`. `seconds` is the time for the whole experiment.
-    """
-
-    graph: str
-    rules: str
-    n: int
-    m: int
-    daemon: str
-    seed: int
-    disturbance: str
-    steps: int
-    moves: int
-    rounds: int
-    update: int
-    marry: int
-    seduce: int
-    abandon: int
-    charge: int
-    bound: int
-    pairs: int
-    seconds: float
-
-    @property
-    def key(self) -> tuple[object, ...]:
-        return self.graph, self.rules, self.daemon, self.seed, self.disturbance
-
-
-@dataclass(frozen=True)
 class Played:
     """A run: its transcript, the status before and after the daemon's part, and its steps and moves."""
 
@@ -100,6 +67,8 @@ class Played:
     moves: int
     # the names, in the order of the transcript's numbers
     nodes: tuple[Name, ...] = ()
+    # how many faults changed a register, None if they were drawn with any value
+    changes: Optional[int] = None
 
 
 @dataclass(frozen=True)
@@ -115,6 +84,8 @@ class Experiment:
     seed: int
     disturbance: Disturbance
     program: Program = None
+    # whether the row has the size of a maximum matching
+    maximum: bool = False
 
     def __post_init__(self) -> None:
         if not isinstance(self.graph, Graph):
@@ -135,7 +106,7 @@ class Experiment:
 
     @property
     def key(self) -> tuple[object, ...]:
-        return self.graph.title, self.rules, self.daemon_word(), self.seed, str(self.disturbance)
+        return (self.graph.title, self.rules, self.daemon_word(), self.seed, str(self.disturbance))
 
     def daemon_word(self) -> str:
         return (
@@ -155,9 +126,9 @@ class Experiment:
         with Network(self.rules, self.graph.nodes, program=self.program) as net:
             self.begin(net, joining)
             daemon = daemons.named(self.daemon, self.seed) if isinstance(self.daemon, str) else self.daemon
+            events = Events(wanted, self.graph, joining, drawn)
             if not wanted.is_nothing:
                 net.settle(daemons.Seeded(self.seed))
-                events = Events(wanted, self.graph, joining, drawn)
                 if not wanted.every:
                     disturb_at_once(net, events, self.seed)
             before, player = net.status(), Player(net, daemon)
@@ -165,7 +136,8 @@ class Experiment:
                 disturb_one_by_one(net, events, self.seed, player)
             player.settle()
             after = net.status()
-        return Played(net.transcript(), before, after, player.steps, player.moves, self.graph.nodes)
+        changes = None if wanted.any_value and wanted.faults else events.changes
+        return Played(net.transcript(), before, after, player.steps, player.moves, self.graph.nodes, changes)
 
     def measured(self, played: Played, began: float) -> Row:
         """The row of a run, whose transcript is judged here.
@@ -206,6 +178,9 @@ class Experiment:
             bound,
             after.pairs,
             round(time.perf_counter() - began, 6),
+            played.changes,
+            self.graph.digest,
+            maximum_matchings.size_of(watch.state.edges()) if self.maximum else None,
         )
 
     def begin(self, net: Network, joining: set[Name]) -> None:
@@ -229,12 +204,14 @@ def experiments_of(
     seeds: Iterable[int],
     disturbances: Iterable[Union[int, Disturbance]],
     program: Program = None,
+    maximum: bool = False,
 ) -> list[Experiment]:
     """All experiments of a sweep.
 
-    The rules `hh` have no flags, and one node moves at a time. So experiments on flags or with the
-    synchronous daemon are left out under `hh`. Raises `ValueError` for wrong words or numbers, for two graphs
-    with one title, and for more than 1,000,000 experiments, which are counted before any is made.
+    The rules `hh` have no flags, and one node moves at a time. So experiments on flags are left out under
+    `hh`, and those with a daemon that moves several nodes: `synchronous`, `local`, `probability:P`. Raises
+    `ValueError` for wrong words or numbers, for two graphs with one title, and for more than 1,000,000
+    experiments, which are counted before any is made.
     """
     of = [it if isinstance(it, Disturbance) else Disturbance(it) for it in disturbances]
     lists = [first_of(it) for it in (graphs, rules, daemons, seeds, of)]
@@ -244,12 +221,10 @@ def experiments_of(
     check_titles(lists[0])
     every = itertools.product(*lists)
     lawful = (
-        words
-        for words in every
-        if not (words[1] == "hh" and (is_synchronous(words[2]) or words[4].registers == "flag"))
+        words for words in every if not (words[1] == "hh" and (is_of_manne(words[2]) or words[4].registers == "flag"))
     )
     return [
-        Experiment(graph, rule_set, daemon, seed, disturbance, program)
+        Experiment(graph, rule_set, daemon, seed, disturbance, program, maximum)
         for graph, rule_set, daemon, seed, disturbance in lawful
     ]
 
@@ -269,8 +244,9 @@ def check_titles(graphs: Sequence[Any]) -> None:
             raise ValueError(f"two graphs have the title {graph.title!r}: networkx.Graph(name=..) gives one")
 
 
-def is_synchronous(daemon: AnyDaemon) -> bool:
-    return daemon == "synchronous" or isinstance(daemon, daemons.Synchronous)
+def is_of_manne(daemon: AnyDaemon) -> bool:
+    """Whether a daemon lets several nodes move at once. Raises `ValueError` for an unknown word."""
+    return isinstance(daemons.named(daemon) if isinstance(daemon, str) else daemon, daemons.OF_MANNE)
 
 
 def sweep(
@@ -284,14 +260,16 @@ def sweep(
     program: Program = None,
     processes: Optional[int] = None,
     there: Iterable[Row] = (),
+    maximum: bool = False,
 ) -> Rows[Row]:
     """A row for each graph, rules, daemon, seed and disturbance, in the order of completion.
 
     A graph may be one of networkx. A disturbance is a `Disturbance`, or a number of faults. The executor is
     any of `concurrent.futures`, or that of a cluster whose workers have this package and the program
     (`distributed.Client().get_executor()`, `mpi4py.futures`). By default `processes` processes of this
-    machine play, or one for each processor. Experiments whose rows are in `there` are not played. Raises
-    `ValueError` for wrong arguments.
+    machine play, or one for each processor. Experiments whose rows are in `there` are not played. With
+    `maximum` each row has the size of a maximum matching, by networkx. Raises `ValueError` for wrong
+    arguments, and `ImportError` if networkx is missing.
 
     Experiments are handed out in tasks of about a second. If a task's worker dies, the task is tried once
     more. If the second worker dies too, the other tasks are done, and `LostExperiments` is raised at the end.
@@ -302,14 +280,18 @@ def sweep(
     if processes is not None and processes < 1:
         raise ValueError(f"there is one process or more, and not {processes}")
     known = {row.key for row in there}
-    every = experiments_of(graphs, rules, daemons, seeds, faults, program)
+    if maximum:
+        maximum_matchings.check()
+    every = experiments_of(graphs, rules, daemons, seeds, faults, program, maximum)
     todo, played = [it for it in every if it.key not in known], {it.graph.title: it.graph for it in every}
+    for graph in played.values():
+        _ = graph.digest  # found once, before it goes to workers
     if executor is not None:
-        return Rows(rows_of(todo, executor), played.values())
+        return Rows(rows_of(todo, executor), played.values(), columns_of(maximum))
     # built and named once, before any worker looks for it
     found_program(program)
     given = max(1, min(processes or os.cpu_count() or 1, len(todo)))
-    return Rows(rows_of(todo, given), played.values())
+    return Rows(rows_of(todo, given), played.values(), columns_of(maximum))
 
 
 class Tasks:
@@ -356,38 +338,12 @@ def natural(word: str) -> list[tuple[int, str]]:
     return [(int(part), "") if place % 2 else (0, part) for place, part in enumerate(parts)]
 
 
-COLUMNS = tuple(it.name for it in fields(Row))
-
-
-def write_csv(rows: Iterable[Row], file: TextIO, has_head: bool = False) -> Iterator[Row]:
-    """The same rows, each written to a CSV file as it comes, so that an interrupt loses none.
-
-    The head is written first, unless the file has it. Graphs of `sweep` that no word makes and no file has
-    are kept next to the CSV file: see `rudekpi.kept_graphs`.
-    """
-    keep_beside(file, getattr(rows, "graphs", ()), has_head)
-    writer = csv.writer(file)
-    if not has_head:
-        writer.writerow(COLUMNS)
-    for row in rows:
-        writer.writerow(astuple(row))
-        file.flush()
-        yield row
-
-
-def read_csv(file: TextIO) -> list[Row]:
-    """The rows of a file that `write_csv` wrote. Raises `ValueError` for another file."""
-    kinds: dict[str, Callable[[str], Any]] = {"float": float, "int": int, "str": str}
-    lines = csv.DictReader(file)
-    if tuple(lines.fieldnames or ()) != COLUMNS:
-        raise ValueError(f"{getattr(file, 'name', 'the file')} has not the columns {','.join(COLUMNS)}")
-    return [Row(**{it.name: kinds[str(it.type)](line[it.name]) for it in fields(Row)}) for line in lines]
-
-
 def frame_of(rows: Iterable[Row]) -> Any:
     """The rows as a `pandas.DataFrame`. Needs pandas, else raises `ImportError`."""
     try:
         import pandas
     except ImportError:
         raise ImportError("a frame wants pandas, which is not there") from None
-    return pandas.DataFrame([asdict(row) for row in rows], columns=list(COLUMNS))
+    found = [asdict(row) for row in rows]
+    has_maximum = any(row["maximum"] is not None for row in found)
+    return pandas.DataFrame(found, columns=list(columns_of(has_maximum)))

@@ -247,7 +247,7 @@ def fuzz(end: str, count: int, seed: int, folder: str) -> tuple[collections.Coun
 
 
 def main() -> int:
-    words = argparse.ArgumentParser(usage=(__doc__ or "").split("\n\n")[1][7:])
+    words = argparse.ArgumentParser(allow_abbrev=False, usage=(__doc__ or "").split("\n\n")[1][7:])
     words.add_argument("--count", type=int, default=10_000)
     words.add_argument("--seed", type=int, default=0)
     words.add_argument("formats", nargs="*", default=list(SAMPLES), metavar="FORMAT")

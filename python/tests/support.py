@@ -28,9 +28,14 @@ Reply = TypeVar("Reply")
 TOP = os.path.dirname(os.path.dirname(os.path.dirname(os.path.abspath(__file__))))
 
 
+# how many times longer a test may take on a busy machine than on an idle one
+BUSY = 4
+
+
 class Timed(unittest.TestCase):
     """Fails if it takes too long; tests/client makes a class of it for each of its engines."""
 
+    # how long a test may take on a machine that does nothing else
     seconds = 60
     engines: tuple[str, ...] = ("program", "library")
     engine = "program"
@@ -41,12 +46,12 @@ class Timed(unittest.TestCase):
         self.addCleanup(chosen.stop)
 
         def stop(*_: object) -> None:
-            raise AssertionError(f"no end after {self.seconds} seconds")
+            raise AssertionError(f"no end after {BUSY * self.seconds} seconds")
 
         before = signal.signal(signal.SIGALRM, stop)
         self.addCleanup(signal.signal, signal.SIGALRM, before)
         # again each second, since other subtests follow one that is stopped
-        signal.setitimer(signal.ITIMER_REAL, self.seconds, 1)
+        signal.setitimer(signal.ITIMER_REAL, BUSY * self.seconds, 1)
         self.addCleanup(signal.setitimer, signal.ITIMER_REAL, 0)
 
     def folder(self) -> str:
@@ -58,7 +63,7 @@ class Timed(unittest.TestCase):
         """A shell script, or a Python one if it begins with `import`."""
         path = os.path.join(self.folder(), name)
         first = f"#!{sys.executable}\n" if text.startswith("import ") else "#!/bin/sh\n"
-        with open(path, "w") as file:
+        with open(path, "w", encoding="utf-8") as file:
             file.write(first + text)
         os.chmod(path, os.stat(path).st_mode | stat.S_IXUSR)
         return path
@@ -69,7 +74,7 @@ class Timed(unittest.TestCase):
         Returns its standard error.
         """
         folder = self.folder()
-        with open(os.path.join(folder, "script.py"), "w") as file:
+        with open(os.path.join(folder, "script.py"), "w", encoding="utf-8") as file:
             file.write(script)
         paths = dict(os.environ, PYTHONPATH=os.path.join(TOP, "python"))
         run = subprocess.Popen(
@@ -91,7 +96,7 @@ class Timed(unittest.TestCase):
 
 def children() -> list[int]:
     """This thread's processes, with ended ones that were not waited for."""
-    with open(f"/proc/self/task/{threading.get_native_id()}/children") as file:
+    with open(f"/proc/self/task/{threading.get_native_id()}/children", encoding="utf-8") as file:
         return [int(word) for word in file.read().split()]
 
 

@@ -189,7 +189,7 @@ class Children(Timed):
     def test_each_call_raises_ended(self) -> None:
         with Network("manne", 3) as net:
             net.link(1, 2)
-            net.edges
+            net.transcript()
             calls = self.calls(net)
             go, come = os.pipe()
             child = os.fork()

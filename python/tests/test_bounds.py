@@ -40,6 +40,13 @@ class MovesLeft(Timed):
         with linked("manne", graphs.complete(4), cycle) as net:
             self.assertEqual((net.status().charge, net.moves_left()), (2 * 3 + 4 + 4, 14))
 
+    def test_none_in_silence(self) -> None:
+        # under `manne` a node without edges is silent, and has one of the charge
+        for rules, charge in (("hh", 0), ("manne", 5000)):
+            for engine in ("library", "program"):
+                with self.subTest(rules, engine=engine), Network(rules, 5000, engine=engine) as net:
+                    self.assertEqual((net.status().enabled, net.status().charge, net.moves_left()), (0, charge, 0))
+
     def test_of_few_nodes(self) -> None:
         for nodes in (0, 1):
             with self.subTest(nodes=nodes), Network("hh", nodes) as net:

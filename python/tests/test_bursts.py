@@ -3,6 +3,7 @@
 from __future__ import annotations
 
 import csv
+import itertools
 import os
 import random
 import subprocess
@@ -10,7 +11,8 @@ import sys
 import unittest
 from unittest import mock
 
-from rudekpi import Damaged, Garbled, Network, audits, bursts
+from rudekpi import Damaged, Garbled, Network, audits, bursts, rounds
+from rudekpi import rules as rule_sets
 from rudekpi.bursts import HEAD
 from rudekpi.rounds import Watch
 from rudekpi.state import State
@@ -90,6 +92,30 @@ class Rounds(Timed):
         self.assertEqual((watch.rounds, watch.is_silent), (1, True))
         watch.follow("6 link 3 4 = ok")
         self.assertEqual((watch.rounds, watch.awaited, watch.enabled), (1, set(), {3, 4}))
+
+    def test_the_counts_at_each_node(self) -> None:
+        """Random events, repeated changes of a hub among them: the counts are those of the rules' own definitions."""
+        for seed, rule_set in itertools.product(range(4), ("hh", "manne")):
+            drawn, state = random.Random(seed), State(rule_set, 9, range(1, 9))
+            counts = rounds.Counts(state)
+            for _ in range(400):
+                nodes = sorted(state.neighbours)
+                a, b = drawn.sample([1, *nodes] if 1 in nodes else nodes, 2)
+                if drawn.random() < 0.1 and len(nodes) > 3:
+                    counts.leave(a)
+                elif drawn.random() < 0.2 and len(nodes) < 9:
+                    counts.join(drawn.choice([it for it in range(1, 10) if it not in nodes]))
+                elif a != b and b not in state.neighbours[a]:
+                    counts.link(a, b)
+                elif a != b and drawn.random() < 0.3:
+                    counts.unlink(a, b)
+                elif drawn.random() < 0.7:
+                    counts.point(a, drawn.choice([0, *state.neighbours[a]]))
+                elif rule_set == "manne":
+                    counts.flag(a, drawn.randint(0, 1))
+                for node in state.neighbours:
+                    self.assertEqual(counts.rule_at(node), rule_sets.rule_at(state, node), (seed, rule_set, node))
+                    self.assertEqual(counts.suitors[node], len(rule_sets.suitors(state, node)))
 
     def test_a_reply_of_another_machine(self) -> None:
         lines = AT_ONCE.replace("enabled=0", "enabled=1").splitlines()
@@ -231,6 +257,12 @@ class Command(Timed):
             ],
         )
         self.assertEqual(len(list(csv.DictReader(lines))), 4)
+
+    def test_without_nodes(self) -> None:
+        done = rudekpi("--no-nodes", given=ROW)
+        self.assertEqual((done.returncode, done.stderr), (0, ""))
+        head = "start,end,disturbances,cost,bound,moves,steps,rounds,pairs_before,pairs_after"
+        self.assertEqual(done.stdout.splitlines()[:3], [head, "1,3,1 link,2,2,2,2,1,0,1", "4,7,2 link,4,4,2,2,1,1,2"])
 
     def test_what_is_refused(self) -> None:
         done = rudekpi(given=ROW.replace("2:marry>1", "2:seduce>1"))

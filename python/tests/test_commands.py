@@ -7,6 +7,7 @@ import os
 import pathlib
 import pty
 import random
+import re
 import select
 import signal
 import socket
@@ -15,7 +16,7 @@ import sys
 import time
 import unittest
 
-from rudekpi import script_words, sweeps
+from rudekpi import commands, script_words, sweeps
 from support import TOP, Timed
 
 try:
@@ -225,12 +226,61 @@ class Bench(Timed):
 
     def test_worst(self) -> None:
         done = rudekpi("worst", "--graph", "ring:4", "--rules", "manne")
-        self.assertEqual(done.stderr, "ring:4, manne: 20 moves, the longest of all, in 1296 states; the bound is 20\n")
+        self.assertEqual(
+            done.stderr,
+            "ring:4, manne: 20 moves, the longest of all, in 1296 states; the bound is 20; "
+            "to play it: rudekpi run --rules manne --nodes 4\n",
+        )
         played = said("run", "--rules", "manne", "--nodes", "4", given=done.stdout)
         self.assertEqual(played, said("worst", "--graph", "ring:4", "--transcript"))
         self.assertIn(
             "the longest found", rudekpi("worst", "--graph", "ring:40", "--rules", "hh", "--seconds", "0").stderr
         )
+
+    def test_worst_of_nodes_with_names(self) -> None:
+        folder = self.folder()
+        path, script = os.path.join(folder, "edges"), os.path.join(folder, "script")
+        pathlib.Path(path).write_text("10 20\n20 30\n")
+        done = rudekpi("worst", "--graph", path, "--rules", "hh", "--output", script)
+        self.assertEqual((done.returncode, done.stdout), (0, ""))
+        setting = "--rules hh --nodes 30 --present 0"
+        # 2m + n is 7; the table of the longest schedules has 4 for a path of three
+        self.assertIn(": 4 moves, the longest of all", done.stderr)
+        self.assertTrue(done.stderr.endswith(f"; to play it: rudekpi run {setting}\n"), done.stderr)
+        lines = pathlib.Path(script).read_text().splitlines()
+        self.assertEqual(lines[:5], ["join 10", "join 20", "join 30", "link 10 20", "link 20 30"])
+        played = said("run", *setting.split(" "), given=pathlib.Path(script).read_text())
+        self.assertEqual(played.splitlines()[-1].split(" ", 3)[3], "nodes=3 edges=2 pairs=1 enabled=0 charge=0 spent=4")
+        self.assertNotIn("refused", played)
+        self.assertEqual(played, said("worst", "--graph", path, "--rules", "hh", "--transcript"))
+        pathlib.Path(path).write_text("ann bob\nbob cleo\n")
+        done = rudekpi("worst", "--graph", path, "--rules", "hh", "--output", script)
+        end = f"rudekpi run --rules hh --nodes 3; the nodes 1 to 3 are ann, bob, cleo: {script}.names\n"
+        self.assertTrue(done.stderr.endswith(end), done.stderr)
+        self.assertEqual(pathlib.Path(script + ".names").read_text(), '"ann"\n"bob"\n"cleo"\n')
+        played = said("run", "--rules", "hh", "--nodes", "3", given=pathlib.Path(script).read_text())
+        self.assertTrue(played.endswith("spent=4\n"), played)
+
+    def test_no_flag_is_abbreviated(self) -> None:
+        for words in (
+            "sweep --graph ring:5 --seed 7",
+            "compare --graph ring:5 --fault 3",
+            "worst --graph ring:5 --out f",
+        ):
+            done = rudekpi(*words.split(" "))
+            self.assertEqual((done.returncode, done.stdout), (2, ""))
+            self.assertIn(f"unrecognized arguments: {words.split(' ')[-2]}", done.stderr)
+        parser = commands.parser_of()
+        (chosen,) = (it.choices for it in parser._actions if it.dest == "command" and it.choices)
+        every = dict(chosen).values()
+        self.assertEqual({it.allow_abbrev for it in (parser, *every)}, {False})
+        for folder in ("python", "scripts", "tests", "bench", "examples"):
+            for path in pathlib.Path(TOP, folder).rglob("*"):
+                if path.is_file() and (
+                    path.suffix == ".py" or (not path.suffix and b"python3" in path.read_bytes()[:40])
+                ):
+                    parsers = re.findall(r"ArgumentParser\(\s*[^)]{0,30}", path.read_text())
+                    self.assertEqual([it for it in parsers if "allow_abbrev=False" not in it], [], path)
 
     def test_what_is_left_out_is_told(self) -> None:
         done = rudekpi("sweep", "--graph", "ring:5", "--rules", "hh,manne", "--daemon", "synchronous", "--seeds", "2")

@@ -475,7 +475,7 @@ class Damaged(Timed):
 
 
 class OwnNodes(Timed):
-    """Its nodes know nothing of this package."""
+    """Its nodes know nothing of this package, or, with --proved, only the rule of one node."""
 
     engines = ("program",)
     seconds = 240
@@ -485,7 +485,8 @@ class OwnNodes(Timed):
     def verdict(self, *words: str) -> tuple[Conformance, str]:
         path = pathlib.Path(self.folder(), "log")
         example = [sys.executable, os.path.join(TOP, "examples", "own_nodes.py"), "--log", str(path), *words]
-        done = subprocess.run(example, capture_output=True, text=True)
+        engine = dict(os.environ, RUDEKPI_ENGINE=self.engine_of_example)
+        done = subprocess.run(example, env=engine, capture_output=True, text=True)
         self.assertEqual(done.stderr, "")
         rules = words[words.index("--rules") + 1]
         found = conform(path, rules, engine=self.engine_of_example)
@@ -499,22 +500,36 @@ class OwnNodes(Timed):
             self.assertEqual((found.events, found.divergences), (10_000, 0))
             self.assertGreater(min(found.moves.values()), 100)
 
+    def test_its_nodes_run_the_proved_rule(self) -> None:
+        if self.engine_of_example == "program":
+            self.skipTest("no library")
+        for rules in ("hh", "manne"):
+            found, said = self.verdict("--rules", rules, "--proved", "--events", "4000")
+            self.assertTrue(said.endswith("the rules allow all of it\n"))
+            self.assertEqual((found.events, found.divergences), (4000, 0))
+            self.assertGreater(min(found.moves.values()), 40)
+
     def test_its_mistakes_are_found_by_name(self) -> None:
-        for rules, mistake, why in (
+        for rules, mistake, why, *more in (
             ("hh", "stale", "n17 may have read a stale copy of "),
             ("manne", "stale", "n17 may have read a stale copy of "),
             ("manne", "low", r"stands below n17 \(they are nodes "),
+            ("manne", "stale", "n17 may have read a stale copy of ", "--proved"),
         ):
-            with self.subTest(mistake, rules=rules):
-                found, said = self.verdict("--rules", rules, "--mistake", mistake, "--events", "1500", "--seed", "3")
+            if more and self.engine_of_example == "program":
+                continue
+            with self.subTest(mistake, rules=rules, more=more):
+                words = ("--rules", rules, "--mistake", mistake, "--events", "1500", "--seed", "3", *more)
+                found, said = self.verdict(*words)
                 assert found.first is not None
                 self.assertEqual(found.first.node, "n17")
                 self.assertRegex(said, why)
 
-    def test_it_imports_conform_alone(self) -> None:
+    def test_it_imports_conform_and_the_rule_alone(self) -> None:
         with open(os.path.join(TOP, "examples", "own_nodes.py")) as file:
             own = [line for line in file if "rudekpi" in line and "import" in line]
-        self.assertEqual(own, ["from rudekpi import conform  # noqa: E402\n"])
+        wanted = ["from rudekpi import conform  # noqa: E402\n", "        from rudekpi import local_rule\n"]
+        self.assertEqual(own, wanted)
 
 
 if __name__ == "__main__":

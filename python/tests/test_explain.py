@@ -48,7 +48,8 @@ def rudekpi(*words: str, given: str = "") -> subprocess.CompletedProcess[str]:
 class Reasons(Timed):
     def found(self, text: str, line: int, marked: str, why: str) -> Explanation:
         """At this line and word, with these words in its reason."""
-        made = explain(text)
+        # bytes, since a text without a line feed would be a path
+        made = explain(text.encode())
         assert made is not None, text
         self.assertEqual((made.line, made.text[made.start : made.end]), (line, marked), str(made))
         self.assertIn(why, str(made))
@@ -147,6 +148,26 @@ class Reasons(Timed):
         self.found("".join(lines[:3] + lines[4:]), 4, "4", "entry 3 is missing")
         self.found("".join(lines[:3] + lines[5:]), 4, "5", "entries 3 to 4 are missing")
         self.found("".join(lines[:4] + lines[3:]), 5, "3", "here stands entry 4; an entry 3 stands above")
+
+    def test_two_lines_that_are_swapped(self) -> None:
+        lines = PAIR.splitlines(keepends=True)
+        for at in range(1, 6):
+            swapped = "".join([*lines[:at], lines[at + 1], lines[at], *lines[at + 2 :]])
+            why = f"swapped with the next line, which is entry {at}"
+            self.found(swapped, at + 1, str(at + 1), why)
+        # at the end of the text, and with a line feed too few
+        self.found("".join([*lines[:6], lines[7], lines[6]])[:-1], 7, "7", "swapped with the next line")
+        self.found("".join([*lines[:6], lines[7]]), 7, "7", "entry 6 is missing")
+
+    def test_a_wrong_count_of_enabled_nodes_names_one(self) -> None:
+        head = "matching hh 2\n1 link 1 2 = ok\n2 status = nodes=2 edges=1 pairs=0 "
+        made = self.found(head + "enabled=0 charge=2 spent=0\n", 3, "enabled=0", "says `enabled=2`: 1 is enabled")
+        self.assertIn("1 may only seduce 2", str(made))
+        self.found(head + "enabled=1 charge=2 spent=0\n", 3, "enabled=1", "says `enabled=2`: 1 is enabled")
+        made = self.found(head + "enabled=3 charge=2 spent=0\n", 3, "enabled=3", "the machine says `enabled=2`")
+        self.assertNotIn("is enabled", str(made))
+        named = explain(head + "enabled=0 charge=2 spent=0\n", names=("ann", "bob"))
+        self.assertIn("1 (ann) is enabled", str(named))
 
     def test_first_lines_that_are_no_header(self) -> None:
         for head, marked, why in (

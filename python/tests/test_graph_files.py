@@ -258,7 +258,13 @@ class Read(Timed):
         for write, end, written in [
             (networkx.write_graphml, ".graphml", names),
             (networkx.write_edgelist, ".txt", graph.edge_subgraph(graph.edges)),
-            (lambda made, to: pathlib.Path(to).write_text(json.dumps(networkx.node_link_data(made))), ".json", graph),
+            (
+                lambda made, to: pathlib.Path(to).write_text(
+                    json.dumps(networkx.node_link_data(made)), encoding="utf-8"
+                ),
+                ".json",
+                graph,
+            ),
         ]:
             with self.subTest(end):
                 data = {"data": False} if end == ".txt" else {}
@@ -276,7 +282,7 @@ class Read(Timed):
         ]:
             graph = kind([("a", "b"), ("a", "b"), ("b", "c")])
             networkx.write_graphml(graph, path + ".graphml")
-            pathlib.Path(path + ".json").write_text(json.dumps(networkx.node_link_data(graph)))
+            pathlib.Path(path + ".json").write_text(json.dumps(networkx.node_link_data(graph)), encoding="utf-8")
             for end in (".graphml", ".json"):
                 with self.subTest(kind=kind.__name__, end=end):
                     self.assertRaisesRegex(ValueError, why, graphs.read, path + end)

@@ -6,6 +6,7 @@ import os
 import pathlib
 import unittest
 
+from rudekpi import graphs
 from support import Timed
 from test_commands import rudekpi
 
@@ -27,6 +28,14 @@ class Words(Timed):
                 self.assertEqual((done.returncode, done.stdout), (2, ""))
                 self.assertEqual(done.stderr.splitlines()[-1], f"rudekpi {command}: error: argument --graph: {why}")
                 self.assertNotIn("Traceback", done.stderr)
+
+    def test_each_word_is_a_function(self) -> None:
+        for word, (make, _, _) in graphs.MADE.items():
+            self.assertEqual((make.__name__, getattr(graphs, word)), (word, make))
+            self.assertIn(word, graphs.__all__)
+        self.assertIs(graphs.unit_disk, graphs.disk)
+        self.assertEqual(graphs.graph_of("disk:60,0.25,1"), graphs.disk(60, 0.25, 1))
+        self.assertEqual(graphs.disk(60, 0.25, 1).title, "disk:60,0.25,1")
 
     def test_files_that_are_no_graphs(self) -> None:
         path = self.file("a.txt", "1 2\n1,2\n")

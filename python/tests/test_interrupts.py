@@ -15,9 +15,10 @@ import time
 import types
 import unittest
 from typing import Any, Callable, Optional
+from unittest import mock
 
 import rudekpi
-from rudekpi import Ended, Network, audit
+from rudekpi import Ended, Network, audit, processes, program
 from support import TOP, Timed, children, has_ended, session_of
 
 PACKAGE = os.path.dirname(rudekpi.__file__)
@@ -142,6 +143,29 @@ class EachInstruction(Timed):
 
         self.cut_everywhere(play, look, step=53, made=lambda: Network("manne", 4, keep=False))
 
+    def test_of_a_renumbering(self) -> None:
+        if self.engine == "program":
+            self.skipTest("the program numbers its entries once")
+
+        def made() -> Network:
+            net = Network("manne", 4)
+            net.link(1, 2)
+            net.point(1, 2)
+            return net
+
+        def look(net: Network) -> None:
+            audit(net.transcript())
+            entry = net.show(1).entry
+            self.assertIn(entry, (1, 3))
+            # the text of a renumbering that was cut short comes with this one's
+            ended = net.renumber()
+            self.assertIn(f"\n{entry} show 1 = 2\n", ended)
+            audit(ended[ended.rindex("matching2 ") :])
+            self.assertEqual((net.show(1).entry, net.edges), (1, [(1, 2)]))
+            net.close()
+
+        self.cut_everywhere(Network.renumber, look, step=5, made=made)
+
     def test_of_the_making_of_one(self) -> None:
         before = set(children())
         # an interrupt in a finalizer is reported there, and not raised
@@ -157,11 +181,64 @@ class EachInstruction(Timed):
         self.assertLessEqual(set(children()), before)
 
 
+class Building(Timed):
+    """The program of a clone, which is built first: what an interrupt of that leaves."""
+
+    def test_it_leaves_no_process(self) -> None:
+        top, main = self.folder(), threading.get_ident()
+        console, mark = os.path.join(top, "console"), os.path.join(top, "pids")
+        with open(console, "w", encoding="utf-8") as file:
+            file.write(
+                "#!/bin/sh\nsleep 300 &\necho $$ $! > pids.new && mv pids.new pids\nwait\n".replace("pids", mark)
+            )
+        os.chmod(console, 0o755)
+
+        def handler(*_: object) -> None:
+            raise Cut
+
+        def send() -> None:
+            wait_until(lambda: os.path.exists(mark), 60)
+            signal.pthread_kill(main, signal.SIGUSR1)
+
+        self.addCleanup(signal.signal, signal.SIGUSR1, signal.signal(signal.SIGUSR1, handler))
+        before = children()
+        sender = threading.Thread(target=send)
+        sender.start()
+        program.repository_program.cache_clear()
+        with mock.patch.object(program, "PACKAGE", os.path.join(top, "python", "rudekpi")), self.assertRaises(Cut):
+            program.repository_program()
+        sender.join()
+        self.assertEqual(children(), before)
+        with open(mark, encoding="utf-8") as file:
+            numbers = file.read().split()
+        self.assertEqual(len(numbers), 2)
+        wait_until(lambda: not any(map(is_running, numbers)))
+        self.assertFalse(any(map(is_running, numbers)))
+
+    def test_its_status(self) -> None:
+        self.assertEqual(processes.status_of(["sh", "-c", "echo out; cat; exit 7"]), 7)
+        with self.assertRaises(FileNotFoundError):
+            processes.status_of(["/none/program"])
+
+
+def is_running(number: str) -> bool:
+    """Whether a process is there that has not ended."""
+    try:
+        with open(f"/proc/{number}/stat", encoding="utf-8") as file:
+            return file.read().rpartition(")")[2].split()[0] not in "ZX"
+    except FileNotFoundError:
+        return False
+
+
 class RandomTimes(Timed):
     seconds = 120
 
-    def cut_at_random(self, times: int, play: Callable[[], object]) -> int:
-        """Plays while a thread sends `times` signals; returns how many came meanwhile."""
+    def cut_at_random(self, times: int, play: Callable[[], object], most: int) -> int:
+        """Plays while a thread sends `times` signals; returns how many came meanwhile.
+
+        After `most` plays without a signal it waits for the next one, so that a sender which gets no
+        processor lets no log grow full.
+        """
         main, drawn = threading.get_ident(), random.Random(7)
         is_armed, is_done, came, handled = [False], [False], [0], [0]
 
@@ -187,11 +264,16 @@ class RandomTimes(Timed):
         self.addCleanup(signal.signal, signal.SIGUSR1, before)
         sender = threading.Thread(target=send, daemon=True)
         sender.start()
+        played, last = 0, 0
         while not is_done[0]:
             # the handler disarms itself, so that no signal comes outside this block
             try:
                 is_armed[0] = True
                 play()
+                played = played + 1 if last == handled[0] else 1
+                last = handled[0]
+                if played > most:
+                    time.sleep(1)
                 is_armed[0] = False
             except Cut:
                 pass
@@ -203,12 +285,13 @@ class RandomTimes(Timed):
             net.link(1, 2)
 
             def play() -> None:
-                while True:
+                for _ in range(500):
                     shown = net.show(2)
                     if (shown.node, shown.target) != (2, None):
                         raise AssertionError(shown)
 
-            came = self.cut_at_random(3000, play)
+            # together at most three quarters of a log
+            came = self.cut_at_random(3000, play, 7)
             self.assertGreater(came, 2700)
             self.assertEqual(net.status().edges, 1)
         audit(net.transcript())
@@ -224,7 +307,7 @@ class RandomTimes(Timed):
                 if shown.result().node != 7:
                     raise AssertionError(shown.result())
 
-            self.assertGreater(self.cut_at_random(300, play), 250)
+            self.assertGreater(self.cut_at_random(300, play, 5), 250)
             self.assertEqual(net.status().nodes, 3000)
         audit(net.transcript())
 

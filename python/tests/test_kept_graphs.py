@@ -21,7 +21,7 @@ from rudekpi.simple_graph import Graph
 from support import TOP, Timed
 
 # names of three kinds, one without links, and edges in no order
-MIXED = Graph("mine/ä", ("zoe", 7, ("a", (1, "b")), "7"), ((7, "zoe"), (("a", (1, "b")), "zoe")))
+MIXED = Graph("mine/λ", ("zoe", 7, ("a", (1, "b")), "7"), ((7, "zoe"), (("a", (1, "b")), "zoe")))
 
 
 def rudekpi(*words: str, folder: Optional[str] = None) -> subprocess.CompletedProcess[str]:
@@ -60,10 +60,10 @@ class Kept(Timed):
         edges = [("ann", "bob"), ("bob", "cleo")]
         rows = swept(self.path, [MIXED, Networkx(["ann", "bob", "cleo", "dan"], edges), graphs.ring(5)])
         self.assertEqual(len(rows), 3 * 2 * 2 * 2)
-        self.assertEqual(
-            sorted(os.listdir(self.path + ".graphs")), ["mine%2F%C3%A4.json", "networkx%3A4,2.json"], "no ring:5"
-        )
-        self.assertEqual(kept_graphs.kept_graph(self.path, "mine/ä"), MIXED)
+        # a colon is %3A in a file's name
+        of_networkx = "%3A".join(["networkx", "4,2.json"])
+        self.assertEqual(sorted(os.listdir(self.path + ".graphs")), ["mine%2F%CE%BB.json", of_networkx], "no ring:5")
+        self.assertEqual(kept_graphs.kept_graph(self.path, "mine/λ"), MIXED)
         for row in rows:
             graph = kept_graphs.kept_graph(self.path, row.graph)
             self.assertEqual(graph is None, row.graph == "ring:5")
@@ -78,7 +78,7 @@ class Kept(Timed):
         self.assertEqual(read_names(os.path.join(folder, "t.names")), ["zoe", 7, "('a', (1, 'b'))", "7"])
         self.assertIn('["zoe", "zoe"]', pathlib.Path(folder, "p.html").read_text())
         self.assertEqual(rudekpi("again", "rows.csv", "2", folder=folder).stdout, pathlib.Path(folder, "t").read_text())
-        kept = pathlib.Path(self.path + ".graphs", "mine%2F%C3%A4.json")
+        kept = pathlib.Path(self.path + ".graphs", "mine%2F%CE%BB.json")
         whole = kept.read_text()
         for text, why in (
             ("{", "no JSON of a graph"),
@@ -97,7 +97,7 @@ class Kept(Timed):
         kept.unlink()
         done = rudekpi("again", "rows.csv", "2", folder=folder)
         self.assertEqual((done.returncode, done.stdout), (3, ""))
-        self.assertRegex(done.stderr, "^! no file 'mine/ä'; .*; and rows.csv.graphs keeps no graph of this title\n$")
+        self.assertRegex(done.stderr, "^! no file 'mine/λ'; .*; and rows.csv.graphs keeps no graph of this title\n$")
 
     def test_what_is_kept(self) -> None:
         read = os.path.join(os.path.dirname(self.path), "edges")
@@ -132,7 +132,7 @@ class Kept(Timed):
             more = list(sweeps.write_csv(sweep([MIXED], seeds=[9], processes=1, there=made), file, True))
             self.assertEqual([row.seed for row in more], [9])
             other = Graph(MIXED.title, MIXED.nodes, MIXED.edges[:1])
-            with self.assertRaisesRegex(ValueError, "another graph has the title 'mine/ä', and rows of it are there"):
+            with self.assertRaisesRegex(ValueError, "another graph has the title 'mine/λ', and rows of it are there"):
                 list(sweeps.write_csv(sweep([other], processes=1), file, True))
         self.assertEqual(os.stat(kept_graphs.path_of(self.path, MIXED.title)).st_size, before)
 
@@ -151,7 +151,7 @@ class Kept(Timed):
         folder = os.path.dirname(self.path)
         pathlib.Path(folder, "named.txt").write_text("# who meets whom\nann bob\nbob cleo\ncleo dan\nalone\n", "utf-8")
         for command in ("sweep", "compare"):
-            words = "--graph named.txt --rules hh,manne --daemon least --seeds 2 --cut 1 --csv rows.csv"
+            words = "--graph named.txt --rules hh,manne --daemon least --seeds 2 --cut 1 --csv rows.csv --force"
             done = rudekpi(command, *words.split(), folder=folder)
             self.assertEqual((done.returncode, done.stderr), (0, ""))
             self.assertEqual(json.dumps(os.listdir(folder).count("rows.csv.graphs")), "0")

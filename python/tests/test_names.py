@@ -118,8 +118,8 @@ class Capacity(Timed):
             pairs = net.matching().pairs
             net.save(path)
             said = net.transcript()
-        self.assertEqual(pathlib.Path(path).read_text(), said)
-        self.assertEqual(pathlib.Path(path + ".names").read_text(), '"ann"\n"bob"\n"zoe"\n')
+        self.assertEqual(pathlib.Path(path).read_text(encoding="utf-8"), said)
+        self.assertEqual(pathlib.Path(path + ".names").read_text(encoding="utf-8"), '"ann"\n"bob"\n"zoe"\n')
         with replay(said, names=read_names(path + ".names")) as again:
             self.assertEqual(again.transcript(), said)
             self.assertEqual(again.matching().pairs, pairs)
@@ -169,9 +169,9 @@ class Files(unittest.TestCase):
         with self.assertRaisesRegex(ValueError, "has a letter at least, and the text of '' has none"):
             names_text(["a", ""])
         path = os.path.join(self.folder(), "names")
-        pathlib.Path(path).write_text("old")
+        pathlib.Path(path).write_text("old", encoding="utf-8")
         self.assertRaises(ValueError, write_names, path, ["a", "a"])
-        self.assertEqual(pathlib.Path(path).read_text(), "old")
+        self.assertEqual(pathlib.Path(path).read_text(encoding="utf-8"), "old")
 
     def test_files_by_hand_and_what_is_wrong_in_them(self) -> None:
         path = os.path.join(self.folder(), "names")
@@ -260,7 +260,7 @@ class Shown(Timed):
         path = os.path.join(self.folder(), "page.html")
         with replay(PAIR, names=self.names) as net:
             net.play(path)
-        page = pathlib.Path(path).read_text()
+        page = pathlib.Path(path).read_text(encoding="utf-8")
         head = '<script type="application/json" id="names">'
         [data] = page.split(head)[1:]
         data = data.partition("</script>")[0]
@@ -311,8 +311,8 @@ class Commands(unittest.TestCase):
     def setUp(self) -> None:
         self.folder = Timed.folder(self)  # type: ignore[arg-type]
         self.names, self.transcript = os.path.join(self.folder, "names"), os.path.join(self.folder, "t")
-        pathlib.Path(self.names).write_text('ann\n"b c"\n7\n')
-        pathlib.Path(self.transcript).write_text(PAIR)
+        pathlib.Path(self.names).write_text('ann\n"b c"\n7\n', encoding="utf-8")
+        pathlib.Path(self.transcript).write_text(PAIR, encoding="utf-8")
 
     def said(self, *words: str, status: int = 0, given: bytes = b"") -> str:
         done = rudekpi(*words, given=given)
@@ -332,21 +332,23 @@ class Commands(unittest.TestCase):
         self.assertEqual(json.loads(said.splitlines()[1])["words"], ["ann", "b c"])
         said = self.said("bursts", self.transcript, "--names", self.names)
         self.assertEqual(said.splitlines()[1].split(",")[-1], '"ann ""b c"""')
-        pathlib.Path(self.transcript).write_text(PAIR.replace("2:marry>1", "2:marry>3"))
+        pathlib.Path(self.transcript).write_text(PAIR.replace("2:marry>1", "2:marry>3"), encoding="utf-8")
         said = self.said("explain", self.transcript, "--names", self.names, status=1)
         self.assertIn("2 (b c)", said)
 
     def test_pages(self) -> None:
         page = os.path.join(self.folder, "page.html")
         self.assertEqual(self.said("page", self.transcript, "--output", page, "--names", self.names), "")
-        self.assertIn('[["ann", "ann"], ["b c", "b c"], ["7", "7"], [], []]', pathlib.Path(page).read_text())
+        self.assertIn(
+            '[["ann", "ann"], ["b c", "b c"], ["7", "7"], [], []]', pathlib.Path(page).read_text(encoding="utf-8")
+        )
         self.assertEqual(self.said("page", "--output", page, given=PAIR.encode()), "")
         self.assertEqual(pathlib.Path(page).read_bytes().count(NO_NAMES), 1)
         self.said("page", "--output", page, given=PAIR.replace("marry", "seduce").encode(), status=1)
         self.assertIn("/none/p", self.said("page", self.transcript, "--output", "/none/p", status=3))
 
     def test_what_is_wrong_is_named(self) -> None:
-        pathlib.Path(self.names).write_text("a\na\n")
+        pathlib.Path(self.names).write_text("a\na\n", encoding="utf-8")
         for command in ("picture", "json", "bursts", "explain"):
             with self.subTest(command):
                 said = self.said(command, "--names", self.names, self.transcript, status=2)
@@ -354,11 +356,11 @@ class Commands(unittest.TestCase):
         self.assertEqual(
             self.said("json", "--names", "/none", self.transcript, status=3), "! /none: No such file or directory\n"
         )
-        pathlib.Path(self.names).write_text("a\nb\n")
+        pathlib.Path(self.names).write_text("a\nb\n", encoding="utf-8")
         for command in ("picture", "json", "bursts"):
             said = self.said(command, "--names", self.names, self.transcript, status=2)
             self.assertEqual(said, "! 2 names for 3 nodes\n")
-        pathlib.Path(self.names).write_text("a\nb\nc\n")
+        pathlib.Path(self.names).write_text("a\nb\nc\n", encoding="utf-8")
         said = self.said("picture", "--entry", "9", "--names", self.names, self.transcript, status=2)
         self.assertEqual(said, "! no entry 9: the transcript has 4 entries\n")
         with self.assertRaises(Damaged):

@@ -126,7 +126,9 @@ class Parts(Timed):
         path.write_text(text)
         self.assertEqual(audit_parts(path, size=500), audit(text))
         self.assertEqual(audit(Slice(str(path), 0, len(text))), audit(text))
-        self.assertEqual(verdict(audit, Slice(str(path), 5, len(text) + 9)), verdict(audit, text[5:]))
+        self.assertEqual(verdict(audit, Slice(str(path), 5, len(text))), verdict(audit, text[5:]))
+        with self.assertRaisesRegex(OSError, "the file became shorter while it was read"):
+            audit(Slice(str(path), 0, len(text) + 9))
         self.assertEqual(verdict(audit_parts, pathlib.Path(os.devnull)), verdict(audit, ""))
         with concurrent.futures.ProcessPoolExecutor(2) as executor:
             self.assertEqual(audit_parts(text.encode(), executor, size=500), audit(text))
@@ -135,8 +137,8 @@ class Parts(Timed):
                 audit_parts(text[:-1], executor, size=500)
         for wrong in ("", "x", "matching2 hh 3\nbase 0 spent=0 nodes=1 edges=0\n"):
             path.write_text(wrong)
-            self.assertEqual(verdict(audit_parts, path), verdict(audit, wrong))
-            self.assertEqual(verdict(audit_parts, wrong), verdict(audit, wrong))
+            self.assertEqual(verdict(audit_parts, path), verdict(audit, wrong.encode()))
+            self.assertEqual(verdict(audit_parts, wrong.encode()), verdict(audit, wrong.encode()))
         self.assertRaises(FileNotFoundError, audit_parts, pathlib.Path("/no/such/transcript"))
 
     def test_of_a_pipe(self) -> None:

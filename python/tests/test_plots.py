@@ -3,12 +3,14 @@
 from __future__ import annotations
 
 import itertools
+import math
 import os
 import pathlib
 import unittest
 from typing import Any
 
 from rudekpi import plots
+from rudekpi.graphs import family_of
 from rudekpi.sweeps import Row
 from support import Timed
 
@@ -91,11 +93,12 @@ class Panels(Timed):
         rows = [row("ring:9", moves=8, bound=27), row("ring:9", "manne", moves=9, bound=45)]
         rows += [row("ring:8", n=8, moves=7, bound=24), row("ring:8", "manne", n=8, moves=9, bound=40, seed=1)]
         rows += [row("ring:8", "manne", n=8, moves=9, bound=36, seed=2)]
-        # more than four times the moves of a panel: none draws them
+        # four times the most moves of each panel is 36: only the bounds under hh are drawn
         panels = named(plots.panels_figure(rows))
-        self.assertEqual([bounds_of(axes) for axes in panels.values()], [[], []])
-        self.assertEqual(notes_of(panels["ring:9\n5 faults"]), ["bound\n\u2191 27", "bound\n\u2191 45"])
-        self.assertEqual(notes_of(panels["ring:8\n5 faults"]), ["bound\n\u2191 24", "bound\n\u2191 36 to\n40"])
+        self.assertEqual(bounds_of(panels["ring:9\n5 faults"]), [(-0.45, 0.45, 27.0)])
+        self.assertEqual(bounds_of(panels["ring:8\n5 faults"]), [(-0.45, 0.45, 24.0)])
+        self.assertEqual(notes_of(panels["ring:9\n5 faults"]), ["bound\n\u2191 45"])
+        self.assertEqual(notes_of(panels["ring:8\n5 faults"]), ["bound\n\u2191 36 to\n40"])
         near = [row(it.graph, it.rules, moves=3 * it.moves, bound=it.bound, seed=it.seed) for it in rows]
         panels = named(plots.panels_figure(near))
         wide = [(place - 0.45, place + 0.45) for place in range(2)]
@@ -122,7 +125,7 @@ class Panels(Timed):
             row("ring:9", moves=200, bound=900, hit="90 faults"),
             row("ring:8", moves=30, bound=900, hit="90 faults"),
         ]
-        tops, _ = plots.tops_of(plots.panels_of(rows))
+        tops = plots.tops_of(plots.panels_of(rows))
         self.assertEqual(
             tops,
             {
@@ -172,16 +175,78 @@ class Growth(Timed):
         runs = runs_of(axes)
         self.assertEqual(len(runs), 8)
         for at, moves in runs:
-            self.assertEqual(49 + round(at), moves)
-        self.assertEqual([it.get_text() for it in axes.get_xticklabels()], ["ring:49\n5 faults", "ring:50\n5 faults"])
+            self.assertEqual(round(at), moves)
+        self.assertEqual([it.get_text() for it in axes.get_xticklabels()], ["49", "50"])
+        self.assertEqual(axes.get_xlabel(), "nodes N of ring:N after 5 faults")
         for begin, end, bound in bounds_of(axes):
             self.assertEqual(round(begin + 0.01), round(end - 0.01))
-            self.assertIn(bound / (49 + round(begin + 0.01)), (3, 5))
+            self.assertIn(bound / round(begin + 0.01), (3, 5))
         self.assertEqual(len(bounds_of(axes)), 8)
+
+    def test_graphs_of_one_family_are_at_their_sizes(self) -> None:
+        sizes = (10, 20, 45, 30)
+        rows = [row(f"regular:{n},4,{n}", daemon=daemon, n=n, moves=n) for n in sizes for daemon in ("age", "least")]
+        [axes] = plots.growth_figure(rows).get_axes()
+        # more than a factor of four apart: by the logarithm to the base 2
+        self.assertEqual(axes.get_xlabel(), "nodes N of regular:N,4 after 5 faults, logarithmic")
+        self.assertEqual([it.get_text() for it in axes.get_xticklabels()], ["10", "20", "30", "45"])
+        for at, moves in runs_of(axes):
+            self.assertAlmostEqual(at, math.log2(moves), delta=0.25)
+        # ten more nodes are half as far as twenty more
+        [axes] = plots.growth_figure([row(f"ring:{n}", n=n, moves=n) for n in (20, 30, 50)]).get_axes()
+        self.assertEqual([at for at, _ in runs_of(axes)], [20.0, 30.0, 50.0])
+
+    def test_other_graphs_are_categories_and_the_axis_says_so(self) -> None:
+        for titles in (
+            ("ring:9", "path:10"),
+            ("a.txt", "b.txt"),
+            ("gnp:9,0.5,1", "gnp:10,0.25,1"),
+            ("ring:9", "ring:9"),
+        ):
+            hits = ("1 fault", "2 faults")
+            rows = [row(title, n=9 + at, hit=hits[at]) for at, title in enumerate(titles)]
+            [axes] = plots.growth_figure(rows).get_axes()
+            self.assertEqual(axes.get_xlabel(), "graphs in the order of their sizes, without a scale")
+            self.assertEqual([at for at, _ in runs_of(axes)], [0.0, 1.0])
+            named = [it.get_text() for it in axes.get_xticklabels()]
+            self.assertEqual(named, [f"{title}\n{hit}" for title, hit in zip(titles, hits)])
+
+    def test_no_name_covers_a_point(self) -> None:
+        rows = [row(daemon=daemon, moves=moves) for daemon in ("age", "seeded") for moves in (0, 9)]
+        figure = plots.growth_figure(rows)
+        [axes] = figure.get_axes()
+        self.assertEqual(list(axes.texts), [])
+        legends = [text.get_text() for part in figure.subfigs for legend in part.legends for text in legend.get_texts()]
+        self.assertEqual(legends, ["a run, hh", "age", "seeded", "median", "bound"])
+
+    def test_a_bound_that_is_not_drawn_is_named(self) -> None:
+        def told(*bounds: int) -> list[str]:
+            figure = plots.panels_figure([row(f"ring:{9 + at}", bound=it) for at, it in enumerate(bounds)])
+            texts = [text.get_text() for part in figure.subfigs for it in part.legends for text in it.get_texts()]
+            return [text for text in texts if "bound" in text]
+
+        # each panel has four moves, and draws bounds up to 16
+        self.assertEqual(told(16), ["bound"])
+        self.assertEqual(told(17), ["bound \u2191: above the axis"])
+        self.assertEqual(told(16, 17), ["bound", "bound \u2191: above the axis"])
+
+    def test_families(self) -> None:
+        for title, family in (
+            ("ring:9", ("ring:N", 9)),
+            ("grid:3x4", ("grid:RxC", 12)),
+            ("regular:8,3,1", ("regular:N,3", 8)),
+            ("disk:60,0.25,1", ("disk:N,0.25", 60)),
+            ("edges.txt", None),
+            ("my:9", None),
+            ("ring:x", None),
+        ):
+            self.assertEqual(family_of(title), family)
 
     def test_runs_without_moves_are_seen(self) -> None:
         [axes] = plots.growth_figure([row(moves=0), row("ring:90", n=90, moves=100, bound=270)]).get_axes()
-        self.assertEqual((axes.get_yscale(), axes.get_ylim()[0]), ("symlog", 0))
+        self.assertEqual(axes.get_yscale(), "symlog")
+        self.assertTrue(-1 < axes.get_ylim()[0] < 0, "the dot and the median at 0 are inside")
+        self.assertIn(0.0, [float(line.get_ydata()[0]) for line in axes.get_lines()])
         [axes] = plots.growth_figure([row(moves=30), row("ring:90", n=90, moves=100, bound=270)]).get_axes()
         self.assertEqual(axes.get_yscale(), "log")
         self.assertTrue(0 < axes.get_ylim()[0] < 30 and axes.get_ylim()[1] > 270)

@@ -31,6 +31,43 @@ for number, line in enumerate(sys.stdin, 1):
 """
 
 
+# asks for the transcript in less and less memory; small freed objects without a zero lie about
+SHORT_OF_MEMORY = """
+import resource, rudekpi
+pages = lambda: int(open("/proc/self/statm", encoding="utf-8").read().split()[0]) * resource.getpagesize()
+whole, hard = resource.getrlimit(resource.RLIMIT_AS)
+net = rudekpi.Network("manne", 3000, engine="program")
+for _ in range(60):
+    with net.batch() as batch:
+        for node in range(1, 3000):
+            batch.show(node)
+seen = set()
+for room in range(0, 16_000_000, 500_000):
+    junk = [b"\\xff" * size for size in range(16, 40) for _ in range(100)]
+    del junk
+    resource.setrlimit(resource.RLIMIT_AS, (pages() + room, hard))
+    try:
+        net.transcript()
+        said = "a transcript"
+    except MemoryError:
+        said = "no memory"
+    resource.setrlimit(resource.RLIMIT_AS, (whole, hard))
+    seen.add(said)
+print(sorted(seen))
+"""
+
+
+class Memory(Timed):
+    engines = ("program",)
+
+    def test_a_transcript_for_which_there_is_none(self) -> None:
+        environment = dict(os.environ, PYTHONPATH=os.path.join(TOP, "python"), MALLOC_MMAP_THRESHOLD_="65536")
+        words = [sys.executable, "-c", SHORT_OF_MEMORY]
+        done = subprocess.run(words, env=environment, capture_output=True, encoding="utf-8")
+        self.assertEqual((done.returncode, done.stdout), (0, "['a transcript', 'no memory']\n"))
+        self.assertEqual(done.stderr, "")
+
+
 class Sizes(Timed):
     seconds = 60
 

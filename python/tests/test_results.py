@@ -66,7 +66,11 @@ class Results(Timed):
         self.assertGreater(len({type(it) for it in made}), 13)
         for result in made:
             with self.subTest(result=repr(result)):
-                for again in (pickle.loads(pickle.dumps(result)), copy.deepcopy(result), copy.copy(result)):
+                for again in (
+                    pickle.loads(pickle.dumps(result)),
+                    copy.deepcopy(result),
+                    copy.copy(result),
+                ):
                     self.assertEqual((type(again), str(again)), (type(result), str(result)))
                     if not isinstance(result, Exception):
                         self.assertEqual(again, result)
@@ -103,15 +107,19 @@ class Results(Timed):
 class WrongWords(Timed):
     def test_what_is_no_transcript(self) -> None:
         wrong: Any
-        for wrong in (3, None, [109], pathlib.Path(os.devnull)):
-            with self.subTest(wrong):
-                calls: list[Callable[..., object]] = [audit, epochs, replay]
-                for call in calls:
-                    self.assertRaisesRegex(TypeError, "a transcript is text or bytes", call, wrong)
-                with Audit() as judge:
-                    self.assertRaisesRegex(TypeError, "a transcript is text or bytes", judge.feed, wrong)
+        calls: list[Callable[..., object]] = [audit, epochs, replay, audit_parts]
         for wrong in (3, None, [109]):
-            self.assertRaisesRegex(TypeError, "a transcript is text or bytes", audit_parts, wrong)
+            with self.subTest(wrong):
+                for call in calls:
+                    self.assertRaisesRegex(TypeError, "a transcript is (a path|text or bytes)", call, wrong)
+        for wrong in (3, None, [109], pathlib.Path(os.devnull)):
+            with self.subTest(wrong), Audit() as judge:
+                self.assertRaisesRegex(
+                    TypeError,
+                    "a piece of a transcript is text or bytes",
+                    judge.feed,
+                    wrong,
+                )
         for kind in (bytes, bytearray, memoryview):
             self.assertEqual(audit(kind(b"matching hh 2\n")), audit("matching hh 2\n"))
 
@@ -124,7 +132,11 @@ class WrongWords(Timed):
 
     def test_a_network_is_not_copied(self) -> None:
         with Network("hh", 2) as net, Audit() as judge:
-            takes: list[Callable[..., object]] = [pickle.dumps, copy.copy, copy.deepcopy]
+            takes: list[Callable[..., object]] = [
+                pickle.dumps,
+                copy.copy,
+                copy.deepcopy,
+            ]
             for take in takes:
                 self.assertRaisesRegex(TypeError, "belongs to one process", take, net)
                 self.assertRaisesRegex(TypeError, "belongs to one process", take, judge)
@@ -142,22 +154,37 @@ class Questions(Timed):
             net.settle(list)
             asked = net.status().entry
             # by hand, as in test_examples
-            self.assertEqual((net.present, net.edges), (["ann", "bob", "cleo"], [("ann", "bob"), ("bob", "cleo")]))
-            self.assertEqual((net.neighbours("bob"), net.neighbours("cleo")), (["ann", "cleo"], ["bob"]))
             self.assertEqual(
-                (net.registers("bob"), net.registers("ann")), (Registers("cleo", True), Registers(None, False))
+                (net.present, net.edges),
+                (["ann", "bob", "cleo"], [("ann", "bob"), ("bob", "cleo")]),
             )
-            self.assertEqual((net.partner("bob"), net.partner("cleo"), net.partner("ann")), ("cleo", "bob", None))
+            self.assertEqual(
+                (net.neighbours("bob"), net.neighbours("cleo")),
+                (["ann", "cleo"], ["bob"]),
+            )
+            self.assertEqual(
+                (net.registers("bob"), net.registers("ann")),
+                (Registers("cleo", True), Registers(None, False)),
+            )
+            self.assertEqual(
+                (net.partner("bob"), net.partner("cleo"), net.partner("ann")),
+                ("cleo", "bob", None),
+            )
             self.assertEqual(net.status().entry, asked + 1, "no question of these is an entry")
             net.join("dan")
             net.leave("bob")
             self.assertEqual(
-                (net.present, net.edges, net.registers("cleo")), (["ann", "cleo", "dan"], [], Registers(None, True))
+                (net.present, net.edges, net.registers("cleo")),
+                (["ann", "cleo", "dan"], [], Registers(None, True)),
             )
             for ask in (net.neighbours, net.registers, net.partner):
                 self.assertRaisesRegex(ValueError, "'bob' is not present", ask, "bob")
                 self.assertRaisesRegex(ValueError, "no node has the name", ask, "eve")
-        self.assertEqual((net.present, net.edges), (["ann", "cleo", "dan"], []), "a network that is closed answers too")
+        self.assertEqual(
+            (net.present, net.edges),
+            (["ann", "cleo", "dan"], []),
+            "a network that is closed answers too",
+        )
 
     def test_they_agree_with_the_base_and_the_matching(self) -> None:
         for seed in range(6):
@@ -167,17 +194,36 @@ class Questions(Timed):
                     with net.batch(raises=False) as batch:
                         for _ in range(25):
                             a, b = drawn.sample(range(1, 13), 2)
-                            word = drawn.choice(["link", "link", "link", "unlink", "point", "flag", "join", "leave"])
+                            word = drawn.choice(
+                                [
+                                    "link",
+                                    "link",
+                                    "link",
+                                    "unlink",
+                                    "point",
+                                    "flag",
+                                    "join",
+                                    "leave",
+                                ]
+                            )
                             getattr(batch, word)(
-                                *{"flag": (a, drawn.random() < 0.5), "join": (a,), "leave": (a,)}.get(word, (a, b))
+                                *{
+                                    "flag": (a, drawn.random() < 0.5),
+                                    "join": (a,),
+                                    "leave": (a,),
+                                }.get(word, (a, b))
                             )
                         batch.drive(seed, drawn.randint(0, 9))
                         batch.scramble(seed, 2)
                     base, pairs = net.checkpoint(), net.matching()
-                    self.assertEqual({node: net.registers(node) for node in net.present}, dict(base.nodes))
+                    self.assertEqual(
+                        {node: net.registers(node) for node in net.present},
+                        dict(base.nodes),
+                    )
                     self.assertEqual(net.edges, list(base.edges))
                     self.assertEqual(
-                        {node: net.partner(node) for node in net.present if net.partner(node)}, dict(pairs.partners)
+                        {node: net.partner(node) for node in net.present if net.partner(node)},
+                        dict(pairs.partners),
                     )
 
     def test_a_network_tells_what_it_is(self) -> None:
@@ -193,7 +239,14 @@ class Questions(Timed):
             net.link("a<b", "bob")
             net.settle(list)
             drawn = net._repr_html_()
-        self.assertEqual((drawn.count("<circle"), drawn.count("<line"), drawn.count('stroke-width="4"')), (3, 1, 1))
+        self.assertEqual(
+            (
+                drawn.count("<circle"),
+                drawn.count("<line"),
+                drawn.count('stroke-width="4"'),
+            ),
+            (3, 1, 1),
+        )
         self.assertIn("a&lt;b", drawn)
         self.assertNotIn("a<b", drawn)
         with Network("hh", 1000) as net:
@@ -206,7 +259,8 @@ class Questions(Timed):
             said = net.transcript()
             words = [os.environ["RUDEKPI_CONSOLE"], "picture"]
             self.assertEqual(
-                net.picture(), subprocess.run(words, input=said.encode(), stdout=subprocess.PIPE).stdout.decode()
+                net.picture(),
+                subprocess.run(words, input=said.encode(), stdout=subprocess.PIPE).stdout.decode(),
             )
             self.assertNotEqual(net.picture(0), net.picture())
             with self.assertRaisesRegex(ValueError, "no entry 99: the transcript has"):
@@ -277,7 +331,12 @@ class Storms(Timed):
         path = pathlib.Path(self.folder(), "script")
         path.write_text("link 3 4\n")
         said = storm(
-            ["link 1 2\ndrive 7 100\n", ["link 2 3", "scramble 5 20"], path], "manne", 4, roam=2, turns=50, workers=2
+            ["link 1 2\ndrive 7 100\n", ["link 2 3", "scramble 5 20"], path],
+            "manne",
+            4,
+            roam=2,
+            turns=50,
+            workers=2,
         )
         for event in ("link 1 2 = ok", "link 2 3 = ok", "link 3 4 = ok"):
             self.assertIn(f" {event}\n", said)

@@ -14,7 +14,7 @@ import subprocess
 import sys
 import threading
 import unittest
-from typing import Any, BinaryIO, cast
+from typing import Any, cast
 from unittest import mock
 
 from rudekpi import (
@@ -128,6 +128,10 @@ class GoingOn(Timed):
             opened,
             raw,
             io.BytesIO(text),
+            TEXT,
+            io.StringIO(TEXT),
+            TEXT.splitlines(),
+            tuple(text.splitlines(keepends=True)),
         ]
 
     def test_each_way_to_give_a_transcript(self) -> None:
@@ -419,12 +423,8 @@ class Wrong(Timed):
                 Network.resume(path)
 
     def test_what_is_no_transcript(self) -> None:
-        with self.assertRaisesRegex(ValueError, "a str is the path of a file"):
-            Network.resume(TEXT)
-        with self.assertRaisesRegex(TypeError, "opened to read bytes"):
-            Network.resume(cast(BinaryIO, io.StringIO(TEXT)))
-        for wrong in (7, None, [TEXT]):
-            with self.subTest(wrong), self.assertRaisesRegex(TypeError, "a transcript is bytes, a path or an open"):
+        for wrong in (7, None, {TEXT: 1}):
+            with self.subTest(wrong), self.assertRaisesRegex(TypeError, "a transcript is a path, an open file, bytes"):
                 Network.resume(cast(Any, wrong))
         with self.assertRaisesRegex(ValueError, "an engine is"):
             Network.resume(TEXT.encode(), engine="both")
@@ -551,6 +551,8 @@ class Memory(Timed):
 
     def test_that_is_refused(self) -> None:
         environment = dict(os.environ, PYTHONPATH=os.path.join(TOP, "python"))
+        # what a larger object took is given back when that is freed
+        environment["MALLOC_MMAP_THRESHOLD_"] = "65536"
         words = [
             sys.executable,
             "-c",

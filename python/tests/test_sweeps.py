@@ -8,15 +8,19 @@ import io
 import itertools
 import multiprocessing
 import os
+import random
 import signal
 import time
 import unittest
 import unittest.mock
-from typing import Any, Generator, Iterable, Union
+from typing import Any, Generator, Iterable, Iterator, Union
 
 from rudekpi import Enabled, Network, WrongChoice, audits, daemons, disturbances, graphs, sweeps, workers
 from rudekpi.replies import Name
+from rudekpi.simple_graph import Graph
+from rudekpi.state import State
 from rudekpi.sweeps import AnyDaemon, Disturbance, Row, sweep
+from rudekpi.walks import Topology
 from support import Losing, Timed
 
 try:
@@ -115,6 +119,70 @@ class Rows(Timed):
         ]:
             self.assertEqual(str(hit), words)
 
+    def held_after(self, lines: list[str]) -> Iterator[tuple[str, bool]]:
+        """Each fault of a transcript, with whether it changes the register that it hits."""
+        state = State()
+        for line in lines:
+            word, *numbers = (line.split(" = ")[0].split(" ") + [""])[1:4]
+            if word in ("point", "flag"):
+                node = int(numbers[0])
+                held = node in state.flags if word == "flag" else state.pointers.get(node, 0)
+                yield line, held != (0 if numbers[1] == "-" else int(numbers[1]))
+            state.follow([line])
+
+    def test_each_fault_changes_its_register(self) -> None:
+        for registers, rules, every in itertools.product(disturbances.REGISTERS, ("hh", "manne"), (0, 2)):
+            if (registers, rules) == ("flag", "hh"):
+                continue
+            hit = Disturbance(40, registers, every=every)
+            played = sweeps.Experiment(graphs.grid(3, 3), rules, "seeded", 5, hit).played()
+            with self.subTest(registers=registers, rules=rules, every=every):
+                faults = list(self.held_after(played.transcript.splitlines()))
+                self.assertEqual([len(faults), played.changes], [40, 40])
+                self.assertEqual([line for line, is_changed in faults if not is_changed], [])
+                words = {line.split(" ")[1] for line, _ in faults}
+                both = {"point", "flag"} if rules == "manne" else {"point"}
+                self.assertEqual(words, {"any": both, "pointer": {"point"}, "flag": {"flag"}}[registers])
+
+    def test_faults_with_any_value_are_those_of_scramble(self) -> None:
+        played = sweeps.Experiment(RING, "manne", "seeded", 5, Disturbance(40, any_value=True)).played()
+        with Network("manne", 12) as net:
+            with net.batch() as batch:
+                for a, b in RING.edges:
+                    batch.link(a, b)
+            net.settle(daemons.Seeded(5))
+            drawn = net.scramble(5, 40)
+            self.assertEqual(len(drawn), 40)
+            said = net.transcript().splitlines()[:-1]
+        self.assertEqual(played.transcript.splitlines()[: len(said)], said)
+        self.assertIsNone(played.changes)
+        self.assertIn(False, [is_changed for _, is_changed in self.held_after(said)])
+
+    def test_faults_where_no_register_can_change(self) -> None:
+        alone = Graph("alone", (1, 2, 3), ())
+        for rules, registers, changes in (
+            ("hh", "any", 0),
+            ("manne", "pointer", 0),
+            ("manne", "any", 7),
+            ("manne", "flag", 7),
+        ):
+            [row] = sweep([alone], [rules], ["least"], [1], [Disturbance(7, registers)])
+            self.assertEqual((row.changes, row.n), (changes, 3))
+        # of two linked nodes and one without links only the two have pointers that change
+        [row] = sweep([Graph("pair", (1, 2, 3), ((1, 2),))], ["hh"], ["least"], [1], [Disturbance(9, leaves=0)])
+        self.assertEqual(row.changes, 9)
+
+    def test_each_change_of_a_register_can_come(self) -> None:
+        """At a path's middle node: each other value of its pointer, and its flag, with their chances."""
+        topology, state = Topology([1, 2, 3], [(1, 2), (2, 3)]), State("manne", 3, [1, 2, 3])
+        state.point(2, 3)
+        draws = disturbances.ChangingFaults("any", "manne", topology, random.Random(1))
+        seen = collections.Counter(draws.draw(state) for _ in range(6000))
+        wanted = {("flag", (1, 1)), ("point", (1, 2)), ("flag", (2, 1)), ("point", (2, 0)), ("point", (2, 1))}
+        self.assertEqual(set(seen), wanted | {("flag", (3, 1)), ("point", (3, 2))})
+        for event, share in ((("flag", (2, 1)), 1 / 6), (("point", (2, 0)), 1 / 12), (("point", (1, 2)), 1 / 6)):
+            self.assertAlmostEqual(seen[event] / 6000, share, delta=0.02)
+
     def test_as_a_network_of_ones_own(self) -> None:
         [row] = sweep([RING], ["hh"], ["least"], [3])
         with Network("hh", 12) as net:
@@ -207,7 +275,7 @@ class Rows(Timed):
         self.assertEqual(
             file.getvalue().splitlines()[0],
             "graph,rules,n,m,daemon,seed,disturbance,steps,moves,rounds,update,marry,seduce,abandon,charge,bound,pairs,"
-            "seconds",
+            "seconds,changes,digest",
         )
         file.seek(0)
         self.assertEqual(sweeps.read_csv(file), made)

@@ -1,0 +1,157 @@
+"""Files and streams are UTF-8 in every locale: also in one that has another encoding, or ASCII alone."""
+
+from __future__ import annotations
+
+import ast
+import os
+import pathlib
+import shutil
+import subprocess
+import sys
+import unittest
+from typing import Iterator, Optional
+
+from support import TOP, Timed
+
+# Python then takes ASCII for what is opened without an encoding
+ASCII = {"LC_ALL": "C", "PYTHONUTF8": "0", "PYTHONCOERCECLOCALE": "0"}
+LATIN = "de_DE.ISO-8859-1"
+PAIR = """\
+matching hh 2
+1 link 1 2 = ok
+2 step 1 = 1:seduce>2
+3 step 2 = 2:marry>1
+"""
+# names beyond ASCII, and one beyond ISO 8859-1
+NAMES = "Zoë\nĐặng\n"
+GRAPH = "Zoë Đặng\nĐặng Bob\n"
+OPENING = ("open", "read_text", "write_text", "TextIOWrapper", "NamedTemporaryFile", "TemporaryFile")
+# those that open a file for text unless a mode says `b`
+MODES = {"open": ("r", 1), "NamedTemporaryFile": ("w+b", 0), "TemporaryFile": ("w+b", 0)}
+FOLDERS = ("python/rudekpi", "scripts", "examples", "bench")
+
+
+def rudekpi(words: list[str], folder: str, environment: dict[str, str]) -> subprocess.CompletedProcess[bytes]:
+    paths = {**os.environ, "PYTHONPATH": os.path.join(TOP, "python"), **environment}
+    return subprocess.run([sys.executable, "-m", "rudekpi", *words], cwd=folder, env=paths, capture_output=True)
+
+
+class Locales(Timed):
+    seconds = 120
+
+    def latin(self) -> dict[str, str]:
+        """The variables of a locale with ISO 8859-1. Skips the test if it can't be made here."""
+        if not shutil.which("localedef"):
+            self.skipTest("no localedef")
+        made = os.path.join(self.folder(), LATIN)
+        words = ["localedef", "-i", "de_DE", "-f", "ISO-8859-1", made]
+        if subprocess.run(words, stdout=subprocess.DEVNULL, stderr=subprocess.DEVNULL).returncode > 1:
+            self.skipTest("no locale de_DE")
+        variables = {**ASCII, "LC_ALL": LATIN, "LOCPATH": os.path.dirname(made)}
+        asked = "import locale; print(locale.getpreferredencoding(False))"
+        said = subprocess.run([sys.executable, "-c", asked], env={**os.environ, **variables}, stdout=subprocess.PIPE)
+        self.assertEqual(said.stdout, b"ISO-8859-1\n")
+        return variables
+
+    def expect_the_same(self, variables: dict[str, str]) -> None:
+        """Each command writes the same bytes as in a locale with UTF-8."""
+        folders = self.folder(), self.folder()
+        for folder in folders:
+            pathlib.Path(folder, "names").write_text(NAMES, encoding="utf-8")
+            pathlib.Path(folder, "t").write_text(PAIR, encoding="utf-8")
+            pathlib.Path(folder, "g.txt").write_text(GRAPH, encoding="utf-8")
+        for words in (
+            ["picture", "--names", "names", "--output", "picture.dot", "t"],
+            ["picture", "--names", "names", "t"],
+            ["bursts", "--names", "names", "t"],
+            ["json", "--names", "names", "t"],
+            ["page", "--names", "names", "--output", "page.html", "t"],
+            ["sweep", "--graph", "g.txt", "--seeds", "2", "--processes", "1", "--csv", "rows.csv"],
+            ["again", "rows.csv", "1", "--output", "again"],
+        ):
+            ours, theirs = (rudekpi(words, *it) for it in zip(folders, ({"PYTHONUTF8": "1"}, variables)))
+            with self.subTest(words):
+                self.assertEqual((ours.returncode, ours.stderr), (0, b""))
+                self.assertEqual((theirs.returncode, theirs.stdout, theirs.stderr), (0, ours.stdout, b""))
+        for name in ("picture.dot", "page.html", "again", "again.names"):
+            with self.subTest(name):
+                self.assertEqual(*(pathlib.Path(folder, name).read_bytes() for folder in folders))
+        self.assertIn("Zoë".encode(), pathlib.Path(folders[1], "picture.dot").read_bytes())
+        found = rudekpi(["bursts", "--names", "names", "t"], folders[1], variables)
+        self.assertIn("Zoë Đặng".encode(), found.stdout)
+
+    def test_of_ascii(self) -> None:
+        self.expect_the_same(ASCII)
+
+    def test_of_latin_letters(self) -> None:
+        self.expect_the_same(self.latin())
+
+    def test_the_suite(self) -> None:
+        """A part of the client's tests, in a locale of ASCII."""
+        words = [sys.executable, os.path.join(TOP, "tests", "client"), "--here", "--engine", "program"]
+        words += ["--program", os.environ["RUDEKPI_CONSOLE"], "test_names.", "test_graph_files", "test_given.Ways"]
+        done = subprocess.run(words, env={**os.environ, **ASCII}, stdin=subprocess.DEVNULL, capture_output=True)
+        self.assertEqual(done.returncode, 0, done.stdout.decode()[-2000:])
+        self.assertIn(b" passed, 0 failed", done.stdout)
+
+
+class Openings(unittest.TestCase):
+    def sources(self) -> Iterator[pathlib.Path]:
+        for folder in FOLDERS:
+            for path in sorted(pathlib.Path(TOP, folder).rglob("*")):
+                if path.is_file() and (path.suffix == ".py" or path.read_bytes().startswith(b"#!/usr/bin/env python")):
+                    yield path
+
+    def test_each_file_is_opened_with_its_encoding(self) -> None:
+        found = [f"{os.path.relpath(path, TOP)}:{line}" for path in self.sources() for line in bare_openings(path)]
+        self.assertEqual(found, [], "a file of text is opened without an encoding")
+
+    def test_which_openings_are_bare(self) -> None:
+        path = pathlib.Path(__file__).with_name("none.py")
+        for text, is_bare in (
+            ("open(path)", True),
+            ("open(path, 'w', newline='')", True),
+            ("open(path, 'wb')", False),
+            ("open(path, encoding='utf-8')", False),
+            ("os.open(path, flags)", False),
+            ("path.open('rb')", False),
+            ("path.open()", True),
+            ("path.read_text()", True),
+            ("path.read_text('utf-8')", False),
+            ("path.write_text(text)", True),
+            ("path.write_text(text, encoding='utf-8')", False),
+            ("io.TextIOWrapper(file)", True),
+            ("io.TextIOWrapper(file, 'utf-8')", False),
+            ("tempfile.TemporaryFile()", False),
+            ("tempfile.TemporaryFile('w')", True),
+        ):
+            with self.subTest(text):
+                self.assertEqual([*bare_openings(path, text)], [1] if is_bare else [])
+
+
+def bare_openings(path: pathlib.Path, text: Optional[str] = None) -> Iterator[int]:
+    """The lines of a source that open a file for text without an encoding."""
+    read = path.read_text(encoding="utf-8") if text is None else text
+    for node in ast.walk(ast.parse(read)):
+        if isinstance(node, ast.Call) and is_bare(node):
+            yield node.lineno
+
+
+def is_bare(call: ast.Call) -> bool:
+    given = call.func
+    name = given.id if isinstance(given, ast.Name) else given.attr if isinstance(given, ast.Attribute) else ""
+    is_method = isinstance(given, ast.Attribute)
+    owner = given.value.id if isinstance(given, ast.Attribute) and isinstance(given.value, ast.Name) else ""
+    if name not in OPENING or owner == "os" or any(word.arg == "encoding" for word in call.keywords):
+        return False
+    if name in ("read_text", "write_text", "TextIOWrapper"):
+        return len(call.args) <= (name != "read_text")
+    usual, place = MODES[name]
+    place -= is_method and name == "open" and owner not in ("io", "gzip")
+    modes = [word.value for word in call.keywords if word.arg == "mode"] + call.args[place : place + 1]
+    mode = modes[0].value if modes and isinstance(modes[0], ast.Constant) else usual
+    return "b" not in str(mode)
+
+
+if __name__ == "__main__":
+    unittest.main()
